@@ -103,9 +103,9 @@ five i0 i1 i2 i3 i4 i5 a b c d e e0 e1 e2 e3 e4 e5 =
 
 -- ---- the facts
 
-pub facts_are : (bytes hash : List ℕ) (size : ℕ) (told : Option (List ℕ)) → hash ≡ sha256 bytes → size ≡ length bytes → told ≡ hash_of (plain_contents (outcome_of bytes))
-    → (let facts : Facts = record { nar_hash = hash; nar_size = size; plain = told } in facts ≡ facts_of bytes)
-facts_are bytes hash size told h n p =
-    ap (λ x. let facts : Facts = record { nar_hash = x; nar_size = size; plain = told } in facts) h
-    ∙ ap (λ x. let facts : Facts = record { nar_hash = sha256 bytes; nar_size = x; plain = told } in facts) n
+pub facts_are : (bytes hash : List ℕ) (size : ℕ) (reported : Option (List ℕ)) → hash ≡ sha256 bytes → size ≡ length bytes → reported ≡ hash_of (plain_contents (outcome_of bytes))
+    → (let facts : Facts = record { nar_hash = hash; nar_size = size; plain = reported } in facts ≡ facts_of bytes)
+facts_are bytes hash size reported h n p =
+    ap (λ x. let facts : Facts = record { nar_hash = x; nar_size = size; plain = reported } in facts) h
+    ∙ ap (λ x. let facts : Facts = record { nar_hash = sha256 bytes; nar_size = x; plain = reported } in facts) n
     ∙ ap (λ x. let facts : Facts = record { nar_hash = sha256 bytes; nar_size = length bytes; plain = x } in facts) p

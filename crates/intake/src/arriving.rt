@@ -137,7 +137,7 @@ impl Arriving {
     /// What is found at the end. Of the bytes it looks only at what isn't hashed yet.
     pub fn finish(self) -> Arrived
         ensures pieces { result.pieces ≡ self }
-        ensures told { DescribesBytes result }
+        ensures reported { DescribesBytes result }
     {
         let Arriving {
             checker,

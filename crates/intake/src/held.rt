@@ -19,7 +19,7 @@ impl Arrived {
     /// Memory was refused.
     pub fn of_pieces(alloc: Global, pieces: Pieces) -> Result<Arrived, AllocError>
         ensures pieces { IfOk result (λ a. a.pieces ≡ pieces) }
-        ensures told { IfOk result DescribesBytes }
+        ensures reported { IfOk result DescribesBytes }
     {
         let mut checker = Checker::new(alloc);
         let mut hasher = Sha256::new();

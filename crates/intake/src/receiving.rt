@@ -152,7 +152,7 @@ impl Intake {
     /// Memory was refused by an earlier piece.
     pub fn finish(self) -> Result<Arrived, AllocError>
         ensures pieces { IfOk result (λ a. self ≡ Some a.pieces) }
-        ensures told { IfOk result DescribesBytes }
+        ensures reported { IfOk result DescribesBytes }
         ensures spent { OnErr result (self ≡ None) }
     {
         let Some(arriving) = self.so_far else {

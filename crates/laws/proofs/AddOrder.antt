@@ -111,10 +111,10 @@ source_faults_in_order s w c name refs b =
     let read : (t : Tree) → outcome_of b ≡ Ok t → archive_fault (outcome_of b) ≡ None = λ t e. ap archive_fault e in
     record {
       count = λ more. refused_with s w c (add_source name refs b) TooManyReferences (stops _ _ _ (many (length refs) most_references TooManyReferences more));
-      archive_ = λ le e r is told. refused_with s w c (add_source name refs b) r (goes_on _ _ (less le) ∙ stops _ _ _ (ap archive_fault is ∙ told));
+      archive_ = λ le e r is reported. refused_with s w c (add_source name refs b) r (goes_on _ _ (less le) ∙ stops _ _ _ (ap archive_fault is ∙ reported));
       itself = λ le t is k. refused_with s w c (add_source name refs b) SelfReference (goes_on _ _ (less le) ∙ goes_on _ _ (read t is) ∙ stops _ _ _ (a_self refs p k));
-      tree = λ le t is out drv e r f told. refused_with s w c (add_source name refs b) r
-          (goes_on _ _ (less le) ∙ goes_on _ _ (read t is) ∙ goes_on _ _ (no_self refs p out) ∙ stops _ _ _ (bad_tree s.store_dir p (outcome_of b) t e is drv f ∙ told));
+      tree = λ le t is out drv e r f reported. refused_with s w c (add_source name refs b) r
+          (goes_on _ _ (less le) ∙ goes_on _ _ (read t is) ∙ goes_on _ _ (no_self refs p out) ∙ stops _ _ _ (bad_tree s.store_dir p (outcome_of b) t e is drv f ∙ reported));
       reference = λ le t is out right_tree h. refused_with s w c (add_source name refs b) MissingReference
           (goes_on _ _ (less le) ∙ goes_on _ _ (read t is) ∙ goes_on _ _ (no_self refs p out) ∙ goes_on _ _ (good_tree s.store_dir p (outcome_of b) t is right_tree) ∙ stops _ _ _ (lacks w p refs h));
     }
@@ -129,8 +129,8 @@ text_faults_in_order s w c name refs contents =
       count = λ more. refused_with s w c (add_text name refs contents) TooManyReferences (stops _ _ _ (many (length refs) most_references TooManyReferences more));
       size = λ le more. refused_with s w c (add_text name refs contents) TooLarge (goes_on _ _ (less le) ∙ stops _ _ _ (many (text_archive_size contents) limit TooLarge (omega arith)));
       itself = λ le small k. refused_with s w c (add_text name refs contents) SelfReference (goes_on _ _ (less le) ∙ goes_on _ _ (fits small) ∙ stops _ _ _ (a_self refs p k));
-      tree = λ le small out drv e r f told. refused_with s w c (add_text name refs contents) r
-          (goes_on _ _ (less le) ∙ goes_on _ _ (fits small) ∙ goes_on _ _ (no_self refs p out) ∙ stops _ _ _ (asked p (outputs_fault (outputs_of s.store_dir contents)) drv ∙ ap outputs_fault f ∙ told));
+      tree = λ le small out drv e r f reported. refused_with s w c (add_text name refs contents) r
+          (goes_on _ _ (less le) ∙ goes_on _ _ (fits small) ∙ goes_on _ _ (no_self refs p out) ∙ stops _ _ _ (asked p (outputs_fault (outputs_of s.store_dir contents)) drv ∙ ap outputs_fault f ∙ reported));
       reference = λ le small out right_text h. refused_with s w c (add_text name refs contents) MissingReference
           (goes_on _ _ (less le) ∙ goes_on _ _ (fits small) ∙ goes_on _ _ (no_self refs p out)
           ∙ goes_on _ _ (right p (outputs_fault (outputs_of s.store_dir contents)) (λ drv. no_output_fault (outputs_of s.store_dir contents) (λ e f. right_text e drv f))) ∙ stops _ _ _ (lacks w p refs h));
@@ -177,11 +177,11 @@ import_faults_in_order s w c i =
     let dir = s.store_dir in
     record {
       count = λ more. refused_with s w c (import_object i) TooManyReferences (stops _ _ _ (many (length i.refs) most_references TooManyReferences more));
-      archive_ = λ le e r is told. refused_with s w c (import_object i) r (goes_on _ _ (few (length i.refs) most_references TooManyReferences le) ∙ stops _ _ _ (ap archive_fault is ∙ told));
+      archive_ = λ le e r is reported. refused_with s w c (import_object i) r (goes_on _ _ (few (length i.refs) most_references TooManyReferences le) ∙ stops _ _ _ (ap archive_fault is ∙ reported));
       itself = λ t given a e k. refused_with s w c (import_object i) SelfReference (as_given dir i t given _ ∙ stops _ _ _ (selfish dir i a e k));
       address = λ t given a e out f. refused_with s w c (import_object i) CaMismatch (as_given dir i t given _ ∙ goes_on _ _ (selfless dir i (no_other_self dir i a out)) ∙ stops _ _ _ (mismatched dir i a e f));
-      tree = λ t given ok drv e r f told. refused_with s w c (import_object i) r
-          (as_given dir i t given _ ∙ goes_on _ _ (selfless dir i ok.itself) ∙ goes_on _ _ (verified dir i ok.address) ∙ stops _ _ _ (bad_tree dir i.path (outcome_of i.nar) t e given.read drv f ∙ told));
+      tree = λ t given ok drv e r f reported. refused_with s w c (import_object i) r
+          (as_given dir i t given _ ∙ goes_on _ _ (selfless dir i ok.itself) ∙ goes_on _ _ (verified dir i ok.address) ∙ stops _ _ _ (bad_tree dir i.path (outcome_of i.nar) t e given.read drv f ∙ reported));
       reference = λ t given ok right_tree h. refused_with s w c (import_object i) MissingReference
           (as_given dir i t given _ ∙ goes_on _ _ (selfless dir i ok.itself) ∙ goes_on _ _ (verified dir i ok.address) ∙ goes_on _ _ (good_tree dir i.path (outcome_of i.nar) t given.read right_tree) ∙ stops _ _ _ (lacks w i.path i.refs h));
     }

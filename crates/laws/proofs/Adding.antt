@@ -47,13 +47,13 @@ gained dir a w = by (has w a.path) refl
   where
     by : (b : Bool) → has w a.path ≡ b → Gains dir a w (if b then w else record w { objects = finite.insert w.objects a.path (added_of dir a).object })
     by true e = record {
-      there = λ h. refl;
+      present = λ h. refl;
       fresh = λ h. absurd (false≢true (sym h ∙ e));
       others = λ p other. refl;
       roots = record { permanent = refl; user_roots = refl; profiles = refl; runtime = refl; temporary = refl };
     }
     by false e = record {
-      there = λ h. absurd (false≢true (sym e ∙ h));
+      present = λ h. absurd (false≢true (sym e ∙ h));
       fresh = λ h. ((added_of dir a).object, at_inserted nat_list_cmp_total bytes_antisymmetric w.objects a.path (added_of dir a).object, as_handed_in dir a);
       others = λ p other. beside_inserted nat_list_cmp_total bytes_antisymmetric w.objects a.path (added_of dir a).object p other;
       roots = record { permanent = refl; user_roots = refl; profiles = refl; runtime = refl; temporary = refl };

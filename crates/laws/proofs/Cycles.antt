@@ -25,7 +25,7 @@ module _ (g : Graph) (dead : Path → Bool) (left group : List Path) (rise : IsS
       let here = found dead left p f in
       subst (λ (xs : List Path). IsCycle g dead left xs) is (record {
         path = p;
-        there = here.0;
+        present = here.0;
         is_dead = here.1;
         least = λ q c t less. none_less dead left p q rise f c t less;
         members = λ q. (λ c. in_filter (λ q. reaches references_alone g q p) left q c, λ h. filter_in (λ q. reaches references_alone g q p) left q h.0 h.1);

@@ -26,7 +26,7 @@ use Rattle.laws.specs.CutArchives.{HasArchive, ArchivesAreReadWhole}
 use Rattle.laws.specs.FaultyRows.{AreReferences, ExcludesFaultyObject, FaultyObjectsAreUnsound}
 use Rattle.tables_world.proofs.Columns.{bytes_antisymmetric, object_at}
 use Rattle.tables_world.proofs.SoundParts.{some_key}
-use Rattle.tables_world.proofs.Told.{get-reference}
+use Rattle.tables_world.proofs.Reported.{get-reference}
 use Rattle.laws.proofs.FaultyRows.{clash, row_sound, read_as}
 
 keys_contain : (c : Contents) (p r : Path) → Contains (finite.keys (references_in (rows_of c) p)) r ↔ IsTrue (finite.contains_key c.refs (p, r))
@@ -61,10 +61,10 @@ module _ (c : Contents) (p : Path) (o : Stored) (row : finite.get c.objects p �
         (λ r. ((λ x. (are r).1 ((keys_contain c p r).0 x)), (λ x. (keys_contain c p r).1 ((are r).0 x)))) found)
 
     to_itself : IsSome o.ca → IsTrue (finite.contains_key c.refs (p, p)) → ⊥
-    to_itself some there =
+    to_itself some present =
         let text = some_key o.ca some in
         let ca = some_key (address_of text.0) ((row_sound c p o row schema dir sound).address_text text.0 text.1) in
-        clash ((row_sound c p o row schema dir sound).no_self_reference ca.0 (ap address_in text.1 ∙ ca.1)) (ap is_some (get-reference c p p) ∙ there)
+        clash ((row_sound c p o row schema dir sound).no_self_reference ca.0 (ap address_in text.1 ∙ ca.1)) (ap is_some (get-reference c p p) ∙ present)
 
   object_excludes : ExcludesFaultyObject c p o
   object_excludes = record {
@@ -74,7 +74,7 @@ module _ (c : Contents) (p : Path) (o : Stored) (row : finite.get c.objects p �
     other_digest = λ nar h other dir schema sound. other ((row_sound c p o row schema dir sound).hash ∙ ap sha256 (read_as c p o row schema dir sound nar h));
     no_address = λ text is none dir schema sound. let ca = some_key (address_of text) ((row_sound c p o row schema dir sound).address_text text is) in none ca.0 (address-is text ca.0 ca.1);
     other_address = λ dir nar text ca references h is spelled are other schema sound. other (verified schema dir sound nar text ca references h is spelled are);
-    self_reference = λ some there dir schema sound. to_itself schema dir sound some there;
+    self_reference = λ some present dir schema sound. to_itself schema dir sound some present;
   }
 
 pub faulty_objects : FaultyObjectsAreUnsound

@@ -22,7 +22,7 @@ use Rattle.tables_world.specs.Worlds.{rows_of, IsSoundBy}
 use Rattle.laws.specs.FaultyRows.{ExcludesFaultyOutputs, FaultyDerivationsAreUnsound}
 use Rattle.tables_world.proofs.Recorded.{outputs_are_recorded}
 use Rattle.tables_world.proofs.SoundParts.{some_key}
-use Rattle.tables_world.proofs.Told.{get-output}
+use Rattle.tables_world.proofs.Reported.{get-output}
 use Rattle.laws.proofs.FaultyRows.{no_key, parts_of, row_sound, read_as}
 
 ends : (p stem : List ℕ) → p ≡ stem ++ codes ".drv" → IsTrue (is_derivation p)
@@ -30,13 +30,13 @@ ends p stem is = (ends_is Decides-eqb p (codes ".drv") (is_derivation p) refl).1
 
 pub outputs_exclude : (c : Contents) (p : Path) → ExcludesFaultyOutputs c p
 outputs_exclude c p = record {
-  of_no_object = λ name there none dir schema sound. no_key none ((parts_of schema dir c sound).objects.outputs p name there);
-  of_no_derivation = λ name there none dir schema sound.
-      let o = some_key (finite.get c.objects p) ((parts_of schema dir c sound).objects.outputs p name there) in
+  of_no_object = λ name present none dir schema sound. no_key none ((parts_of schema dir c sound).objects.outputs p name present);
+  of_no_derivation = λ name present none dir schema sound.
+      let o = some_key (finite.get c.objects p) ((parts_of schema dir c sound).objects.outputs p name present) in
       let other : IsFalse (is_derivation p) = false_from_ne_true (is_derivation p) (λ t. none _ ((ends_is Decides-eqb p (codes ".drv") (is_derivation p) refl).0 t)) in
       let nar = archive_in (rows_of c) p o.0 in
       let are = (row_sound c p o.0 o.1 schema dir sound).outputs_are ∙ (outputs_are_recorded dir p nar).none other in
-      no_key (sym (get-output c p name) ∙ ap (λ (m : finite.FinMap bytes_cmp Path). finite.get m name) are ∙ finite.get-empty bytes_cmp name) there;
+      no_key (sym (get-output c p name) ∙ ap (λ (m : finite.FinMap bytes_cmp Path). finite.get m name) are ∙ finite.get-empty bytes_cmp name) present;
 }
 
 read_outputs : (dir contents : List ℕ) (r : Result (List (List ℕ × Path)) DrvError) → outputs_of dir contents ≡ r → IsOk r → (found : List (List ℕ × Path)) × Records dir contents found
@@ -60,5 +60,5 @@ faulty_derivations dir c p o stem nar row is h =
           let found = read_outputs dir d.contents (outputs_of dir d.contents) refl d.has_outputs in
           none d.executable d.contents found.0 (subst (IsArchive (regular d.executable d.contents)) (read_as c p o row schema dir sound nar h) d.is_regular) found.1;
       other = λ executable text outputs file tells name base e none schema sound. none ((recorded schema sound executable text outputs file tells name base).0 e);
-      missing = λ executable text outputs file tells name base there other schema sound. other ((recorded schema sound executable text outputs file tells name base).1 there);
+      missing = λ executable text outputs file tells name base present other schema sound. other ((recorded schema sound executable text outputs file tells name base).1 present);
     }

@@ -19,7 +19,7 @@ use Rattle.tables_world.proofs.Cuts.{size}
 use Rattle.laws.proofs.FaultyRows.{no_key, at_front, past_front}
 use Rattle.laws.proofs.Schemas.{pieces_count_from_one}
 use Rattle.tables_world.proofs.SoundParts.{some_key}
-use Rattle.tables_world.proofs.Told.{get-piece}
+use Rattle.tables_world.proofs.Reported.{get-piece}
 
 -- ---- pieces that go on after a part
 
@@ -68,17 +68,17 @@ module _ (schema : Schema) (dir : List ℕ) (c : Contents) (sound : IsSoundBy sc
   in_list n = sym (finite.get-entries (pieces_in (rows_of c) p) n) ∙ get-piece c p n
 
   has_table : (n : ℤ) → IsTrue (finite.contains_key c.pieces (p, n)) → (b : Bool) → has_pieces schema ≡ b → IsTrue (has_pieces schema)
-  has_table n there true f = f
-  has_table n there false f = absurd (no_key (ap (λ m. finite.get m (p, n)) (sound.no_pieces f) ∙ finite.get-empty _ (p, n)) there)
+  has_table n present true f = f
+  has_table n present false f = absurd (no_key (ap (λ m. finite.get m (p, n)) (sound.no_pieces f) ∙ finite.get-empty _ (p, n)) present)
 
   object_of : (n : ℤ) → IsTrue (finite.contains_key c.pieces (p, n)) → (o : Stored) × (finite.get c.objects p ≡ Some o)
-  object_of n there = some_key (finite.get c.objects p) (sound.pieces p n there)
+  object_of n present = some_key (finite.get c.objects p) (sound.pieces p n present)
 
   cut_of : (n : ℤ) → IsTrue (finite.contains_key c.pieces (p, n)) → (o : Stored) × IsCut o.nar (finite.entries (pieces_in (rows_of c) p))
-  cut_of n there = let o = object_of n there in (o.0, sound.cut (has_table n there (has_pieces schema) refl) p o.0 o.1)
+  cut_of n present = let o = object_of n present in (o.0, sound.cut (has_table n present (has_pieces schema) refl) p o.0 o.1)
 
   numbered : (n : ℤ) → IsTrue (finite.contains_key c.pieces (p, n)) → (m : ℕ) × (n ≡ pos m) × (1 ≤ m)
-  numbered n there = pieces_count_from_one schema dir (rows_of c) sound p n there
+  numbered n present = pieces_count_from_one schema dir (rows_of c) sound p n present
 
   piece_sized : (m : ℕ) (piece : List ℕ) → 1 ≤ m → finite.get c.pieces (p, pos m) ≡ Some piece → IsSized m piece (finite.entries (pieces_in (rows_of c) p))
   piece_sized m piece le e = let o = cut_of (pos m) (ap is_some e) in sized o.0.nar 1 (finite.entries (pieces_in (rows_of c) p)) o.1 m piece le (in_list (pos m) ∙ e)
@@ -90,14 +90,14 @@ module _ (schema : Schema) (dir : List ℕ) (c : Contents) (sound : IsSoundBy sc
 
 pub pieces_exclude : (c : Contents) (p : Path) → ExcludesFaultyPieces c p
 pieces_exclude c p = record {
-  of_no_object = λ n there none dir schema sound. no_key none (sound.pieces p n there);
-  below_1 = λ n there low dir schema sound.
-      let m = numbered schema dir c sound p n there in
+  of_no_object = λ n present none dir schema sound. no_key none (sound.pieces p n present);
+  below_1 = λ n present low dir schema sound.
+      let m = numbered schema dir c sound p n present in
       let less : pos m.0 <ℤ pos 1 = subst (λ z. z <ℤ pos 1) m.1 low in
       omega (arith, ints, less, m.2);
-  gap = λ n le none there dir schema sound.
-      let o = cut_of schema dir c sound p (pos (n + 1)) there in
-      no_key none (sym (ap is_some (in_list schema dir c sound p (pos n))) ∙ no_gap o.0.nar 1 (finite.entries (pieces_in (rows_of c) p)) o.1 n le (ap is_some (in_list schema dir c sound p (pos (n + 1))) ∙ there));
+  gap = λ n le none present dir schema sound.
+      let o = cut_of schema dir c sound p (pos (n + 1)) present in
+      no_key none (sym (ap is_some (in_list schema dir c sound p (pos n))) ∙ no_gap o.0.nar 1 (finite.entries (pieces_in (rows_of c) p)) o.1 n le (ap is_some (in_list schema dir c sound p (pos (n + 1))) ∙ present));
   empty = λ n e dir schema sound. let s = some_sized schema dir c sound p n [] e in let one = s.2.some in omega arith;
   too_long = λ n piece e more dir schema sound. let s = some_sized schema dir c sound p n piece e in omega (arith, s.2.most, size, more);
   short_before_another = λ n piece e next short dir schema sound.
@@ -114,7 +114,7 @@ faulty_cuts c p o row = record {
     (λ sound. let most = at_most o.nar 1 (finite.entries (pieces_in (rows_of c) p)) (sound.cut refl p o row) in omega (arith, most, size, more)),
     (λ sound. let most = at_most o.nar 1 (finite.entries (pieces_in (rows_of c) p)) (sound.cut refl p o row) in omega (arith, most, size, more)),
   );
-  short_before_a_piece = λ there short dir schema sound.
-      let cut = sound.cut (has_table schema dir c sound p (pos 1) there (has_pieces schema) refl) p o row in
-      short (full o.nar 1 1 (finite.entries (pieces_in (rows_of c) p)) cut (ap is_some (in_list schema dir c sound p (pos 1)) ∙ there) ∙ size);
+  short_before_a_piece = λ present short dir schema sound.
+      let cut = sound.cut (has_table schema dir c sound p (pos 1) present (has_pieces schema) refl) p o row in
+      short (full o.nar 1 1 (finite.entries (pieces_in (rows_of c) p)) cut (ap is_some (in_list schema dir c sound p (pos 1)) ∙ present) ∙ size);
 }

@@ -12,7 +12,7 @@ use Rattle.tables_world.specs.Worlds.{rows_of, IsSoundBy}
 use Rattle.laws.specs.FaultyRows.{ExcludesFaultyReferences}
 use Rattle.tables_world.proofs.Recorded.{at_head, behind}
 use Rattle.tables_world.proofs.SoundParts.{some_key}
-use Rattle.tables_world.proofs.Told.{get-reference}
+use Rattle.tables_world.proofs.Reported.{get-reference}
 use Rattle.laws.proofs.FaultyRows.{clash, no_key, parts_of, untied, row_sound}
 
 -- a map has at least as many keys as there are different ones of a list in it
@@ -45,10 +45,10 @@ module _ (c : Contents) (p : Path) where
 
   pub references_exclude : ExcludesFaultyReferences c p
   references_exclude = record {
-    of_no_object = λ r there none dir schema sound. no_key none ((parts_of schema dir c sound).objects.references p r there).0;
-    to_no_object = λ r there none dir schema sound. no_key none ((parts_of schema dir c sound).objects.references p r there).1;
-    no_base_name = λ r there bad dir schema sound.
-        let o = some_key (finite.get c.objects r) ((parts_of schema dir c sound).objects.references p r there).1 in
+    of_no_object = λ r present none dir schema sound. no_key none ((parts_of schema dir c sound).objects.references p r present).0;
+    to_no_object = λ r present none dir schema sound. no_key none ((parts_of schema dir c sound).objects.references p r present).1;
+    no_base_name = λ r present bad dir schema sound.
+        let o = some_key (finite.get c.objects r) ((parts_of schema dir c sound).objects.references p r present).1 in
         clash bad (row_sound c r o.0 o.1 schema dir sound).path;
     too_many = λ references own are more dir schema sound. let most = no_more schema dir references sound own are in omega (arith, most, more);
   }

@@ -65,8 +65,8 @@ pub faulty_runtime : FaultyRuntimeAreUnsound
 faulty_runtime c label t row = record {
   no_label = λ none dir schema sound. let l = labelled c label t row schema dir sound in omega (arith, l.some, ap length none);
   label_too_long = λ more dir schema sound. let l = labelled c label t row schema dir sound in omega (arith, l.most, more);
-  low_byte = λ b there less dir schema sound. let l = labelled c label t row schema dir sound in omega (arith, l.low b there, less);
-  high_byte = λ b there more dir schema sound. let l = labelled c label t row schema dir sound in omega (arith, l.high b there, more);
+  low_byte = λ b present less dir schema sound. let l = labelled c label t row schema dir sound in omega (arith, l.low b present, less);
+  high_byte = λ b present more dir schema sound. let l = labelled c label t row schema dir sound in omega (arith, l.high b present, more);
   to_no_object = λ none dir schema sound. no_key none ((parts_of schema dir c sound).roots.runtime (label, t) row).1;
 }
 

@@ -25,7 +25,7 @@ use Rattle.laws.specs.FaultyRows.{ExcludesFaultySettings}
 use Rattle.tables_world.proofs.Columns.{bytes_antisymmetric}
 use Rattle.laws.proofs.Schemas.{names, schemas_differ}
 use Rattle.tables_world.proofs.SoundParts.{sound_by_parts}
-use Rattle.tables_world.proofs.Told.{get-piece, whole}
+use Rattle.tables_world.proofs.Reported.{get-piece, whole}
 
 -- ---- what can't be
 
@@ -33,7 +33,7 @@ pub clash : {b : Bool} → IsFalse b → IsTrue b → ⊥
 clash bad good = false≢true (sym bad ∙ good)
 
 pub no_key : {X : Type 0} {o : Option X} → o ≡ None → IsTrue (is_some o) → ⊥
-no_key none there = false≢true (sym (ap is_some none) ∙ there)
+no_key none present = false≢true (sym (ap is_some none) ∙ present)
 
 pub parts_of : (schema : Schema) (dir : List ℕ) (c : Contents) → IsSoundBy schema dir c → AreSoundParts schema dir (rows_of c)
 parts_of schema dir c sound = (sound_by_parts schema dir (rows_of c)).0 sound
@@ -61,10 +61,10 @@ settings_exclude c = record {
   not_the_first = λ other dir sound. other ((schemas_differ dir (rows_of c)).first sound).0.schema;
   not_the_second = λ other dir sound. other ((schemas_differ dir (rows_of c)).second sound).0.schema;
   not_the_third = λ other dir sound. other ((schemas_differ dir (rows_of c)).third sound).schema;
-  further_word = λ word no_schema no_directory there dir schema sound. no_key (ap (λ m. finite.get m word) sound.settings_are ∙ unset schema dir word no_schema no_directory) there;
-  piece_in_the_first = λ p n there dir sound. no_key (ap (λ m. finite.get m (p, n)) (sound.no_pieces refl) ∙ finite.get-empty _ (p, n)) there;
-  session_in_the_first = λ owner n t there dir sound. no_key (ap (λ m. finite.get m (owner, n, t)) (sound.no_temporary refl) ∙ finite.get-empty _ (owner, n, t)) there;
-  session_in_the_second = λ owner n t there dir sound. no_key (ap (λ m. finite.get m (owner, n, t)) (sound.no_temporary refl) ∙ finite.get-empty _ (owner, n, t)) there;
+  further_word = λ word no_schema no_directory present dir schema sound. no_key (ap (λ m. finite.get m word) sound.settings_are ∙ unset schema dir word no_schema no_directory) present;
+  piece_in_the_first = λ p n present dir sound. no_key (ap (λ m. finite.get m (p, n)) (sound.no_pieces refl) ∙ finite.get-empty _ (p, n)) present;
+  session_in_the_first = λ owner n t present dir sound. no_key (ap (λ m. finite.get m (owner, n, t)) (sound.no_temporary refl) ∙ finite.get-empty _ (owner, n, t)) present;
+  session_in_the_second = λ owner n t present dir sound. no_key (ap (λ m. finite.get m (owner, n, t)) (sound.no_temporary refl) ∙ finite.get-empty _ (owner, n, t)) present;
 }
 
 -- ---- archives

@@ -25,7 +25,7 @@ use Rattle.laws.specs.Changes.{Weigh, ReportsDeleted, FreesAsReported}
 use Rattle.model.proofs.MapMembers.{bytes_antisymmetric, key_listed, listed_key}
 use Rattle.model.proofs.Filtered.{in_filtered, from_filtered}
 use Rattle.model.proofs.Worlds.{get-keeping, kept_if}
-use Rattle.model.proofs.Limited.{leaves, is_taken, told, goes_or_stays}
+use Rattle.model.proofs.Limited.{leaves, is_taken, reported, goes_or_stays}
 
 -- ---- keys in order
 
@@ -89,7 +89,7 @@ module _ (w : World) (test gone : Path → Bool) (opposite : (p : Path) → IsTr
   tells = record {
     went = filter gone (all_paths w);
     bytes = bytes_in w (filter gone (all_paths w));
-    told = refl;
+    reported = refl;
     listed = λ p. (went p, goes p);
     in_order = IsStrictlySortedBy-filter bytes_cmp gone (all_paths w) (keys_rise bytes_cmp w.objects);
     weight = weighed w (filter gone (all_paths w)) (λ p c. (went p c).0);
@@ -106,7 +106,7 @@ collection_told s ignores None w c a new h =
     (tells w (lives s w) (λ p. not (lives s w p)) (λ p v. refl)))
 collection_told s ignores (Some limit) w c a new h =
     subst (λ x. ReportsDeleted w new x) (sym h.2) (subst (λ (u : World). ReportsDeleted w u (freed (collected_paths s w (Some limit)) (bytes_in w (collected_paths s w (Some limit))))) (sym h.3)
-    (subst (λ (ps : List Path). ReportsDeleted w (keeping w (leaves s w limit)) (freed ps (bytes_in w ps))) (sym (told s w limit)) (tells w (leaves s w limit) (is_taken s w limit) (goes_or_stays s w limit))))
+    (subst (λ (ps : List Path). ReportsDeleted w (keeping w (leaves s w limit)) (freed ps (bytes_in w ps))) (sym (reported s w limit)) (tells w (leaves s w limit) (is_taken s w limit) (goes_or_stays s w limit))))
 
 pub deletion_told : (s : Settings) (named : List Path) (ignores : Bool) → FreesAsReported s (delete named ignores)
 deletion_told s named ignores w c a new h =

@@ -20,7 +20,7 @@ pub mod LabelsAndOrder
 pub mod LabelsDiffer
 pub mod Leave
 pub mod NamedLive
-pub mod NotTold
+pub mod NotListed
 pub mod Numbers
 pub mod ObjectListings
 pub mod OneByOne
@@ -34,7 +34,7 @@ pub mod RelistedProfiles
 pub mod RelistedSessions
 pub mod RootChanges
 pub mod RootsBeside
-pub mod RootsTold
+pub mod RootsListed
 pub mod Schemas
 pub mod Sights
 pub mod SoundSteps

@@ -78,7 +78,7 @@ module _ (p : Profile) where
 
   is_top : (n : ℕ) → last_or None (numbers p) ≡ Some n → IsHighest p n
   is_top n e = record {
-    there = listed_key nat_cmp_total p.generations n (last_in (numbers p) n e);
+    present = listed_key nat_cmp_total p.generations n (last_in (numbers p) n e);
     greatest = λ m h. last_greatest (numbers p) n (keys_rise nat_cmp p.generations) e m (key_listed nat_antisymmetric p.generations m h);
   }
 
@@ -107,7 +107,7 @@ module _ (p : Profile) where
 
   -- without a previous one none is below the current
   pub none_below : IsFalse (is_some (previous p)) → (m : ℕ) → IsTrue (has_generation p m) → p.current ≤ m
-  none_below h m there = by (nat_lt m p.current) refl
+  none_below h m present = by (nat_lt m p.current) refl
     where
       none_of : (o : Option ℕ) → is_some o ≡ false → o ≡ None
       none_of None e = refl
@@ -115,13 +115,13 @@ module _ (p : Profile) where
 
       by : (b : Bool) → nat_lt m p.current ≡ b → p.current ≤ m
       by true e = absurd (last_none (filter (λ k. nat_lt k p.current) (numbers p)) (none_of (previous p) h) m
-          (in_filtered (λ k. nat_lt k p.current) (numbers p) m (key_listed nat_antisymmetric p.generations m there) e))
+          (in_filtered (λ k. nat_lt k p.current) (numbers p) m (key_listed nat_antisymmetric p.generations m present) e))
       by false e = ltb-false m p.current e
 
   pub before : (n : ℕ) → previous p ≡ Some n → IsPrevious p n
   before n e =
       let in_both = from_filtered (λ m. nat_lt m p.current) (numbers p) n (last_in (filter (λ m. nat_lt m p.current) (numbers p)) n e) in record {
-        there = listed_key nat_cmp_total p.generations n in_both.0;
+        present = listed_key nat_cmp_total p.generations n in_both.0;
         lower = ltb-true n p.current in_both.1;
         none_between = λ m h above below. contradiction above (last_greatest (filter (λ k. nat_lt k p.current) (numbers p)) n (IsStrictlySortedBy-filter nat_cmp (λ k. nat_lt k p.current) (numbers p) (keys_rise nat_cmp p.generations)) e m
             (in_filtered (λ k. nat_lt k p.current) (numbers p) m (key_listed nat_antisymmetric p.generations m h) (lt-ltb m p.current below)));

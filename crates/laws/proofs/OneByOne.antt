@@ -54,7 +54,7 @@ module _ (s : Settings) (w : World) (limit : ℕ) (size : Path → ℕ) (bytes :
 
   may_go : (gone left : List Path) (wanted : ℕ) → IsParted gone left wanted → 0 < wanted → (p : Path) → Contains left p → IsTrue (dead p) → is_referred_to (graph_of w) left p ≡ false → MayGo s w limit gone p
   may_go gone left wanted parted more p c d none = record {
-    there = parted.valid p c;
+    present = parted.valid p c;
     dead = not-true (lives s w p) d;
     fresh = λ k. parted.apart p k c;
     referrers = λ q o e r other. elim (parted.parts q (ap is_some e)) as (λ _. Contains gone q) [
@@ -68,7 +68,7 @@ module _ (s : Settings) (w : World) (limit : ℕ) (size : Path → ℕ) (bytes :
   -- what may go is left, is dead, and no other left refers to it
   is_left : (gone left : List Path) (wanted : ℕ) → IsParted gone left wanted → (q : Path) → MayGo s w limit gone q → Contains left q × IsTrue (dead q) × (is_referred_to (graph_of w) left q ≡ false)
   is_left gone left wanted parted q m = (
-    elim (parted.parts q m.there) as (λ _. Contains left q) [ inl k ↦ absurd (m.fresh k) | inr l ↦ l ],
+    elim (parted.parts q m.present) as (λ _. Contains left q) [ inl k ↦ absurd (m.fresh k) | inr l ↦ l ],
     ap not m.dead,
     false_from_ne_true (is_referred_to (graph_of w) left q) (λ h.
         let y = some_of_any (λ x. refers (graph_of w) x q) left h in

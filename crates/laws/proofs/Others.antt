@@ -98,21 +98,21 @@ module _ (w new : World) (owned : Pair) (n : ℕ) (h : LosesGeneration w owned n
   generation_lost : (owner : List ℕ) → OnlyLoses owner w new
   generation_lost owner = record {
     user_roots = λ name t e. ap (λ m. finite.get m (owner, name)) (sym h.change.user_roots) ∙ e;
-    profiles = λ name. stands name (same_pair (owner, name) owned);
+    profiles = λ name. exists name (same_pair (owner, name) owned);
     generations = λ name now e. before name now e (same_pair (owner, name) owned);
     temporary = λ session p e. ap (λ m. finite.contains_key m (record { owner = owner; session = session; path = p })) (sym h.change.temporary) ∙ e;
   }
     where
-      stands : (name : List ℕ) → ((owner, name) ≡ owned) ⊎ ((owner, name) ≡ owned → ⊥) → finite.contains_key new.profiles (owner, name) ≡ finite.contains_key w.profiles (owner, name)
-      stands name (inl is) = ap (λ k. finite.contains_key new.profiles k) is ∙ ap is_some h.change.stands ∙ sym (ap is_some h.stood) ∙ ap (λ k. finite.contains_key w.profiles k) (sym is)
-      stands name (inr other) = ap is_some (h.change.others (owner, name) other)
+      exists : (name : List ℕ) → ((owner, name) ≡ owned) ⊎ ((owner, name) ≡ owned → ⊥) → finite.contains_key new.profiles (owner, name) ≡ finite.contains_key w.profiles (owner, name)
+      exists name (inl is) = ap (λ k. finite.contains_key new.profiles k) is ∙ ap is_some h.change.exists ∙ sym (ap is_some h.stood) ∙ ap (λ k. finite.contains_key w.profiles k) (sym is)
+      exists name (inr other) = ap is_some (h.change.others (owner, name) other)
 
       before : (name : List ℕ) (now : Profile) → finite.get new.profiles (owner, name) ≡ Some now → ((owner, name) ≡ owned) ⊎ ((owner, name) ≡ owned → ⊥)
           → (was : Profile) × (finite.get w.profiles (owner, name) ≡ Some was) × HasNoMore was now
       before name now e (inl is) = (
         h.was,
         ap (λ k. finite.get w.profiles k) is ∙ h.stood,
-        subst (λ (x : Profile). HasNoMore h.was x) (same_Some h.now now (sym h.change.stands ∙ ap (λ k. finite.get new.profiles k) (sym is) ∙ e)) no_more,
+        subst (λ (x : Profile). HasNoMore h.was x) (same_Some h.now now (sym h.change.exists ∙ ap (λ k. finite.get new.profiles k) (sym is) ∙ e)) no_more,
       )
       before name now e (inr other) = (now, sym (h.change.others (owner, name) other) ∙ e, record { current = refl; current_target = refl; generations = λ m t g. g })
 

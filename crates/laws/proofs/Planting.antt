@@ -83,7 +83,7 @@ module _ (s : Settings) (w : World) (c : Caller) (q : Request) (calls : List (Ca
 
   came : (reply : Reply) (new : World) → Step s w c q reply new → IsWellFormed q → IsSound s.store_dir w → (p : Path) (o : Object) → finite.get new.objects p ≡ Some o → Came s w ((c, q) ∷ calls) p o
   came reply new step formed sound p o e = elim (cases_Bool (has w p)) as (λ _. Came s w ((c, q) ∷ calls) p o) [
-    | inl there ↦ stood (sym (nothing_replaced s w c q reply new step p there (ap is_some e)) ∙ e)
+    | inl present ↦ stood (sym (nothing_replaced s w c q reply new step p present (ap is_some e)) ∙ e)
     | inr fresh ↦ came_new reply new step formed sound p o fresh e
   ]
 

@@ -20,7 +20,7 @@ use lib.Dec.{T}
 
 change : (w : World) (owned : Pair) (now : Profile) → ChangesProfile w (with_profile w owned now) owned now
 change w owned now = record {
-  stands = at_inserted pair_total pair_antisymmetric w.profiles owned now;
+  exists = at_inserted pair_total pair_antisymmetric w.profiles owned now;
   others = λ other apart. beside_inserted pair_total pair_antisymmetric w.profiles owned now other apart;
   objects = refl;
   permanent = refl;
@@ -59,7 +59,7 @@ sets s w c owner name t a new h =
     let is = is_set p t in
     subst (λ (u : World). SetsProfile w (owner, name) t a u) (sym h.3) (record {
       number = number_for p t;
-      told = h.2;
+      reported = h.2;
       chosen = chosen p t;
       now = set_to p t;
       change = change w (owner, name) (set_to p t);
@@ -71,10 +71,10 @@ sets s w c owner name t a new h =
 -- ---- another generation becomes the current one
 
 moves : (w : World) (owned : Pair) (n : ℕ) → IsTrue (has_profile w owned) → IsTrue (has_generation (profile_at w owned) n) → MovesTo w owned n (with_profile w owned (switched (profile_at w owned) n))
-moves w owned n h there = record {
+moves w owned n h present = record {
   was = profile_at w owned;
   stood = stood (finite.get w.profiles owned) h;
-  there = there;
+  present = present;
   now = switched (profile_at w owned) n;
   change = change w owned (switched (profile_at w owned) n);
   current = refl;
@@ -87,7 +87,7 @@ unfolding moves
 goes_back w owned None e h some = absurd (false≢true some)
 goes_back w owned (Some n) e h some =
     let is = before (profile_at w owned) n e in
-    record { number = n; told = refl; moves = moves w owned n h is.there; chosen = is }
+    record { number = n; reported = refl; moves = moves w owned n h is.present; chosen = is }
 
 pub rolls_back : RollsBackAsSpecified
 rolls_back s w c owner name a new h =
@@ -119,7 +119,7 @@ deletes_generations s w c owner name n a new h = (
   subst (λ (u : World). LosesGeneration w (owner, name) n u) (sym h.3) (record {
     was = profile_at w (owner, name);
     stood = stood (finite.get w.profiles (owner, name)) (met (has_profile w (owner, name)) _ (each_passed (tests s w (delete_generation owner name n)) h.1 _ (1, omega arith, refl)));
-    there = met (has_generation (profile_at w (owner, name)) n) _ (each_passed (tests s w (delete_generation owner name n)) h.1 _ (2, omega arith, refl));
+    present = met (has_generation (profile_at w (owner, name)) n) _ (each_passed (tests s w (delete_generation owner name n)) h.1 _ (2, omega arith, refl));
     not_current = differs (profile_at w (owner, name)).current n (met (not ((profile_at w (owner, name)).current == n)) _ (each_passed (tests s w (delete_generation owner name n)) h.1 _ (3, omega arith, refl)));
     now = without_generation (profile_at w (owner, name)) n;
     change = change w (owner, name) (without_generation (profile_at w (owner, name)) n);

@@ -27,7 +27,7 @@ relisted s w c Holds is = record {
       let x = (root_listings_tell s w c).all a new h in
       record {
         shown = x.shown;
-        told = x.told;
+        reported = x.reported;
         exactly = λ r. ((λ k. (is r).0 ((x.exactly r).0 k)), (λ k. (x.exactly r).1 ((is r).1 k)));
         in_order = x.in_order;
       };
@@ -35,7 +35,7 @@ relisted s w c Holds is = record {
       let x = (root_listings_tell s w c).of p a new h in
       record {
         shown = x.shown;
-        told = x.told;
+        reported = x.reported;
         exactly = λ r. ((λ k. let both = (x.exactly r).0 k in ((is r).0 both.0, both.1)), (λ k. (x.exactly r).1 ((is r).1 k.0, k.1)));
         in_order = x.in_order;
       };
@@ -61,8 +61,8 @@ module _ (w new : World) (name : List ℕ) (k : ChangesPermanent w new name) whe
   }
 
   -- and still stands
-  stands : (r : Root) → CoexistedWith w permanent (permanent_label name) r → Contains (roots_of new) r
-  stands r s = of_kind permanent (Contains (roots_of new)) r
+  exists : (r : Root) → CoexistedWith w permanent (permanent_label name) r → Contains (roots_of new) r
+  exists r s = of_kind permanent (Contains (roots_of new)) r
       (λ is. permanents w (λ x. (x.label ≡ permanent_label name → ⊥) → Contains (roots_of new) x)
       (λ n t e f. (each_root new).permanent n t (k.others n (λ same. f (ap permanent_label same)) ∙ e)) r s.stood is (s.other is))
       (λ f. moved permanent w new (turned permanent new w agree) r f s.stood)
@@ -81,17 +81,17 @@ module _ (w new : World) (name : List ℕ) (k : ChangesPermanent w new name) whe
   pub permanent_gone : finite.contains_key new.permanent name ≡ false → (r : Root) → Contains (roots_of new) r ↔ CoexistedWith w permanent (permanent_label name) r
   permanent_gone gone r = (
     permanent_roots (CoexistedWith w permanent (permanent_label name)) (λ x b. b) (λ t e. absurd (false≢true (sym gone ∙ ap is_some e))) r,
-    stands r,
+    exists r,
   )
 
   pub permanent_there : (p : Path) → finite.get new.permanent name ≡ Some p
       → (r : Root) → Contains (roots_of new) r ↔ ((r ≡ permanent_root (name, p)) ⊎ CoexistedWith w permanent (permanent_label name) r)
-  permanent_there p there r = (
+  permanent_there p present r = (
     permanent_roots (λ x. (x ≡ permanent_root (name, p)) ⊎ CoexistedWith w permanent (permanent_label name) x) (λ x b. inr b)
-        (λ t e. inl (ap (λ (q : Path). permanent_root (name, q)) (same_Some t p (sym e ∙ there)))) r,
+        (λ t e. inl (ap (λ (q : Path). permanent_root (name, q)) (same_Some t p (sym e ∙ present)))) r,
     λ h. elim h as (λ _. Contains (roots_of new) r) [
-      | inl is ↦ subst (Contains (roots_of new)) (sym is) ((each_root new).permanent name p there)
-      | inr b ↦ stands r b
+      | inl is ↦ subst (Contains (roots_of new)) (sym is) ((each_root new).permanent name p present)
+      | inr b ↦ exists r b
     ],
   )
 
@@ -139,11 +139,11 @@ module _ (dir : List ℕ) (w new : World) (sound : IsSound dir w) (owner name : 
 
   pub user_there : (p : Path) → finite.get new.user_roots (owner, name) ≡ Some p
       → (r : Root) → Contains (roots_of new) r ↔ ((r ≡ user_root ((owner, name), p)) ⊎ CoexistedWith w user (user_label owner name) r)
-  user_there p there r = (
+  user_there p present r = (
     user_roots_now (λ x. (x ≡ user_root ((owner, name), p)) ⊎ CoexistedWith w user (user_label owner name) x) (λ x b. inr b)
-        (λ t e. inl (ap (λ (q : Path). user_root ((owner, name), q)) (same_Some t p (sym e ∙ there)))) r,
+        (λ t e. inl (ap (λ (q : Path). user_root ((owner, name), q)) (same_Some t p (sym e ∙ present)))) r,
     λ h. elim h as (λ _. Contains (roots_of new) r) [
-      | inl is ↦ subst (Contains (roots_of new)) (sym is) ((each_root new).user (owner, name) p there)
+      | inl is ↦ subst (Contains (roots_of new)) (sym is) ((each_root new).user (owner, name) p present)
       | inr b ↦ stands_user r b
     ],
   )

@@ -41,7 +41,7 @@ module _ (w new : World) (owned : Pair) (now : Profile) (k : ChangesProfile w ne
     where
       by : (o : Pair) (q : Profile) (m : ℕ) (t : Path) → finite.get new.profiles o ≡ Some q → finite.get q.generations m ≡ Some t → (o ≡ owned) ⊎ (o ≡ owned → ⊥) → P (generation_root o (m, t))
       by o q m t e g (inl same) =
-          let is : q ≡ now = same_Some q now (sym e ∙ ap (finite.get new.profiles) same ∙ k.stands) in
+          let is : q ≡ now = same_Some q now (sym e ∙ ap (finite.get new.profiles) same ∙ k.exists) in
           subst (λ (x : Pair). P (generation_root x (m, t))) (sym same) (here m t (ap (λ (x : Profile). finite.get x.generations m) (sym is) ∙ g))
       by o q m t e g (inr apart) = others o q m t apart (sym (k.others o apart) ∙ e) g
 
@@ -83,14 +83,14 @@ module _ (w new : World) (owned : Pair) (p : Path) (a : Answer) (x : SetsProfile
     forward w new owned x.now x.change (λ y. (y ≡ generation_root owned (x.number, p)) ⊎ Contains (roots_of w) y) (λ y c _. inr c)
         (λ o q m t _ e g. inr ((each_root w).generation o q m t e g)) (λ m t e. now_or_before m t e (same_or_not nat_cmp_total nat_antisymmetric m x.number)) r,
     λ h. elim h as (λ _. Contains (roots_of new) r) [
-      | inl is ↦ subst (Contains (roots_of new)) (sym is) there
+      | inl is ↦ subst (Contains (roots_of new)) (sym is) present
       | inr c ↦ backward w new owned x.now x.change (Contains (roots_of new)) (λ y d. d)
           (λ q m t e g. still m t (ap (λ o. finite.get (profile_or_new o).generations m) e ∙ g) (same_or_not nat_cmp_total nat_antisymmetric m x.number)) r c
     ],
   )
     where
-      there : Contains (roots_of new) (generation_root owned (x.number, p))
-      there = (each_root new).generation owned x.now x.number p x.change.stands x.target
+      present : Contains (roots_of new) (generation_root owned (x.number, p))
+      present = (each_root new).generation owned x.now x.number p x.change.exists x.target
 
       now_or_before : (m : ℕ) (t : Path) → finite.get x.now.generations m ≡ Some t → (m ≡ x.number) ⊎ (m ≡ x.number → ⊥)
           → (generation_root owned (m, t) ≡ generation_root owned (x.number, p)) ⊎ Contains (roots_of w) (generation_root owned (m, t))
@@ -102,8 +102,8 @@ module _ (w new : World) (owned : Pair) (p : Path) (a : Answer) (x : SetsProfile
       still : (m : ℕ) (t : Path) → finite.get (profile_at w owned).generations m ≡ Some t → (m ≡ x.number) ⊎ (m ≡ x.number → ⊥) → Contains (roots_of new) (generation_root owned (m, t))
       still m t e (inl same) =
           let target : t ≡ p = taken t (ap (finite.get (profile_at w owned).generations) (sym same) ∙ e) in
-          subst (Contains (roots_of new)) (λ i. generation_root owned (sym same i, sym target i)) there
-      still m t e (inr apart) = (each_root new).generation owned x.now m t x.change.stands (x.others m apart ∙ e)
+          subst (Contains (roots_of new)) (λ i. generation_root owned (sym same i, sym target i)) present
+      still m t e (inr apart) = (each_root new).generation owned x.now m t x.change.exists (x.others m apart ∙ e)
 
 -- ---- another generation becomes the current one
 
@@ -112,7 +112,7 @@ generations_stay w new owned n x r = (
   forward w new owned x.now x.change (Contains (roots_of w)) (λ y c _. c) (λ o q m t _ e g. (each_root w).generation o q m t e g)
       (λ m t e. (each_root w).generation owned x.was m t x.stood (ap (λ g. finite.get g m) (sym x.generations) ∙ e)) r,
   backward w new owned x.now x.change (Contains (roots_of new)) (λ y d. d)
-      (λ q m t e g. (each_root new).generation owned x.now m t x.change.stands
+      (λ q m t e g. (each_root new).generation owned x.now m t x.change.exists
       (ap (λ y. finite.get y m) x.generations ∙ ap (λ (y : Profile). finite.get y.generations m) (same_Some x.was q (sym x.stood ∙ e)) ∙ g)) r,
 )
 
@@ -122,11 +122,11 @@ module _ (dir : List ℕ) (w new : World) (sound : IsSound dir w) (owner name : 
   -- the label of another generation is another
   label_apart : (o : Pair) (q : Profile) (m : ℕ) → finite.get w.profiles o ≡ Some q → IsTrue (has_generation q m) → generation_label o.0 o.1 m ≡ generation_label owner name n
       → (o.0 ≡ owner) × (o.1 ≡ name) × (m ≡ n)
-  label_apart o q m e there =
+  label_apart o q m e present =
       let mine = sound.profiles (owner, name) x.was x.stood in
       let theirs = sound.profiles o q e in
-      let low : n ≤ 9999 = mine.highest n x.there in
-      let small : m ≤ 9999 = theirs.highest m there in
+      let low : n ≤ 9999 = mine.highest n x.present in
+      let small : m ≤ 9999 = theirs.highest m present in
       same_generation o.0 owner o.1 name m n theirs.owner mine.owner (omega (arith, small)) (omega (arith, low))
 
   apart_from : (o : Pair) (q : Profile) (m : ℕ) (t : Path) → finite.get w.profiles o ≡ Some q → finite.get q.generations m ≡ Some t → (o ≡ (owner, name) → m ≡ n → ⊥)
@@ -150,4 +150,4 @@ module _ (dir : List ℕ) (w new : World) (sound : IsSound dir w) (owner name : 
       left m t e (inr apart) = apart_from (owner, name) x.was m t x.stood (sym (x.others m apart) ∙ e) (λ _ is. apart is)
 
       still : (m : ℕ) (t : Path) → finite.get x.was.generations m ≡ Some t → (m ≡ n → ⊥) → Contains (roots_of new) (generation_root (owner, name) (m, t))
-      still m t e apart = (each_root new).generation (owner, name) x.now m t x.change.stands (x.others m apart ∙ e)
+      still m t e apart = (each_root new).generation (owner, name) x.now m t x.change.exists (x.others m apart ∙ e)

@@ -67,7 +67,7 @@ module _ (w new : World) (added : Temporary) (k : AddsTemporary w added new) whe
         (λ is. temporaries new (λ x. (x ≡ temporary_root added) ⊎ Contains (roots_of w) x) (λ t h. forth t h (same_or_not temporary_total temporary_antisymmetric t added)) r c is)
         (λ apart. inr (moved temporary new w (but_temporary w new k.rest) r apart c)),
     λ h. elim h as (λ _. Contains (roots_of new) r) [
-      | inl is ↦ subst (Contains (roots_of new)) (sym is) ((each_root new).temporary added k.there)
+      | inl is ↦ subst (Contains (roots_of new)) (sym is) ((each_root new).temporary added k.present)
       | inr c ↦ of_kind temporary (Contains (roots_of new)) r
           (λ is. temporaries w (Contains (roots_of new)) (λ t h. back t h (same_or_not temporary_total temporary_antisymmetric t added)) r c is)
           (λ apart. moved temporary w new (turned temporary new w (but_temporary w new k.rest)) r apart c)
@@ -79,7 +79,7 @@ module _ (w new : World) (added : Temporary) (k : AddsTemporary w added new) whe
       forth t h (inr apart) = inr ((each_root w).temporary t (sym (k.others t apart) ∙ h))
 
       back : (t : Temporary) → IsTrue (finite.contains_key w.temporary t) → (t ≡ added) ⊎ (t ≡ added → ⊥) → Contains (roots_of new) (temporary_root t)
-      back t h (inl same) = (each_root new).temporary t (ap (finite.contains_key new.temporary) same ∙ k.there)
+      back t h (inl same) = (each_root new).temporary t (ap (finite.contains_key new.temporary) same ∙ k.present)
       back t h (inr apart) = (each_root new).temporary t (k.others t apart ∙ h)
 
 in_bounds : (n : ℕ) → IsTrue (is_session n) → n < 2 ^ 64
@@ -157,7 +157,7 @@ sets_are_told s w c mid next sound = record {
       relisted s mid next (λ r. (r ≡ user_root ((owner, name), p)) ⊎ CoexistedWith w user (user_label owner name) r) (user_there s.store_dir w mid sound owner name plain.0 x.2 p x.1);
   generation_ = λ owner name p n h.
       let x = sets s w c owner name p (generation n) mid h in
-      relisted s mid next (λ r. (r ≡ generation_root (owner, name) (n, p)) ⊎ Contains (roots_of w) r) (subst (λ (m : ℕ). (r : Root) → Contains (roots_of mid) r ↔ ((r ≡ generation_root (owner, name) (m, p)) ⊎ Contains (roots_of w) r)) (sym (ap number_in x.told)) (generation_there w mid (owner, name) p (generation n) x));
+      relisted s mid next (λ r. (r ≡ generation_root (owner, name) (n, p)) ⊎ Contains (roots_of w) r) (subst (λ (m : ℕ). (r : Root) → Contains (roots_of mid) r ↔ ((r ≡ generation_root (owner, name) (m, p)) ⊎ Contains (roots_of w) r)) (sym (ap number_in x.reported)) (generation_there w mid (owner, name) p (generation n) x));
   back = λ owner name a h. let x = rolls_back s w c owner name a mid h in relisted s mid next (Contains (roots_of w)) (generations_stay w mid (owner, name) x.number x.moves);
   switch_ = λ owner name n a h. relisted s mid next (Contains (roots_of w)) (generations_stay w mid (owner, name) n (switches s w c owner name n a mid h).1);
   session_ = λ owner session p a h. relisted s mid next (λ r. (r ≡ temporary_root (record { owner = owner; session = session; path = p })) ⊎ Contains (roots_of w) r) (added_now w mid (record { owner = owner; session = session; path = p }) (adds_for_sessions s w c owner session p a mid h).1);

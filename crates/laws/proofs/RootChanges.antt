@@ -97,7 +97,7 @@ module _ (w : World) (pairs : List Pair) where
 
   replaced : ReplacesRuntime w pairs (runtime_count (finite.len (valid_pairs w pairs))) (with_runtime w (valid_pairs w pairs))
   replaced = record {
-    told = refl;
+    reported = refl;
     roots = λ pair. (given pair, taken pair);
     objects = refl;
     permanent = refl;
@@ -114,7 +114,7 @@ replaces s w c pairs a new h =
 
 added : (w : World) (t : Temporary) → AddsTemporary w t (with_temporary w t)
 added w t = record {
-  there = contains_key-inserted temporary_total temporary_antisymmetric w.temporary t tt;
+  present = contains_key-inserted temporary_total temporary_antisymmetric w.temporary t tt;
   others = λ other apart. ap is_some (beside_inserted temporary_total temporary_antisymmetric w.temporary t tt other apart);
   rest = record { objects = refl; permanent = refl; user_roots = refl; profiles = refl; runtime = refl };
 }
@@ -138,7 +138,7 @@ module _ (w : World) (owner : List ℕ) (session : ℕ) where
   ends : Ends w owner session (temporary_count (finite.len (of_session w owner session))) (without_session w owner session)
   ends = record {
     went = finite.keys (of_session w owner session);
-    told = ap temporary_count (finite.len-entries (of_session w owner session) ∙ sym (length-map (finite.entries (of_session w owner session)) (λ (e : Temporary × Unit {0}). e.0)));
+    reported = ap temporary_count (finite.len-entries (of_session w owner session) ∙ sym (length-map (finite.entries (of_session w owner session)) (λ (e : Temporary × Unit {0}). e.0)));
     listed = λ t. (
       (λ k. let parts = retained_key temporary_antisymmetric w.temporary (is_of_session owner session) t (listed_key temporary_total (of_session w owner session) t k) in let both = of t parts.0 in (parts.1, both.0, both.1)),
       (λ k. key_listed temporary_antisymmetric (of_session w owner session) t

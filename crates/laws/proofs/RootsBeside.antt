@@ -80,9 +80,9 @@ same_place j k e = same_kinds j k (ap (λ n. nat_cmp n (place k)) e ∙ tied_its
 
 -- what holds of a root if it is of this kind, and if it isn't, holds
 pub of_kind : (k : Kind) (P : Root → Type 0) (r : Root) → (r.kind ≡ k → P r) → ((r.kind ≡ k → ⊥) → P r) → P r
-of_kind k P r here there = elim (same_or_not nat_cmp_total nat_antisymmetric (place r.kind) (place k)) as (λ _. P r) [
+of_kind k P r here present = elim (same_or_not nat_cmp_total nat_antisymmetric (place r.kind) (place k)) as (λ _. P r) [
   | inl same ↦ here (same_place r.kind k same)
-  | inr apart ↦ there (λ is. apart (ap place is))
+  | inr apart ↦ present (λ is. apart (ap place is))
 ]
 
 pub beside : (w : World) (k : Kind) (label : List ℕ) (r : Root) → Contains (roots_of w) r → (r.kind ≡ k → ⊥) → CoexistedWith w k label r

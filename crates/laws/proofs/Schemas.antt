@@ -55,10 +55,10 @@ pub pieces_count_from_one : PiecesCountFromOne
 pieces_count_from_one schema dir c sound p n h = by (finite.get c.objects p) refl (sound.pieces p n h) (has_pieces schema) refl
   where
     by : (o : Option Stored) → finite.get c.objects p ≡ o → IsTrue (is_some o) → (b : Bool) → has_pieces schema ≡ b → (m : ℕ) × (n ≡ pos m) × (1 ≤ m)
-    by None e there b f = absurd (false≢true there)
-    by (Some o) e there true f =
+    by None e present b f = absurd (false≢true present)
+    by (Some o) e present true f =
         numbered o.nar 1 (finite.entries (pieces_in c p)) (omega arith) (sound.cut f p o e) n (sym (finite.contains_key-keys (pieces_in c p) n) ∙ ap is_some (piece_at c p n) ∙ h)
-    by (Some o) e there false f =
+    by (Some o) e present false f =
         absurd (false≢true (sym (ap is_some (ap (λ m. finite.get m (p, n)) (sound.no_pieces f) ∙ finite.get-empty _ (p, n))) ∙ h))
 
 -- ---- sessions

@@ -34,7 +34,7 @@ use Rattle.laws.proofs.Usages.{adds_up}
 tells : (p : Path) (o : Object) → ReportsObject p o (record_of (info_of p o))
 tells p o = record {
   record_ = info_of p o;
-  told = refl;
+  reported = refl;
   path = refl;
   hash = refl;
   size = refl;
@@ -61,7 +61,7 @@ archives_are_the_objects s w c p a new h = by (finite.get w.objects p) refl (met
 handed : (dir : List ℕ) (h : Submitted) (o : Object) (a : Answer) → IsAsSubmitted dir h o → ReportsObject h.path o a → ReportsSubmitted h a
 handed dir h o a is t = record {
   record_ = t.record_;
-  told = t.told;
+  reported = t.reported;
   path = t.path;
   hash = t.hash ∙ ap sha256 is.nar;
   size = t.size ∙ ap length is.nar;
@@ -72,9 +72,9 @@ handed dir h o a is t = record {
 }
 
 pub recorded : (s : Settings) (q : Request) (h : Submitted) → AddsExactly s q h → RecordsAdds s q h
-recorded s q h adds w c reply mid step d fresh next a last told =
+recorded s q h adds w c reply mid step d fresh next a last reported =
     let gained = (adds w c reply mid step d).1.fresh fresh in
-    let x = records_tell s mid next h.path a last told in
+    let x = records_tell s mid next h.path a last reported in
     let one : x.0 ≡ gained.0 = same_Some x.0 gained.0 (sym x.1 ∙ gained.1) in
     handed s.store_dir h gained.0 a gained.2 (subst (λ (o : Object). ReportsObject h.path o a) one x.2)
 
@@ -107,9 +107,9 @@ module _ (s : Settings) (w : World) where
 
 pub listings_tell : ListingsAreExact
 listings_tell s w c = record {
-  all = λ a new h. record { listed = all_paths w; told = h.2; exactly = valid_listed s w; in_order = keys_rise bytes_cmp w.objects };
-  live = λ a new h. record { listed = live_paths s w; told = h.2; exactly = live_listed s w; in_order = IsStrictlySortedBy-filter bytes_cmp (lives s w) (all_paths w) (keys_rise bytes_cmp w.objects) };
-  dead = λ a new h. record { listed = dead_paths s w; told = h.2; exactly = dead_listed s w; in_order = IsStrictlySortedBy-filter bytes_cmp (λ p. not (lives s w p)) (all_paths w) (keys_rise bytes_cmp w.objects) };
+  all = λ a new h. record { listed = all_paths w; reported = h.2; exactly = valid_listed s w; in_order = keys_rise bytes_cmp w.objects };
+  live = λ a new h. record { listed = live_paths s w; reported = h.2; exactly = live_listed s w; in_order = IsStrictlySortedBy-filter bytes_cmp (lives s w) (all_paths w) (keys_rise bytes_cmp w.objects) };
+  dead = λ a new h. record { listed = dead_paths s w; reported = h.2; exactly = dead_listed s w; in_order = IsStrictlySortedBy-filter bytes_cmp (λ p. not (lives s w p)) (all_paths w) (keys_rise bytes_cmp w.objects) };
 }
 
 in_rise : (w : World) → IsStrictlySortedBy root_cmp (roots_of w)
@@ -117,10 +117,10 @@ in_rise w = rise (explicit_roots w ++ runtime_roots w ++ temporary_roots w)
 
 pub root_listings_tell : RootListingsAreExact
 root_listings_tell s w c = record {
-  all = λ a new h. record { shown = roots_of w; told = h.2; exactly = λ r. ((λ k. k), (λ k. k)); in_order = in_rise w };
+  all = λ a new h. record { shown = roots_of w; reported = h.2; exactly = λ r. ((λ k. k), (λ k. k)); in_order = in_rise w };
   of = λ p a new h. record {
     shown = filter (λ r. reaches (keep_of s) (graph_of w) r.target p) (roots_of w);
-    told = h.2;
+    reported = h.2;
     exactly = λ r. (
       (λ k. let parts = from_filtered (λ (x : Root). reaches (keep_of s) (graph_of w) x.target p) (roots_of w) r k in (parts.0, (decided (keep_of s) (graph_of w) r.target p).0 parts.1)),
       (λ k. in_filtered (λ (x : Root). reaches (keep_of s) (graph_of w) x.target p) (roots_of w) r k.0 ((decided (keep_of s) (graph_of w) r.target p).1 k.1)),
@@ -139,7 +139,7 @@ reports_tell s w c a new h =
       dead = dead_paths s w;
       live_bytes = bytes_in w (live_paths s w);
       dead_bytes = bytes_in w (dead_paths s w);
-      told = h.2 ∙ (λ i. usage (usage_of w (live_paths s w)) (usage_of w (dead_paths s w)) (record { paths = sym sums.paths i; bytes = sym sums.bytes i }));
+      reported = h.2 ∙ (λ i. usage (usage_of w (live_paths s w)) (usage_of w (dead_paths s w)) (record { paths = sym sums.paths i; bytes = sym sums.bytes i }));
       is_live = live_listed s w;
       is_dead = dead_listed s w;
       live_weight = weighed w (live_paths s w) (λ p k. live_has s w p ((live_listed s w p).0 k));

@@ -53,7 +53,7 @@ pub record IsAsSubmitted (dir : List ℕ) (a : Submitted) (o : Object) : Type 0 
 -- From the one world to the other its object came: none where the path was valid already, and else this one alone; each
 -- other object, and all roots and profiles, are as they were.
 pub record Gains (dir : List ℕ) (a : Submitted) (w new : World) : Type 0 where
-  pub there : IsTrue (has w a.path) → new ≡ w
+  pub present : IsTrue (has w a.path) → new ≡ w
   pub fresh : IsFalse (has w a.path) → (o : Object) × (finite.get new.objects a.path ≡ Some o) × IsAsSubmitted dir a o
   pub others : (p : Path) → (p ≡ a.path → ⊥) → finite.get new.objects p ≡ finite.get w.objects p
   pub roots : KeepsRoots w new
@@ -89,7 +89,7 @@ Weigh w (p ∷ ps) n = (o : Object) × (rest : ℕ) × (finite.get w.objects p �
 pub record ReportsDeleted (w new : World) (a : Answer) : Type 0 where
   pub went : List Path
   pub bytes : ℕ
-  pub told : a ≡ freed went bytes
+  pub reported : a ≡ freed went bytes
   pub listed : (p : Path) → Contains went p ↔ (IsTrue (has w p) × IsFalse (has new p))
   pub in_order : IsStrictlySortedBy bytes_cmp went
   pub weight : Weigh w went bytes

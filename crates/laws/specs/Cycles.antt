@@ -10,7 +10,7 @@ use Rattle.live.specs.Limited.{next_group}
 -- a group of the paths left: the least of them that is dead, and all of them that reach it by references
 pub record IsCycle (g : Graph) (dead : Path → Bool) (left group : List Path) : Type 0 where
   pub path : Path
-  pub there : Contains left path
+  pub present : Contains left path
   pub is_dead : IsTrue (dead path)
   pub least : (q : Path) → Contains left q → IsTrue (dead q) → bytes_cmp q path ≡ Less → ⊥
   pub members : (q : Path) → Contains group q ↔ (Contains left q × IsTrue (reaches references_alone g q path))

@@ -11,7 +11,7 @@ use Rattle.model.specs.Step.{Step}
 
 -- one profile is this one after, and nothing else changed
 pub record ChangesProfile (w new : World) (owned : Pair) (now : Profile) : Type 0 where
-  pub stands : finite.get new.profiles owned ≡ Some now
+  pub exists : finite.get new.profiles owned ≡ Some now
   pub others : (other : Pair) → (other ≡ owned → ⊥) → finite.get new.profiles other ≡ finite.get w.profiles other
   pub objects : new.objects ≡ w.objects
   pub permanent : new.permanent ≡ w.permanent
@@ -23,7 +23,7 @@ pub record ChangesProfile (w new : World) (owned : Pair) (now : Profile) : Type 
 
 -- the greatest number of a generation
 pub record IsHighest (p : Profile) (n : ℕ) : Type 0 where
-  pub there : IsTrue (has_generation p n)
+  pub present : IsTrue (has_generation p n)
   pub greatest : (m : ℕ) → IsTrue (has_generation p m) → m ≤ n
 
 -- The number that a path gets: that of the highest generation, if it's the path's; the next one, if it isn't; 1, if there's none.
@@ -35,7 +35,7 @@ pub data IsNumberFor (p : Profile) (t : Path) (n : ℕ) : Type 0 where
 -- The answer is the number that the path gets; this generation is the current one, and is the path's; every other is as it was.
 pub record SetsProfile (w : World) (owned : Pair) (t : Path) (a : Answer) (new : World) : Type 0 where
   pub number : ℕ
-  pub told : a ≡ generation number
+  pub reported : a ≡ generation number
   pub chosen : IsNumberFor (profile_at w owned) t number
   pub now : Profile
   pub change : ChangesProfile w new owned now
@@ -54,7 +54,7 @@ SetsAsSpecified = (s : Settings) (w : World) (c : Caller) (owner name : List ℕ
 pub record MovesTo (w : World) (owned : Pair) (n : ℕ) (new : World) : Type 0 where
   pub was : Profile
   pub stood : finite.get w.profiles owned ≡ Some was
-  pub there : IsTrue (has_generation was n)
+  pub present : IsTrue (has_generation was n)
   pub now : Profile
   pub change : ChangesProfile w new owned now
   pub current : now.current ≡ n
@@ -62,14 +62,14 @@ pub record MovesTo (w : World) (owned : Pair) (n : ℕ) (new : World) : Type 0 w
 
 -- the generation before the current one: it is lower, and none is between the two
 pub record IsPrevious (p : Profile) (n : ℕ) : Type 0 where
-  pub there : IsTrue (has_generation p n)
+  pub present : IsTrue (has_generation p n)
   pub lower : n < p.current
   pub none_between : (m : ℕ) → IsTrue (has_generation p m) → n < m → m < p.current → ⊥
 
 -- the answer is the number of that generation, to which the profile goes back
 pub record RollsBack (w : World) (owned : Pair) (a : Answer) (new : World) : Type 0 where
   pub number : ℕ
-  pub told : a ≡ generation number
+  pub reported : a ≡ generation number
   pub moves : MovesTo w owned number new
   pub chosen : IsPrevious moves.was number
 
@@ -89,7 +89,7 @@ SwitchesAsSpecified = (s : Settings) (w : World) (c : Caller) (owner name : List
 pub record LosesGeneration (w : World) (owned : Pair) (n : ℕ) (new : World) : Type 0 where
   pub was : Profile
   pub stood : finite.get w.profiles owned ≡ Some was
-  pub there : IsTrue (has_generation was n)
+  pub present : IsTrue (has_generation was n)
   pub not_current : was.current ≡ n → ⊥
   pub now : Profile
   pub change : ChangesProfile w new owned now

@@ -11,7 +11,7 @@ use Rattle.model.specs.Step.{Step}
 
 -- a label and its target are among the roots that are answered
 abbrev pub Shows : Answer → Pair → Type 0
-Shows (roots told) pair = Contains told pair
+Shows (roots reported) pair = Contains reported pair
 Shows _ pair = ⊥
 
 -- a caller who asks gets a label with its target: of all roots, and of those that reach the target

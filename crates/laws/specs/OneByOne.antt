@@ -21,7 +21,7 @@ HasNoCycle w = (p q : Path) → Reaches references_alone (graph_of w) p q → Re
 -- A path may go once these are gone: it is valid and dead, and isn't gone yet; all that refer to it are gone, but for itself; and the
 -- archives of those that are gone have fewer bytes than the limit.
 pub record MayGo (s : Settings) (w : World) (limit : ℕ) (gone : List Path) (p : Path) : Type 0 where
-  pub there : IsTrue (has w p)
+  pub present : IsTrue (has w p)
   pub dead : IsFalse (lives s w p)
   pub fresh : Contains gone p → ⊥
   pub referrers : (q : Path) (o : Object) → finite.get w.objects q ≡ Some o → IsTrue (finite.contains_key o.references p) → (q ≡ p → ⊥) → Contains gone q

@@ -45,7 +45,7 @@ ReadingChangesNothing = (s : Settings) (w : World) (c : Caller) (q : Request) (r
 -- a record says exactly what an object has: each reference once, in the order of paths
 pub record ReportsObject (p : Path) (o : Object) (a : Answer) : Type 0 where
   pub record_ : Info
-  pub told : a ≡ record_of record_
+  pub reported : a ≡ record_of record_
   pub path : record_.path ≡ p
   pub hash : record_.hash ≡ sha256 o.nar
   pub size : record_.size ≡ length o.nar
@@ -71,7 +71,7 @@ ListingsAreTheObjects = (s : Settings) (w : World) (c : Caller) (p : Path) (a : 
 -- a record says exactly what was passed
 pub record ReportsSubmitted (h : Submitted) (a : Answer) : Type 0 where
   pub record_ : Info
-  pub told : a ≡ record_of record_
+  pub reported : a ≡ record_of record_
   pub path : record_.path ≡ h.path
   pub hash : record_.hash ≡ sha256 h.nar
   pub size : record_.size ≡ length h.nar
@@ -90,7 +90,7 @@ RecordsAdds s q h = (w : World) (c : Caller) (reply : Reply) (mid : World) → S
 -- the paths of which something holds, in order and each once
 pub record ListsExactly (Holds : Path → Type 0) (a : Answer) : Type 0 where
   pub listed : List Path
-  pub told : a ≡ paths listed
+  pub reported : a ≡ paths listed
   pub exactly : (p : Path) → Contains listed p ↔ Holds p
   pub in_order : IsStrictlySortedBy bytes_cmp listed
 
@@ -106,7 +106,7 @@ ListingsAreExact = (s : Settings) (w : World) (c : Caller) → PathsAreListed s 
 -- the roots of which something holds, in order and each once, as the caller sees them
 pub record ShowsExactly (s : Settings) (c : Caller) (Holds : Root → Type 0) (a : Answer) : Type 0 where
   pub shown : List Root
-  pub told : a ≡ roots (seen (class_of s c) shown)
+  pub reported : a ≡ roots (seen (class_of s c) shown)
   pub exactly : (r : Root) → Contains shown r ↔ Holds r
   pub in_order : IsStrictlySortedBy root_cmp shown
 
@@ -127,7 +127,7 @@ pub record ReportsUsage (s : Settings) (w : World) (a : Answer) : Type 0 where
   pub dead : List Path
   pub live_bytes : ℕ
   pub dead_bytes : ℕ
-  pub told : a ≡ usage (record { paths = length live; bytes = live_bytes }) (record { paths = length dead; bytes = dead_bytes })
+  pub reported : a ≡ usage (record { paths = length live; bytes = live_bytes }) (record { paths = length dead; bytes = dead_bytes })
       (record { paths = length live + length dead; bytes = live_bytes + dead_bytes })
   pub is_live : (p : Path) → Contains live p ↔ IsTrue (lives s w p)
   pub is_dead : (p : Path) → Contains dead p ↔ (IsTrue (has w p) × IsFalse (lives s w p))

@@ -55,7 +55,7 @@ DropsUserRoots = (s : Settings) (w : World) (c : Caller) (owner name : List ℕ)
 
 -- the runtime roots are the pairs that are given whose targets are valid, and the answer is their number; nothing else changed
 pub record ReplacesRuntime (w : World) (pairs : List Pair) (a : Answer) (new : World) : Type 0 where
-  pub told : a ≡ runtime_count (finite.len new.runtime)
+  pub reported : a ≡ runtime_count (finite.len new.runtime)
   pub roots : (pair : Pair) → IsTrue (finite.contains_key new.runtime pair) ↔ (Contains pairs pair × IsTrue (has w pair.1))
   pub objects : new.objects ≡ w.objects
   pub permanent : new.permanent ≡ w.permanent
@@ -79,7 +79,7 @@ pub record KeepsAllButTemporary (w new : World) : Type 0 where
 
 -- one that is added is there, and each other is as it was
 pub record AddsTemporary (w : World) (added : Temporary) (new : World) : Type 0 where
-  pub there : IsTrue (finite.contains_key new.temporary added)
+  pub present : IsTrue (finite.contains_key new.temporary added)
   pub others : (t : Temporary) → (t ≡ added → ⊥) → finite.contains_key new.temporary t ≡ finite.contains_key w.temporary t
   pub rest : KeepsAllButTemporary w new
 
@@ -91,7 +91,7 @@ AddsForSessions = (s : Settings) (w : World) (c : Caller) (owner : List ℕ) (se
 -- were deleted, in order and each once.
 pub record Ends (w : World) (owner : List ℕ) (session : ℕ) (a : Answer) (new : World) : Type 0 where
   pub went : List Temporary
-  pub told : a ≡ temporary_count (length went)
+  pub reported : a ≡ temporary_count (length went)
   pub listed : (t : Temporary) → Contains went t ↔ (IsTrue (finite.contains_key w.temporary t) × (t.owner ≡ owner) × (t.session ≡ session))
   pub in_order : IsStrictlySortedBy temporary_cmp went
   pub gone : (t : Temporary) → t.owner ≡ owner → t.session ≡ session → IsFalse (finite.contains_key new.temporary t)

@@ -37,6 +37,6 @@ pub fn first_faults_are_reported()
 /// the named that lives.
 pub fn refusals_and_denials_have_reasons()
     ensures refusals { RefusalsHaveReasons }
-    ensures told { MentionedAreValid }
+    ensures reported { MentionedAreValid }
     ensures denials { DenialsAreForTheFirst }
 {}

@@ -65,13 +65,13 @@ module _ (rows : List Row) (rise : Rise (paths_of rows)) where
   any_way : (keep : Keep) (named marks : List ℕ) → All (λ t. t < length rows) named → IsBackward keep (numbered rows) named marks → (i : ℕ) → i < length rows
       → nat_lt (slice_index marks i) 1 ≡ list_any (reaches keep (graph_of rows) (path_at rows i)) (map (path_at rows) named)
   any_way keep named marks aims back i h =
-      same_bools (nat_lt (slice_index marks i) 1) (list_any (reaches keep (graph_of rows) (path_at rows i)) (map (path_at rows) named)) there here
+      same_bools (nat_lt (slice_index marks i) 1) (list_any (reaches keep (graph_of rows) (path_at rows i)) (map (path_at rows) named)) present here
     where
       exact : (slice_index marks i < 1) ↔ ReachesAny keep (numbered rows) named i
       exact = back.exact i (omega (arith, h, numbers))
 
-      there : IsTrue (nat_lt (slice_index marks i) 1) → IsTrue (list_any (reaches keep (graph_of rows) (path_at rows i)) (map (path_at rows) named))
-      there m =
+      present : IsTrue (nat_lt (slice_index marks i) 1) → IsTrue (list_any (reaches keep (graph_of rows) (path_at rows i)) (map (path_at rows) named))
+      present m =
           let r = exact.0 (ltb-true (slice_index marks i) 1 m) in
           any_from (reaches keep (graph_of rows) (path_at rows i)) (map (path_at rows) named) (path_at rows r.end) (
             r.is_named.0,

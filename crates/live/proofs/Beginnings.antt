@@ -41,13 +41,13 @@ begun_none m referrers ready empty heap = record {
 pub begun_more : (m : Marking) (referrers : List ℕ) (n : ℕ) (dead : List Bool) (ready new : List (Reverse ℕ)) (b : Bool) → IsBegun m referrers n dead ready → b ≡ is_none (first_of m n)
     → IsHeap least_first new → ((r : Reverse ℕ) → Contains new r → Contains ready r ⊎ ((r ≡ at n) × (slice_index referrers n ≡ 0))) → ((r : Reverse ℕ) → Contains ready r → Contains new r)
     → (slice_index referrers n ≡ 0 → Contains new (at n)) → IsBegun m referrers (n + 1) (dead ++ b ∷ []) new
-begun_more m referrers n dead ready new b i is heap told kept noted = record {
+begun_more m referrers n dead ready new b i is heap reported kept noted = record {
   count = length_push dead b ∙ ap (λ k. k + 1) i.count;
   deads = λ k h. elim (cases_lt k n) as (λ _. is_in (dead ++ b ∷ []) k ≡ is_none (first_of m k)) [
     | inl lt ↦ get_or_append_left dead (b ∷ []) false k (let c = i.count in omega arith) ∙ i.deads k lt
     | inr ge ↦ (let same : n ≡ k = omega arith in subst (λ j. is_in (dead ++ b ∷ []) j ≡ is_none (first_of m j)) same (get_or_push dead b false n i.count ∙ is))
   ];
-  waits = λ r c. elim (told r c) as (λ _. (r.0 < n + 1) × (slice_index referrers r.0 ≡ 0)) [
+  waits = λ r c. elim (reported r c) as (λ _. (r.0 < n + 1) × (slice_index referrers r.0 ≡ 0)) [
     | inl old ↦ (let w = i.waits r old in ((let l = w.0 in omega arith), w.1))
     | inr fresh ↦ (
         let e : r.0 ≡ n = ap (λ (q : Reverse ℕ). q.0) fresh.0 in
@@ -91,12 +91,12 @@ module _ (es : List Entries) (m : Marking) (referrers : List ℕ) (n : ℕ) (dea
 
   pub begun : length referrers ≡ length es → ((t : ℕ) → t < length es → slice_index referrers t ≡ sum_by (λ q. times es q t) (range_with_len 0 (length es)))
       → IsRemaining es nothing_owed (record { dead = dead; left = left; referrers = referrers; ready = ready })
-  begun counts told = record {
+  begun counts reported = record {
     deads = i.count ∙ all;
     places = count;
     counts = counts;
     counted = λ t h. (
-        let a = told t h in
+        let a = reported t h in
         let b = all_same (times_left es left t) (λ q. times es q t) (length es) (λ q l. ap (λ (c : Bool). if c then times es q t else 0) (left_at q l)) in
         let c = ap (λ k. sum_by (times_left es left t) (range_with_len 0 k)) count in
         omega (arith, a, b, c));

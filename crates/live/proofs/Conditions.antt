@@ -65,8 +65,8 @@ pub record ValidBelow (rows : List NumberedRow) (roots : List Root) (n : ℕ) : 
   pub valid : (k : ℕ) → k < n → Contains (paths_of rows) (root_at roots k).target
 
 pub valid_more : (rows : List NumberedRow) → Rise (paths_of rows) → (given : List RawRoot) (n : ℕ) (x : RawRoot) (o : Option ℕ) → n < length given → x ≡ get_or given n x → o ≡ place_of (paths_of rows) x.target.now → (r : Bool) → is_some o ≡ not r → r ≡ false → ValidBelow rows (roots_view given) n → ValidBelow rows (roots_view given) (n + 1)
-valid_more rows rise given n x None h at is r some there v = absurd (false≢true (some ∙ ap not there))
-valid_more rows rise given n x (Some b) h at is r some there v = record {
+valid_more rows rise given n x None h at is r some present v = absurd (false≢true (some ∙ ap not present))
+valid_more rows rise given n x (Some b) h at is r some present v = record {
   valid = λ k l. elim (cases_lt k n) as (λ _. Contains (paths_of rows) (root_at (roots_view given) k).target) [
     | inl lt ↦ v.valid k lt
     | inr ge ↦ (

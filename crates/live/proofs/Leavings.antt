@@ -74,18 +74,18 @@ module _ (es : List Entries) (p x : ℕ) (xs : List ℕ) (s t : Remaining) (othe
           let c = r.counted u h in
           let n = times_past p x u xs differs in
           let l = ap (λ (bs : List Bool). referred es bs u) left in
-          let a = there u differs in
+          let a = present u differs in
           omega (arith, c, n, l, a))
     ];
     waits = λ y c. elim (cases_ready y c) as (λ _. (y.0 < length es) × (slice_index t.referrers y.0 ≡ 0)) [
       | inl new ↦ (subst (λ (z : Reverse ℕ). z.0 < length es) new.0 inside, subst (λ (z : Reverse ℕ). slice_index t.referrers z.0 ≡ 0) new.0 (let o = new.1 in omega (arith, here)))
       | inr old ↦ (let w = r.waits y old in let differs : x ≡ y.0 → ⊥ = λ e. (let q = ap (slice_index s.referrers) e in let z = w.1 in omega (arith, positive, q, z)) in
-          (w.0, there y.0 differs ∙ w.1))
+          (w.0, present y.0 differs ∙ w.1))
     ];
     complete = λ u h d l z. elim (cases_eq x u) as (λ _. Contains t.ready (at u)) [
       | inl e ↦ subst (λ v. Contains t.ready (at v)) e (Contains-permutation (if slice_index s.referrers x == 1 then at x ∷ s.ready else s.ready) t.ready (at x) ready
           (subst (λ (b : Bool). Contains (if b then at x ∷ s.ready else s.ready) (at x)) (sym (eq-eqb (slice_index s.referrers x) 1 (let q = ap (slice_index t.referrers) e in omega (arith, z, q, here, positive)))) (at_head (at x) s.ready)))
-      | inr differs ↦ kept (at u) (r.complete u h (subst (λ (bs : List Bool). IsTrue (is_in bs u)) dead d) (subst (λ (bs : List Bool). IsTrue (is_in bs u)) left l) (sym (there u differs) ∙ z))
+      | inr differs ↦ kept (at u) (r.complete u h (subst (λ (bs : List Bool). IsTrue (is_in bs u)) dead d) (subst (λ (bs : List Bool). IsTrue (is_in bs u)) left l) (sym (present u differs) ∙ z))
     ];
     ordered = ordered;
   }
@@ -93,8 +93,8 @@ module _ (es : List Entries) (p x : ℕ) (xs : List ℕ) (s t : Remaining) (othe
       here : slice_index t.referrers x ≡ slice_index s.referrers x - 1
       here = ap (λ (ns : List ℕ). slice_index ns x) referrers ∙ get_or-set_same s.referrers x (slice_index s.referrers x - 1) 0 (let c = r.counts in omega (arith, inside))
 
-      there : (u : ℕ) → (x ≡ u → ⊥) → slice_index t.referrers u ≡ slice_index s.referrers u
-      there u differs = ap (λ (ns : List ℕ). slice_index ns u) referrers ∙ get_or-set_other s.referrers x u (slice_index s.referrers x - 1) 0 (λ e. differs (sym e))
+      present : (u : ℕ) → (x ≡ u → ⊥) → slice_index t.referrers u ≡ slice_index s.referrers u
+      present u differs = ap (λ (ns : List ℕ). slice_index ns u) referrers ∙ get_or-set_other s.referrers x u (slice_index s.referrers x - 1) 0 (λ e. differs (sym e))
 
       kept : (y : Reverse ℕ) → Contains s.ready y → Contains t.ready y
       kept y c = Contains-permutation (if slice_index s.referrers x == 1 then at x ∷ s.ready else s.ready) t.ready y ready (by (slice_index s.referrers x == 1))

@@ -64,10 +64,10 @@ module _ (rows : List Row) (rise : Rise (paths_of rows)) where
   alone q = append-nil ((entries_at (numbered rows) q).references ++ []) ∙ append-nil (entries_at (numbered rows) q).references
 
   pub refers_is : (q p : ℕ) → q < length rows → p < length rows → refers (graph_of rows) (path_at rows q) (path_at rows p) ≡ nat_lt 0 (times (numbered rows) q p)
-  refers_is q p hq hp = same_bools (refers (graph_of rows) (path_at rows q) (path_at rows p)) (nat_lt 0 (times (numbered rows) q p)) there here
+  refers_is q p hq hp = same_bools (refers (graph_of rows) (path_at rows q) (path_at rows p)) (nat_lt 0 (times (numbered rows) q p)) present here
     where
-      there : IsTrue (refers (graph_of rows) (path_at rows q) (path_at rows p)) → IsTrue (nat_lt 0 (times (numbered rows) q p))
-      there h =
+      present : IsTrue (refers (graph_of rows) (path_at rows q) (path_at rows p)) → IsTrue (nat_lt 0 (times (numbered rows) q p))
+      present h =
           let parts = and_parts (not (same (path_at rows q) (path_at rows p))) (is_edge references_alone (graph_of rows) (path_at rows q) (path_at rows p)) h in
           let other : q ≡ p → ⊥ = λ e. false≢true (sym (ap not (at_same q p e)) ∙ parts.0) in
           let edge = from_edge rows rise references_alone q p hq hp ((edge_decided references_alone (graph_of rows) (path_at rows q) (path_at rows p)).0 parts.1) in

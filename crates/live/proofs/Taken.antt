@@ -6,14 +6,14 @@ use Rattle.std.proofs.lemmas.Bool.{cases_eq}
 use Rattle.std.proofs.lemmas.List.{length-map, get_or-map}
 use Rattle.live.specs.Graph.{Keep}
 use Rattle.live.specs.Places.{Entries, AllInside, Walks, Reaches, edges_at, no_entries}
-use Rattle.live.specs.Marking.{Frontier, IsMarking, IsDequeued, NoneWaits, Waits, cost, marked_cost, told}
+use Rattle.live.specs.Marking.{Frontier, IsMarking, IsDequeued, NoneWaits, Waits, cost, marked_cost, reported}
 use Rattle.live.proofs.Fronts.{Grows, mark_at, nothing_costs, taken_costs, taken_or_waits, taken_still, waiting_cost}
 use Rattle.live.proofs.Walks.{IsWalk, edge_inside, further, less}
 
 module _ (keep : Keep) (rows : List Entries) (targets : List ℕ) (inside : AllInside rows) (aims : All (λ t. t < length rows) targets) where
   -- an object that waited is taken
   pub taken : (root place : ℕ) (f h g : Frontier) (s t : ℕ) → root < length targets → IsWalk keep rows targets (root + 1) f s → h.first ≡ f.first → IsDequeued f.waiting h.waiting place
-      → Grows (length targets) root h g (edges_at keep rows place) → told t ≡ told (s + (1 + length (edges_at keep rows place))) → IsWalk keep rows targets (root + 1) g t
+      → Grows (length targets) root h g (edges_at keep rows place) → reported t ≡ reported (s + (1 + length (edges_at keep rows place))) → IsWalk keep rows targets (root + 1) g t
   taken root place f h g s t below w firsts works grows stepped = record {
     places = grows.places ∙ ap length firsts ∙ w.places;
     count = grows.fits.count ∙ grows.places ∙ ap length firsts ∙ w.places;
@@ -98,7 +98,7 @@ module _ (keep : Keep) (rows : List Entries) (targets : List ℕ) (inside : AllI
     steps = spent;
   }
     where
-      spent : s ≡ told (length targets + marked_cost n (map (cost keep) rows) f.first)
+      spent : s ≡ reported (length targets + marked_cost n (map (cost keep) rows) f.first)
       spent =
           let t = w.paid.1 in
           let u = w.paid.2 in

@@ -4,7 +4,7 @@ use Rattle.std.specs.Prelude.{count_by, nat_le, All}
 use Rattle.std.specs.List.{slice_index}
 use Rattle.live.specs.Graph.{Keep}
 use Rattle.live.specs.Places.{Entries, AllInside, edges_at}
-use Rattle.live.specs.Marking.{Frontier, IsMarking, IsDequeued, NoneWaits, reached, all_reached, told}
+use Rattle.live.specs.Marking.{Frontier, IsMarking, IsDequeued, NoneWaits, reached, all_reached, reported}
 use Rattle.live.proofs.Fronts.{AreMarked, Grows, one, grows, none_waits, taken_counts, taken_length, taken_still, waiting_count}
 use Rattle.live.proofs.Walks.{IsWalk, are_marked, edge_inside, start, begin}
 use Rattle.live.proofs.Taken.{taken, finish}
@@ -20,7 +20,7 @@ module _ (keep : Keep) (rows : List Entries) (targets : List ℕ) (inside : AllI
       )
 
   pub begin_at : (root n target : ℕ) (f g : Frontier) (s t : ℕ) → root < n → n ≡ length targets → target ≡ slice_index targets root → NoneWaits f.waiting → IsWalk keep rows targets root f s
-      → g ≡ reached n root f target → t ≡ told (s + 1) → IsWalk keep rows targets (root + 1) g t
+      → g ≡ reached n root f target → t ≡ reported (s + 1) → IsWalk keep rows targets (root + 1) g t
   begin_at root n target f g s t before en at empty w is stepped =
       let below : root < length targets = omega arith in
       let same : g ≡ reached (length targets) root f (slice_index targets root) = is ∙ ap (λ k. reached k root f target) en ∙ ap (reached (length targets) root f) at in
@@ -42,7 +42,7 @@ module _ (keep : Keep) (rows : List Entries) (targets : List ℕ) (inside : AllI
         subst (λ x. Grows (length targets) root h x (edges_at keep rows place)) (sym same)
         (grows (length targets) root (omega arith) h (edges_at keep rows place) marked (λ j c. (let b = edge_inside keep rows inside place j c in let l = ap length firsts in let p = w.places in omega arith)))
 
-    pub taken_at : (t : ℕ) → told t ≡ told (s + (1 + length (edges_at keep rows place))) → IsWalk keep rows targets (root + 1) g t
+    pub taken_at : (t : ℕ) → reported t ≡ reported (s + (1 + length (edges_at keep rows place))) → IsWalk keep rows targets (root + 1) g t
     taken_at t stepped = taken keep rows targets inside aims root place f h g s t (omega arith) w firsts works grown stepped
 
     pub smaller : count_by (λ m. nat_le n m) g.first + waiting_count g.waiting < count_by (λ m. nat_le n m) f.first + waiting_count f.waiting

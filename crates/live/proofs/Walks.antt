@@ -7,7 +7,7 @@ use Rattle.std.proofs.lemmas.List.{length-map, length-replicate, get_or-replicat
 use Rattle.std.proofs.lemmas.List.Elements.{Contains-append_left, Contains-append_right, Contains-append_cases}
 use Rattle.live.specs.Graph.{Keep}
 use Rattle.live.specs.Places.{Entries, AllInside, Walks, Reaches, counting, edges_at, entries_at, held}
-use Rattle.live.specs.Marking.{Frontier, NoneWaits, Waits, cost, marked_cost, told}
+use Rattle.live.specs.Marking.{Frontier, NoneWaits, Waits, cost, marked_cost, reported}
 use Rattle.live.proofs.Fronts.{AreMarked, Grows, mark_at, none_waits, nothing_costs, waiting_cost}
 use Rattle.live.proofs.Members.{no_member, at_head, cases}
 
@@ -25,7 +25,7 @@ pub record IsWalk (keep : Keep) (rows : List Entries) (targets : List ℕ) (begu
   -- what waits was marked by the latest root
   pub waits : (i : ℕ) → Waits f.waiting i → (i < length rows) × (mark_at f i + 1 ≡ begun)
   -- a step for each root, and the costs of the objects that are marked and don't wait
-  pub paid : (n : ℕ) × (told steps ≡ told n) × (n + waiting_cost (map (cost keep) rows) f.waiting ≡ begun + marked_cost (length targets) (map (cost keep) rows) f.first)
+  pub paid : (n : ℕ) × (reported steps ≡ reported n) × (n + waiting_cost (map (cost keep) rows) f.waiting ≡ begun + marked_cost (length targets) (map (cost keep) rows) f.first)
 
 -- what counts is held
 pub held_if_counting : (keep : Keep) (e : Entries) (j : ℕ) → Contains (counting keep e) j → Contains (held e) j
@@ -84,7 +84,7 @@ module _ (keep : Keep) (rows : List Entries) (targets : List ℕ) (inside : AllI
 
   -- a root is begun
   pub begin : (root : ℕ) (f g : Frontier) (s t : ℕ) → root < length targets → NoneWaits f.waiting → IsWalk keep rows targets root f s
-      → Grows (length targets) root f g (slice_index targets root ∷ []) → told t ≡ told (s + 1) → IsWalk keep rows targets (root + 1) g t
+      → Grows (length targets) root f g (slice_index targets root ∷ []) → reported t ≡ reported (s + 1) → IsWalk keep rows targets (root + 1) g t
   begin root f g s t below empty w grows stepped = record {
     places = grows.places ∙ w.places;
     count = grows.fits.count ∙ grows.places ∙ w.places;

@@ -3,7 +3,7 @@ ghost use Rattle.std.specs.Prelude.{◌≡◌, ◌+◌, ◌≤◌, ◌<◌, [], 
 ghost use Rattle.std.specs.List.{slice_range};
 ghost use Rattle.live.specs.Places.{edges_at, entries_at, held};
 ghost use Rattle.live.specs.Keeping.{keep_view};
-ghost use Rattle.live.specs.Marking.{all_reached, told};
+ghost use Rattle.live.specs.Marking.{all_reached, reported};
 
 use crate::keeping::Keep;
 use crate::numbered::{Graph, Walker};
@@ -28,7 +28,7 @@ impl Walk {
         requires to { to ≤ length (held (entries_at graph.now place)) }
         ensures places { OnOk result (length self.new.first ≡ length graph.now) }
         ensures reached { OnOk result (self.new ≡ all_reached none root self.old (slice_range (held (entries_at graph.now place)) from to)) }
-        ensures counted { OnOk result (told walker.new ≡ told (walker.old + length (slice_range (held (entries_at graph.now place)) from to))) }
+        ensures counted { OnOk result (reported walker.new ≡ reported (walker.old + length (slice_range (held (entries_at graph.now place)) from to))) }
     {
         for entry in from..to {
             let target = walker.entry(graph, place, entry);
@@ -55,7 +55,7 @@ impl Walk {
         requires to { to ≤ length (held (entries_at graph.now place)) }
         ensures places { OnOk result (length self.new.first ≡ length graph.now) }
         ensures reached { OnOk result (self.new ≡ all_reached none root self.old (if counts then slice_range (held (entries_at graph.now place)) from to else [])) }
-        ensures counted { OnOk result (told walker.new ≡ told (walker.old + length (if counts then slice_range (held (entries_at graph.now place)) from to else []))) }
+        ensures counted { OnOk result (reported walker.new ≡ reported (walker.old + length (if counts then slice_range (held (entries_at graph.now place)) from to else []))) }
     {
         if counts {
             return self.look(walker, graph, none, root, place, from, to);
@@ -76,7 +76,7 @@ impl Walk {
         requires place { place < length graph.now }
         requires places { length self.old.first ≡ length graph.now }
         ensures reached { OnOk result (self.new ≡ all_reached none root self.old (edges_at (keep_view keep) graph.now place)) }
-        ensures counted { OnOk result (told walker.new ≡ told (walker.old + (1 + length (edges_at (keep_view keep) graph.now place)))) }
+        ensures counted { OnOk result (reported walker.new ≡ reported (walker.old + (1 + length (edges_at (keep_view keep) graph.now place)))) }
     {
         let has = walker.object(graph, place);
         self.look(walker, graph, none, root, place, 0, has.references)?;

@@ -67,13 +67,13 @@ impl Marks {
 /// Marks each live path with the first root that reaches it.
 ///
 /// ```rust
-/// use live::{Graph, Keep, Kind, Root, Roots, Row};
-/// use paths::StorePath;
+/// use live::{Graph, Keep, Root, Roots, Row};
+/// use paths::{RootKind, StorePath};
 ///
 /// let path = StorePath::from_base(alloc, "00000000000000000000000000000000-p")?;
 /// let rows = [Row { path: &path, references: &[], outputs: &[], deriver: None }];
 /// let graph = Graph::new(alloc, &rows)?;
-/// let roots = Roots::new(alloc, &rows, &[Root { kind: Kind::User, target: &path, label: "ann/p" }])?;
+/// let roots = Roots::new(alloc, &rows, &[Root { kind: RootKind::User, target: &path, label: "ann/p" }])?;
 /// let keep = Keep { outputs: false, derivations: true };
 /// assert_eq!(rt; live::mark(alloc, &graph, &roots, keep)?.first_root(0), Some(0));
 /// ```

@@ -3,7 +3,7 @@ ghost use Rattle.std.specs.Prelude.{◌≡◌, ℕ, ◌+◌, ◌<◌, ◌++◌, 
 ghost use Rattle.std.specs.List.{slice_index};
 ghost use Rattle.live.specs.Places.{AllInside, Entries, entries_at, held};
 ghost use Rattle.live.specs.Flat.{IsFlat, entries_in};
-ghost use Rattle.live.specs.Marking.{told};
+ghost use Rattle.live.specs.Marking.{reported};
 
 mod conditions;
 mod guesses;
@@ -14,7 +14,7 @@ mod rows;
 mod texts;
 
 pub use conditions::{are_valid, do_rise};
-pub use rows::{Kind, Root, Row};
+pub use rows::{Root, Row};
 use std::marker::Model;
 
 /// Where an object's entries begin, kind after kind, and where the last of them ends.
@@ -121,7 +121,7 @@ impl Walker {
     pub(crate) fn root(&mut self, roots: &Roots, root: usize) -> usize
         requires { root < length roots.now }
         ensures value { result ≡ slice_index roots.now root }
-        ensures counted { self.new ≡ told (self.old + 1) }
+        ensures counted { self.new ≡ reported (self.old + 1) }
     {
         self.steps = self.steps.saturating_add(1);
         roots.targets[root]
@@ -133,7 +133,7 @@ impl Walker {
         ensures references { result.references ≡ length (entries_at graph.now place).references }
         ensures outputs { result.outputs ≡ result.references + length (entries_at graph.now place).outputs }
         ensures all { result.all ≡ result.outputs + length (entries_at graph.now place).deriver }
-        ensures counted { self.new ≡ told (self.old + 1) }
+        ensures counted { self.new ≡ reported (self.old + 1) }
     {
         self.steps = self.steps.saturating_add(1);
         let span = graph.spans[place];
@@ -150,7 +150,7 @@ impl Walker {
         requires entry { entry < length (held (entries_at graph.now place)) }
         ensures value { result ≡ slice_index (held (entries_at graph.now place)) entry }
         ensures inside { result < length graph.now }
-        ensures counted { self.new ≡ told (self.old + 1) }
+        ensures counted { self.new ≡ reported (self.old + 1) }
     {
         self.steps = self.steps.saturating_add(1);
         let first = graph.spans[place].references;

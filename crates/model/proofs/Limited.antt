@@ -197,10 +197,10 @@ module _ (s : Settings) (w : World) (limit : ℕ) where
   unfolding groups
   reference_stays p o e r c h =
       let was = found_in w.objects leaves p o e in
-      let there : IsTrue (has w p) = ap is_some was.1 in
-      let valid : IsTrue (is_valid (graph_of w) p) = valid_is w p ∙ there in
+      let present : IsTrue (has w p) = ap is_some was.1 in
+      let valid : IsTrue (is_valid (graph_of w) p) = valid_is w p ∙ present in
       let left : holds (collected_paths s w (Some limit)) p ≡ false = not-true _ was.0 in
-      let out : IsTrue (in_groups groups p) → ⊥ = λ k. false≢true (sym left ∙ goes_then p there k) in
+      let out : IsTrue (in_groups groups p) → ⊥ = λ k. false≢true (sym left ∙ goes_then p present k) in
       let stays : IsTrue (leaves r) = not_from_false _ (false_from_ne_true _ (λ gone.
       (all_taken (graph_of w) (λ x. not (lives s w x)) (size_of w) upward limit).1 p r (holds_valid (graph_of w) p valid) out (in_one r gone) (reference_edge w p r o was.1 c h) valid)) in
       ap is_some (kept_if w.objects leaves r stays) ∙ h
@@ -209,9 +209,9 @@ module _ (s : Settings) (w : World) (limit : ℕ) where
   pub is_taken : Path → Bool
   is_taken p = in_groups groups p
 
-  pub told : collected_paths s w (Some limit) ≡ filter is_taken (all_paths w)
+  pub reported : collected_paths s w (Some limit) ≡ filter is_taken (all_paths w)
   unfolding groups is_taken
-  told = ap (filter (in_groups groups)) (keys_of_graph w)
+  reported = ap (filter (in_groups groups)) (keys_of_graph w)
 
   pub goes_or_stays : (p : Path) → IsTrue (has w p) → is_taken p ≡ not (leaves p)
   unfolding is_taken

@@ -39,10 +39,10 @@ use Rattle.model.proofs.Unseen.{like, lives_alike}
 -- ---- the first of two lists of roots that are alike
 
 module _ (A B : List Root) (p : Root → Bool) (alike : (x : Root) → IsTrue (p x) → (y : Root) → censored x ≡ censored y → IsTrue (p y))
-    (there : (x : Root) → Contains A x → (y : Root) × Contains B y × (censored x ≡ censored y))
+    (present : (x : Root) → Contains A x → (y : Root) × Contains B y × (censored x ≡ censored y))
     (back : (x : Root) → Contains B x → (y : Root) × Contains A y × (censored x ≡ censored y)) where
   on_there : (x : Root) → Contains (in_order A) x → (y : Root) × Contains (in_order B) y × (censored x ≡ censored y)
-  on_there x c = let y = there x (member_ordered A x c) in (y.0, ordered_member B y.0 y.1, y.2)
+  on_there x c = let y = present x (member_ordered A x c) in (y.0, ordered_member B y.0 y.1, y.2)
 
   on_back : (x : Root) → Contains (in_order B) x → (y : Root) × Contains (in_order A) y × (censored x ≡ censored y)
   on_back x c = let y = back x (member_ordered B x c) in (y.0, ordered_member A y.0 y.1, y.2)
@@ -67,9 +67,9 @@ module _ (A B : List Root) (p : Root → Bool) (alike : (x : Root) → IsTrue (p
 
 -- ---- one world, two sets of runtime roots
 
-module _ (s : Settings) (w : World) (r1 r2 : Set pair_cmp) (there : TargetsAreIn r1 r2) (back : TargetsAreIn r2 r1) where
+module _ (s : Settings) (w : World) (r1 r2 : Set pair_cmp) (present : TargetsAreIn r1 r2) (back : TargetsAreIn r2 r1) where
   lives_same : (p : Path) → lives s (with_runtime w r1) p ≡ lives s (with_runtime w r2) p
-  lives_same p = lives_alike s w r1 r2 there back p
+  lives_same p = lives_alike s w r1 r2 present back p
 
   verdict_same : (c : Caller) (q : Request) → verdict s (with_runtime w r1) c q ≡ verdict s (with_runtime w r2) c q
   verdict_same c q = λ i. rules.verdict (class_of s c) c (operation_of q) (list_any (λ p. lives_same p i) (named_in q))
@@ -86,7 +86,7 @@ module _ (s : Settings) (w : World) (r1 r2 : Set pair_cmp) (there : TargetsAreIn
 
   first_same : (p : Path) → option_map censored (first_root_of s (with_runtime w r1) p) ≡ option_map censored (first_root_of s (with_runtime w r2) p)
   first_same p = first_alike (roots_of (with_runtime w r1)) (roots_of (with_runtime w r2)) (λ (r : Root). reaches (keep_of s) (graph_of w) r.target p)
-      (reaching_alike p) (like w r1 r2 there) (like w r2 r1 back) _ _ refl refl
+      (reaching_alike p) (like w r1 r2 present) (like w r2 r1 back) _ _ refl refl
 
   -- ---- what is seen of roots
 
@@ -117,7 +117,7 @@ module _ (s : Settings) (w : World) (r1 r2 : Set pair_cmp) (there : TargetsAreIn
   all_seen : (c : Caller) → IsFalse (is_trusted (class_of s c)) → seen (class_of s c) (roots_of (with_runtime w r1)) ≡ seen (class_of s c) (roots_of (with_runtime w r2))
   all_seen c other = seen_same c other (roots_of (with_runtime w r1)) (roots_of (with_runtime w r2)) (
       hidden_all (explicit_roots w ++ runtime_roots (with_runtime w r1) ++ temporary_roots w)
-      ∙ ap (λ (zs : List Root). each_once (map plain zs)) (same_order (map censored (roots_of (with_runtime w r1))) (map censored (roots_of (with_runtime w r2))) (hidden_member r1 r2 there) (hidden_member r2 r1 back))
+      ∙ ap (λ (zs : List Root). each_once (map plain zs)) (same_order (map censored (roots_of (with_runtime w r1))) (map censored (roots_of (with_runtime w r2))) (hidden_member r1 r2 present) (hidden_member r2 r1 back))
       ∙ sym (hidden_all (explicit_roots w ++ runtime_roots (with_runtime w r2) ++ temporary_roots w)))
 
   some_seen : (c : Caller) → IsFalse (is_trusted (class_of s c)) → (p : Path)
@@ -127,7 +127,7 @@ module _ (s : Settings) (w : World) (r1 r2 : Set pair_cmp) (there : TargetsAreIn
       let test = λ (r : Root). reaches (keep_of s) (graph_of w) r.target p in
       seen_same c other (filter test (roots_of (with_runtime w r1))) (filter test (roots_of (with_runtime w r2))) (
       hidden_some test (explicit_roots w ++ runtime_roots (with_runtime w r1) ++ temporary_roots w)
-      ∙ ap (λ (zs : List Root). each_once (map plain zs)) (same_order (map censored (filter test (roots_of (with_runtime w r1)))) (map censored (filter test (roots_of (with_runtime w r2)))) (reaching_member r1 r2 there p) (reaching_member r2 r1 back p))
+      ∙ ap (λ (zs : List Root). each_once (map plain zs)) (same_order (map censored (filter test (roots_of (with_runtime w r1)))) (map censored (filter test (roots_of (with_runtime w r2)))) (reaching_member r1 r2 present p) (reaching_member r2 r1 back p))
       ∙ sym (hidden_some test (explicit_roots w ++ runtime_roots (with_runtime w r2) ++ temporary_roots w)))
 
   -- ---- answers, denials, effects
@@ -161,10 +161,10 @@ module _ (s : Settings) (w : World) (r1 r2 : Set pair_cmp) (there : TargetsAreIn
   shown_same c other q _ = refl
 
   itself : DifferInLabels (with_runtime w r1) (with_runtime w r2)
-  itself = record { objects = refl; permanent = refl; user_roots = refl; profiles = refl; temporary = refl; there = there; back = back }
+  itself = record { objects = refl; permanent = refl; user_roots = refl; profiles = refl; temporary = refl; present = present; back = back }
 
   with_objects : (a b : Objects) → a ≡ b → DifferInLabels (record w { objects = a; runtime = r1 }) (record w { objects = b; runtime = r2 })
-  with_objects a b e = record { objects = e; permanent = refl; user_roots = refl; profiles = refl; temporary = refl; there = there; back = back }
+  with_objects a b e = record { objects = e; permanent = refl; user_roots = refl; profiles = refl; temporary = refl; present = present; back = back }
 
   after_add : (a : Added) → DifferInLabels (with_object (with_runtime w r1) a) (with_object (with_runtime w r2) a)
   after_add a = by (has w a.path)
@@ -179,8 +179,8 @@ module _ (s : Settings) (w : World) (r1 r2 : Set pair_cmp) (there : TargetsAreIn
   effect_same (import_object i) = after_add (added_import s.store_dir i)
   effect_same (collect ignores (Some limit)) = with_objects _ _ (λ i. finite.retain_keys w.objects (λ p. not (holds (limited_paths (graph_of w) (λ x. not (lives_same x i)) (size_of w) limit) p)))
   effect_same (collect ignores None) = with_objects _ _ (λ i. finite.retain_keys w.objects (λ p. lives_same p i))
-  effect_same (replace_runtime pairs) = record { objects = refl; permanent = refl; user_roots = refl; profiles = refl; temporary = refl; there = λ l t h. (l, h); back = λ l t h. (l, h) }
-  effect_same _ = record { objects = refl; permanent = refl; user_roots = refl; profiles = refl; temporary = refl; there = there; back = back }
+  effect_same (replace_runtime pairs) = record { objects = refl; permanent = refl; user_roots = refl; profiles = refl; temporary = refl; present = λ l t h. (l, h); back = λ l t h. (l, h) }
+  effect_same _ = record { objects = refl; permanent = refl; user_roots = refl; profiles = refl; temporary = refl; present = present; back = back }
 
   here : (new : World) → new ≡ with_runtime w r1 → DifferInLabels new (with_runtime w r2)
   here new e = subst (λ (u : World). DifferInLabels u (with_runtime w r2)) (sym e) itself
@@ -209,5 +209,5 @@ same_world w v d = λ i. record { objects = d.objects i; permanent = d.permanent
 
 pub mirrors_steps : MirrorsSteps
 mirrors_steps s w v d c q reply new h =
-    let m = mirrored s w w.runtime v.runtime d.there d.back c q reply new h in
+    let m = mirrored s w w.runtime v.runtime d.present d.back c q reply new h in
     (m.0, m.1, subst (λ (u : World). Step s u c q m.0 m.1) (same_world w v d) m.2, m.3, m.4)

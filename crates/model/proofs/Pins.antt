@@ -129,8 +129,8 @@ pins s w c q reply new h r listed p reach =
 pub kept_on : (s : Settings) (r : Root) (w mid new : World) → KeepsReached s r w mid → KeepsReached s r mid new → KeepsReached s r w new
 kept_on s r w mid new first rest p reach =
     let here = first p reach in
-    let there = rest p here.0 in
-    (there.0, there.1 ∙ here.1)
+    let present = rest p here.0 in
+    (present.0, present.1 ∙ here.1)
 
 -- and over none
 pub kept_here : (s : Settings) (r : Root) (w new : World) → new ≡ w → KeepsReached s r w new

@@ -93,7 +93,7 @@ reference_holds refs r = contains_key-set_of nat_list_cmp_total refs r
 
 complete_has : (w : World) (a : Added) (refs : List Path) → has w a.path ≡ false → IsTrue (is_complete w a.path refs) → (r : Path) → IsTrue (finite.contains_key (set_of bytes_cmp refs) r) → IsTrue (has (grown w a) r)
 complete_has w a refs absent full r c = elim (or_cases (has w a.path) (list_all (λ x. has w x || same x a.path) refs) full) as (λ _. IsTrue (has (grown w a) r)) [
-  | inl there ↦ absurd (false≢true (sym absent ∙ there))
+  | inl present ↦ absurd (false≢true (sym absent ∙ present))
   | inr all ↦ elim (or_cases (has w r) (same r a.path) (all_member (λ x. has w x || same x a.path) refs r all (set_member nat_list_cmp_total bytes_antisymmetric refs r c))) as (λ _. IsTrue (has (grown w a) r)) [
     | inl h ↦ has_still w a r h
     | inr h ↦ subst (λ (x : Path). IsTrue (has (grown w a) x)) (sym (same_is r a.path h)) (has_itself w a)
@@ -193,7 +193,7 @@ added_sound dir w p refs deriver ca nar fit sound = by (has w p) refl
         few_enough h k = omega (arith, h, k)
 
     by : (b : Bool) → has w p ≡ b → IsSound dir (if b then w else grown w (added_at dir p refs deriver ca nar))
-    by true there = sound
+    by true present = sound
     by false absent = grown_sound dir w (added_at dir p refs deriver ca nar) sound (fresh absent)
 
 none_deriver : (d : Path) → None ≡ Some d → IsTrue (is_base_name d)

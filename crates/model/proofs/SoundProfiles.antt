@@ -32,7 +32,7 @@ last_is {X} o (y ∷ ys) x e = elim (last_is (Some y) ys x e) as (λ _. (o ≡ S
 last_member : {X : Type 0} (xs : List X) (x : X) → last_or None xs ≡ Some x → Contains xs x
 last_member xs x e = elim (last_is None xs x e) as (λ _. Contains xs x) [
   | inl none ↦ absurd (false≢true (ap is_some none))
-  | inr there ↦ there
+  | inr present ↦ present
 ]
 
 -- ---- generations in their bounds, with valid targets
@@ -138,21 +138,21 @@ module _ (dir : List ℕ) (w : World) (sound : IsSound dir w) where
 
   pub profile_rolled_back : (owner name : List ℕ) → IsTrue (has_profile w (owner, name)) → IsTrue (is_some (previous (profile_at w (owner, name))))
       → IsSound dir (with_profile w (owner, name) (rolled_back (profile_at w (owner, name))))
-  profile_rolled_back owner name there older =
-      let is = sound_at (owner, name) there in
+  profile_rolled_back owner name present older =
+      let is = sound_at (owner, name) present in
       changed (owner, name) (rolled_back (profile_at w (owner, name)))
       (moved (owner, name) (profile_at w (owner, name)) (unwrap_or (previous (profile_at w (owner, name))) (profile_at w (owner, name)).current) is.owner is.name (bounded_at (owner, name)) (previous_there (profile_at w (owner, name)) older))
 
   pub profile_switched : (owner name : List ℕ) (n : ℕ) → IsTrue (has_profile w (owner, name)) → IsTrue (has_generation (profile_at w (owner, name)) n)
       → IsSound dir (with_profile w (owner, name) (switched (profile_at w (owner, name)) n))
-  profile_switched owner name n there generation =
-      let is = sound_at (owner, name) there in
+  profile_switched owner name n present generation =
+      let is = sound_at (owner, name) present in
       changed (owner, name) (switched (profile_at w (owner, name)) n) (moved (owner, name) (profile_at w (owner, name)) n is.owner is.name (bounded_at (owner, name)) generation)
 
   pub generation_deleted : (owner name : List ℕ) (n : ℕ) → IsTrue (has_profile w (owner, name)) → IsTrue (not ((profile_at w (owner, name)).current == n))
       → IsSound dir (with_profile w (owner, name) (without_generation (profile_at w (owner, name)) n))
-  generation_deleted owner name n there other =
-      let is = sound_at (owner, name) there in
+  generation_deleted owner name n present other =
+      let is = sound_at (owner, name) present in
       changed (owner, name) (without_generation (profile_at w (owner, name)) n) (record {
         owner = is.owner;
         name = is.name;

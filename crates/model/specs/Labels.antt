@@ -22,7 +22,7 @@ pub record DifferInLabels (w v : World) : Type 0 where
   pub user_roots : w.user_roots ≡ v.user_roots
   pub profiles : w.profiles ≡ v.profiles
   pub temporary : w.temporary ≡ v.temporary
-  pub there : TargetsAreIn w.runtime v.runtime
+  pub present : TargetsAreIn w.runtime v.runtime
   pub back : TargetsAreIn v.runtime w.runtime
 
 -- the same failure, or none in either

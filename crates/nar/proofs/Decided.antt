@@ -11,7 +11,7 @@ use Rattle.nar.specs.Tree.{Tree, regular, symlink, directory, Entries, no_entrie
 use Rattle.nar.specs.Archive.{Part, other, spelled, kind_parts, entries_parts, archive, IsShallow, IsArchive, spelling, limit}
 use Rattle.nar.specs.Fault.{IsFault}
 use Rattle.nar.specs.Answer.{IfFault}
-use Rattle.nar.specs.Steps.{Symbol, taken, run, start, check, AreBytes, FaultAt, trails, stops, refuses, goes_on}
+use Rattle.nar.specs.Steps.{Symbol, consumed, run, start, check, AreBytes, FaultAt, trails, stops, refuses, goes_on}
 use Rattle.nar.specs.Outcome.{and_then, parts_from, kind_from, entries_from, tree_from, outcome_of}
 use Rattle.nar.proofs.Strings.{length-string, Takes, string_takes}
 use Rattle.nar.proofs.Machine.{Checked, checked, whole_from_run}
@@ -52,17 +52,17 @@ one_more x κ room bytes s rest p (Ok ps) is ok t c q =
     }
 
 by_check : (x : Symbol) (κ : List Symbol) (room : ℕ) (bytes s rest : List ℕ) (more : List Symbol → Result (List Part) NarError) (r : Result Part NarError) → string_at room bytes ≡ Ok (s, rest) → check x s ≡ r → Takes room bytes s rest
-    → ((σ : List Symbol) → Decided σ (room - size_of (length s)) rest (more σ)) → Decided (x ∷ κ) room bytes (and_then r (λ p. and_then (more (unwrap_or (taken x p) [] ++ κ)) (λ ps. Ok (p ∷ ps))))
+    → ((σ : List Symbol) → Decided σ (room - size_of (length s)) rest (more σ)) → Decided (x ∷ κ) room bytes (and_then r (λ p. and_then (more (unwrap_or (consumed x p) [] ++ κ)) (λ ps. Ok (p ∷ ps))))
 by_check x κ room bytes s rest more (Err f) is at t later = refuses is at
 by_check x κ room bytes s rest more (Ok p) is at t later =
     let c = checked x s p at in
-    let left : unwrap_or (taken x p) [] ≡ c.left = ap (λ (o : Option (List Symbol)). unwrap_or o []) c.takes in
-    let here : Decided (c.left ++ κ) (room - size_of (length s)) rest (more (unwrap_or (taken x p) [] ++ κ)) = subst (λ (v : List Symbol). Decided (v ++ κ) (room - size_of (length s)) rest (more (unwrap_or (taken x p) [] ++ κ))) left (later (unwrap_or (taken x p) [] ++ κ)) in
-    one_more x κ room bytes s rest p (more (unwrap_or (taken x p) [] ++ κ)) is at t c here
+    let left : unwrap_or (consumed x p) [] ≡ c.left = ap (λ (o : Option (List Symbol)). unwrap_or o []) c.takes in
+    let here : Decided (c.left ++ κ) (room - size_of (length s)) rest (more (unwrap_or (consumed x p) [] ++ κ)) = subst (λ (v : List Symbol). Decided (v ++ κ) (room - size_of (length s)) rest (more (unwrap_or (consumed x p) [] ++ κ))) left (later (unwrap_or (consumed x p) [] ++ κ)) in
+    one_more x κ room bytes s rest p (more (unwrap_or (consumed x p) [] ++ κ)) is at t c here
 
 by_string : (x : Symbol) (κ : List Symbol) (room : ℕ) (bytes : List ℕ) (more : List Symbol → ℕ → List ℕ → Result (List Part) NarError) (r : Result (List ℕ × List ℕ) NarError) → string_at room bytes ≡ r → IsBytes bytes
     → ((σ : List Symbol) (left : ℕ) (rest : List ℕ) → length rest < length bytes → IsBytes rest → Decided σ left rest (more σ left rest))
-    → Decided (x ∷ κ) room bytes (and_then r (λ next. and_then (check x next.0) (λ p. and_then (more (unwrap_or (taken x p) [] ++ κ) (room - size_of (length next.0)) next.1) (λ ps. Ok (p ∷ ps)))))
+    → Decided (x ∷ κ) room bytes (and_then r (λ next. and_then (check x next.0) (λ p. and_then (more (unwrap_or (consumed x p) [] ++ κ) (room - size_of (length next.0)) next.1) (λ ps. Ok (p ∷ ps)))))
 by_string x κ room bytes more (Err f) is h later = stops is
 by_string x κ room bytes more (Ok (s, rest)) is h later =
     let t = string_takes room bytes s rest h is in

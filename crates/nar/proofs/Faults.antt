@@ -9,7 +9,7 @@ use Rattle.nar.specs.String.{string, size_of, string_at}
 use Rattle.nar.specs.Tree.{Tree, IsBytes}
 use Rattle.nar.specs.Archive.{Part, spelled, archive, IsShallow, IsArchive, spelling, limit}
 use Rattle.nar.specs.Fault.{Refuses, Fails, IsGoodPrefix, IsFault}
-use Rattle.nar.specs.Steps.{Symbol, taken, run, start, check, AreBytes, FaultAt, trails, stops, refuses, goes_on}
+use Rattle.nar.specs.Steps.{Symbol, consumed, run, start, check, AreBytes, FaultAt, trails, stops, refuses, goes_on}
 use Rattle.nar.proofs.Strings.{length-string, string_takes, string_again}
 use Rattle.nar.proofs.Bytes.{IsBytes-rest}
 use Rattle.nar.proofs.Grammar.{none_is_some, some_is, and_then_some, walk}
@@ -101,7 +101,7 @@ before [] σ τ room rest e at shallow fits lt f =
     subst (λ (v : List Symbol). FaultAt v room rest e) (sym (some_is σ τ at)) (subst (λ (k : ℕ). FaultAt τ k rest e) same f)
 before (p ∷ ps) [] τ room rest e at shallow fits lt f = none_is_some τ at
 before (p ∷ ps) (x ∷ κ) τ room rest e at shallow fits lt f =
-    let a = and_then_some (taken x p) (λ σ. run (σ ++ κ) ps) τ at in
+    let a = and_then_some (consumed x p) (λ σ. run (σ ++ κ) ps) τ at in
     let s : List ℕ = spelled p in
     let both : length (string s ++ spelling ps) ≡ size_of (length s) + length (spelling ps) = length-append (string s) (spelling ps) ∙ ap (λ (k : ℕ). k + length (spelling ps)) (length-string s) in
     let fits2 : length (string s ++ spelling ps) ≤ room = fits in
@@ -134,8 +134,8 @@ behind_at input e h f =
     let a = run_from_begins f.parts g.begins in
     let fits : length (spelling f.parts) ≤ limit = g.fits in
     let rest : IsBytes f.rest = IsBytes-rest (spelling f.parts) f.rest (subst IsBytes g.front h) in
-    let there = fails_at f.parts a.0 (limit - length (spelling f.parts)) f.rest e (bytes_from_begins f.parts g.begins) rest a.1 (omega arith) f.fails in
-    subst (λ (v : List ℕ). FaultAt start limit v e) (sym g.front) (before f.parts start a.0 limit f.rest e a.1 g.shallow fits (omega arith) there)
+    let present = fails_at f.parts a.0 (limit - length (spelling f.parts)) f.rest e (bytes_from_begins f.parts g.begins) rest a.1 (omega arith) f.fails in
+    subst (λ (v : List ℕ). FaultAt start limit v e) (sym g.front) (before f.parts start a.0 limit f.rest e a.1 g.shallow fits (omega arith) present)
 
 pub fault_at : (input : List ℕ) (e : NarError) → IsBytes input → IsFault input e → FaultAt start limit input e
 fault_at input e h f = behind_at input e h (record { parts = f.parts; rest = f.rest; good = f.good; fails = f.fails })
@@ -181,7 +181,7 @@ one_fault (goes_on {x = x} {p = p} {s = s} {rest = rest} is ok takes later) (ref
 one_fault (goes_on {x = x} {σ = σ} {κ = κ} {p = p} {room = room} {s = s} {rest = rest} is ok takes later) (goes_on {σ = σ'} {p = p'} {s = t} {rest = after} {e = f} js ok' takes' later') =
     let q = ok_pair rest after _ s t is js in
     let same : p ≡ p' = ok_is (check x s) p p' ok (ap (check x) q.0 ∙ ok') in
-    let left : σ ≡ σ' = some_is σ σ' (sym takes ∙ ap (taken x) same ∙ takes') in
+    let left : σ ≡ σ' = some_is σ σ' (sym takes ∙ ap (consumed x) same ∙ takes') in
     one_fault later (carried κ σ σ' room s t rest after f left q.0 q.1 later')
 
 -- there is one fault
@@ -191,7 +191,7 @@ one_cause input e f h a b = one_fault (fault_at input e h a) (fault_at input f h
 -- ---- an archive has no fault
 
 one_step : {x : Symbol} {κ : List Symbol} {room : ℕ} {bytes : List ℕ} {e : NarError} → FaultAt (x ∷ κ) room bytes e → (s rest : List ℕ) (p : Part) (σ : List Symbol)
-    → string_at room bytes ≡ Ok (s, rest) → check x s ≡ Ok p → taken x p ≡ Some σ → FaultAt (σ ++ κ) (room - size_of (length s)) rest e
+    → string_at room bytes ≡ Ok (s, rest) → check x s ≡ Ok p → consumed x p ≡ Some σ → FaultAt (σ ++ κ) (room - size_of (length s)) rest e
 one_step (stops is) s rest p σ js ok takes = ok_err _ _ _ js is
 one_step (refuses {x = x} {s = t} {rest = after} {e = e} is bad) s rest p σ js ok takes =
     let q = ok_pair rest after _ s t js is in
@@ -199,7 +199,7 @@ one_step (refuses {x = x} {s = t} {rest = after} {e = e} is bad) s rest p σ js 
 one_step (goes_on {x = x} {σ = σ'} {κ = κ} {p = p'} {room = room} {s = t} {rest = after} {e = f} is ok' takes' later) s rest p σ js ok takes =
     let q = ok_pair rest after _ s t js is in
     let same : p ≡ p' = ok_is (check x s) p p' ok (ap (check x) q.0 ∙ ok') in
-    let left : σ ≡ σ' = some_is σ σ' (sym takes ∙ ap (taken x) same ∙ takes') in
+    let left : σ ≡ σ' = some_is σ σ' (sym takes ∙ ap (consumed x) same ∙ takes') in
     carried κ σ σ' room s t rest after f left q.0 q.1 later
 
 -- a fault of parts that the machine takes, and what follows, is one behind them
@@ -210,7 +210,7 @@ behind [] σ τ room rest e at shallow fits lt f =
     subst (λ (v : List Symbol). FaultAt v (room - 0) rest e) (some_is σ τ at) (subst (λ (k : ℕ). FaultAt σ k rest e) same f)
 behind (p ∷ ps) [] τ room rest e at shallow fits lt f = none_is_some τ at
 behind (p ∷ ps) (x ∷ κ) τ room rest e at shallow fits lt f =
-    let a = and_then_some (taken x p) (λ σ. run (σ ++ κ) ps) τ at in
+    let a = and_then_some (consumed x p) (λ σ. run (σ ++ κ) ps) τ at in
     let s : List ℕ = spelled p in
     let both : length (string s ++ spelling ps) ≡ size_of (length s) + length (spelling ps) = length-append (string s) (spelling ps) ∙ ap (λ (k : ℕ). k + length (spelling ps)) (length-string s) in
     let fits2 : length (string s ++ spelling ps) ≤ room = fits in
@@ -226,6 +226,6 @@ nothing_left (trails some) none = some none
 pub archive_has_none : (t : Tree) (input : List ℕ) (e : NarError) → IsBytes input → IsArchive t input → IsFault input e → ⊥
 archive_has_none t input e h a f =
     let whole : input ≡ spelling (archive t) ++ [] = a.spells ∙ sym (append-nil (spelling (archive t))) in
-    let there = subst (λ (v : List ℕ). FaultAt start limit v e) whole (fault_at input e h f) in
+    let present = subst (λ (v : List ℕ). FaultAt start limit v e) whole (fault_at input e h f) in
     let fits : length (spelling (archive t)) ≤ limit = subst (λ (v : List ℕ). length v ≤ limit) a.spells a.fits in
-    nothing_left (behind (archive t) start [] limit [] e (walk t a.legal) a.shallow fits (omega arith) there) refl
+    nothing_left (behind (archive t) start [] limit [] e (walk t a.legal) a.shallow fits (omega arith) present) refl

@@ -11,7 +11,7 @@ use Rattle.nar.specs.String.{string, padded, size_of, length_at, string_of_lengt
 use Rattle.nar.specs.Tree.{Tree, IsBytes}
 use Rattle.nar.specs.Archive.{Part, archive, IsShallow, IsArchive, spelling, limit}
 use Rattle.nar.specs.Fault.{IsFault, Refuses}
-use Rattle.nar.specs.Steps.{Symbol, taken, start, check, FaultAt, trails, stops, refuses, goes_on}
+use Rattle.nar.specs.Steps.{Symbol, consumed, start, check, FaultAt, trails, stops, refuses, goes_on}
 use Rattle.nar.specs.Reading.{ReadsString}
 use Rattle.nar.specs.Answer.{IfFault}
 use Rattle.nar.specs.Feeding.{Fed, Waits, EndsIn}
@@ -41,7 +41,7 @@ fed_more σ room rest bytes piece f = record {
 
 -- a string taken
 pub fed_step : (x : Symbol) (κ σ : List Symbol) (p : Part) (room : ℕ) (rest bytes s : List ℕ) (left : ℕ) (after : List ℕ) → Fed (x ∷ κ) room rest bytes → ReadsString room rest s left after
-    → check x s ≡ Ok p → taken x p ≡ Some σ → Fed (σ ++ κ) left after bytes
+    → check x s ≡ Ok p → consumed x p ≡ Some σ → Fed (σ ++ κ) left after bytes
 fed_step x κ σ p room rest bytes s left after f r ok takes =
     let c = checked x s p ok in
     let ps = f.parts in
@@ -201,8 +201,8 @@ left_some : (κ : List Symbol) (o : Option (List Symbol)) (τ : List Symbol) →
 left_some κ None τ e = absurd cc
 left_some κ (Some σ) τ e = (σ, refl, cc)
 
-left_is : (x : Symbol) (κ : List Symbol) (r : Result Part NarError) (τ : List Symbol) → left_at x κ r ≡ Ok τ → (p : Part) × (σ : List Symbol) × (r ≡ Ok p) × (taken x p ≡ Some σ) × (σ ++ κ ≡ τ)
-left_is x κ (Ok p) τ e = let a = left_some κ (taken x p) τ e in (p, a.0, refl, a.1, a.2)
+left_is : (x : Symbol) (κ : List Symbol) (r : Result Part NarError) (τ : List Symbol) → left_at x κ r ≡ Ok τ → (p : Part) × (σ : List Symbol) × (r ≡ Ok p) × (consumed x p ≡ Some σ) × (σ ++ κ ≡ τ)
+left_is x κ (Ok p) τ e = let a = left_some κ (consumed x p) τ e in (p, a.0, refl, a.1, a.2)
 left_is x κ (Err f) τ e = absurd cc
 
 pub next_takes : (σ τ : List Symbol) (room : ℕ) (rest all s : List ℕ) (left : ℕ) (after : List ℕ) → next σ s ≡ Ok τ → ReadsString room rest s left after → Fed σ room rest all → Fed τ left after all
@@ -249,10 +249,10 @@ string_err_of d e σ τ room left bytes rest h is other some b fed = λ _ all g.
     (string_refuses τ left rest all d at some b (fed all g), other)
 
 -- a fault of what was taken is one of all
-pub fault_of_all : (all taken rest : List ℕ) (f : NarError) → all ≡ taken ++ rest → IsBytes all → IsFault taken f × (f ≢ Truncated) → IsFault all f × (f ≢ Truncated)
-fault_of_all all taken rest f is h (g, other) =
-    let bytes : IsBytes (taken ++ rest) = subst IsBytes is h in
-    (subst (λ (v : List ℕ). IsFault v f) (sym is) (fault_stays taken rest f bytes other g), other)
+pub fault_of_all : (all consumed rest : List ℕ) (f : NarError) → all ≡ consumed ++ rest → IsBytes all → IsFault consumed f × (f ≢ Truncated) → IsFault all f × (f ≢ Truncated)
+fault_of_all all consumed rest f is h (g, other) =
+    let bytes : IsBytes (consumed ++ rest) = subst IsBytes is h in
+    (subst (λ (v : List ℕ). IsFault v f) (sym is) (fault_stays consumed rest f bytes other g), other)
 
 pub ends_step : {room : ℕ} {bytes rest s : List ℕ} {left : ℕ} {after : List ℕ} → EndsIn bytes rest → ReadsString room rest s left after → EndsIn bytes after
 ends_step {s = s} {after = after} e r = (e.0 ++ string s, e.1 ∙ ap (λ (v : List ℕ). e.0 ++ v) r.parts ∙ sym (append_assoc e.0 (string s) after))

@@ -114,8 +114,8 @@ head_shallow = (tt, (tt, (tt, (tt, (tt, tt)))))
 contents_past : (c : List ℕ) → length c < 2 ^ 64 → limit - 88 < size_of (length c) → FaultAt start limit (spelling head ++ (string c ++ spelling close)) TooLarge
 contents_past c small large =
     let room : limit - 88 ≡ limit - length (spelling head) = ap (λ (k : ℕ). limit - k) (sym length-head) in
-    let there : FaultAt left (limit - 88) (string c ++ spelling close) TooLarge = stops (string_past (limit - 88) c (spelling close) small large) in
-    before head start left limit (string c ++ spelling close) TooLarge refl head_shallow (omega (arith, length-head)) (omega arith) (subst (λ (k : ℕ). FaultAt left k (string c ++ spelling close) TooLarge) room there)
+    let present : FaultAt left (limit - 88) (string c ++ spelling close) TooLarge = stops (string_past (limit - 88) c (spelling close) small large) in
+    before head start left limit (string c ++ spelling close) TooLarge refl head_shallow (omega (arith, length-head)) (omega arith) (subst (λ (k : ℕ). FaultAt left k (string c ++ spelling close) TooLarge) room present)
 
 -- the bracket behind them is
 close_past : (c : List ℕ) → size_of (length c) ≤ limit - 88 → limit - 88 - size_of (length c) < 16 → FaultAt start limit (spelling head ++ (string c ++ spelling close)) TooLarge
@@ -124,8 +124,8 @@ close_past c fits large =
     let some : spelling parts ++ spelling close ≡ spelling head ++ (string c ++ spelling close) = in_two c in
     let size : length (spelling parts) ≡ 88 + size_of (length c) = length-parts c in
     let room : limit - 88 - size_of (length c) ≡ limit - length (spelling parts) = omega (arith, size) in
-    let there : FaultAt (word (codes ")") ∷ []) (limit - 88 - size_of (length c)) (spelling close) TooLarge = stops (string_past (limit - 88 - size_of (length c)) (codes ")") [] (omega arith) large) in
-    let here = before parts start (word (codes ")") ∷ []) limit (spelling close) TooLarge refl (tt, (tt, (tt, (tt, (tt, (tt, tt)))))) (omega (arith, size)) (omega arith) (subst (λ (k : ℕ). FaultAt (word (codes ")") ∷ []) k (spelling close) TooLarge) room there) in
+    let present : FaultAt (word (codes ")") ∷ []) (limit - 88 - size_of (length c)) (spelling close) TooLarge = stops (string_past (limit - 88 - size_of (length c)) (codes ")") [] (omega arith) large) in
+    let here = before parts start (word (codes ")") ∷ []) limit (spelling close) TooLarge refl (tt, (tt, (tt, (tt, (tt, (tt, tt)))))) (omega (arith, size)) (omega arith) (subst (λ (k : ℕ). FaultAt (word (codes ")") ∷ []) k (spelling close) TooLarge) room present) in
     subst (λ (v : List ℕ). FaultAt start limit v TooLarge) some here
   where
     in_two : (c : List ℕ) → spelling (head ++ other c ∷ []) ++ spelling close ≡ spelling head ++ (string c ++ spelling close)
@@ -146,8 +146,8 @@ file_fault c small large = by_size (cases_lt (limit - 88) (size_of (length c)))
 pub file_is_too_large : (c : List ℕ) → IsBytes c → length c < 2 ^ 64 → limit < 112 + padded (length c) → outcome_of (spelling (archive (regular false c))) ≡ Err TooLarge
 file_is_too_large c h small large =
     let bytes = file_bytes c h in
-    let there = subst (λ (v : List ℕ). FaultAt start limit v TooLarge) (sym (in_three c)) (file_fault c small large) in
-    (outcome_fault (spelling (archive (regular false c))) TooLarge bytes).1 (found (spelling (archive (regular false c))) TooLarge bytes there)
+    let present = subst (λ (v : List ℕ). FaultAt start limit v TooLarge) (sym (in_three c)) (file_fault c small large) in
+    (outcome_fault (spelling (archive (regular false c))) TooLarge bytes).1 (found (spelling (archive (regular false c))) TooLarge bytes present)
 
 -- ---- no fault is want of memory
 

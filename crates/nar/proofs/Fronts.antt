@@ -9,7 +9,7 @@ use Rattle.nar.specs.declared.error.NarError.{NarError}
 use Rattle.nar.specs.declared.error.NarError.TheVariants.{Truncated, TooLarge, BadPadding}
 use Rattle.nar.specs.String.{padded, size_of, length_at, string_of_length, string_at}
 use Rattle.nar.specs.Archive.{Part, limit}
-use Rattle.nar.specs.Steps.{Symbol, taken, start, check}
+use Rattle.nar.specs.Steps.{Symbol, consumed, start, check}
 use Rattle.nar.specs.Outcome.{and_then, parts_from, tree_from, outcome_of}
 use Rattle.nar.proofs.Grammar.{chosen}
 use Rattle.nar.proofs.Strings.{padded_le}
@@ -120,10 +120,10 @@ parts_front (suc m) (suc n) (x ∷ κ) room bytes h k =
     by_string (string_at room bytes) refl (λ σ left rest one two. parts_front m n σ left rest one two)
   where
     by_check : (s rest : List ℕ) (r : Result Part NarError) → ((σ : List Symbol) → parts_from m σ (room - size_of (length s)) (take ((room - size_of (length s)) + 8) rest) ≡ parts_from n σ (room - size_of (length s)) rest)
-        → and_then r (λ p. and_then (parts_from m (unwrap_or (taken x p) [] ++ κ) (room - size_of (length s)) (take ((room - size_of (length s)) + 8) rest)) (λ ps. Ok (p ∷ ps)))
-        ≡ and_then r (λ p. and_then (parts_from n (unwrap_or (taken x p) [] ++ κ) (room - size_of (length s)) rest) (λ ps. Ok (p ∷ ps)))
+        → and_then r (λ p. and_then (parts_from m (unwrap_or (consumed x p) [] ++ κ) (room - size_of (length s)) (take ((room - size_of (length s)) + 8) rest)) (λ ps. Ok (p ∷ ps)))
+        ≡ and_then r (λ p. and_then (parts_from n (unwrap_or (consumed x p) [] ++ κ) (room - size_of (length s)) rest) (λ ps. Ok (p ∷ ps)))
     by_check s rest (Err e) later = refl
-    by_check s rest (Ok p) later = ap (λ (r : Result (List Part) NarError). and_then r (λ ps. Ok (p ∷ ps))) (later (unwrap_or (taken x p) [] ++ κ))
+    by_check s rest (Ok p) later = ap (λ (r : Result (List Part) NarError). and_then r (λ ps. Ok (p ∷ ps))) (later (unwrap_or (consumed x p) [] ++ κ))
 
     by_string : (r : Result (List ℕ × List ℕ) NarError) → string_at room bytes ≡ r
         → ((σ : List Symbol) (left : ℕ) (rest : List ℕ) → length (take (left + 8) rest) ≤ m → length rest ≤ n → parts_from m σ left (take (left + 8) rest) ≡ parts_from n σ left rest)

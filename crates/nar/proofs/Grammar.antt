@@ -7,7 +7,7 @@ use Rattle.std.proofs.lemmas.Slice.Eq.{bytes_eq-Decides}
 use Rattle.std.proofs.lemmas.Bool.{eqb-true, and_parts}
 use Rattle.nar.specs.Tree.{Tree, regular, symlink, directory, Entries, no_entries, entry, IsBytes, is_name, rises, IsLegal, AreLegal}
 use Rattle.nar.specs.Archive.{Part, name, node, other, spelled, mark, bracketed, kind_parts, entries_parts, archive}
-use Rattle.nar.specs.Steps.{Symbol, word, any, kind, file, entries, entry_name, node_word, after_name, taken, run, start, AreBytes}
+use Rattle.nar.specs.Steps.{Symbol, word, any, kind, file, entries, entry_name, node_word, after_name, consumed, run, start, AreBytes}
 use Rattle.nar.proofs.Bytes.{IsBytes-nil, all_append, IsLast, a_name_above}
 
 -- ---- the machine takes each archive
@@ -41,16 +41,16 @@ walk t h = walk_kind 1 t [] [] h
 
 -- ---- a front of what the machine takes
 
-taken-append : (o : Option (List Symbol)) (κ : List Symbol) (ps rest : List Part)
+consumed-append : (o : Option (List Symbol)) (κ : List Symbol) (ps rest : List Part)
     → ((σ : List Symbol) → run σ (ps ++ rest) ≡ option_and_then (λ τ. run τ rest) (run σ ps))
     → option_and_then (λ σ. run (σ ++ κ) (ps ++ rest)) o ≡ option_and_then (λ τ. run τ rest) (option_and_then (λ σ. run (σ ++ κ) ps) o)
-taken-append None κ ps rest h = refl
-taken-append (Some σ) κ ps rest h = h (σ ++ κ)
+consumed-append None κ ps rest h = refl
+consumed-append (Some σ) κ ps rest h = h (σ ++ κ)
 
 pub run-append : (σ : List Symbol) (ps rest : List Part) → run σ (ps ++ rest) ≡ option_and_then (λ τ. run τ rest) (run σ ps)
 run-append σ [] rest = refl
 run-append [] (p ∷ ps) rest = refl
-run-append (x ∷ κ) (p ∷ ps) rest = taken-append (taken x p) κ ps rest (λ σ. run-append σ ps rest)
+run-append (x ∷ κ) (p ∷ ps) rest = consumed-append (consumed x p) κ ps rest (λ σ. run-append σ ps rest)
 
 -- ---- what is still to come: the symbols' parts, one after the other
 
@@ -148,7 +148,7 @@ name_back d last n κ r hb hn hr (r1, e1, (r2, e2, (r3, e3, (t, r4, e4, ht, (r5,
     let grouped : (k ++ close ++ others) ++ tail ≡ k ++ (close ++ (others ++ tail)) = append_assoc (k ++ close) others tail ∙ append_assoc k close (others ++ tail) in
     (n, t, es, r6, rw (e1, e2, e3, e4, e5, e6) (ap (λ (w : List Part). name n ∷ node (d + 1) ∷ other (codes "(") ∷ other (codes "type") ∷ w) (sym grouped)), hb, hn, hr, ht, hes, more)
 
-pub back : (x : Symbol) (p : Part) (σ κ : List Symbol) (r : List Part) → IsBytes (spelled p) → taken x p ≡ Some σ → Rest (σ ++ κ) r → Rest (x ∷ κ) (p ∷ r)
+pub back : (x : Symbol) (p : Part) (σ κ : List Symbol) (r : List Part) → IsBytes (spelled p) → consumed x p ≡ Some σ → Rest (σ ++ κ) r → Rest (x ∷ κ) (p ∷ r)
 back (word w) (other s) σ κ r b e h =
     elim (chosen (bytes_eq s w) (Some []) None (Some σ) e) [
       | inl c ↦ (r, ap (λ (v : List ℕ). other v ∷ r) (same_bytes s w c.0), moved [] σ κ r c.1 h)
@@ -212,7 +212,7 @@ back (node_word d) (name s) σ κ r b e h = none_is_some σ e
 opened : (τ σ : List Symbol) → Some τ ≡ Some σ → AreOpen τ → AreOpen σ
 opened τ σ e h = subst AreOpen (some_is τ σ e) h
 
-taken_open : (x : Symbol) (p : Part) (σ : List Symbol) → IsOpen x → IsBytes (spelled p) → taken x p ≡ Some σ → AreOpen σ
+taken_open : (x : Symbol) (p : Part) (σ : List Symbol) → IsOpen x → IsBytes (spelled p) → consumed x p ≡ Some σ → AreOpen σ
 taken_open (word w) (other s) σ h b e =
     elim (chosen (bytes_eq s w) (Some []) None (Some σ) e) [
       | inl c ↦ opened [] σ c.1 tt
@@ -266,7 +266,7 @@ run_open : (ps : List Part) (σ τ : List Symbol) → AreOpen σ → AreBytes ps
 run_open [] σ τ h b e = opened σ τ e h
 run_open (p ∷ ps) [] τ h b e = none_is_some τ e
 run_open (p ∷ ps) (x ∷ κ) τ h b e =
-    let a = and_then_some (taken x p) (λ σ. run (σ ++ κ) ps) τ e in
+    let a = and_then_some (consumed x p) (λ σ. run (σ ++ κ) ps) τ e in
     run_open ps (a.0 ++ κ) τ (all_append IsOpen a.0 κ (taken_open x p a.0 h.0 b.0 a.1) h.1) b.1 a.2
 
 -- the names before are legal, wherever the machine comes to

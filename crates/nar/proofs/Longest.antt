@@ -8,7 +8,7 @@ use Rattle.nar.specs.String.{string, size_of, string_at}
 use Rattle.nar.specs.Archive.{Part, spelled, IsShallow, spelling, limit}
 use Rattle.nar.specs.Fault.{Refuses, Fails, IsGoodPrefix, IsFault}
 use Rattle.nar.specs.Tree.{IsBytes}
-use Rattle.nar.specs.Steps.{Symbol, taken, run, start, check, AreBytes, FaultAt}
+use Rattle.nar.specs.Steps.{Symbol, consumed, run, start, check, AreBytes, FaultAt}
 use Rattle.nar.proofs.Bytes.{IsBytes-rest}
 use Rattle.nar.proofs.Grammar.{none_is_some, some_is, and_then_some}
 use Rattle.nar.proofs.Strings.{length-string, string_takes, string_again}
@@ -36,7 +36,7 @@ no_longer : (ps qs : List Part) (σ τ υ : List Symbol) (room : ℕ) (r q : Lis
 no_longer [] qs σ τ υ room r q at bt hp hq fp fq lt stuck e = omega arith
 no_longer (p ∷ ps) qs [] τ υ room r q at bt hp hq fp fq lt stuck e = none_is_some τ at
 no_longer (p ∷ ps) [] (x ∷ κ) τ υ room r q at bt hp hq fp fq lt stuck e =
-    let a = and_then_some (taken x p) (λ σ. run (σ ++ κ) ps) τ at in
+    let a = and_then_some (consumed x p) (λ σ. run (σ ++ κ) ps) τ at in
     let s : List ℕ = spelled p in
     let both = length-append (string s) (spelling ps) in
     let fits : length (string s ++ spelling ps) ≤ room = fp in
@@ -48,8 +48,8 @@ no_longer (p ∷ ps) [] (x ∷ κ) τ υ room r q at bt hp hq fp fq lt stuck e =
     let read : string_at room q ≡ Ok (s, spelling ps ++ r) = ap (string_at room) (sym e ∙ grouped) ∙ string_again room s (spelling ps ++ r) sized.0 sized.1 in
     absurd (here s (spelling ps ++ r) p read (check_taken x p a.0 a.1 hp.0))
 no_longer (p ∷ ps) (u ∷ qs) (x ∷ κ) τ υ room r q at bt hp hq fp fq lt stuck e =
-    let a = and_then_some (taken x p) (λ σ. run (σ ++ κ) ps) τ at in
-    let b = and_then_some (taken x u) (λ σ. run (σ ++ κ) qs) υ bt in
+    let a = and_then_some (consumed x p) (λ σ. run (σ ++ κ) ps) τ at in
+    let b = and_then_some (consumed x u) (λ σ. run (σ ++ κ) qs) υ bt in
     let s : List ℕ = spelled p in
     let t : List ℕ = spelled u in
     let one : length (string s ++ spelling ps) ≡ size_of (length s) + length (spelling ps) = length-append (string s) (spelling ps) ∙ ap (λ (k : ℕ). k + length (spelling ps)) (length-string s) in
@@ -62,7 +62,7 @@ no_longer (p ∷ ps) (u ∷ qs) (x ∷ κ) τ υ room r q at bt hp hq fp fq lt s
     let it : string_at room ((string t ++ spelling qs) ++ q) ≡ Ok (t, spelling qs ++ q) = ap (string_at room) (append_assoc (string t) (spelling qs) q) ∙ string_again room t (spelling qs ++ q) ft.0 ft.1 in
     let pair = ok_pair (spelling ps ++ r) (spelling qs ++ q) (string_at room ((string s ++ spelling ps) ++ r)) s t is (ap (string_at room) e ∙ it) in
     let same : p ≡ u = ok_is (check x s) p u (check_taken x p a.0 a.1 hp.0) (ap (check x) pair.0 ∙ check_taken x u b.0 b.1 hq.0) in
-    let left : a.0 ≡ b.0 = some_is a.0 b.0 (sym a.1 ∙ ap (taken x) same ∙ b.1) in
+    let left : a.0 ≡ b.0 = some_is a.0 b.0 (sym a.1 ∙ ap (consumed x) same ∙ b.1) in
     let room_left : room - length (string t ++ spelling qs) ≡ (room - size_of (length s)) - length (spelling qs) = omega (arith, ap length pair.0) in
     let stuck2 = subst (λ (k : ℕ). Stuck υ k q) room_left stuck in
     let later = no_longer ps qs (a.0 ++ κ) τ υ (room - size_of (length s)) r q a.2 (subst (λ (v : List Symbol). run (v ++ κ) qs ≡ Some υ) (sym left) b.2) hp.1 hq.1 (omega arith) (omega (arith, ap length pair.0)) (omega arith) stuck2 pair.1 in

@@ -9,7 +9,7 @@ use Rattle.nar.specs.declared.error.NarError.TheVariants.{Truncated, BadTag, Bad
 use Rattle.nar.specs.Tree.{IsBytes, is_name, rises}
 use Rattle.nar.specs.Archive.{Part, name, node, other, spelled, IsShallow}
 use Rattle.nar.specs.Fault.{IsWhole, Begins, NameMayFollow, Refuses}
-use Rattle.nar.specs.Steps.{Symbol, word, any, kind, file, entries, entry_name, node_word, taken, run, start, check, after_name, AreBytes}
+use Rattle.nar.specs.Steps.{Symbol, word, any, kind, file, entries, entry_name, node_word, consumed, run, start, check, after_name, AreBytes}
 use Rattle.nar.proofs.Grammar.{walk, run-append, Rest, completed, back, chosen, same_bytes, none_is_some, some_is, eqb-same, and_then_some, open_from_run}
 use Rattle.nar.proofs.Bytes.{all_append, all_front, archive_bytes, node_bytes, IsLast, a_name_above}
 
@@ -19,7 +19,7 @@ back_all : (ps : List Part) (σ τ : List Symbol) (r : List Part) → AreBytes p
 back_all [] σ τ r b e h = subst (λ (v : List Symbol). Rest v r) (sym (some_is σ τ e)) h
 back_all (p ∷ ps) [] τ r b e h = none_is_some τ e
 back_all (p ∷ ps) (x ∷ κ) τ r b e h =
-    let a = and_then_some (taken x p) (λ σ. run (σ ++ κ) ps) τ e in
+    let a = and_then_some (consumed x p) (λ σ. run (σ ++ κ) ps) τ e in
     back x p a.0 κ (ps ++ r) b.0 a.1 (back_all ps (a.0 ++ κ) τ r b.1 a.2 h)
 
 whole_from_rest : (r : List Part) → Rest start r → IsWhole r
@@ -55,16 +55,16 @@ bytes_more ps p b c = all_append (λ p. IsBytes (spelled p)) ps (p ∷ []) b (c,
 -- ---- one part more
 
 module _ (ps : List Part) (x : Symbol) (κ : List Symbol) (at : run start ps ≡ Some (x ∷ κ)) where
-  pub next_run : (p : Part) → run start (ps ++ p ∷ []) ≡ option_and_then (λ σ. Some (σ ++ κ)) (taken x p)
+  pub next_run : (p : Part) → run start (ps ++ p ∷ []) ≡ option_and_then (λ σ. Some (σ ++ κ)) (consumed x p)
   next_run p = run-append start ps (p ∷ []) ∙ ap (option_and_then (λ τ. run τ (p ∷ []))) at
 
-  pub begins_next : (p : Part) (σ : List Symbol) → AreBytes ps → IsBytes (spelled p) → taken x p ≡ Some σ → Begins (ps ++ p ∷ [])
+  pub begins_next : (p : Part) (σ : List Symbol) → AreBytes ps → IsBytes (spelled p) → consumed x p ≡ Some σ → Begins (ps ++ p ∷ [])
   begins_next p σ b c e = begins_from_run (ps ++ p ∷ []) (σ ++ κ) (bytes_more ps p b c) (next_run p ∙ ap (option_and_then (λ (v : List Symbol). Some (v ++ κ))) e)
 
-  pub taken_next : (p : Part) → Begins (ps ++ p ∷ []) → (σ : List Symbol) × (taken x p ≡ Some σ)
+  pub taken_next : (p : Part) → Begins (ps ++ p ∷ []) → (σ : List Symbol) × (consumed x p ≡ Some σ)
   taken_next p b =
       let a = run_from_begins (ps ++ p ∷ []) b in
-      let c = and_then_some (taken x p) (λ σ. Some (σ ++ κ)) a.0 (sym (next_run p) ∙ a.1) in
+      let c = and_then_some (consumed x p) (λ σ. Some (σ ++ κ)) a.0 (sym (next_run p) ∙ a.1) in
       (c.0, c.1)
 
 -- ---- what a check says
@@ -79,13 +79,13 @@ plain_err (Some σ) p d f e = absurd cc
 
 pub record Checked (x : Symbol) (s : List ℕ) (p : Part) : Type 0 where
   pub left : List Symbol
-  pub takes : taken x p ≡ Some left
+  pub takes : consumed x p ≡ Some left
   pub same : spelled p ≡ s
   pub shallow : IsShallow p
 
-checked_plain : (x : Symbol) (s : List ℕ) (p : Part) → cond (is_some (taken x (other s))) (Ok (other s)) (Err BadTag) ≡ Ok p → Checked x s p
+checked_plain : (x : Symbol) (s : List ℕ) (p : Part) → cond (is_some (consumed x (other s))) (Ok (other s)) (Err BadTag) ≡ Ok p → Checked x s p
 checked_plain x s p e =
-    let a = plain_ok (taken x (other s)) (other s) p BadTag e in
+    let a = plain_ok (consumed x (other s)) (other s) p BadTag e in
     subst (λ (q : Part). Checked x s q) a.2 (record { left = a.0; takes = a.1; same = refl; shallow = tt })
 
 if_ok : (b : Bool) (r : Result Part NarError) (d : NarError) (p : Part) → cond b r (Err d) ≡ Ok p → (b ≡ true) × (r ≡ Ok p)
@@ -101,14 +101,14 @@ checked_name d last s p e =
     let a = if_ok (is_name s) _ BadName p e in
     let b = if_ok (rises last s) (Ok (name s)) NotSorted p a.1 in
     let same : name s ≡ p = cc (b.1) in
-    let t : taken (entry_name d last) (name s) ≡ Some (after_name d s) = rw (a.0, b.0) refl in
+    let t : consumed (entry_name d last) (name s) ≡ Some (after_name d s) = rw (a.0, b.0) refl in
     subst (λ (q : Part). Checked (entry_name d last) s q) same (record { left = after_name d s; takes = t; same = refl; shallow = tt })
 
 checked_node : (d : ℕ) (s : List ℕ) (p : Part) → check (node_word d) s ≡ Ok p → Checked (node_word d) s p
 checked_node d s p e =
     let a = if_ok (bytes_eq s (codes "node")) _ BadTag p e in
     let b = unless_ok (ltb 256 d) TooDeep (node d) p a.1 in
-    let t : taken (node_word d) (node d) ≡ Some [] = rw (eqb-same d) refl in
+    let t : consumed (node_word d) (node d) ≡ Some [] = rw (eqb-same d) refl in
     subst (λ (q : Part). Checked (node_word d) s q) b.1 (record { left = []; takes = t; same = sym (same_bytes s _ a.0); shallow = ltb-false 256 d b.0 })
 
 pub checked : (x : Symbol) (s : List ℕ) (p : Part) → check x s ≡ Ok p → Checked x s p
@@ -125,7 +125,7 @@ checked (node_word d) s p e = checked_node d s p e
 plain_takes : (o : Option (List Symbol)) (p : Part) (σ : List Symbol) → o ≡ Some σ → cond (is_some o) (Ok p) (Err BadTag) ≡ Ok p
 plain_takes o p σ e = rw e refl
 
-pub check_taken : (x : Symbol) (p : Part) (σ : List Symbol) → taken x p ≡ Some σ → IsShallow p → check x (spelled p) ≡ Ok p
+pub check_taken : (x : Symbol) (p : Part) (σ : List Symbol) → consumed x p ≡ Some σ → IsShallow p → check x (spelled p) ≡ Ok p
 check_taken (word w) (other s) σ e h = plain_takes _ (other s) σ e
 check_taken any (other s) σ e h = refl
 check_taken (kind d) (other s) σ e h = plain_takes _ (other s) σ e
@@ -148,7 +148,7 @@ check_taken _ _ σ e h = none_is_some σ e
 
 -- ---- why a string is refused
 
-is_name_symbol : (x : Symbol) (n : List ℕ) (σ : List Symbol) → taken x (name n) ≡ Some σ → (d : ℕ) × (last : Option (List ℕ)) × (x ≡ entry_name d last)
+is_name_symbol : (x : Symbol) (n : List ℕ) (σ : List Symbol) → consumed x (name n) ≡ Some σ → (d : ℕ) × (last : Option (List ℕ)) × (x ≡ entry_name d last)
 is_name_symbol (entry_name d last) n σ e = (d, last, refl)
 is_name_symbol (word w) n σ e = none_is_some σ e
 is_name_symbol any n σ e = none_is_some σ e
@@ -157,7 +157,7 @@ is_name_symbol file n σ e = none_is_some σ e
 is_name_symbol (entries d last) n σ e = none_is_some σ e
 is_name_symbol (node_word d) n σ e = none_is_some σ e
 
-is_node_symbol : (x : Symbol) (d : ℕ) (σ : List Symbol) → taken x (node d) ≡ Some σ → x ≡ node_word d
+is_node_symbol : (x : Symbol) (d : ℕ) (σ : List Symbol) → consumed x (node d) ≡ Some σ → x ≡ node_word d
 is_node_symbol (node_word d') d σ e =
     elim (chosen (eqb d d') (Some []) None (Some σ) e) [
       | inl c ↦ ap node_word (sym (eqb-true d d' c.0))
@@ -171,7 +171,7 @@ is_node_symbol (entries d' last) d σ e = none_is_some σ e
 is_node_symbol (entry_name d' last) d σ e = none_is_some σ e
 
 -- a name may come where the symbol is one
-takes_some_name : (d : ℕ) (last : Option (List ℕ)) → IsLast last → (n : List ℕ) × (σ : List Symbol) × IsBytes n × (taken (entry_name d last) (name n) ≡ Some σ)
+takes_some_name : (d : ℕ) (last : Option (List ℕ)) → IsLast last → (n : List ℕ) × (σ : List Symbol) × IsBytes n × (consumed (entry_name d last) (name n) ≡ Some σ)
 takes_some_name d last h = let n = a_name_above last h in (n.0, after_name d n.0, n.1, rw (n.2, n.3) refl)
 
 -- where neither a name nor a node comes
@@ -180,7 +180,7 @@ IsPlain (entry_name d last) = ⊥
 IsPlain (node_word d) = ⊥
 IsPlain _ = ⊤
 
-plain_takes_other : (x : Symbol) (p : Part) (σ : List Symbol) → IsPlain x → taken x p ≡ Some σ → p ≡ other (spelled p)
+plain_takes_other : (x : Symbol) (p : Part) (σ : List Symbol) → IsPlain x → consumed x p ≡ Some σ → p ≡ other (spelled p)
 plain_takes_other x (other s) σ h e = refl
 plain_takes_other (word w) (name n) σ h e = none_is_some σ e
 plain_takes_other any (name n) σ h e = none_is_some σ e
@@ -197,10 +197,10 @@ plain_takes_other (entries d last) (node d') σ h e = none_is_some σ e
 plain_takes_other (entry_name d last) (node d') σ h e = absurd h
 plain_takes_other (node_word d) (node d') σ h e = absurd h
 
-plain_no_name : (x : Symbol) (n : List ℕ) (σ : List Symbol) → IsPlain x → taken x (name n) ≡ Some σ → ⊥
+plain_no_name : (x : Symbol) (n : List ℕ) (σ : List Symbol) → IsPlain x → consumed x (name n) ≡ Some σ → ⊥
 plain_no_name x n σ h e = let p : name n ≡ other n = plain_takes_other x (name n) σ h e in absurd cc
 
-node_takes_node : (d : ℕ) (p : Part) (σ : List Symbol) → taken (node_word d) p ≡ Some σ → p ≡ node d
+node_takes_node : (d : ℕ) (p : Part) (σ : List Symbol) → consumed (node_word d) p ≡ Some σ → p ≡ node d
 node_takes_node d (node d') σ e =
     elim (chosen (eqb d' d) (Some []) None (Some σ) e) [
       | inl c ↦ ap node (eqb-true d' d c.0)
@@ -221,14 +221,14 @@ module _ (ps : List Part) (b : AreBytes ps) where
   abbrev At : Symbol → List Symbol → Type 0
   At x κ = run start ps ≡ Some (x ∷ κ)
 
-  refused_plain : (x : Symbol) (κ : List Symbol) (s : List ℕ) (f : NarError) → IsPlain x → At x κ → cond (is_some (taken x (other s))) (Ok (other s)) (Err BadTag) ≡ Err f → Refuses ps s f
+  refused_plain : (x : Symbol) (κ : List Symbol) (s : List ℕ) (f : NarError) → IsPlain x → At x κ → cond (is_some (consumed x (other s))) (Ok (other s)) (Err BadTag) ≡ Err f → Refuses ps s f
   refused_plain x κ s f h at e =
-      let a = plain_err (taken x (other s)) (other s) BadTag f e in
+      let a = plain_err (consumed x (other s)) (other s) BadTag f e in
       let no_name : NameMayFollow ps → ⊥ = λ w. let t = taken_next ps x κ at (name w.0) w.1 in plain_no_name x w.0 t.0 h t.1 in
       let none_so : (p : Part) → spelled p ≡ s → Begins (ps ++ p ∷ []) → ⊥ = λ p is w.
       let t = taken_next ps x κ at p w in
       let same : p ≡ other s = plain_takes_other x p t.0 h t.1 ∙ ap other is in
-      let some : taken x (other s) ≡ Some (t.0) = subst (λ (q : Part). taken x q ≡ Some (t.0)) same t.1 in
+      let some : consumed x (other s) ≡ Some (t.0) = subst (λ (q : Part). consumed x q ≡ Some (t.0)) same t.1 in
       none_is_some t.0 (sym a.0 ∙ some) in
       subst (λ (g : NarError). Refuses ps s g) a.1 (no_name, none_so)
 
@@ -342,8 +342,8 @@ module _ (ps : List Part) (x : Symbol) (κ : List Symbol) (at : run start ps ≡
       let here : check (entry_name n.0 n.1) s ≡ Ok p = subst (λ (y : Symbol). check y s ≡ Ok p) n.2 ok in
       let q = if_ok (is_name s) _ BadName p here in
       let r = if_ok (rises n.1 s) (Ok (name s)) NotSorted p q.1 in
-      let takes : taken (entry_name n.0 n.1) (name s) ≡ Some (after_name n.0 s) = rw (q.0, r.0) refl in
-      a.2 (begins_next ps x κ at (name s) (after_name n.0 s) bytes sb (subst (λ (y : Symbol). taken y (name s) ≡ Some (after_name n.0 s)) (sym n.2) takes))
+      let takes : consumed (entry_name n.0 n.1) (name s) ≡ Some (after_name n.0 s) = rw (q.0, r.0) refl in
+      a.2 (begins_next ps x κ at (name s) (after_name n.0 s) bytes sb (subst (λ (y : Symbol). consumed y (name s) ≡ Some (after_name n.0 s)) (sym n.2) takes))
   passes_none TooDeep p sb ok a =
       let t = taken_next ps x κ at (node a.0) a.3 in
       let n = is_node_symbol x a.0 t.0 t.1 in

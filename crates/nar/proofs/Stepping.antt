@@ -6,13 +6,13 @@ use Rattle.nar.specs.declared.progress.Progress.{Progress}
 use Rattle.nar.specs.Progress.{HasRead, HasReadBefore, turns_by}
 
 -- the front of a piece is taken
-pub cut : (all taken piece front rest : List ℕ) (n : ℕ) → all ≡ taken ++ piece → front ≡ take n piece → rest ≡ drop n piece → all ≡ (taken ++ front) ++ rest
-cut all taken piece front rest n is a b =
+pub cut : (all consumed piece front rest : List ℕ) (n : ℕ) → all ≡ consumed ++ piece → front ≡ take n piece → rest ≡ drop n piece → all ≡ (consumed ++ front) ++ rest
+cut all consumed piece front rest n is a b =
     let both : front ++ rest ≡ piece = ap₂ (λ (x y : List ℕ). x ++ y) a b ∙ take-append-drop n piece in
-    is ∙ ap (λ (v : List ℕ). taken ++ v) (sym both) ∙ sym (append_assoc taken front rest)
+    is ∙ ap (λ (v : List ℕ). consumed ++ v) (sym both) ∙ sym (append_assoc consumed front rest)
 
 pub stands_all : (p : Progress) (all : List ℕ) → HasReadBefore p [] all → HasRead p all
-stands_all p all h = subst (HasRead p) (sym (h.is ∙ append-nil h.taken)) h.stands
+stands_all p all h = subst (HasRead p) (sym (h.is ∙ append-nil h.consumed)) h.has_read
 
 pub turns_few : (o : Option Count) → turns_by o ≤ 1
 turns_few None = omega arith

@@ -142,11 +142,11 @@ is_read room n bytes text tail after h is long fits whole text_is tail_is zeros_
     let gap : padded n - n ≡ size_of n - 8 - n = omega arith in
     let z : list_all (λ b. eqb b 0) (take (padded n - n) (drop n (drop 8 bytes))) ≡ true = ap (λ (k : ℕ). list_all (λ b. eqb b 0) (take k (drop n (drop 8 bytes)))) gap ∙ ap (λ (l : List ℕ). list_all (λ b. eqb b 0) (take (size_of n - 8 - n) l)) (sym u) ∙ zeros_are in
     let at_n : string_of_length n room bytes ≡ Ok (take n (drop 8 bytes), drop (size_of n) bytes) = rw (a, b, d, z) refl in
-    let there : string_at room bytes ≡ Ok (text, after) = ap (λ (k : ℕ). string_of_length k room bytes) (sym is) ∙ at_n ∙ ap₂ (λ (x y : List ℕ). Ok (x, y)) (sym t) (sym v) in
-    let found = string_takes room bytes text after h there in
+    let present : string_at room bytes ≡ Ok (text, after) = ap (λ (k : ℕ). string_of_length k room bytes) (sym is) ∙ at_n ∙ ap₂ (λ (x y : List ℕ). Ok (x, y)) (sym t) (sym v) in
+    let found = string_takes room bytes text after h present in
     let len : length text ≡ n = ap length t ∙ length-take-le n (drop 8 bytes) (omega (arith, length-drop 8 bytes, padded_le n)) in
     let size : size_of (length text) + (room - size_of n) ≡ room = ap (λ (k : ℕ). size_of k + (room - size_of n)) len ∙ omega arith in
-    record { is = there; parts = found.parts; text_bytes = found.text_bytes; size = size }
+    record { is = present; parts = found.parts; text_bytes = found.text_bytes; size = size }
 
 fill_is : (n zero' : ℕ) → take ((8 - n % 8) % 8) (replicate 8 zero') ≡ replicate (padded n - n) zero'
 fill_is n zero' =

@@ -45,8 +45,8 @@ pub fault_then : (σ τ : List Symbol) (ps : List Part) {room : ℕ} {bytes : Li
 fault_then σ τ ps {room = room} {bytes = bytes} {left = left} {rest = rest} e lt r at h = λ fault κ.
     let size : length (spelling ps) + left ≡ room = r.size in
     let same : left ≡ room - length (spelling ps) = omega arith in
-    let there = before ps (σ ++ κ) (τ ++ κ) room rest e (at κ) r.shallow (omega arith) lt (subst (λ (k : ℕ). FaultAt (τ ++ κ) k rest e) same (h fault κ)) in
-    subst (λ (v : List ℕ). FaultAt (σ ++ κ) room v e) (sym r.spells) there
+    let present = before ps (σ ++ κ) (τ ++ κ) room rest e (at κ) r.shallow (omega arith) lt (subst (λ (k : ℕ). FaultAt (τ ++ κ) k rest e) same (h fault κ)) in
+    subst (λ (v : List ℕ). FaultAt (σ ++ κ) room v e) (sym r.spells) present
 
 pub bytes_differ : (s w : List ℕ) → bytes_eq s w ≡ false → check (word w) s ≡ Err BadTag
 bytes_differ s w e = rw e refl

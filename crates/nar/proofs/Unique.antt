@@ -4,7 +4,7 @@ use Rattle.std.specs.Prelude.{codes}
 use Rattle.std.specs.List.{AllByRecursion}
 use Rattle.std.proofs.lemmas.List.{length-append}
 use Rattle.nar.specs.String.{string, size_of, string_at}
-use Rattle.nar.specs.Steps.{Symbol, taken, run, start, check}
+use Rattle.nar.specs.Steps.{Symbol, consumed, run, start, check}
 use Rattle.nar.proofs.Grammar.{none_is_some, some_is, and_then_some, walk}
 use Rattle.nar.proofs.Strings.{length-string, string_again}
 use Rattle.nar.proofs.Machine.{check_taken}
@@ -92,8 +92,8 @@ same_parts (p ∷ ps) [] [] room at bt hp hq fits lt e = none_is_some [] at
 same_parts (p ∷ ps) [] (x ∷ κ) room at bt hp hq fits lt e = (let no : x ∷ κ ≡ [] = some_is (x ∷ κ) [] bt in absurd cc)
 same_parts (p ∷ ps) (q ∷ qs) [] room at bt hp hq fits lt e = none_is_some [] at
 same_parts (p ∷ ps) (q ∷ qs) (x ∷ κ) room at bt hp hq fits lt e =
-    let a = and_then_some (taken x p) (λ σ. run (σ ++ κ) ps) [] at in
-    let b = and_then_some (taken x q) (λ σ. run (σ ++ κ) qs) [] bt in
+    let a = and_then_some (consumed x p) (λ σ. run (σ ++ κ) ps) [] at in
+    let b = and_then_some (consumed x q) (λ σ. run (σ ++ κ) qs) [] bt in
     let s : List ℕ = spelled p in
     let t : List ℕ = spelled q in
     let one : length (string s ++ spelling ps) ≡ size_of (length s) + length (spelling ps) = length-append (string s) (spelling ps) ∙ ap (λ (k : ℕ). k + length (spelling ps)) (length-string s) in
@@ -106,7 +106,7 @@ same_parts (p ∷ ps) (q ∷ qs) (x ∷ κ) room at bt hp hq fits lt e =
     let iq : string_at room (string t ++ spelling qs) ≡ Ok (t, spelling qs) = string_again room t (spelling qs) ft.0 ft.1 in
     let pair = ok_pair (spelling ps) (spelling qs) (string_at room (string s ++ spelling ps)) s t ip (ap (string_at room) e ∙ iq) in
     let same : p ≡ q = ok_is (check x s) p q (check_taken x p a.0 a.1 hp.0) (ap (check x) pair.0 ∙ check_taken x q b.0 b.1 hq.0) in
-    let left : a.0 ≡ b.0 = some_is a.0 b.0 (sym a.1 ∙ ap (taken x) same ∙ b.1) in
+    let left : a.0 ≡ b.0 = some_is a.0 b.0 (sym a.1 ∙ ap (consumed x) same ∙ b.1) in
     let later = same_parts ps qs (a.0 ++ κ) room a.2 (subst (λ (v : List Symbol). run (v ++ κ) qs ≡ Some []) (sym left) b.2) hp.1 hq.1 (omega arith) lt pair.1 in
     ap₂ (λ (v : Part) (w : List Part). v ∷ w) same later
 

@@ -5,7 +5,7 @@ use Rattle.nar.specs.declared.error.NarError.TheVariants.{BadTag, Trailing}
 use Rattle.nar.specs.declared.nest.Phase.{Phase}
 use Rattle.nar.specs.declared.nest.Phase.TheVariants as phases
 use Rattle.nar.specs.Archive.{Part}
-use Rattle.nar.specs.Steps.{Symbol, word, any, kind, file, entries, entry_name, node_word, taken, check}
+use Rattle.nar.specs.Steps.{Symbol, word, any, kind, file, entries, entry_name, node_word, consumed, check}
 
 -- the names of the open entries, the innermost first: each is closed, and its directory goes on
 abbrev pub under : List (List ℕ) → List Symbol
@@ -43,7 +43,7 @@ left_by κ None = Err BadTag
 left_by κ (Some σ) = Ok (σ ++ κ)
 
 abbrev pub left_at : Symbol → List Symbol → Result Part NarError → Result (List Symbol) NarError
-left_at x κ (Ok p) = left_by κ (taken x p)
+left_at x κ (Ok p) = left_by κ (consumed x p)
 left_at x κ (Err f) = Err f
 
 abbrev pub next : List Symbol → List ℕ → Result (List Symbol) NarError

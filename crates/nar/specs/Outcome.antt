@@ -7,7 +7,7 @@ use Rattle.nar.specs.declared.error.NarError.TheVariants.{Truncated, Trailing}
 use Rattle.nar.specs.String.{string_at, size_of}
 use Rattle.nar.specs.Tree.{Tree, regular, symlink, directory, Entries, no_entries, entry}
 use Rattle.nar.specs.Archive.{Part, spelled, limit}
-use Rattle.nar.specs.Steps.{Symbol, taken, start, check}
+use Rattle.nar.specs.Steps.{Symbol, consumed, start, check}
 
 -- the answer of a step, after the one before it
 abbrev pub and_then : {A B : Type 0} → Result A NarError → (A → Result B NarError) → Result B NarError
@@ -22,7 +22,7 @@ parts_from zero (x ∷ κ) room bytes = Err Truncated
 parts_from (suc steps) (x ∷ κ) room bytes =
     and_then (string_at room bytes) (λ next.
     and_then (check x next.0) (λ p.
-    and_then (parts_from steps (unwrap_or (taken x p) [] ++ κ) (room - size_of (length next.0)) next.1) (λ ps. Ok (p ∷ ps))))
+    and_then (parts_from steps (unwrap_or (consumed x p) [] ++ κ) (room - size_of (length next.0)) next.1) (λ ps. Ok (p ∷ ps))))
 
 -- the string of the part at this place
 abbrev pub at : ℕ → List Part → List ℕ

@@ -10,9 +10,9 @@ HasRead p bytes = IsReachedBy p.count p.nest p.room p.held.items bytes
 
 -- The bytes were consumed up to the rest.
 pub record HasReadBefore (p : Progress) (rest all : List ℕ) : Type 0 where
-  pub taken : List ℕ
-  pub is : all ≡ taken ++ rest
-  pub stands : HasRead p taken
+  pub consumed : List ℕ
+  pub is : all ≡ consumed ++ rest
+  pub has_read : HasRead p consumed
 
 -- how many steps it may take without a byte: one, where a string is counted
 abbrev pub turns_by : Option Count → ℕ

@@ -54,21 +54,21 @@ abbrev pub after_name : ℕ → List ℕ → List Symbol
 after_name d n = node_word (d + 1) ∷ word (codes "(") ∷ word (codes "type") ∷ kind (d + 1) ∷ word (codes ")") ∷ entries d (Some n) ∷ []
 
 -- after this part, where the symbol is; none where the part isn't allowed there
-abbrev pub taken : Symbol → Part → Option (List Symbol)
-taken (word w) (other s) = cond (bytes_eq s w) (Some []) None
-taken any (other s) = Some []
-taken (kind d) (other s) = kind_next d s
-taken file (other s) = file_next s
-taken (entries d last) (other s) = entries_next d last s
-taken (entry_name d last) (name n) = cond (is_name n && rises last n) (Some (after_name d n)) None
-taken (node_word d) (node e) = cond (eqb e d) (Some []) None
-taken _ _ = None
+abbrev pub consumed : Symbol → Part → Option (List Symbol)
+consumed (word w) (other s) = cond (bytes_eq s w) (Some []) None
+consumed any (other s) = Some []
+consumed (kind d) (other s) = kind_next d s
+consumed file (other s) = file_next s
+consumed (entries d last) (other s) = entries_next d last s
+consumed (entry_name d last) (name n) = cond (is_name n && rises last n) (Some (after_name d n)) None
+consumed (node_word d) (node e) = cond (eqb e d) (Some []) None
+consumed _ _ = None
 
 -- after these parts
 abbrev pub run : List Symbol → List Part → Option (List Symbol)
 run σ [] = Some σ
 run [] (p ∷ ps) = None
-run (x ∷ κ) (p ∷ ps) = option_and_then (λ σ. run (σ ++ κ) ps) (taken x p)
+run (x ∷ κ) (p ∷ ps) = option_and_then (λ σ. run (σ ++ κ) ps) (consumed x p)
 
 -- an archive
 abbrev pub start : List Symbol
@@ -80,7 +80,7 @@ start = word (codes "nix-archive-1") ∷ word (codes "(") ∷ word (codes "type"
 abbrev pub check : Symbol → List ℕ → Result Part NarError
 check (entry_name d last) s = cond (is_name s) (cond (rises last s) (Ok (name s)) (Err NotSorted)) (Err BadName)
 check (node_word d) s = cond (bytes_eq s (codes "node")) (cond (nat_lt 256 d) (Err TooDeep) (Ok (node d))) (Err BadTag)
-check x s = cond (is_some (taken x (other s))) (Ok (other s)) (Err BadTag)
+check x s = cond (is_some (consumed x (other s))) (Ok (other s)) (Err BadTag)
 
 -- ---- bytes
 
@@ -91,5 +91,5 @@ pub data FaultAt : List Symbol → ℕ → List ℕ → NarError → Type 0 wher
   refuses : {x : Symbol} {κ : List Symbol} {room : ℕ} {bytes s rest : List ℕ} {e : NarError}
       → string_at room bytes ≡ Ok (s, rest) → check x s ≡ Err e → FaultAt (x ∷ κ) room bytes e
   goes_on : {x : Symbol} {σ κ : List Symbol} {p : Part} {room : ℕ} {bytes s rest : List ℕ} {e : NarError}
-      → string_at room bytes ≡ Ok (s, rest) → check x s ≡ Ok p → taken x p ≡ Some σ → FaultAt (σ ++ κ) (room - size_of (length s)) rest e
+      → string_at room bytes ≡ Ok (s, rest) → check x s ≡ Ok p → consumed x p ≡ Some σ → FaultAt (σ ++ κ) (room - size_of (length s)) rest e
       → FaultAt (x ∷ κ) room bytes e

@@ -7,4 +7,5 @@ pub mod Laws
 pub mod Names
 pub mod Path
 pub mod Root
+pub mod RootView
 pub mod StorePath

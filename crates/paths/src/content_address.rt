@@ -68,7 +68,7 @@ pub enum VerifyError {
 }
 
 /// What the text of an address begins with.
-fn front(method: Method) -> &'static str
+fn prefix(method: Method) -> &'static str
     ensures { result.now ≡ address_prefix method }
 {
     match method {
@@ -202,7 +202,7 @@ impl Ca {
         ensures text { IfOk result (λ text. string_bytes text ≡ address_text self.now) }
         ensures back { IfOk result (λ text. address_of (string_bytes text) ≡ Some self.now) }
     {
-        let mut text = String::from_str(alloc, front(self.method))?;
+        let mut text = String::from_str(alloc, prefix(self.method))?;
         let digits = base32(alloc, &self.digest)?;
         text.push_str(digits.as_str())?;
         Ok(text)

@@ -51,11 +51,11 @@ is_insert m n k v h = same_map nat_list_cmp_total (slice_cmp-IsAntisymmetric nat
 
 -- whether the set holds a text
 pub contains_key-set_of : (q : List ℕ) (ks : List (String Global)) → contains_key (set_of ks) q ≡ list_any (is_text q) ks
-contains_key-set_of q ks = ap is_some (get-set_of q ks) ∙ there (list_any (is_text q) ks)
+contains_key-set_of q ks = ap is_some (get-set_of q ks) ∙ present (list_any (is_text q) ks)
   where
-    there : (b : Bool) → is_some (cond b (Some (tt {0})) None) ≡ b
-    there true = refl
-    there false = refl
+    present : (b : Bool) → is_some (cond b (Some (tt {0})) None) ≡ b
+    present true = refl
+    present false = refl
 
 one_more : (b o : Bool) → cond (cond b true o) (Some (tt {0})) None ≡ cond b (Some tt) (cond o (Some tt) None)
 one_more true o = refl

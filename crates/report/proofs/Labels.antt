@@ -56,12 +56,12 @@ abbrev pub Unbroken : Root → Type 0
 Unbroken r = IsTrue (lacks 10 r.label) × IsTrue (lacks 10 r.target)
 
 module _ (dir : List ℕ) (w : World) (sound : IsSound dir w) where
-  there : (p : Path) (o : Option Object) → finite.get w.objects p ≡ o → IsTrue (is_some o) → IsTrue (is_base_name p)
-  there p (Some o) e h = (sound.objects p o e).path
-  there p None e h = absurd (false≢true h)
+  present : (p : Path) (o : Option Object) → finite.get w.objects p ≡ o → IsTrue (is_some o) → IsTrue (is_base_name p)
+  present p (Some o) e h = (sound.objects p o e).path
+  present p None e h = absurd (false≢true h)
 
   target_lacks : (p : Path) → IsTrue (has w p) → IsTrue (lacks 10 p)
-  target_lacks p h = base_lacks p (there p (finite.get w.objects p) refl h)
+  target_lacks p h = base_lacks p (present p (finite.get w.objects p) refl h)
 
   permanents : (r : Root) → Contains (map permanent_root (finite.entries w.permanent)) r → Unbroken r
   permanents r c =

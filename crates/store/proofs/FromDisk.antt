@@ -35,7 +35,7 @@ module _ {S : Type 0} (g : Ghosts S) (s : Settings) (c : Caller) (q : Request) (
       → ((w : World) → HasWorld g old w → MeetsOver (HasCleanDisk (state g new.connection)) s w c q r w) → IsMet g s c q r old new
   met_by_disk r it unrefused cause h = record {
     dir = it.dir;
-    world = λ w t. (w, h w t, it.told w t);
+    world = λ w t. (w, h w t, it.reported w t);
     cause = cause;
     others = others_shown g old new it.shown;
     still = λ refused. absurd (unrefused refused);
@@ -65,14 +65,14 @@ pub lists : {A : Type 0} (old new : State) (dir : List ℕ) (w : World) → IsSo
     → IfErr r (λ f. FailsToList f (outcome_of nar)) → IfErr r (FailsToRead old new)
 lists {A} old new dir w sound p valid nar is r h = by (finite.get w.objects p) refl valid r h
   where
-    told : (t : Tree) → outcome_of nar ≡ Ok t → (r : Result A Failure) → IfErr r (λ f. FailsToList f (outcome_of nar)) → IfErr r (FailsToRead old new)
-    told t read (Ok text) h = tt
-    told t read (Err Memory) h = tt
-    told t read (Err Size) h = absurd h
-    told t read (Err Disk) h = absurd (subst (FailsToList Disk) read h)
+    reported : (t : Tree) → outcome_of nar ≡ Ok t → (r : Result A Failure) → IfErr r (λ f. FailsToList f (outcome_of nar)) → IfErr r (FailsToRead old new)
+    reported t read (Ok text) h = tt
+    reported t read (Err Memory) h = tt
+    reported t read (Err Size) h = absurd h
+    reported t read (Err Disk) h = absurd (subst (FailsToList Disk) read h)
 
     by : (o : Option Object) → finite.get w.objects p ≡ o → IsTrue (is_some o) → (r : Result A Failure) → IfErr r (λ f. FailsToList f (outcome_of nar)) → IfErr r (FailsToRead old new)
     by None e v r h = absurd (false≢true v)
     by (Some o) e v r h =
         let object = sound.objects p o e in
-        told object.tree (ap outcome_of (is ∙ ap archive_at e) ∙ is_read object.tree o.nar object.archive) r h
+        reported object.tree (ap outcome_of (is ∙ ap archive_at e) ∙ is_read object.tree o.nar object.archive) r h

@@ -30,27 +30,27 @@ run_more is_clean s w mid next [] (r ∷ replies) call reply h step = absurd h
 run_more is_clean s w mid next (c ∷ calls) [] call reply h step = absurd h
 
 -- Some of the calls were made, and led to this world with these replies; these are left.
-pub record HasRun (is_clean : Type 0) (s : Settings) (all left : List (Caller × Request)) (told : List Reply) (w mid : World) : Type 0 where
+pub record HasRun (is_clean : Type 0) (s : Settings) (all left : List (Caller × Request)) (reported : List Reply) (w mid : World) : Type 0 where
   pub made : List (Caller × Request)
   pub whole : made ++ left ≡ all
-  pub run : RunOver is_clean s w made told mid
+  pub run : RunOver is_clean s w made reported mid
 
 module _ (s : Settings) (all : List (Caller × Request)) where
   -- none was made yet
-  pub begun : (is_clean : Type 0) (w : World) (left : List (Caller × Request)) (told : List Reply) → left ≡ all → told ≡ [] → HasRun is_clean s all left told w w
-  begun is_clean w left told same none = record { made = []; whole = same; run = subst (λ (ts : List Reply). RunOver is_clean s w [] ts w) (sym none) refl }
+  pub begun : (is_clean : Type 0) (w : World) (left : List (Caller × Request)) (reported : List Reply) → left ≡ all → reported ≡ [] → HasRun is_clean s all left reported w w
+  begun is_clean w left reported same none = record { made = []; whole = same; run = subst (λ (ts : List Reply). RunOver is_clean s w [] ts w) (sym none) refl }
 
   -- one call more is made
-  pub one_more : (was is : Type 0) → (is → was) → (w mid next : World) (left after : List (Caller × Request)) (call : Caller × Request) (told : List Reply) (reply : Reply)
-      → left ≡ call ∷ after → HasRun was s all left told w mid → StepOver is s mid call.0 call.1 reply next → HasRun is s all after (told ++ reply ∷ []) w next
-  one_more was is clean w mid next left after call told reply first before step = record {
+  pub one_more : (was is : Type 0) → (is → was) → (w mid next : World) (left after : List (Caller × Request)) (call : Caller × Request) (reported : List Reply) (reply : Reply)
+      → left ≡ call ∷ after → HasRun was s all left reported w mid → StepOver is s mid call.0 call.1 reply next → HasRun is s all after (reported ++ reply ∷ []) w next
+  one_more was is clean w mid next left after call reported reply first before step = record {
     made = before.made ++ call ∷ [];
     whole = append_assoc before.made (call ∷ []) after ∙ ap (λ (l : List (Caller × Request)). before.made ++ l) (sym first) ∙ before.whole;
-    run = run_more is s w mid next before.made told call reply (run_later was is clean s w before.made told mid before.run) step;
+    run = run_more is s w mid next before.made reported call reply (run_later was is clean s w before.made reported mid before.run) step;
   }
 
   -- none is left
-  pub ended : (is_clean : Type 0) (w mid : World) (left : List (Caller × Request)) (told : List Reply) → left ≡ [] → HasRun is_clean s all left told w mid → RunOver is_clean s w all told mid
-  ended is_clean w mid left told none before =
-      subst (λ (calls : List (Caller × Request)). RunOver is_clean s w calls told mid)
+  pub ended : (is_clean : Type 0) (w mid : World) (left : List (Caller × Request)) (reported : List Reply) → left ≡ [] → HasRun is_clean s all left reported w mid → RunOver is_clean s w all reported mid
+  ended is_clean w mid left reported none before =
+      subst (λ (calls : List (Caller × Request)). RunOver is_clean s w calls reported mid)
       (sym (append-nil before.made) ∙ ap (λ (l : List (Caller × Request)). before.made ++ l) (sym none) ∙ before.whole) before.run

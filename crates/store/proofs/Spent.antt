@@ -50,34 +50,34 @@ same_view a b tables settings = λ i. record { tables = tables i; settings = set
 -- ---- over a run
 
 -- Some of the calls were made, and each of them that was spent had its reply; these are left.
-pub record SpentSoFar (s : Settings) (all left : List (Caller × Request)) (told : List Reply) : Type 0 where
+pub record SpentSoFar (s : Settings) (all left : List (Caller × Request)) (reported : List Reply) : Type 0 where
   pub made : List (Caller × Request)
   pub whole : made ++ left ≡ all
-  pub answered : SpentAreAnswered s made told
+  pub answered : SpentAreAnswered s made reported
 
 module _ (s : Settings) (all : List (Caller × Request)) where
   abbrev IsAnswered : Caller × Request → Reply → Type 0
   IsAnswered call reply = IsTrue (is_spent call.1) → reply ≡ spent_reply s call.0 (request_view call.1)
 
-  behind : (made : List (Caller × Request)) (told : List Reply) (call : Caller × Request) (reply : Reply) → SpentAreAnswered s made told → IsAnswered call reply
-      → SpentAreAnswered s (made ++ call ∷ []) (told ++ reply ∷ [])
+  behind : (made : List (Caller × Request)) (reported : List Reply) (call : Caller × Request) (reply : Reply) → SpentAreAnswered s made reported → IsAnswered call reply
+      → SpentAreAnswered s (made ++ call ∷ []) (reported ++ reply ∷ [])
   behind [] [] call reply h last = (last, tt)
-  behind (c ∷ made) (r ∷ told) call reply h last = (h.0, behind made told call reply h.1 last)
-  behind [] (r ∷ told) call reply h last = absurd h
+  behind (c ∷ made) (r ∷ reported) call reply h last = (h.0, behind made reported call reply h.1 last)
+  behind [] (r ∷ reported) call reply h last = absurd h
   behind (c ∷ made) [] call reply h last = absurd h
 
-  pub none_so_far : (left : List (Caller × Request)) (told : List Reply) → left ≡ all → told ≡ [] → SpentSoFar s all left told
-  none_so_far left told same none = record { made = []; whole = same; answered = subst (SpentAreAnswered s []) (sym none) tt }
+  pub none_so_far : (left : List (Caller × Request)) (reported : List Reply) → left ≡ all → reported ≡ [] → SpentSoFar s all left reported
+  none_so_far left reported same none = record { made = []; whole = same; answered = subst (SpentAreAnswered s []) (sym none) tt }
 
-  pub one_so_far : (left after : List (Caller × Request)) (call : Caller × Request) (told : List Reply) (reply : Reply)
-      → left ≡ call ∷ after → SpentSoFar s all left told → IsAnswered call reply → SpentSoFar s all after (told ++ reply ∷ [])
-  one_so_far left after call told reply first before last = record {
+  pub one_so_far : (left after : List (Caller × Request)) (call : Caller × Request) (reported : List Reply) (reply : Reply)
+      → left ≡ call ∷ after → SpentSoFar s all left reported → IsAnswered call reply → SpentSoFar s all after (reported ++ reply ∷ [])
+  one_so_far left after call reported reply first before last = record {
     made = before.made ++ call ∷ [];
     whole = append_assoc before.made (call ∷ []) after ∙ ap (λ (l : List (Caller × Request)). before.made ++ l) (sym first) ∙ before.whole;
-    answered = behind before.made told call reply before.answered last;
+    answered = behind before.made reported call reply before.answered last;
   }
 
-  pub all_so_far : (left : List (Caller × Request)) (told : List Reply) → left ≡ [] → SpentSoFar s all left told → SpentAreAnswered s all told
-  all_so_far left told none before =
-      subst (λ (calls : List (Caller × Request)). SpentAreAnswered s calls told)
+  pub all_so_far : (left : List (Caller × Request)) (reported : List Reply) → left ≡ [] → SpentSoFar s all left reported → SpentAreAnswered s all reported
+  all_so_far left reported none before =
+      subst (λ (calls : List (Caller × Request)). SpentAreAnswered s calls reported)
       (sym (append-nil before.made) ∙ ap (λ (l : List (Caller × Request)). before.made ++ l) (sym none) ∙ before.whole) before.answered

@@ -124,7 +124,7 @@ impl<S: Alter> Store<S> {
     /// The reply to a request that a rule forbids, the first that does, or for whose denial memory was refused. None where
     /// no rule forbids it.
     fn forbidden(&self, caller: &Caller, request: &Request) -> Option<Reply>
-        ensures told { (w : World) → HasWorld S.Store self.now.tables w
+        ensures reported { (w : World) → HasWorld S.Store self.now.tables w
             → IsForbidden self.now.settings w caller.now (request_view request.now) (option_map reply_view result) }
         // What deletes nothing by name is forbidden by the rules alone.
         ensures ruled { deletes (request_view request.now) ≡ false

@@ -28,7 +28,7 @@ pub(crate) fn plain(contents: &[u8]) -> Node<'_>
 
 /// Tests that the archive of a text is small enough.
 pub(crate) fn has_archive(contents: &[u8]) -> Result<(), Refusal>
-    ensures told { Tested result (unless (nat_le (text_archive_size contents.now) limit) Refusal.TooLarge) }
+    ensures reported { Tested result (unless (nat_le (text_archive_size contents.now) limit) Refusal.TooLarge) }
     ensures fits { OnOk result (text_archive_size contents.now ≤ limit) }
 {
     let file = plain(contents);

@@ -16,7 +16,7 @@ use tables_sql::failure::Failure;
 /// An archive at its end. Where memory was refused as it came, the call fails.
 pub(crate) fn arrived(nar: Intake) -> Result<Arrived, Stop>
     ensures pieces { IfOk result (λ a. a.pieces ≡ bytes_in nar) }
-    ensures told { IfOk result DescribesBytes }
+    ensures reported { IfOk result DescribesBytes }
     ensures spent { nar ≡ None → IfOk result (λ a. ⊥) }
     ensures failed { IfErr result (λ stop. stop ≡ failed memory) }
 {

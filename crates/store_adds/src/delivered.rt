@@ -45,7 +45,7 @@ pub(crate) struct Delivered {
 /// What is passed, once its archive has come. Where memory was refused as that came, the call fails.
 pub(crate) fn at_end(import: Imported) -> Result<Delivered, Stop>
     ensures same { IfOk result (λ d. delivered_view d ≡ import_view import) }
-    ensures told { IfOk result (λ d. DescribesBytes d.nar) }
+    ensures reported { IfOk result (λ d. DescribesBytes d.nar) }
     ensures spent { import.nar ≡ None → IfOk result (λ d. ⊥) }
     ensures failed { IfErr result (λ stop. stop ≡ failed memory) }
 {

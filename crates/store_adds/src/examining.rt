@@ -12,7 +12,7 @@ ghost use Rattle.store_adds.specs.Parts.{outputs_view};
 
 use crate::archives::plain;
 use crate::derivations::outputs_at;
-use crate::references::{are_others, are_there};
+use crate::references::{are_others, are_valid};
 use paths::{StoreDir, StorePath};
 use std::alloc::Global;
 use std::collections::BTreeMap;
@@ -36,6 +36,6 @@ pub(crate) fn examine_text(
     are_others(refs, path)?;
     let file = plain(contents);
     let outputs = outputs_at(alloc, dir, path, &file)?;
-    are_there(outline, path, refs)?;
+    are_valid(outline, path, refs)?;
     Ok(outputs)
 }

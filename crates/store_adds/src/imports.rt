@@ -23,7 +23,7 @@ use crate::adding::add;
 use crate::arrivals::is_archive;
 use crate::delivered::{Delivered, at_end};
 use crate::derivations::outputs_by;
-use crate::references::{are_few, are_there};
+use crate::references::{are_few, are_valid};
 use crate::summaries::{Added, summary};
 use intake::Arrived;
 use paths::{StoreDir, StorePath};
@@ -43,7 +43,7 @@ fn examine_import(
     import: &Delivered,
 ) -> Result<BTreeMap<String, StorePath>, Stop>
     requires { DescribesBytes import.now.nar }
-    ensures told { (w : World) → outline_of w ≡ outline.now → Gives (λ map. outputs_view map.entries) result
+    ensures reported { (w : World) → outline_of w ≡ outline.now → Gives (λ map. outputs_view map.entries) result
         (first_failing (import_tests dir.now w (delivered_view import.now))) (objects.outputs_at dir.now (delivered_view import.now).path (delivered_view import.now).nar) }
     ensures formed { OnOk result (IsWellFormedImport (delivered_view import.now)) }
     ensures hash { OnOk result ((delivered_view import.now).nar_hash ≡ sha256 (delivered_view import.now).nar) }
@@ -55,7 +55,7 @@ fn examine_import(
     import.refers_to_others()?;
     import.is_verified(alloc, dir)?;
     let outputs = outputs_by(alloc, dir, &import.path, &import.nar.pieces)?;
-    are_there(outline, &import.path, &import.refs)?;
+    are_valid(outline, &import.path, &import.refs)?;
     Ok(outputs)
 }
 
@@ -66,7 +66,7 @@ pub fn prepare_import(
     outline: &Outline,
     import: Imported,
 ) -> Result<Added, Stop>
-    ensures told { (w : World) → outline_of w ≡ outline.now → Gives added_view result
+    ensures reported { (w : World) → outline_of w ≡ outline.now → Gives added_view result
         (first_failing (import_tests dir.now w (import_view import))) (added_import dir.now (import_view import)) }
     ensures formed { OnOk result (IsWellFormedImport (import_view import)) }
     ensures size { IfOk result (λ a. a.object.size ≡ length a.nar) }

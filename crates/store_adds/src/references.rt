@@ -67,7 +67,7 @@ fn is_complete(outline: &Outline, path: &StorePath, refs: &[StorePath]) -> bool
 }
 
 /// Tests that each reference of a path is valid or that path, or the path is valid already.
-pub(crate) fn are_there(
+pub(crate) fn are_valid(
     outline: &Outline,
     path: &StorePath,
     refs: &[StorePath],

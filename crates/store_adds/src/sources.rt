@@ -22,7 +22,7 @@ ghost use Rattle.model.specs.Request as asked;
 use crate::adding::add;
 use crate::arrivals::{arrived, is_archive};
 use crate::derivations::outputs_by;
-use crate::references::{are_few, are_others, are_there};
+use crate::references::{are_few, are_others, are_valid};
 use crate::summaries::{Added, summary};
 use intake::{Arrived, Intake};
 use paths::{Ca, Method, Name, StoreDir, StorePath, source_path_of};
@@ -51,7 +51,7 @@ fn examine_source(
     is_archive(nar)?;
     are_others(refs, path)?;
     let outputs = outputs_by(alloc, dir, path, &nar.pieces)?;
-    are_there(outline, path, refs)?;
+    are_valid(outline, path, refs)?;
     Ok(outputs)
 }
 
@@ -64,7 +64,7 @@ pub fn prepare_source(
     refs: Vec<StorePath>,
     nar: Intake,
 ) -> Result<Added, Stop>
-    ensures told { (w : World) → outline_of w ≡ outline.now → Gives added_view result
+    ensures reported { (w : World) → outline_of w ≡ outline.now → Gives added_view result
         (first_failing (source_tests dir.now w (paths.source_path dir.now name.now refs.items (bytes_in nar)) refs.items (bytes_in nar))) (added_source dir.now name.now refs.items (bytes_in nar)) }
     ensures bytes { OnOk result (IsBytes (bytes_in nar)) }
     ensures size { IfOk result (λ a. a.object.size ≡ length a.nar) }

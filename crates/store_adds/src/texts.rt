@@ -30,7 +30,7 @@ pub fn prepare_text(
     refs: Vec<StorePath>,
     contents: &[u8],
 ) -> Result<Added, Stop>
-    ensures told { (w : World) → outline_of w ≡ outline.now → Gives added_view result
+    ensures reported { (w : World) → outline_of w ≡ outline.now → Gives added_view result
         (first_failing (tests.text_tests dir.now w (paths.text_path dir.now name.now refs.items contents.now) refs.items contents.now)) (added_text dir.now name.now refs.items contents.now) }
     ensures bytes { OnOk result (IsBytes contents.now) }
     ensures size { IfOk result (λ a. a.object.size ≡ length a.nar) }

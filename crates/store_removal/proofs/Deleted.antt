@@ -13,7 +13,7 @@ use Rattle.model.specs.Liveness as spec
 use Rattle.store_removal.specs.Linked.{rows_in}
 use Rattle.store_removal.proofs.Places.{unreached}
 use Rattle.store_removal.proofs.Rising.{paths_in}
-use Rattle.store_removal.proofs.Told.{graph_told, paths_told}
+use Rattle.store_removal.proofs.Reported.{graph_told, paths_told}
 
 -- ---- places within
 
@@ -50,7 +50,7 @@ module _ (o : OutlineValue) (rows again : List Row) (is : rows ≡ rows_in o) (i
       ∙ those (reaches references_alone (graph_of (rows_in o)) p) (λ q none. unreached references_alone o rows p q is none)
 
   pub deleted_told : (w : World) → outline_of w ≡ o → filter (refers_to_any (graph_of again) (map (path_at again) handed)) (paths_of again) ≡ spec.deleted_paths w named
-  deleted_told w told =
+  deleted_told w reported =
       (λ i. filter (refers_to_any (graph_of (is_again i)) (map (path_at (is_again i)) (same_places i))) (paths_of (is_again i)))
       ∙ (λ i. filter (λ p. goes p i) (paths_in o i))
-      ∙ (λ i. filter (λ p. refers_to_any (graph_told w o told i) named p) (paths_told w o told i))
+      ∙ (λ i. filter (λ p. refers_to_any (graph_told w o reported i) named p) (paths_told w o reported i))

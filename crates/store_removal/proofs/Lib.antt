@@ -12,5 +12,5 @@ pub mod Removed
 pub mod Rising
 pub mod Shown
 pub mod Sized
-pub mod Told
+pub mod Reported
 pub mod Valid

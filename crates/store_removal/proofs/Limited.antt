@@ -18,7 +18,7 @@ use Rattle.store_removal.specs.Linked.{rows_in}
 use Rattle.tables_listing.specs.Rooted.{rooted}
 use Rattle.store_removal.specs.Sizes.{size_in}
 use Rattle.store_removal.proofs.Sized.{sizes_told}
-use Rattle.store_removal.proofs.Told.{graph_told, lives_told}
+use Rattle.store_removal.proofs.Reported.{graph_told, lives_told}
 use Rattle.store_removal.proofs.Valid.{aims_well, any_kept, reaches_from_valid}
 
 -- each path has its size at its place
@@ -28,14 +28,14 @@ sized f (r ∷ rs) zero h = refl
 sized f (r ∷ rs) (suc i) h = sized f rs i (omega (arith, h))
 
 module _ (s : Settings) (o : OutlineValue) (keep : Keep) (rows : List Row) (valid : List Root) (kept : keep ≡ keep_of s) (is : rows ≡ rows_in o) (same : valid ≡ filter (aims_well o) (roots_of (rooted o)))
-    (w : World) (told : outline_of w ≡ o) where
+    (w : World) (reported : outline_of w ≡ o) where
   lives_so : (p : Path) → is_live keep (graph_of rows) valid p ≡ lives s w p
   lives_so p =
       (λ i. is_live (kept i) (graph_of (is i)) (same i) p)
       ∙ any_kept (λ (r : Root). reaches (keep_of s) (graph_of (rows_in o)) r.target p) (aims_well o) (λ r h. reaches_from_valid (keep_of s) o r.target p h) (roots_of (rooted o))
-      ∙ (λ i. lives_told s w o told i p)
+      ∙ (λ i. lives_told s w o reported i p)
 
   pub limited_told : (limit : ℕ) → limited_paths (graph_of rows) (λ p. not (is_live keep (graph_of rows) valid p)) (size_in o) limit ≡ collected_paths s w (Some limit)
   limited_told limit =
-      let graph = ap graph_of is ∙ graph_told w o told in
-      λ i. limited_paths (graph i) (λ p. not (lives_so p i)) (sizes_told w o told i) limit
+      let graph = ap graph_of is ∙ graph_told w o reported in
+      λ i. limited_paths (graph i) (λ p. not (lives_so p i)) (sizes_told w o reported i) limit

@@ -65,10 +65,10 @@ module _ (class : Class) (keys : List Labelled) (k p : Labelled) (shown : List L
       has_inserted pair_cmp labelled_bytes pair_total labelled_cmp (λ x y. refl) q keys k
       ∙ ap₂ (λ a z. a || (eq_by_cmp pair_cmp q z || false)) (are stranger q) same_as
 
-  there : (a c : Bool) → (c ≡ true → a ≡ true) → (a || (c || false)) ≡ a
-  there true c h = refl
-  there false true h = sym (h refl)
-  there false false h = refl
+  present : (a c : Bool) → (c ≡ true → a ≡ true) → (a || (c || false)) ≡ a
+  present true c h = refl
+  present false true h = sym (h refl)
+  present false false h = refl
 
   moved : (q : Pair) → eq_by_cmp pair_cmp q (labelled_bytes p) ≡ true → (xs : List Pair) → has_tied pair_cmp q xs ≡ has_tied pair_cmp (labelled_bytes p) xs
   moved q h [] = refl
@@ -81,4 +81,4 @@ module _ (class : Class) (keys : List Labelled) (k p : Labelled) (shown : List L
       by : (c : Bool) → not c ≡ list_any (λ x. is_eq (labelled_cmp k x)) keys → (q : Pair)
           → has_tied pair_cmp q (map labelled_bytes (insert_key labelled_cmp keys k)) ≡ has_tied pair_cmp q (map labelled_bytes (if c then shown ++ p ∷ [] else shown))
       by true e q = after q ∙ sym (same_all q p shown)
-      by false e q = after q ∙ there (has_tied pair_cmp q (map labelled_bytes shown)) (eq_by_cmp pair_cmp q (labelled_bytes p)) (λ h. moved q h (map labelled_bytes shown) ∙ sym had ∙ sym e)
+      by false e q = after q ∙ present (has_tied pair_cmp q (map labelled_bytes shown)) (eq_by_cmp pair_cmp q (labelled_bytes p)) (λ h. moved q h (map labelled_bytes shown) ∙ sym had ∙ sym e)

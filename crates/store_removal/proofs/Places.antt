@@ -21,14 +21,14 @@ use Rattle.model.specs.World.{Pair, Path, World, roots_of}
 use Rattle.tables_outline.specs.Outline.{OutlineValue, outline_of}
 use Rattle.tables_outline.proofs.Orders.{bytes_total, bytes_antisymmetric}
 use Rattle.tables_outline.proofs.Puts.{tied_is}
-use Rattle.tables_outline.proofs.Told.{has-told}
+use Rattle.tables_outline.proofs.Reported.{has-reported}
 use Rattle.model.specs.Liveness.{keep_of, roots_that_keep}
 use Rattle.model.specs.Seen.{each_once, seen}
 use Rattle.store_removal.specs.Linked.{links_in, rows_in}
 use Rattle.tables_listing.specs.Rooted.{rooted}
 use Rattle.store_removal.proofs.Marked.{row_path}
 use Rattle.store_removal.proofs.Rising.{paths_in}
-use Rattle.store_removal.proofs.Told.{graph_told, roots_told}
+use Rattle.store_removal.proofs.Reported.{graph_told, roots_told}
 use Rattle.store_removal.proofs.Valid.{aims_well, filter_kept, reaches_from_valid}
 
 -- ---- the search for a path
@@ -82,25 +82,25 @@ pub unreached : (keep : Keep) (o : OutlineValue) (rows : List Row) (a p : Path) 
 unreached keep o rows a p is none = false_from_ne_true (reaches keep (graph_of (rows_in o)) a p) (λ e.
     let g = graph_of (rows_in o) in
     let valid = end_valid keep g a p ((decided keep g a p).0 e) in
-    false≢true (sym missing ∙ sym (has-told bytes_total bytes_antisymmetric (λ _ x. links_in x) o.objects p) ∙ valid))
+    false≢true (sym missing ∙ sym (has-reported bytes_total bytes_antisymmetric (λ _ x. links_in x) o.objects p) ∙ valid))
   where
     missing : finite.contains_key o.objects p ≡ false
     missing = finite.contains_key-keys o.objects p ∙ none_any (same p) (finite.keys o.objects) (ap (filter (same p)) (sym (ap paths_of is ∙ paths_in o)) ∙ none)
 
 -- no root keeps it
 pub none_kept : (s : Settings) (o : OutlineValue) (rows : List Row) (p : Path) → rows ≡ rows_in o → filter (same p) (paths_of rows) ≡ [] → (w : World) → outline_of w ≡ o → [] ≡ roots_that_keep s w p
-none_kept s o rows p is none w told =
+none_kept s o rows p is none w reported =
     sym (none_pass (λ (r : Root). reaches (keep_of s) (graph_of (rows_in o)) r.target p) (roots_of (rooted o)) (λ r. unreached (keep_of s) o rows r.target p is none))
-    ∙ λ i. roots_that_reach (keep_of s) (graph_told w o told i) (roots_told w o told i) p
+    ∙ λ i. roots_that_reach (keep_of s) (graph_told w o reported i) (roots_told w o reported i) p
 
 pub none_keeps : (s : Settings) (o : OutlineValue) (rows : List Row) (p : Path) → rows ≡ rows_in o → filter (same p) (paths_of rows) ≡ [] → (class : Class) (w : World) → outline_of w ≡ o → [] ≡ seen class (roots_that_keep s w p)
-none_keeps s o rows p is none class w told = nothing_seen class ∙ ap (seen class) (none_kept s o rows p is none w told)
+none_keeps s o rows p is none class w reported = nothing_seen class ∙ ap (seen class) (none_kept s o rows p is none w reported)
 
 -- ---- the roots that keep a path
 
 pub keeping_told : (s : Settings) (o : OutlineValue) (keep : Keep) (rows : List Row) (valid : List Root) (p q : Path) → keep ≡ keep_of s → rows ≡ rows_in o → valid ≡ filter (aims_well o) (roots_of (rooted o)) → q ≡ p
     → (w : World) → outline_of w ≡ o → roots_that_reach keep (graph_of rows) valid q ≡ roots_that_keep s w p
-keeping_told s o keep rows valid p q k r v same w told =
+keeping_told s o keep rows valid p q k r v same w reported =
     (λ i. roots_that_reach (k i) (graph_of (r i)) (v i) (same i))
     ∙ filter_kept (λ (x : Root). reaches (keep_of s) (graph_of (rows_in o)) x.target p) (aims_well o) (λ x h. reaches_from_valid (keep_of s) o x.target p h) (roots_of (rooted o))
-    ∙ (λ i. roots_that_reach (keep_of s) (graph_told w o told i) (roots_told w o told i) p)
+    ∙ (λ i. roots_that_reach (keep_of s) (graph_told w o reported i) (roots_told w o reported i) p)

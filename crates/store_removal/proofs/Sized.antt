@@ -6,7 +6,7 @@ use Rattle.std.specs.FinMap as finite
 use Rattle.model.specs.World.{Path, Object, World}
 use Rattle.tables_outline.specs.Outline.{OutlineValue, Outlined, outlined, outline_of}
 use Rattle.tables_outline.proofs.Orders.{bytes_total, bytes_antisymmetric}
-use Rattle.tables_outline.proofs.Told.{get-told}
+use Rattle.tables_outline.proofs.Reported.{get-reported}
 use Rattle.model.specs.Liveness as spec
 use Rattle.store_removal.specs.Sizes.{bytes_within, size_in}
 
@@ -18,7 +18,7 @@ outlined_size None = refl
 outlined_size (Some o) = refl
 
 size_told : (w : World) → size_in (outline_of w) ≡ spec.size_of w
-size_told w = λ i p. (ap size (get-told bytes_total bytes_antisymmetric (λ _ x. outlined x) w.objects p) ∙ outlined_size (finite.get w.objects p)) i
+size_told w = λ i p. (ap size (get-reported bytes_total bytes_antisymmetric (λ _ x. outlined x) w.objects p) ∙ outlined_size (finite.get w.objects p)) i
 
 pub sizes_told : (w : World) (o : OutlineValue) → outline_of w ≡ o → size_in o ≡ spec.size_of w
 sizes_told w o is = ap (λ (x : OutlineValue). size_in x) (sym is) ∙ size_told w

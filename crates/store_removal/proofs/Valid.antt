@@ -21,7 +21,7 @@ use Rattle.model.specs.World.{Path}
 use Rattle.tables_outline.specs.Outline.{OutlineValue}
 use Rattle.tables_outline.proofs.Orders.{bytes_total, bytes_antisymmetric}
 use Rattle.tables_outline.proofs.Puts.{tied_is}
-use Rattle.tables_outline.proofs.Told.{has-told}
+use Rattle.tables_outline.proofs.Reported.{has-reported}
 use Rattle.store_removal.specs.Linked.{links_in, rows_in}
 use Rattle.store_removal.proofs.Rising.{paths_in}
 
@@ -53,7 +53,7 @@ valid_all o roots k l =
 
 pub reaches_from_valid : (keep : Keep) (o : OutlineValue) (a z : Path) → reaches keep (graph_of (rows_in o)) a z ≡ true → finite.contains_key o.objects a ≡ true
 unfolding reaches
-reaches_from_valid keep o a z h = sym (has-told bytes_total bytes_antisymmetric (λ _ x. links_in x) o.objects a) ∙ (and_parts _ _ h).0
+reaches_from_valid keep o a z h = sym (has-reported bytes_total bytes_antisymmetric (λ _ x. links_in x) o.objects a) ∙ (and_parts _ _ h).0
 
 module _ {X : Type 0} (f p : X → Bool) (keeps : (x : X) → f x ≡ true → p x ≡ true) where
   pub any_kept : (xs : List X) → list_any f (filter p xs) ≡ list_any f xs

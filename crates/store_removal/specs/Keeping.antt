@@ -14,5 +14,5 @@ first_value f (x ∷ xs) = option_or (f x) (first_value f xs)
 
 -- marks say which root each path has: that at the path's place, and none where no row has the path
 pub record AreMarked (rows : List Row) (m : Marking) (root : ℕ → Root) (root_of : Path → Option Root) : Type 0 where
-  pub there : (i : ℕ) → i < length rows → root_of (path_at rows i) ≡ option_map root (first_of m i)
+  pub present : (i : ℕ) → i < length rows → root_of (path_at rows i) ≡ option_map root (first_of m i)
   pub nowhere : (p : Path) → filter (same p) (paths_of rows) ≡ [] → root_of p ≡ None

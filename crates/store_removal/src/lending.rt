@@ -2,26 +2,12 @@
 
 ghost use Rattle.std.specs.Prelude.{◌≡◌, IfOk, filter, map};
 ghost use Rattle.std.specs.FinMap as finite;
-ghost use Rattle.live.specs.Arguments as handed;
 ghost use Rattle.live.specs.Arguments.{roots_view};
-ghost use Rattle.tables_listing.specs.View.{kind_view, root_view};
+ghost use Rattle.paths.specs.RootView.{root_view};
 
+use paths::Root;
 use std::alloc::{AllocError, Global};
-use tables_listing::{Kind, Root};
 use tables_outline::Outline;
-
-/// A kind of roots, as `live` has it.
-fn kind_of(kind: Kind) -> live::Kind
-    ensures { handed.kind_view result ≡ kind_view kind }
-{
-    match kind {
-        Kind::Permanent => live::Kind::Permanent,
-        Kind::User => live::Kind::User,
-        Kind::Profile => live::Kind::Profile,
-        Kind::Runtime => live::Kind::Runtime,
-        Kind::Temporary => live::Kind::Temporary,
-    }
-}
 
 /// Roots, lent.
 pub(crate) fn lent<'a>(alloc: Global, roots: &'a [Root]) -> Result<Vec<live::Root<'a>>, AllocError>
@@ -30,7 +16,7 @@ pub(crate) fn lent<'a>(alloc: Global, roots: &'a [Root]) -> Result<Vec<live::Roo
     let mut given = Vec::new(alloc);
     for root in roots {
         given.push(live::Root {
-            kind: kind_of(root.kind),
+            kind: root.kind,
             target: &root.target,
             label: root.label.as_str(),
         })?;

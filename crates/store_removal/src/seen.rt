@@ -5,13 +5,14 @@ ghost use Rattle.std.specs.declared.alloc.Global.{Global};
 ghost use Rattle.std.specs.List.{list_any};
 ghost use Rattle.paths.specs.Root.{Root as TheRoot};
 ghost use Rattle.policy.specs.Rules as rules;
-ghost use Rattle.live.specs.Arguments.{kind_view, root_view, roots_view};
+ghost use Rattle.live.specs.Arguments.{root_view, roots_view};
+ghost use Rattle.paths.specs.RootView.{kind_view};
 ghost use Rattle.tables_outline.specs.Maps.{labelled_bytes};
 ghost use Rattle.model.specs.Seen as spec;
 ghost use Rattle.store_removal.specs.Unique.{AreListed};
 
-use live::{Kind, Root};
-use paths::StorePath;
+use live::Root;
+use paths::{RootKind, StorePath};
 use policy::Class;
 use std::alloc::{AllocError, Global};
 use std::collections::BTreeSet;
@@ -22,10 +23,10 @@ fn is_trusted(class: Class) -> bool
     matches!(class, Class::Trusted)
 }
 
-fn is_hidden(kind: Kind) -> bool
+fn is_hidden(kind: RootKind) -> bool
     ensures { result ≡ spec.is_hidden (kind_view kind) }
 {
-    matches!(kind, Kind::Runtime | Kind::Temporary)
+    matches!(kind, RootKind::Runtime | RootKind::Temporary)
 }
 
 fn seen_label(alloc: Global, class: Class, root: Root) -> Result<String, AllocError>
@@ -56,33 +57,33 @@ pub(crate) fn seen_root(
 /// Notes that a pair is listed, and returns whether that is the first time. For trusted callers each pair is listed as often as it comes.
 fn note(
     class: Class,
-    told: &mut BTreeSet<(String, StorePath)>,
+    reported: &mut BTreeSet<(String, StorePath)>,
     pair: &(String, StorePath),
 ) -> Result<bool, AllocError>
-    ensures first { IfOk result (λ b. (shown : List (String Global × List ℕ)) → AreListed class told.old.keys shown → not b ≡ (not (rules.is_trusted class) && list_any (λ q. spec.same_pair q (labelled_bytes pair.now)) (map labelled_bytes shown))) }
-    ensures told { IfOk result (λ b. (shown : List (String Global × List ℕ)) → AreListed class told.old.keys shown → AreListed class told.new.keys (if b then shown ++ pair.now ∷ [] else shown)) }
+    ensures first { IfOk result (λ b. (shown : List (String Global × List ℕ)) → AreListed class reported.old.keys shown → not b ≡ (not (rules.is_trusted class) && list_any (λ q. spec.same_pair q (labelled_bytes pair.now)) (map labelled_bytes shown))) }
+    ensures reported { IfOk result (λ b. (shown : List (String Global × List ℕ)) → AreListed class reported.old.keys shown → AreListed class reported.new.keys (if b then shown ++ pair.now ∷ [] else shown)) }
 {
     if is_trusted(class) {
         return Ok(true);
     }
     let label = pair.0.clone()?;
     let target = pair.1.clone()?;
-    let is_first = told.insert((label, target))?;
+    let is_first = reported.insert((label, target))?;
     Ok(is_first)
 }
 
 fn show(
     alloc: Global,
     class: Class,
-    told: &mut BTreeSet<(String, StorePath)>,
+    reported: &mut BTreeSet<(String, StorePath)>,
     shown: &mut Vec<(String, StorePath)>,
     root: Root,
 ) -> Result<(), AllocError>
-    ensures told { OnOk result (AreListed class told.old.keys shown.old.items → AreListed class told.new.keys shown.new.items) }
-    ensures shown { OnOk result ((before : List TheRoot) → AreListed class told.old.keys shown.old.items → map labelled_bytes shown.old.items ≡ spec.seen class before → map labelled_bytes shown.new.items ≡ spec.seen class (before ++ root_view root.entry ∷ [])) }
+    ensures reported { OnOk result (AreListed class reported.old.keys shown.old.items → AreListed class reported.new.keys shown.new.items) }
+    ensures shown { OnOk result ((before : List TheRoot) → AreListed class reported.old.keys shown.old.items → map labelled_bytes shown.old.items ≡ spec.seen class before → map labelled_bytes shown.new.items ≡ spec.seen class (before ++ root_view root.entry ∷ [])) }
 {
     let pair = seen_root(alloc, class, root)?;
-    let is_first = note(class, told, &pair)?;
+    let is_first = note(class, reported, &pair)?;
     if is_first {
         shown.push(pair)?;
     }
@@ -97,10 +98,10 @@ pub(crate) fn seen(
 ) -> Result<Vec<(String, StorePath)>, AllocError>
     ensures { IfOk result (λ v. map labelled_bytes v.items ≡ spec.seen class (roots_view roots.now)) }
 {
-    let mut told = BTreeSet::new(alloc);
+    let mut reported = BTreeSet::new(alloc);
     let mut shown = Vec::new(alloc);
     for root in roots {
-        show(alloc, class, &mut told, &mut shown, *root)?;
+        show(alloc, class, &mut reported, &mut shown, *root)?;
     }
     Ok(shown)
 }

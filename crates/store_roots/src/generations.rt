@@ -64,7 +64,7 @@ pub(crate) fn has_number_left(
     owned: &(String, String),
     path: &StorePath,
 ) -> Result<u32, Refusal>
-    ensures told { (w : World) → outline_of w ≡ outline.now → Finds (λ n. n) result
+    ensures reported { (w : World) → outline_of w ≡ outline.now → Finds (λ n. n) result
         (unless (nat_le (number_for (profile_at w (string_bytes owned.now.0, string_bytes owned.now.1)) path.now) last_number) Refusal.GenerationLimit) (number_for (profile_at w (string_bytes owned.now.0, string_bytes owned.now.1)) path.now) }
     ensures number { IfOk result (λ n. n ≡ number_for (profile_of outline.now (string_bytes owned.now.0, string_bytes owned.now.1)) path.now) }
 {

@@ -28,7 +28,7 @@ pub fn next_number(
     owned: &(String, String),
     path: &StorePath,
 ) -> Result<u32, Refusal>
-    ensures told { (s : Settings) (w : World) → outline_of w ≡ outline.now → Finds (λ n. n) result
+    ensures reported { (s : Settings) (w : World) → outline_of w ≡ outline.now → Finds (λ n. n) result
         (refusal s w (asked.set_profile (string_bytes owned.now.0) (string_bytes owned.now.1) path.now)) (number_for (profile_at w (string_bytes owned.now.0, string_bytes owned.now.1)) path.now) }
     ensures number { IfOk result (λ n. n ≡ number_for (profile_of outline.now (string_bytes owned.now.0, string_bytes owned.now.1)) path.now) }
 {
@@ -40,9 +40,9 @@ pub fn next_number(
 
 /// Tests a profile that is to be rolled back; gives the number that becomes current.
 pub fn older(outline: &Outline, owned: &(String, String)) -> Result<u32, Refusal>
-    ensures told { (s : Settings) (w : World) → outline_of w ≡ outline.now → Finds (λ n. Some n) result
+    ensures reported { (s : Settings) (w : World) → outline_of w ≡ outline.now → Finds (λ n. Some n) result
         (refusal s w (asked.rollback (string_bytes owned.now.0) (string_bytes owned.now.1))) (previous (profile_at w (string_bytes owned.now.0, string_bytes owned.now.1))) }
-    ensures there { OnOk result (IsTrue (finite.contains_key outline.now.profiles (string_bytes owned.now.0, string_bytes owned.now.1))) }
+    ensures present { OnOk result (IsTrue (finite.contains_key outline.now.profiles (string_bytes owned.now.0, string_bytes owned.now.1))) }
 {
     are_named(owned)?;
     has_profile(outline, owned)?;
@@ -52,8 +52,8 @@ pub fn older(outline: &Outline, owned: &(String, String)) -> Result<u32, Refusal
 
 /// Tests a generation that is to become current.
 pub fn may_switch(outline: &Outline, owned: &(String, String), number: u32) -> Result<(), Refusal>
-    ensures told { (s : Settings) (w : World) → outline_of w ≡ outline.now → Tested result (refusal s w (asked.switch (string_bytes owned.now.0) (string_bytes owned.now.1) number)) }
-    ensures there { OnOk result (IsTrue (finite.contains_key outline.now.profiles (string_bytes owned.now.0, string_bytes owned.now.1))) }
+    ensures reported { (s : Settings) (w : World) → outline_of w ≡ outline.now → Tested result (refusal s w (asked.switch (string_bytes owned.now.0) (string_bytes owned.now.1) number)) }
+    ensures present { OnOk result (IsTrue (finite.contains_key outline.now.profiles (string_bytes owned.now.0, string_bytes owned.now.1))) }
 {
     are_named(owned)?;
     has_profile(outline, owned)?;
@@ -63,8 +63,8 @@ pub fn may_switch(outline: &Outline, owned: &(String, String), number: u32) -> R
 
 /// Tests a generation that is to be deleted.
 pub fn may_delete(outline: &Outline, owned: &(String, String), number: u32) -> Result<(), Refusal>
-    ensures told { (s : Settings) (w : World) → outline_of w ≡ outline.now → Tested result (refusal s w (asked.delete_generation (string_bytes owned.now.0) (string_bytes owned.now.1) number)) }
-    ensures there { OnOk result (IsTrue (finite.contains_key outline.now.profiles (string_bytes owned.now.0, string_bytes owned.now.1))) }
+    ensures reported { (s : Settings) (w : World) → outline_of w ≡ outline.now → Tested result (refusal s w (asked.delete_generation (string_bytes owned.now.0) (string_bytes owned.now.1) number)) }
+    ensures present { OnOk result (IsTrue (finite.contains_key outline.now.profiles (string_bytes owned.now.0, string_bytes owned.now.1))) }
 {
     are_named(owned)?;
     has_profile(outline, owned)?;

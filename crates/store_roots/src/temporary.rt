@@ -32,7 +32,7 @@ fn is_session(number: u64) -> bool
 
 /// Tests that a session has this number; gives it.
 fn has_number(number: u64) -> Result<u32, Refusal>
-    ensures told { Tested result (unless (is_session number) Refusal.BadSession) }
+    ensures reported { Tested result (unless (is_session number) Refusal.BadSession) }
     ensures number { IfOk result (λ n. n ≡ number) }
 {
     if !is_session(number) {
@@ -48,7 +48,7 @@ pub fn may_keep(
     number: u64,
     path: &StorePath,
 ) -> Result<u32, Refusal>
-    ensures told { (s : Settings) (w : World) → outline_of w ≡ outline.now → Tested result (refusal s w (asked.add_temp owner.now number path.now)) }
+    ensures reported { (s : Settings) (w : World) → outline_of w ≡ outline.now → Tested result (refusal s w (asked.add_temp owner.now number path.now)) }
     ensures number { IfOk result (λ n. n ≡ number) }
 {
     is_named(owner)?;
@@ -59,7 +59,7 @@ pub fn may_keep(
 
 /// Tests a session that is to end; gives its number.
 pub fn may_end(owner: &str, number: u64) -> Result<u32, Refusal>
-    ensures told { (s : Settings) (w : World) → Tested result (refusal s w (asked.end_session owner.now number)) }
+    ensures reported { (s : Settings) (w : World) → Tested result (refusal s w (asked.end_session owner.now number)) }
     ensures number { IfOk result (λ n. n ≡ number) }
 {
     is_named(owner)?;

@@ -11,7 +11,7 @@ use Rattle.model.specs.Reply.{record_of}
 use Rattle.model.specs.Answers.{record_at}
 use Rattle.store_steps.specs.Summaries.{info_in}
 use Rattle.tables_outline.proofs.Orders.{bytes_total, bytes_antisymmetric}
-use Rattle.tables_outline.proofs.Told.{get-told, has-told}
+use Rattle.tables_outline.proofs.Reported.{get-reported, has-reported}
 use Rattle.tables.proofs.Outlined.{entries_outlined, keys_mapped}
 
 -- the same paths
@@ -22,10 +22,10 @@ pub all_outlined : (o : OutlineValue) (w : World) → outline_of w ≡ o → fin
 all_outlined o w is = ap (λ (x : OutlineValue). finite.keys x.objects) (sym is) ∙ paths_outlined w
 
 pub has_outlined : (w : World) (p : Path) → finite.contains_key (outline_of w).objects p ≡ has w p
-has_outlined w p = has-told bytes_total bytes_antisymmetric (λ _ x. outlined x) w.objects p
+has_outlined w p = has-reported bytes_total bytes_antisymmetric (λ _ x. outlined x) w.objects p
 
 pub get_outlined : (w : World) (p : Path) → finite.get (outline_of w).objects p ≡ option_map outlined (finite.get w.objects p)
-get_outlined w p = get-told bytes_total bytes_antisymmetric (λ _ x. outlined x) w.objects p
+get_outlined w p = get-reported bytes_total bytes_antisymmetric (λ _ x. outlined x) w.objects p
 
 -- a path that the outline has is valid, and one that it hasn't isn't
 pub valid_by : (o : OutlineValue) (w : World) (p : Path) (found : Option Outlined) → outline_of w ≡ o → found ≡ finite.get o.objects p → has w p ≡ is_some found

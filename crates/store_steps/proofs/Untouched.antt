@@ -42,7 +42,7 @@ survives_as s t P Q less h = record {
 }
 
 pub lasts_still : {S : Type 0} (g : Ghosts S) (k : Kept S) → StaysDurable g k k
-lasts_still g k clean = inr (record { told = λ w t. t; same = λ _. refl; durable = λ _ h. h })
+lasts_still g k clean = inr (record { reported = λ w t. t; same = λ _. refl; durable = λ _ h. h })
 
 pub others_still : {S : Type 0} (g : Ghosts S) (k : Kept S) → LeavesOthers g k k
 others_still g k clean up = (up, nothing_changed (state g k.connection).now (state g k.connection).now refl)

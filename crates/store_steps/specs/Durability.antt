@@ -11,7 +11,7 @@ use Rattle.tables.specs.Others.{KeepsOthers}
 module _ {S : Type 0} (g : Ghosts S) where
   -- nothing was done: each world of the tables before is one of them now; and while the connection is open, the database is the one that it was, and a crash leaves no more of it than before
   pub record IsUntouched (old new : Kept S) : Type 0 where
-    pub told : (w : World) → HasWorld g old w → HasWorld g new w
+    pub reported : (w : World) → HasWorld g old w → HasWorld g new w
     pub same : IsTrue (state g new.connection).is_open → (state g new.connection).now ≡ (state g old.connection).now
     pub durable : IsTrue (state g new.connection).is_open → IsDurable (state g old.connection) → IsDurable (state g new.connection)
 

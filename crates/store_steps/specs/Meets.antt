@@ -63,7 +63,7 @@ module _ {S : Type 0} (g : Ghosts S) where
   -- something is read of the disk: the worlds of the tables are as before
   pub record OnlyReads (old new : Kept S) : Type 0 where
     pub dir : new.dir ≡ old.dir
-    pub told : (w : World) → HasWorld g old w → HasWorld g new w
+    pub reported : (w : World) → HasWorld g old w → HasWorld g new w
     pub shown : HasCleanDisk (state g new.connection) → KeepsShown (state g old.connection) (state g new.connection)
     pub lasts : StaysDurable g old new
     pub survives : Survives (state g old.connection) (state g new.connection) (λ _. ⊥)

@@ -62,8 +62,8 @@ pub fn has_user_root(outline: &Outline, owned: &(String, String)) -> Result<(), 
 
 /// Tests that there is a profile of this owner and name.
 pub fn has_profile(outline: &Outline, owned: &(String, String)) -> Result<(), Refusal>
-    ensures told { (w : World) → outline_of w ≡ outline.now → Tested result (unless (profiles.has_profile w (string_bytes owned.now.0, string_bytes owned.now.1)) Refusal.NoProfile) }
-    ensures there { OnOk result (IsTrue (finite.contains_key outline.now.profiles (string_bytes owned.now.0, string_bytes owned.now.1))) }
+    ensures reported { (w : World) → outline_of w ≡ outline.now → Tested result (unless (profiles.has_profile w (string_bytes owned.now.0, string_bytes owned.now.1)) Refusal.NoProfile) }
+    ensures present { OnOk result (IsTrue (finite.contains_key outline.now.profiles (string_bytes owned.now.0, string_bytes owned.now.1))) }
 {
     if !outline.has_profile(owned) {
         return Err(Refusal::NoProfile);

@@ -60,7 +60,7 @@ module _ (dir : List ℕ) (c : Contents) (rows : IsSoundContents dir c) (owned :
       ∙ own q m (eq_by_cmp pair_cmp q owned) refl
 
   numbers : (owner name : List ℕ) (z : ℤ) → IsTrue (finite.contains_key (finite.insert c.generations key t) (owner, name, z)) → (m : ℕ) × (z ≡ pos m)
-  numbers owner name z there = by (eq_by_cmp triple_cmp (owner, name, z) key) refl (sym (ap is_some (finite.get-insert triple_total c.generations key t (owner, name, z))) ∙ there)
+  numbers owner name z present = by (eq_by_cmp triple_cmp (owner, name, z) key) refl (sym (ap is_some (finite.get-insert triple_total c.generations key t (owner, name, z))) ∙ present)
     where
       by : (b : Bool) → eq_by_cmp triple_cmp (owner, name, z) key ≡ b → is_some (cond b (Some t) (finite.get c.generations (owner, name, z))) ≡ true → (m : ℕ) × (z ≡ pos m)
       by true e h = (n, ap (λ (k : Triple). k.2) (tied_is triple_antisymmetric (owner, name, z) key e))
@@ -113,10 +113,10 @@ module _ (old put : OutlineValue) (owned key again : Pair) (n : ℕ) (target val
     generation_there = ap₂ (λ (o : OutlineValue) k. finite.contains_key o.profiles k) generation_put same_again ∙ has_put pair_total pair_antisymmetric old.profiles owned (switched added current)
 
     -- one that was added is taken away again
-    taken : (o : Option Profile) → finite.get old.profiles owned ≡ o → finite.get (profile_or_new o).generations n ≡ None → (x : Profile) → x ≡ switched (put_at (profile_or_new o) n target) current
+    loaded : (o : Option Profile) → finite.get old.profiles owned ≡ o → finite.get (profile_or_new o).generations n ≡ None → (x : Profile) → x ≡ switched (put_at (profile_or_new o) n target) current
         → without_added (with_profile old owned x) owned n (option_map (λ (p : Profile). p.current) o) ≡ old.profiles
-    taken None e new x at = unput_put pair_total pair_antisymmetric old.profiles owned x None (sym e)
-    taken (Some p) e new x at =
+    loaded None e new x at = unput_put pair_total pair_antisymmetric old.profiles owned x None (sym e)
+    loaded (Some p) e new x at =
         ap (λ (o : Option Profile). finite.insert (finite.insert old.profiles owned x) owned (switched (without_generation (profile_or_new o) n) p.current)) (get_put old.profiles owned x ∙ ap Some at)
         ∙ ap (λ (m : finite.FinMap nat_cmp Path). finite.insert (finite.insert old.profiles owned x) owned (record { generations = m; current = p.current })) (unput_put nat_cmp_total nat_antisymmetric p.generations n target None (sym new))
         ∙ unput_put pair_total pair_antisymmetric old.profiles owned x (Some p) (sym e)
@@ -124,4 +124,4 @@ module _ (old put : OutlineValue) (owned key again : Pair) (n : ℕ) (target val
     pub generation_undone : finite.get (profile_of old owned).generations n ≡ None → (undone : OutlineValue) (had : Option ℕ) → had ≡ current_of old key → undone ≡ record now { profiles = without_added now again n had } → undone ≡ old
     generation_undone new undone had was back =
         back ∙ (λ i. record (generation_put i) { profiles = without_added (generation_put i) (same_again i) n ((was ∙ ap (current_of old) same) i) })
-        ∙ ap (λ m. record old { profiles = m }) (taken (finite.get old.profiles owned) refl new (switched added current) refl)
+        ∙ ap (λ m. record old { profiles = m }) (loaded (finite.get old.profiles owned) refl new (switched added current) refl)

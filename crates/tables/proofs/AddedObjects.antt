@@ -21,7 +21,7 @@ use Rattle.tables_world.specs.Worlds.{rows_of, world_in}
 use Rattle.tables_outline.specs.Outline.{OutlineValue, Outlined, outlined, outline_of, with_archive}
 use Rattle.tables_outline.proofs.Orders.{bytes_total, bytes_antisymmetric}
 use Rattle.tables_outline.proofs.Puts.{unput_put}
-use Rattle.tables_outline.proofs.Told.{get-told}
+use Rattle.tables_outline.proofs.Reported.{get-reported}
 use Rattle.tables.specs.Rewritten.{LacksObject, put_object}
 use Rattle.tables.specs.Entries.{with_archived}
 use Rattle.tables.specs.Frames.{StaysSound}
@@ -52,8 +52,8 @@ none_told f (Some x) h = absurd (false≢true (ap is_some (sym h)))
 -- an object that the outline hasn't is in no row
 pub unstored : (c : Contents) (outline : OutlineValue) (p : Path) → outline_of (world_in c) ≡ outline → finite.get outline.objects p ≡ None → finite.get c.objects p ≡ None
 unstored c outline p same none =
-    none_told (object_in (rows_of c) p) (finite.get c.objects p) (sym (get-told bytes_total bytes_antisymmetric (object_in (rows_of c)) c.objects p)
-    ∙ none_told outlined (finite.get (world_in c).objects p) (sym (get-told bytes_total bytes_antisymmetric (λ _ x. outlined x) (world_in c).objects p) ∙ ap (λ (o : OutlineValue). finite.get o.objects p) same ∙ none))
+    none_told (object_in (rows_of c) p) (finite.get c.objects p) (sym (get-reported bytes_total bytes_antisymmetric (object_in (rows_of c)) c.objects p)
+    ∙ none_told outlined (finite.get (world_in c).objects p) (sym (get-reported bytes_total bytes_antisymmetric (λ _ x. outlined x) (world_in c).objects p) ∙ ap (λ (o : OutlineValue). finite.get o.objects p) same ∙ none))
 
 -- what is found at the path of an object that was put
 pub found_put : (old put : OutlineValue) (path key : Path) (given : Outlined) (found : Option Outlined) → key ≡ path → put ≡ record old { objects = finite.insert old.objects key given } → found ≡ finite.get put.objects path → found ≡ Some given

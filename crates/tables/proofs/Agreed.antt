@@ -18,7 +18,7 @@ use Rattle.tables.proofs.Made.{made_tells}
 use Rattle.tables.specs.Opening.{IsFoundBy, AreRead, OpensExisting, OpensNew}
 
 module _ {S : Type 0} (g : Ghosts S) (conn : Held S) (db : Database) (own : List ℕ) (outline : OutlineValue)
-    (same : HasCleanDisk (state g conn) → (state g conn).now ≡ db) (told : HasCleanDisk (state g conn) → AreRead V3 own db outline)
+    (same : HasCleanDisk (state g conn) → (state g conn).now ≡ db) (reported : HasCleanDisk (state g conn) → AreRead V3 own db outline)
   where
     abbrev pub kept : Kept S
     kept = record { connection = conn; dir = own; outline = outline }
@@ -29,20 +29,20 @@ module _ {S : Type 0} (g : Ghosts S) (conn : Held S) (db : Database) (own : List
       rows = λ clean is_open. record {
         ready = ready clean is_open;
         whole = subst IsWhole (sym (same clean)) (whole clean);
-        sound = subst (λ (d : Database). IsSoundContents own (contents_of d)) (sym (same clean)) (told clean).0;
-        same = ap (λ (d : Database). outline_of (world_in (contents_of d))) (same clean) ∙ (told clean).1;
+        sound = subst (λ (d : Database). IsSoundContents own (contents_of d)) (sym (same clean)) (reported clean).0;
+        same = ap (λ (d : Database). outline_of (world_in (contents_of d))) (same clean) ∙ (reported clean).1;
       };
     }
 
     pub took_over : (dir : List ℕ) → own ≡ dir → IsFoundBy V3 db → IsTrue (state g conn).is_open → HasCleanDisk (state g conn) → OpensExisting g dir db kept
     took_over dir is found is_open clean = record {
-      holds = record { tables = found.tables; readable = found.readable; sound = subst (λ (x : List ℕ). IsSoundContents x (contents_of db)) is (told clean).0 };
+      holds = record { tables = found.tables; readable = found.readable; sound = subst (λ (x : List ℕ). IsSoundContents x (contents_of db)) is (reported clean).0 };
       is_open = is_open;
       same = same clean;
-      told = record {
-        outline = (told clean).1;
+      reported = record {
+        outline = (reported clean).1;
         rows = λ again is_open. ap (λ (d : Database). world_in (contents_of d)) (same clean);
-        sound = (told clean).0.world;
+        sound = (reported clean).0.world;
       };
     }
 
@@ -51,4 +51,4 @@ module _ {S : Type 0} (g : Ghosts S) (conn : Held S) (old : State) (own : List �
     (made : HasCleanDisk (state g conn) → IsMade own old (state g conn))
   where
     pub took_new : HasNone old.now.schema → HasCleanDisk (state g conn) → OpensNew g old.now (record { connection = conn; dir = own; outline = outline })
-    took_new none clean = record { none = none; is_open = (made clean).is_open; schema = (made clean).schema; theirs = (made clean).theirs; frozen = (made clean).frozen; told = made_tells g conn old own outline valid is made }
+    took_new none clean = record { none = none; is_open = (made clean).is_open; schema = (made clean).schema; theirs = (made clean).theirs; frozen = (made clean).frozen; reported = made_tells g conn old own outline valid is made }

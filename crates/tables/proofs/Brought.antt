@@ -39,22 +39,22 @@ module _ (schema : Schema) (dir : List ℕ) (a b d : State) (same : HasCleanDisk
       first last
 
 module _ {S : Type 0} (g : Ghosts S) (conn : Held S) (old : State) (schema : Schema) (dir own : List ℕ) (outline : OutlineValue) (is : own ≡ dir)
-    (told : HasCleanDisk (state g conn) → AreRead schema dir old.now outline) (brought : HasCleanDisk (state g conn) → IsMigrated schema dir old (state g conn))
+    (reported : HasCleanDisk (state g conn) → AreRead schema dir old.now outline) (brought : HasCleanDisk (state g conn) → IsMigrated schema dir old (state g conn))
   where
     same_world : HasCleanDisk (state g conn) → world_in (contents_of (state g conn).now) ≡ world_in (contents_of old.now)
-    same_world clean = ap world_in (brought clean).contents_are ∙ (migrates_soundly schema dir (rows_of (contents_of old.now)) (told clean).0).1
+    same_world clean = ap world_in (brought clean).contents_are ∙ (migrates_soundly schema dir (rows_of (contents_of old.now)) (reported clean).0).1
 
     pub brought_agrees : conn.in_transaction ≡ false → Agrees g (record { connection = conn; dir = own; outline = outline })
     brought_agrees alone = record {
       alone = alone;
       rows = λ clean is_open.
           let it = brought clean in
-          let sound : IsSoundContents dir (migrated_contents schema dir (contents_of old.now)) = (migrates_soundly schema dir (rows_of (contents_of old.now)) (told clean).0).0 in
+          let sound : IsSoundContents dir (migrated_contents schema dir (contents_of old.now)) = (migrates_soundly schema dir (rows_of (contents_of old.now)) (reported clean).0).0 in
           record {
             ready = it.ready;
             whole = it.whole;
             sound = subst (λ (x : List ℕ). IsSoundContents x (contents_of (state g conn).now)) (sym is) (subst (IsSoundContents dir) (sym it.contents_are) sound);
-            same = ap outline_of (same_world clean) ∙ (told clean).1;
+            same = ap outline_of (same_world clean) ∙ (reported clean).1;
           };
     }
 
@@ -62,15 +62,15 @@ module _ {S : Type 0} (g : Ghosts S) (conn : Held S) (old : State) (schema : Sch
     took_migrated found clean =
         let it = brought clean in
         record {
-          holds = record { tables = found.tables; readable = found.readable; sound = (told clean).0 };
+          holds = record { tables = found.tables; readable = found.readable; sound = (reported clean).0 };
           is_open = it.is_open;
           schema = it.schema;
           contents_are = it.contents_are;
           theirs = it.theirs;
           frozen = it.frozen;
-          told = record {
-            outline = (told clean).1;
+          reported = record {
+            outline = (reported clean).1;
             rows = λ again is_open. same_world clean;
-            sound = subst (λ (x : List ℕ). IsSound x (world_in (contents_of old.now))) (sym is) (told clean).0.world;
+            sound = subst (λ (x : List ℕ). IsSound x (world_in (contents_of old.now))) (sym is) (reported clean).0.world;
           };
         }

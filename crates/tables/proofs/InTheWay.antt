@@ -78,9 +78,9 @@ module _ (s : Shown) where
   Untaken t = is_name_used s t ≡ false
 
   clear_there : (t : Table) → is_present s t ≡ true → is_left_alone t ≡ true → IsClear t
-  clear_there t there alone =
+  clear_there t present alone =
       or_from (is_acted_on s t) (is_awaited s t || is_kept_out s t) (and_right (is_present s t) (not (is_left_alone t)) (not_from_true (is_left_alone t) alone))
-      (or_from (is_awaited s t) (is_kept_out s t) (and_left (not (is_present s t)) (not (is_unawaited s t.name)) (not_from_true (is_present s t) there)) (and_left (not (is_present s t)) (lacks_sequence s) (not_from_true (is_present s t) there)))
+      (or_from (is_awaited s t) (is_kept_out s t) (and_left (not (is_present s t)) (not (is_unawaited s t.name)) (not_from_true (is_present s t) present)) (and_left (not (is_present s t)) (lacks_sequence s) (not_from_true (is_present s t) present)))
 
   clear_away : (t : Table) → is_present s t ≡ false → is_unawaited s t.name ≡ true → lacks_sequence s ≡ false → IsClear t
   clear_away t away unawaited counted =
@@ -204,7 +204,7 @@ no_store_cause dir db h = by (are_others_in_the_way db.schema) refl
 
     by : (b : Bool) → are_others_in_the_way db.schema ≡ b → IsRefusal dir db BadSchema
     by true is = inr is
-    by false is = inl (ours (has_store_tables db.schema) refl is, λ d there. h.1 d (there.0, holds_by there.0 d db there.1 is))
+    by false is = inl (ours (has_store_tables db.schema) refl is, λ d present. h.1 d (present.0, holds_by present.0 d db present.1 is))
 
 -- and where this is why there is none
 pub cause_no_store : (dir : List ℕ) (db : Database) → IsRefusal dir db BadSchema → IsNoStore db

@@ -23,9 +23,9 @@ use Rattle.tables_outline.proofs.Orders.{bytes_total, bytes_antisymmetric}
 use Rattle.tables_outline.proofs.Puts.{tied_is}
 use Rattle.tables_world.proofs.Cuts.{cut_right, cut_whole}
 use Rattle.tables_world.proofs.Migrating.{rising}
-use Rattle.tables_world.proofs.Told.{get-reference, get-output, get-piece}
+use Rattle.tables_world.proofs.Reported.{get-reference, get-output, get-piece}
 use Rattle.tables.proofs.Parts.{same, either, get-put_references, get-put_outputs, get-put_pieces}
-use Rattle.tables_outline.proofs.Told.{get-told, told_insert}
+use Rattle.tables_outline.proofs.Reported.{get-reported, told_insert}
 use Rattle.tables.proofs.Kept.{Follows}
 
 -- the object that rows with this archive, these references and these outputs tell
@@ -69,13 +69,13 @@ module _ (dir : List ℕ) (p : Path) (nar : List ℕ) (o : Stored) (rs : List Pa
   after = put_object p o rs es (further_pieces nar) c
 
   pub no_reference : (r : Path) → finite.get c.refs (p, r) ≡ None
-  no_reference r = none_of (finite.get c.refs (p, r)) (λ there. false≢true (ap is_some (sym new.object) ∙ rows.references p r there))
+  no_reference r = none_of (finite.get c.refs (p, r)) (λ present. false≢true (ap is_some (sym new.object) ∙ rows.references p r present))
 
   pub no_output : (n : Path) → finite.get c.outs (p, n) ≡ None
-  no_output n = none_of (finite.get c.outs (p, n)) (λ there. false≢true (ap is_some (sym new.object) ∙ rows.outputs p n there))
+  no_output n = none_of (finite.get c.outs (p, n)) (λ present. false≢true (ap is_some (sym new.object) ∙ rows.outputs p n present))
 
   pub no_piece : (n : ℤ) → finite.get c.pieces (p, n) ≡ None
-  no_piece n = none_of (finite.get c.pieces (p, n)) (λ there. false≢true (ap is_some (sym new.object) ∙ rows.pieces p n there))
+  no_piece n = none_of (finite.get c.pieces (p, n)) (λ present. false≢true (ap is_some (sym new.object) ∙ rows.pieces p n present))
 
   -- a piece of a path, after it
   piece_after : (q : Path) (n : ℤ) → finite.get after.pieces (q, n) ≡ cond (same q p) (either (find_entry int_cmp n (further_pieces nar)) (finite.get c.pieces (q, n))) (finite.get c.pieces (q, n))
@@ -142,10 +142,10 @@ module _ (dir : List ℕ) (p : Path) (nar : List ℕ) (o : Stored) (rs : List Pa
 
   objects_after : (world_in after).objects ≡ finite.insert (world_in c).objects p (object_of nar o rs es)
   objects_after = finite.same_map bytes_total bytes_antisymmetric _ _ (λ q.
-      get-told bytes_total bytes_antisymmetric (object_in (rows_of after)) (finite.insert c.objects p o) q
+      get-reported bytes_total bytes_antisymmetric (object_in (rows_of after)) (finite.insert c.objects p o) q
       ∙ ap (option_map (object_in (rows_of after) q)) (finite.get-insert bytes_total c.objects p o q)
       ∙ by q (same q p) refl (finite.get c.objects q)
-      ∙ sym (finite.get-insert bytes_total (world_in c).objects p (object_of nar o rs es) q ∙ ap (cond (same q p) (Some (object_of nar o rs es))) (get-told bytes_total bytes_antisymmetric (object_in (rows_of c)) c.objects q)))
+      ∙ sym (finite.get-insert bytes_total (world_in c).objects p (object_of nar o rs es) q ∙ ap (cond (same q p) (Some (object_of nar o rs es))) (get-reported bytes_total bytes_antisymmetric (object_in (rows_of c)) c.objects q)))
     where
       each : (q : Path) → same q p ≡ false → (g : Option Stored) → option_map (object_in (rows_of after) q) g ≡ option_map (object_in (rows_of c) q) g
       each q apart None = refl
@@ -186,11 +186,11 @@ module _ (dir : List ℕ) (p : Path) (nar : List ℕ) (o : Stored) (rs : List Pa
           subst (λ m. IsCut x.nar (finite.entries m)) (sym (other_pieces q apart)) (rows.cut h q x was));
       address = λ q x text e ca. stored_after q x e (λ k y. y.ca ≡ Some text → IsSome (address_of text)) (new.address text) (λ apart was. rows.address q x text was) ca;
       hash = λ q x e. stored_after q x e (λ k y. y.hash ≡ sha256 (archive_in (rows_of after) k y)) (new.hash ∙ ap sha256 (sym own_archive)) (λ apart was. rows.hash q x was ∙ ap sha256 (sym (other_archive q apart x)));
-      pieces = λ q n there. still_there q (λ apart. rows.pieces q n (ap is_some (sym (other_piece q apart n)) ∙ there));
-      references = λ q r there. still_there q (λ apart. rows.references q r
-          (ap is_some (sym (get-put_references p rs c.refs q r ∙ ap (λ b. cond (b && list_any (same r) rs) (Some tt) (finite.get c.refs (q, r))) apart)) ∙ there));
-      outputs = λ q n there. still_there q (λ apart. rows.outputs q n
-          (ap is_some (sym (get-put_outputs p es c.outs new.sorted q n ∙ ap (λ b. cond b (either (find_entry bytes_cmp n es) (finite.get c.outs (q, n))) (finite.get c.outs (q, n))) apart)) ∙ there));
+      pieces = λ q n present. still_there q (λ apart. rows.pieces q n (ap is_some (sym (other_piece q apart n)) ∙ present));
+      references = λ q r present. still_there q (λ apart. rows.references q r
+          (ap is_some (sym (get-put_references p rs c.refs q r ∙ ap (λ b. cond (b && list_any (same r) rs) (Some tt) (finite.get c.refs (q, r))) apart)) ∙ present));
+      outputs = λ q n present. still_there q (λ apart. rows.outputs q n
+          (ap is_some (sym (get-put_outputs p es c.outs new.sorted q n ∙ ap (λ b. cond b (either (find_entry bytes_cmp n es) (finite.get c.outs (q, n))) (finite.get c.outs (q, n))) apart)) ∙ present));
       generations = rows.generations;
       numbers = rows.numbers;
       current = rows.current;

@@ -18,7 +18,7 @@ use Rattle.model.proofs.Empty.{no_entries}
 use Rattle.tables_world.proofs.SoundParts.{sound_by_parts}
 use Rattle.tables_outline.specs.Outline.{OutlineValue, outlined, outline_of}
 use Rattle.tables_outline.proofs.Orders.{bytes_total, bytes_antisymmetric}
-use Rattle.tables_outline.proofs.Told.{has-told}
+use Rattle.tables_outline.proofs.Reported.{has-reported}
 use Rattle.tables_objects.specs.Loaded.{AreSoundInPieces}
 use Rattle.tables_roots.specs.Loaded.{Objects, AreAllSound, AreObjects, with_roots}
 
@@ -53,7 +53,7 @@ module _ (schema : Schema) (dir : List ℕ) (c : Contents) where
 
   -- the objects of the outline are those of the rows
   same_objects : (p : Path) → finite.contains_key (outline_of (world_in c)).objects p ≡ finite.contains_key c.objects p
-  same_objects p = has-told bytes_total bytes_antisymmetric (λ _ (o : Object). outlined o) (world_in c).objects p ∙ ap is_some (object_at (rows_of c) p) ∙ some_mapped p (finite.get c.objects p)
+  same_objects p = has-reported bytes_total bytes_antisymmetric (λ _ (o : Object). outlined o) (world_in c).objects p ∙ ap is_some (object_at (rows_of c) p) ∙ some_mapped p (finite.get c.objects p)
 
   some_key : (g : Option Stored) → IsTrue (is_some g) → (o : Stored) × (g ≡ Some o)
   some_key None h = absurd (false≢true h)
@@ -62,8 +62,8 @@ module _ (schema : Schema) (dir : List ℕ) (c : Contents) where
   pub are_objects : (objects : Objects) → objects ≡ (outline_of (world_in c)).objects → AreSoundInPieces schema dir (rows_of c) → AreObjects objects c
   are_objects objects is sound = record {
     same = λ p. ap (λ (m : Objects). finite.contains_key m p) is ∙ same_objects p;
-    named = λ p there.
-        let o = some_key (finite.get c.objects p) (sym (ap (λ (m : Objects). finite.contains_key m p) is ∙ same_objects p) ∙ there) in
+    named = λ p present.
+        let o = some_key (finite.get c.objects p) (sym (ap (λ (m : Objects). finite.contains_key m p) is ∙ same_objects p) ∙ present) in
         (sound.objects.objects p o.0 o.1).path;
   }
 
@@ -103,7 +103,7 @@ module _ (schema : Schema) (c : Contents) (d : List ℕ) (are : c.meta ≡ setti
   only dir sound = subst (λ (x : List ℕ). IsSoundBy schema x c) (same_dir schema dir d (sym sound.settings_are ∙ are)) sound
 
   pub without_objects : (b : Bool) → (IsTrue b ↔ AreSoundInPieces schema d (rows_of c)) → b ≡ false → (dir : List ℕ) → ¬ IsSoundBy schema dir c
-  without_objects b told failed dir sound = false≢true (sym failed ∙ told.1 (objects_of schema d c (only dir sound)))
+  without_objects b reported failed dir sound = false≢true (sym failed ∙ reported.1 (objects_of schema d c (only dir sound)))
 
   pub without_roots : (b : Bool) → (IsTrue b ↔ AreAllSound (rows_of c)) → b ≡ false → (dir : List ℕ) → ¬ IsSoundBy schema dir c
-  without_roots b told failed dir sound = false≢true (sym failed ∙ told.1 (roots_of schema d c (only dir sound)))
+  without_roots b reported failed dir sound = false≢true (sym failed ∙ reported.1 (roots_of schema d c (only dir sound)))

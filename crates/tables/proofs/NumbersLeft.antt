@@ -49,11 +49,11 @@ free p = finite.get-entries p.generations (highest p + 1) ∙ next_free (finite.
 
 -- a number that is there is the highest generation's, and it becomes current
 pub set_is_switch : (p : Profile) (t : Path) (n : ℕ) → n ≡ number_for p t → has_generation p n ≡ true → switched p n ≡ set_to p t
-set_is_switch p t n is there = by (is_highest p t) refl
+set_is_switch p t n is present = by (is_highest p t) refl
   where
     by : (b : Bool) → is_highest p t ≡ b → switched p n ≡ set_to p t
     by true h = ap (switched p) (is ∙ ap (λ b. if b then highest p else highest p + 1) h) ∙ sym (ap (λ b. if b then switched p (highest p) else record { generations = finite.insert p.generations (highest p + 1) t; current = highest p + 1 }) h)
-    by false h = absurd (false≢true (sym (ap is_some (free p)) ∙ ap (λ k. is_some (finite.get p.generations k)) (sym (is ∙ ap (λ b. if b then highest p else highest p + 1) h)) ∙ there))
+    by false h = absurd (false≢true (sym (ap is_some (free p)) ∙ ap (λ k. is_some (finite.get p.generations k)) (sym (is ∙ ap (λ b. if b then highest p else highest p + 1) h)) ∙ present))
 
 -- one that isn't there is the next
 pub set_is_new : (p : Profile) (t : Path) (n : ℕ) → n ≡ number_for p t → put_at p n t ≡ set_to p t

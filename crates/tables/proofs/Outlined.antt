@@ -12,7 +12,7 @@ use Rattle.live.proofs.Order.{contains_key-set_of, same_set}
 use Rattle.model.specs.World.{Path, Object, World, roots_of}
 use Rattle.tables_outline.specs.Outline.{OutlineValue, Outlined, outlined, outline_of, rise}
 use Rattle.tables_outline.proofs.Orders.{bytes_total, bytes_antisymmetric}
-use Rattle.tables_outline.proofs.Told.{get-told}
+use Rattle.tables_outline.proofs.Reported.{get-reported}
 use Rattle.tables_outline.proofs.Ordered.{both_T, from_both, listed_as}
 use Rattle.tables_listing.specs.Rooted.{rooted}
 use Rattle.tables.specs.Entries.{object_view}
@@ -53,9 +53,9 @@ roots_outlined w o is = ap (λ (x : OutlineValue). roots_of (rooted x)) (sym is)
 -- an object that has this archive and this outline, or none of either
 pub object_found : (w : World) (o : OutlineValue) (p : Path) (found : Option Found) → outline_of w ≡ o → option_map (λ (x : Found). x.summary) found ≡ finite.get o.objects p
     → option_map (λ (x : Found). x.nar) found ≡ option_map (λ (x : Object). x.nar) (finite.get w.objects p) → option_map object_view found ≡ finite.get w.objects p
-object_found w o p found is summary nar = by found (finite.get w.objects p) (summary ∙ ap (λ (x : OutlineValue). finite.get x.objects p) (sym is) ∙ get-told bytes_total bytes_antisymmetric (λ _ x. outlined x) w.objects p) nar
+object_found w o p found is summary nar = by found (finite.get w.objects p) (summary ∙ ap (λ (x : OutlineValue). finite.get x.objects p) (sym is) ∙ get-reported bytes_total bytes_antisymmetric (λ _ x. outlined x) w.objects p) nar
   where
-    by : (found : Option Found) (there : Option Object) → option_map (λ (x : Found). x.summary) found ≡ option_map outlined there → option_map (λ (x : Found). x.nar) found ≡ option_map (λ (x : Object). x.nar) there → option_map object_view found ≡ there
+    by : (found : Option Found) (present : Option Object) → option_map (λ (x : Found). x.summary) found ≡ option_map outlined present → option_map (λ (x : Found). x.nar) found ≡ option_map (λ (x : Object). x.nar) present → option_map object_view found ≡ present
     by None None s n = refl
     by None (Some x) s n = absurd (false≢true (ap is_some s))
     by (Some f) None s n = absurd (false≢true (sym (ap is_some s)))
@@ -65,9 +65,9 @@ object_found w o p found is summary nar = by found (finite.get w.objects p) (sum
 
 -- no object, where the outline has none
 pub none_found : (w : World) (o : OutlineValue) (p : Path) → outline_of w ≡ o → None ≡ finite.get o.objects p → None ≡ finite.get w.objects p
-none_found w o p is none = by (finite.get w.objects p) (none ∙ ap (λ (x : OutlineValue). finite.get x.objects p) (sym is) ∙ get-told bytes_total bytes_antisymmetric (λ _ x. outlined x) w.objects p)
+none_found w o p is none = by (finite.get w.objects p) (none ∙ ap (λ (x : OutlineValue). finite.get x.objects p) (sym is) ∙ get-reported bytes_total bytes_antisymmetric (λ _ x. outlined x) w.objects p)
   where
-    by : (there : Option Object) → None ≡ option_map outlined there → None ≡ there
+    by : (present : Option Object) → None ≡ option_map outlined present → None ≡ present
     by None h = refl
     by (Some x) h = absurd (false≢true (ap is_some h))
 

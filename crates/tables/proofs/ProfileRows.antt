@@ -78,11 +78,11 @@ module _ (dir : List ℕ) (c : Contents) (rows : IsSoundContents dir c) (profile
           hash = rows.hash;
           references = rows.references;
           outputs = rows.outputs;
-          generations = λ owner name n there. still_there (owner, name) (λ apart.
-              let m = are.numbers owner name n there in
+          generations = λ owner name n present. still_there (owner, name) (λ apart.
+              let m = are.numbers owner name n present in
               rows.generations owner name n (ap (λ k. is_some (finite.get c.generations (owner, name, k))) m.1
               ∙ ap is_some (sym (are.generation (owner, name) m.0 ∙ ap (λ b. cond b (finite.get p.generations m.0) (finite.get c.generations (owner, name, pos m.0))) apart))
-              ∙ ap (λ k. is_some (finite.get generations (owner, name, k))) (sym m.1) ∙ there));
+              ∙ ap (λ k. is_some (finite.get generations (owner, name, k))) (sym m.1) ∙ present));
           numbers = are.numbers;
           current = λ q n e. current_of q n (eq_by_cmp pair_cmp q owned) (sym (are.profile q) ∙ e);
           world = subst (IsSound dir) (sym world_after) world;

@@ -69,7 +69,7 @@ module _ (dir : List ℕ) (c : Contents) (rows : IsSoundContents dir c) (owned :
   told_generation n = ap (λ (o : Option Profile). finite.get (profile_or_new o).generations n) (columns.profile_at (rows_of c) owned) ∙ by (finite.get c.profiles owned) refl
     where
       by : (o : Option ℤ) → finite.get c.profiles owned ≡ o → finite.get (profile_or_new (option_map (profile_in (rows_of c) owned) o)).generations n ≡ finite.get c.generations (owned.0, owned.1, pos n)
-      by None e = finite.get-empty nat_cmp n ∙ sym (none_of (finite.get c.generations (owned.0, owned.1, pos n)) (λ there. false≢true (ap is_some (sym e) ∙ rows.generations owned.0 owned.1 (pos n) there)))
+      by None e = finite.get-empty nat_cmp n ∙ sym (none_of (finite.get c.generations (owned.0, owned.1, pos n)) (λ present. false≢true (ap is_some (sym e) ∙ rows.generations owned.0 owned.1 (pos n) present)))
       by (Some z) e = generation_at (rows_of c) rows.numbers owned.0 owned.1 n
 
   -- at each key the rows of generations are those of this profile, or of another
@@ -94,16 +94,16 @@ module _ (dir : List ℕ) (c : Contents) (rows : IsSoundContents dir c) (owned :
 
   -- the row of a profile that is there has its current number
   current_row : IsTrue (finite.contains_key (world_in c).profiles owned) → finite.get c.profiles owned ≡ Some (pos here.current)
-  current_row there = by (finite.get c.profiles owned) refl
+  current_row present = by (finite.get c.profiles owned) refl
     where
-      told : (o : Option ℤ) → finite.get c.profiles owned ≡ o → finite.get (world_in c).profiles owned ≡ option_map (profile_in (rows_of c) owned) o
-      told o e = columns.profile_at (rows_of c) owned ∙ ap (option_map (profile_in (rows_of c) owned)) e
+      reported : (o : Option ℤ) → finite.get c.profiles owned ≡ o → finite.get (world_in c).profiles owned ≡ option_map (profile_in (rows_of c) owned) o
+      reported o e = columns.profile_at (rows_of c) owned ∙ ap (option_map (profile_in (rows_of c) owned)) e
 
       by : (o : Option ℤ) → finite.get c.profiles owned ≡ o → o ≡ Some (pos here.current)
-      by None e = absurd (false≢true (sym (ap is_some (told None e)) ∙ there))
+      by None e = absurd (false≢true (sym (ap is_some (reported None e)) ∙ present))
       by (Some z) e =
           let m = rows.current owned z e in
-          ap Some (m.1 ∙ ap (λ (y : ℤ). pos (number_in y)) (sym m.1)) ∙ ap (λ (o : Option Profile). Some (pos (profile_or_new o).current)) (sym (told (Some z) e))
+          ap Some (m.1 ∙ ap (λ (y : ℤ). pos (number_in y)) (sym m.1)) ∙ ap (λ (o : Option Profile). Some (pos (profile_or_new o).current)) (sym (reported (Some z) e))
 
   abbrev gone : ℕ → Triple → Bool
   gone n k = eq_by_cmp bytes_cmp k.0 owned.0 && (eq_by_cmp bytes_cmp k.1 owned.1 && eq_by_cmp int_cmp k.2 (pos n))
@@ -117,7 +117,7 @@ module _ (dir : List ℕ) (c : Contents) (rows : IsSoundContents dir c) (owned :
 
   pub drop_follows : (n : ℕ) → IsTrue (finite.contains_key (world_in c).profiles owned)
       → Follows dir (λ x. record x { generations = finite.retain_keys x.generations (λ k. not (eq_by_cmp bytes_cmp k.0 owned.0 && (eq_by_cmp bytes_cmp k.1 owned.1 && eq_by_cmp int_cmp k.2 (pos n)))) }) (with_profile_by owned (λ p. without_generation p n)) c
-  drop_follows n there =
+  drop_follows n present =
       let it = profile_follows dir c rows c.profiles (finite.retain_keys c.generations (λ k. not (gone n k))) owned (without_generation here n) (record {
         profile = λ q. same_row q (eq_by_cmp pair_cmp q owned) refl;
         generation = λ q m. left_of n (q.0, q.1, pos m)
@@ -127,7 +127,7 @@ module _ (dir : List ℕ) (c : Contents) (rows : IsSoundContents dir c) (owned :
       record { world = it.world; sound = it.sound }
     where
       same_row : (q : Pair) (b : Bool) → eq_by_cmp pair_cmp q owned ≡ b → finite.get c.profiles q ≡ cond b (Some (pos here.current)) (finite.get c.profiles q)
-      same_row q true t = ap (finite.get c.profiles) (tied_is pair_antisymmetric q owned t) ∙ current_row there
+      same_row q true t = ap (finite.get c.profiles) (tied_is pair_antisymmetric q owned t) ∙ current_row present
       same_row q false t = refl
 
       turn : (b : Bool) (g : Option Path) → cond (not b) g None ≡ cond b None g

@@ -24,7 +24,7 @@ use Rattle.tables_world.specs.Worlds.{rows_of, world_in}
 use Rattle.tables_outline.proofs.Orders.{bytes_total, bytes_antisymmetric}
 use Rattle.tables_outline.proofs.Ordered.{both_T, from_both, listed_as}
 use Rattle.tables_outline.proofs.Puts.{tied_is}
-use Rattle.tables_outline.proofs.Told.{get-told}
+use Rattle.tables_outline.proofs.Reported.{get-reported}
 use Rattle.tables_outline.specs.Outline.{OutlineValue, Outlined, outlined}
 use Rattle.tables.proofs.AddedObjects.{none_told}
 use Rattle.tables.proofs.Cuts.{size_is}
@@ -102,7 +102,7 @@ none_read c base h = sym (ap (option_map (archive_in (rows_of c) base)) h)
 -- what is read is the archive that the rows have
 pub all_read : (c : Contents) (base : Path) (e : Row) (rows : List Piece) (nar : List ℕ) → (finite.get c.objects base ≡ Some (stored_of e).1) → map piece_in rows ≡ finite.entries (finite.retain_keys c.pieces (λ k. eq_by_cmp bytes_cmp k.0 base))
     → nar ≡ e.nar.items ++ flat_map (λ (x : Piece). x.bytes.items) rows → Some nar ≡ option_map (archive_in (rows_of c) base) (finite.get c.objects base)
-all_read c base e rows nar there listed is = ap Some (is ∙ ap (λ l. e.nar.items ++ l) (pieces_read base c rows listed)) ∙ sym (ap (option_map (archive_in (rows_of c) base)) there)
+all_read c base e rows nar present listed is = ap Some (is ∙ ap (λ l. e.nar.items ++ l) (pieces_read base c rows listed)) ∙ sym (ap (option_map (archive_in (rows_of c) base)) present)
 
 -- An archive that fits into a row has no further pieces.
 ends : (row : List ℕ) (pieces : List (ℤ × List ℕ)) → IsCut row pieces → length (row ++ joined pieces) ≤ 65536 → joined pieces ≡ []
@@ -114,17 +114,17 @@ ends row (e ∷ es) cut few =
 pub row_read : (c : Contents) (base : Path) (e : Row) (size : ℕ) (rows : List Piece) (nar : List ℕ) → (finite.get c.objects base ≡ Some (stored_of e).1)
     → IsCut e.nar.items (finite.entries (pieces_in (rows_of c) base)) → length (archive_in (rows_of c) base (stored_of e).1) ≡ size → size ≤ 65536
     → rows ≡ [] → nar ≡ e.nar.items ++ flat_map (λ (x : Piece). x.bytes.items) rows → Some nar ≡ option_map (archive_in (rows_of c) base) (finite.get c.objects base)
-row_read c base e size rows nar there cut counts few none is =
+row_read c base e size rows nar present cut counts few none is =
     let fits : length (archive_in (rows_of c) base (stored_of e).1) ≤ 65536 = omega (arith, counts, few) in
     ap Some (is ∙ ap (λ l. e.nar.items ++ l) (ap (flat_map (λ (x : Piece). x.bytes.items)) none ∙ sym (ends e.nar.items (finite.entries (pieces_in (rows_of c) base)) cut fits)))
-    ∙ sym (ap (option_map (archive_in (rows_of c) base)) there)
+    ∙ sym (ap (option_map (archive_in (rows_of c) base)) present)
 
 abbrev nar_of : Object → List ℕ
 nar_of o = o.nar
 
 -- and the one of the world that they tell
 in_world : (c : Contents) (path : Path) → option_map nar_of (finite.get (world_in c).objects path) ≡ option_map (archive_in (rows_of c) path) (finite.get c.objects path)
-in_world c path = ap (option_map nar_of) (get-told bytes_total bytes_antisymmetric (object_in (rows_of c)) c.objects path) ∙ by (finite.get c.objects path)
+in_world c path = ap (option_map nar_of) (get-reported bytes_total bytes_antisymmetric (object_in (rows_of c)) c.objects path) ∙ by (finite.get c.objects path)
   where
     by : (s : Option Stored) → option_map nar_of (option_map (object_in (rows_of c) path) s) ≡ option_map (archive_in (rows_of c) path) s
     by None = refl
@@ -134,14 +134,14 @@ pub archive_told : {S : Type 0} (g : Ghosts S) (k now : Kept S) → k ≡ now �
     → HasCleanDisk (state g k.connection) → IsTrue (state g k.connection).is_open → nar ≡ option_map (archive_in (rows_of (contents_of (state g k.connection).now)) base) (finite.get (contents_of (state g k.connection).now).objects base)
     → (w : World) → HasWorld g now w → nar ≡ option_map nar_of (finite.get w.objects path)
 archive_told g k now view base path nar same clean is_open is w t =
-    let told = subst (λ (n : Kept _). HasWorld g n w) (sym view) t in
+    let reported = subst (λ (n : Kept _). HasWorld g n w) (sym view) t in
     let c = contents_of (state g k.connection).now in
-    is ∙ ap (λ p. option_map (archive_in (rows_of c) p) (finite.get c.objects p)) same ∙ sym (in_world c path) ∙ ap (λ (v : World). option_map nar_of (finite.get v.objects path)) (told.rows clean is_open)
+    is ∙ ap (λ p. option_map (archive_in (rows_of c) p) (finite.get c.objects p)) same ∙ sym (in_world c path) ∙ ap (λ (v : World). option_map nar_of (finite.get v.objects path)) (reported.rows clean is_open)
 
 -- ---- what the outline says of it
 
 some_told : {X Y : Type 0} (f : X → Y) (g : Option X) (x : X) (y : Y) → g ≡ Some x → Some y ≡ option_map f g → y ≡ f x
-some_told f g x y there is = same_Some y (f x) (is ∙ ap (option_map f) there)
+some_told f g x y present is = same_Some y (f x) (is ∙ ap (option_map f) present)
 
 module _ {S : Type 0} (g : Ghosts S) (k : Kept S) (agrees : Agrees g k) (base path : Path) (same : base ≡ path) (clean : HasCleanDisk (state g k.connection)) (is_open : IsTrue (state g k.connection).is_open) where
   abbrev contents : Contents
@@ -149,18 +149,18 @@ module _ {S : Type 0} (g : Ghosts S) (k : Kept S) (agrees : Agrees g k) (base pa
 
   -- it is cut the right way
   pub archive_cut : (o : Stored) → finite.get contents.objects base ≡ Some o → IsCut o.nar (finite.entries (pieces_in (rows_of contents) base))
-  archive_cut o there = (agrees.rows clean is_open).sound.cut refl base o there
+  archive_cut o present = (agrees.rows clean is_open).sound.cut refl base o present
 
   -- it has as many bytes as the outline says
   pub archive_size : (found : Outlined) (size : ℕ) → Some found ≡ finite.get k.outline.objects path → size ≡ found.size → (o : Stored) → finite.get contents.objects base ≡ Some o → length (archive_in (rows_of contents) base o) ≡ size
-  archive_size found size at is o there =
-      let told = at ∙ ap (λ (x : OutlineValue). finite.get x.objects path) (sym (agrees.rows clean is_open).same) ∙ get-told bytes_total bytes_antisymmetric (λ _ x. outlined x) (world_in contents).objects path in
-      let stored = get-told bytes_total bytes_antisymmetric (object_in (rows_of contents)) contents.objects path ∙ ap (option_map (object_in (rows_of contents) path)) (ap (finite.get contents.objects) (sym same) ∙ there) in
-      ap (λ p. length (archive_in (rows_of contents) p o)) same ∙ sym (is ∙ ap (λ (x : Outlined). x.size) (some_told outlined (finite.get (world_in contents).objects path) (object_in (rows_of contents) path o) found stored told))
+  archive_size found size at is o present =
+      let reported = at ∙ ap (λ (x : OutlineValue). finite.get x.objects path) (sym (agrees.rows clean is_open).same) ∙ get-reported bytes_total bytes_antisymmetric (λ _ x. outlined x) (world_in contents).objects path in
+      let stored = get-reported bytes_total bytes_antisymmetric (object_in (rows_of contents)) contents.objects path ∙ ap (option_map (object_in (rows_of contents) path)) (ap (finite.get contents.objects) (sym same) ∙ present) in
+      ap (λ p. length (archive_in (rows_of contents) p o)) same ∙ sym (is ∙ ap (λ (x : Outlined). x.size) (some_told outlined (finite.get (world_in contents).objects path) (object_in (rows_of contents) path o) found stored reported))
 
 -- a path that the outline hasn't has none
 pub none_kept : {S : Type 0} (g : Ghosts S) (k now : Kept S) → k ≡ now → (path : Path) → None ≡ finite.get k.outline.objects path → (w : World) → HasWorld g now w → None ≡ option_map nar_of (finite.get w.objects path)
 none_kept g k now view path none w t =
-    let told = subst (λ (n : Kept _). HasWorld g n w) (sym view) t in
-    let gone = get-told bytes_total bytes_antisymmetric (λ _ x. outlined x) w.objects path in
-    sym (ap (option_map nar_of) (none_told outlined (finite.get w.objects path) (sym gone ∙ ap (λ (x : OutlineValue). finite.get x.objects path) told.outline ∙ sym none)))
+    let reported = subst (λ (n : Kept _). HasWorld g n w) (sym view) t in
+    let gone = get-reported bytes_total bytes_antisymmetric (λ _ x. outlined x) w.objects path in
+    sym (ap (option_map nar_of) (none_told outlined (finite.get w.objects path) (sym gone ∙ ap (λ (x : OutlineValue). finite.get x.objects path) reported.outline ∙ sym none)))

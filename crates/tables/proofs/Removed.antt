@@ -15,11 +15,11 @@ use Rattle.model.specs.Sound.{IsSound}
 use Rattle.tables_world.specs.Pieces.{joined, IsCut}
 use Rattle.tables_world.specs.Rows.{references_in, outputs_in, pieces_in, archive_in, object_in, address_in}
 use Rattle.tables_world.specs.Worlds.{IsSoundContents, rows_of, world_in}
-use Rattle.tables_world.proofs.Told.{get-reference, get-output, get-piece}
+use Rattle.tables_world.proofs.Reported.{get-reference, get-output, get-piece}
 use Rattle.tables_outline.specs.Outline.{OutlineValue, outlined, outline_of}
 use Rattle.tables_outline.proofs.Orders.{bytes_total, bytes_antisymmetric, pair_total, pair_antisymmetric}
 use Rattle.tables_outline.proofs.Puts.{get-kept, retained}
-use Rattle.tables_outline.proofs.Told.{get-told}
+use Rattle.tables_outline.proofs.Reported.{get-reported}
 use Rattle.tables.specs.Rewritten.{without_object, without_objects}
 use Rattle.tables.proofs.Kept.{Follows}
 
@@ -81,10 +81,10 @@ world_without ps w = record w { objects = finite.retain_keys w.objects (λ p. no
 
 pub outline_follows : (ps : List Path) (w : World) → outline_of (world_without ps w) ≡ outline_without ps (outline_of w)
 outline_follows ps w = ap (λ m. record (outline_of w) { objects = m }) (finite.same_map bytes_total bytes_antisymmetric _ _ (λ q.
-    get-told bytes_total bytes_antisymmetric (λ _ x. outlined x) (finite.retain_keys w.objects (λ p. not (holds ps p))) q
+    get-reported bytes_total bytes_antisymmetric (λ _ x. outlined x) (finite.retain_keys w.objects (λ p. not (holds ps p))) q
     ∙ ap (option_map outlined) (get-kept bytes_total bytes_antisymmetric w.objects (λ p. not (holds ps p)) q)
     ∙ by (holds ps q) (finite.get w.objects q)
-    ∙ sym (get-kept bytes_total bytes_antisymmetric (outline_of w).objects (λ p. not (holds ps p)) q ∙ ap (λ g. cond (not (holds ps q)) g None) (get-told bytes_total bytes_antisymmetric (λ _ x. outlined x) w.objects q))))
+    ∙ sym (get-kept bytes_total bytes_antisymmetric (outline_of w).objects (λ p. not (holds ps p)) q ∙ ap (λ g. cond (not (holds ps q)) g None) (get-reported bytes_total bytes_antisymmetric (λ _ x. outlined x) w.objects q))))
   where
     by : (b : Bool) (g : Option Object) → option_map outlined (cond (not b) g None) ≡ cond (not b) (option_map outlined g) None
     by true g = refl
@@ -116,10 +116,10 @@ module _ (dir : List ℕ) (ps : List Path) (c : Contents) (rows : IsSoundContent
 
   objects_after : (world_in (without_objects ps c)).objects ≡ finite.retain_keys (world_in c).objects (λ p. not (holds ps p))
   objects_after = finite.same_map bytes_total bytes_antisymmetric _ _ (λ q.
-      get-told bytes_total bytes_antisymmetric (object_in (rows_of (without_objects ps c))) (finite.retain_keys c.objects (λ k. not (holds ps k))) q
+      get-reported bytes_total bytes_antisymmetric (object_in (rows_of (without_objects ps c))) (finite.retain_keys c.objects (λ k. not (holds ps k))) q
       ∙ ap (option_map (object_in (rows_of (without_objects ps c)) q)) (get-kept bytes_total bytes_antisymmetric c.objects (λ k. not (holds ps k)) q)
       ∙ by q (holds ps q) refl (finite.get c.objects q)
-      ∙ sym (get-kept bytes_total bytes_antisymmetric (world_in c).objects (λ p. not (holds ps p)) q ∙ ap (λ g. cond (not (holds ps q)) g None) (get-told bytes_total bytes_antisymmetric (object_in (rows_of c)) c.objects q)))
+      ∙ sym (get-kept bytes_total bytes_antisymmetric (world_in c).objects (λ p. not (holds ps p)) q ∙ ap (λ g. cond (not (holds ps q)) g None) (get-reported bytes_total bytes_antisymmetric (object_in (rows_of c)) c.objects q)))
     where
       by : (q : Path) (b : Bool) → holds ps q ≡ b → (g : Option Stored) → option_map (object_in (rows_of (without_objects ps c)) q) (cond (not b) g None) ≡ cond (not b) (option_map (object_in (rows_of c) q) g) None
       by q true t g = refl
@@ -140,7 +140,7 @@ module _ (dir : List ℕ) (ps : List Path) (c : Contents) (rows : IsSoundContent
 
   -- a row of a path is there only where the path stays
   still_there : {X : Type 0} (q : Path) (g : Option X) → is_some (cond (not (holds ps q)) g None) ≡ true → (is_some g ≡ true → IsTrue (finite.contains_key c.objects q)) → IsTrue (finite.contains_key (finite.retain_keys c.objects (λ k. not (holds ps k))) q)
-  still_there q g there was = ap is_some (get-kept bytes_total bytes_antisymmetric c.objects (λ k. not (holds ps k)) q) ∙ by (holds ps q) there
+  still_there q g present was = ap is_some (get-kept bytes_total bytes_antisymmetric c.objects (λ k. not (holds ps k)) q) ∙ by (holds ps q) present
     where
       by : (b : Bool) → is_some (cond (not b) g None) ≡ true → is_some (cond (not b) (finite.get c.objects q) None) ≡ true
       by true h = absurd (false≢true h)
@@ -157,9 +157,9 @@ module _ (dir : List ℕ) (ps : List Path) (c : Contents) (rows : IsSoundContent
       cut = λ h q x e. let was = stored_was q x e in subst (λ m. IsCut x.nar (finite.entries m)) (sym (pieces_kept q was.0)) (rows.cut h q x was.1);
       address = λ q x text e. rows.address q x text (stored_was q x e).1;
       hash = λ q x e. let was = stored_was q x e in rows.hash q x was.1 ∙ ap sha256 (sym (archive_kept q was.0 x));
-      pieces = λ q n there. still_there q (finite.get c.pieces (q, n)) (ap is_some (sym (get-kept numbered_total numbered_antisymmetric c.pieces (λ k. not (holds ps k.0)) (q, n))) ∙ there) (rows.pieces q n);
-      references = λ q r there. still_there q (finite.get c.refs (q, r)) (ap is_some (sym (get-kept pair_total pair_antisymmetric c.refs (λ k. not (holds ps k.0)) (q, r))) ∙ there) (rows.references q r);
-      outputs = λ q n there. still_there q (finite.get c.outs (q, n)) (ap is_some (sym (get-kept pair_total pair_antisymmetric c.outs (λ k. not (holds ps k.0)) (q, n))) ∙ there) (rows.outputs q n);
+      pieces = λ q n present. still_there q (finite.get c.pieces (q, n)) (ap is_some (sym (get-kept numbered_total numbered_antisymmetric c.pieces (λ k. not (holds ps k.0)) (q, n))) ∙ present) (rows.pieces q n);
+      references = λ q r present. still_there q (finite.get c.refs (q, r)) (ap is_some (sym (get-kept pair_total pair_antisymmetric c.refs (λ k. not (holds ps k.0)) (q, r))) ∙ present) (rows.references q r);
+      outputs = λ q n present. still_there q (finite.get c.outs (q, n)) (ap is_some (sym (get-kept pair_total pair_antisymmetric c.outs (λ k. not (holds ps k.0)) (q, n))) ∙ present) (rows.outputs q n);
       generations = rows.generations;
       numbers = rows.numbers;
       current = rows.current;

@@ -41,15 +41,15 @@ module _ (old put : OutlineValue) (t key again : Temporary) (same : key ≡ t) (
   temporary_put = is ∙ ap (λ (k : Temporary). record old { temporary = finite.insert old.temporary k tt }) same
 
   kept_again : (had : Bool) → had ≡ finite.contains_key old.temporary t → unkept (finite.insert old.temporary t tt) t had ≡ old.temporary
-  kept_again true was = there old.temporary t (finite.get old.temporary t) refl was
+  kept_again true was = present old.temporary t (finite.get old.temporary t) refl was
     where
-      there : (m : Set temporary_cmp) (k : Temporary) (o : Option (Unit {0})) → finite.get m k ≡ o → true ≡ finite.contains_key m k → finite.insert m k tt ≡ m
-      there m k (Some u) at h = finite.same_map temporary_total temporary_antisymmetric (finite.insert m k tt) m (λ q. finite.get-insert temporary_total m k tt q ∙ by q (eq_by_cmp temporary_cmp q k) refl)
+      present : (m : Set temporary_cmp) (k : Temporary) (o : Option (Unit {0})) → finite.get m k ≡ o → true ≡ finite.contains_key m k → finite.insert m k tt ≡ m
+      present m k (Some u) at h = finite.same_map temporary_total temporary_antisymmetric (finite.insert m k tt) m (λ q. finite.get-insert temporary_total m k tt q ∙ by q (eq_by_cmp temporary_cmp q k) refl)
         where
           by : (q : Temporary) (b : Bool) → eq_by_cmp temporary_cmp q k ≡ b → cond b (Some tt) (finite.get m q) ≡ finite.get m q
           by q true e = sym (ap (finite.get m) (tied_is temporary_antisymmetric q k e) ∙ at)
           by q false e = refl
-      there m k None at h = absurd (false≢true (ap is_some (sym at) ∙ sym h))
+      present m k None at h = absurd (false≢true (ap is_some (sym at) ∙ sym h))
   kept_again false was = unput_put temporary_total temporary_antisymmetric old.temporary t tt None (none (finite.get old.temporary t) was)
     where
       none : (o : Option (Unit {0})) → false ≡ is_some o → None ≡ o

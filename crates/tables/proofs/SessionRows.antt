@@ -66,10 +66,10 @@ module _ (dir : List ℕ) (c : Contents) (rows : IsSoundContents dir c) where
       → ((k : Kept) → IsTrue (finite.contains_key (f c.temp_roots) k) → (m : ℕ) × (k.1 ≡ pos m))
       → ((t : Temporary) → finite.contains_key (f c.temp_roots) (row_of t) ≡ finite.contains_key (F (world_in c).temporary) t)
       → Follows dir (λ (x : Contents). record x { temp_roots = f x.temp_roots }) (λ (w : World). record w { temporary = F w.temporary }) c
-  others_follow f F numbers told =
+  others_follow f F numbers reported =
       let after : Contents = record c { temp_roots = f c.temp_roots } in
       let same : world_in after ≡ record (world_in c) { temporary = F (world_in c).temporary } = ap (λ m. record (world_in c) { temporary = m })
-      (same_set (world_in after).temporary (F (world_in c).temporary) (λ t. temporary_at (rows_of after) numbers t ∙ told t)) in
+      (same_set (world_in after).temporary (F (world_in c).temporary) (λ t. temporary_at (rows_of after) numbers t ∙ reported t)) in
       record {
         world = same;
         sound = λ world. record {
@@ -106,8 +106,8 @@ module _ (dir : List ℕ) (c : Contents) (rows : IsSoundContents dir c) where
     numbers_more k h = by (eq_by_cmp kept_cmp k (owner, pos session, path)) refl (ap is_some (sym (finite.get-insert kept_total c.temp_roots (owner, pos session, path) tt k)) ∙ h)
       where
         by : (b : Bool) → eq_by_cmp kept_cmp k (owner, pos session, path) ≡ b → is_some (cond b (Some tt) (finite.get c.temp_roots k)) ≡ true → (m : ℕ) × (k.1 ≡ pos m)
-        by true t there = (session, ap (λ (x : Kept). x.1) (tied_is kept_antisymmetric k (owner, pos session, path) t))
-        by false t there = rows.sessions k there
+        by true t present = (session, ap (λ (x : Kept). x.1) (tied_is kept_antisymmetric k (owner, pos session, path) t))
+        by false t present = rows.sessions k present
 
     told_more : (t : Temporary) → finite.contains_key (more c.temp_roots) (row_of t) ≡ finite.contains_key (gains (world_in c).temporary) t
     told_more t =
@@ -138,8 +138,8 @@ module _ (dir : List ℕ) (c : Contents) (rows : IsSoundContents dir c) where
     numbers_fewer k h = rows.sessions k (by (stays k) (ap is_some (sym (get-kept kept_total kept_antisymmetric c.temp_roots stays k)) ∙ h))
       where
         by : (b : Bool) → is_some (cond b (finite.get c.temp_roots k) None) ≡ true → is_some (finite.get c.temp_roots k) ≡ true
-        by true there = there
-        by false there = absurd (false≢true there)
+        by true present = present
+        by false present = absurd (false≢true present)
 
     told_fewer : (t : Temporary) → finite.contains_key (fewer c.temp_roots) (row_of t) ≡ finite.contains_key (loses (world_in c).temporary) t
     told_fewer t =

@@ -26,19 +26,19 @@ module _ {S : Type 0} (g : Ghosts S) (old : Kept S) (owned : Pair) (t : Path) (n
   wanted = with_profile_by owned (λ p. set_to p t)
 
   same_at : (w : World) → HasWorld g old w → given w ≡ wanted w
-  same_at w told = ap (λ (p : Profile). record w { profiles = finite.insert w.profiles owned p }) (subst (λ (o : OutlineValue). next (profile_of o owned) ≡ set_to (profile_of o owned) t) (sym told.outline) same)
+  same_at w reported = ap (λ (p : Profile). record w { profiles = finite.insert w.profiles owned p }) (subst (λ (o : OutlineValue). next (profile_of o owned) ≡ set_to (profile_of o owned) t) (sym reported.outline) same)
 
   pub set_sound : ((w : World) → HasWorld g old w → IsSound old.dir (wanted w)) → (w : World) → HasWorld g old w → IsSound old.dir (given w)
-  set_sound sound w told = subst (IsSound old.dir) (sym (same_at w told)) (sound w told)
+  set_sound sound w reported = subst (IsSound old.dir) (sym (same_at w reported)) (sound w reported)
 
   pub set_commits : {A E : Type 0} (r : Result A E) (new : Kept S) → CommitsChange g old new r given → CommitsChange g old new r wanted
   set_commits r new h = record {
     dir = h.dir;
-    done = on_ok_as r (λ k w told. subst (HasWorld g new) (same_at w told) (k w told)) h.done;
+    done = on_ok_as r (λ k w reported. subst (HasWorld g new) (same_at w reported) (k w reported)) h.done;
     others = h.others;
     failed = h.failed;
     shown = h.shown;
     durable = h.durable;
     was_open = h.was_open;
-    survives = λ w told. subst (λ (x : World). Survives (state g old.connection) (state g new.connection) (λ db. LeavesWorld old.dir (state g old.connection).now db x)) (same_at w told) (h.survives w told);
+    survives = λ w reported. subst (λ (x : World). Survives (state g old.connection) (state g new.connection) (λ db. LeavesWorld old.dir (state g old.connection).now db x)) (same_at w reported) (h.survives w reported);
   }

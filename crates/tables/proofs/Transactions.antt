@@ -46,24 +46,24 @@ changes_nothing s f under is_open same = changes_at s s (λ c. c) f (sym same) (
 
 -- the tables of pieces and of temporary roots still stand after a write
 pub pieces_stand : (a b : State) (f : Contents → Contents) → (HasCleanDisk b → Changes a b f) → Survives a b (λ _. ⊥) → (HasCleanDisk a → IsTrue a.is_open → HasFurther a.now piece) → HasCleanDisk b → HasFurther b.now piece
-pieces_stand a b f done survives there clean =
+pieces_stand a b f done survives present clean =
     let it = done clean in
-    piece_after a b f it (there (omega (arith, survives.clean, clean)) it.was_open)
+    piece_after a b f it (present (omega (arith, survives.clean, clean)) it.was_open)
 
 pub temp_roots_stand : (a b : State) (f : Contents → Contents) → (HasCleanDisk b → Changes a b f) → Survives a b (λ _. ⊥) → (HasCleanDisk a → IsTrue a.is_open → HasFurther a.now temp_root) → HasCleanDisk b → HasFurther b.now temp_root
-temp_roots_stand a b f done survives there clean =
+temp_roots_stand a b f done survives present clean =
     let it = done clean in
-    temp_root_after a b f it (there (omega (arith, survives.clean, clean)) it.was_open)
+    temp_root_after a b f it (present (omega (arith, survives.clean, clean)) it.was_open)
 
 -- and so do all that the writing of a change began with, once it is committed
 pub whole_after : (a b c : State) (f : Contents → Contents) → Changes a b f → IsCommitted b c → IsWhole a.now → IsWhole c.now
-whole_after a b c f h k there = subst IsWhole (sym k.now) (record { ours = h.ours; pieces = piece_after a b f h there.pieces; temp_roots = temp_root_after a b f h there.temp_roots })
+whole_after a b c f h k present = subst IsWhole (sym k.now) (record { ours = h.ours; pieces = piece_after a b f h present.pieces; temp_roots = temp_root_after a b f h present.temp_roots })
 
 -- a change that was written and committed, seen from before the transaction was begun
 pub written : {S : Type 0} (g : Ghosts S) (conn start : Held S) (b c : State) (f : Contents → Contents) (P : Trees → Type 0) → start ≡ record conn { in_transaction = true }
     → (HasCleanDisk b → Changes (state g start) b f) → Survives (state g start) b (λ _. ⊥) → Survives b c P
     → (HasCleanDisk (state g conn) → IsTrue (state g conn).is_open → IsWhole (state g conn).now) → HasCleanDisk c → IsCommitted b c → IsWritten (state g conn) c f
-written {S} g conn start b c f P is done before after there clean k =
+written {S} g conn start b c f P is done before after present clean k =
     let late : HasCleanDisk b = omega (arith, after.clean, clean) in
     let h : Changes (state g (record conn { in_transaction = true })) b f = subst (λ (s : Held S). Changes (state g s) b f) is (done late) in
     let kept : Survives (state g (record conn { in_transaction = true })) b (λ _. ⊥) = subst (λ (s : Held S). Survives (state g s) b (λ _. ⊥)) is before in
@@ -75,7 +75,7 @@ written {S} g conn start b c f P is done before after there clean k =
       contents = ap contents_of k.now ∙ h.contents;
       theirs = subst (λ (d : Database). KeepsTheirs (state g conn).now d) (sym k.now) h.theirs;
       unshown = subst (λ (d : Database). SparesUnshown (state g conn).now d) (sym k.now) h.unshown;
-      whole = whole_after (state g (record conn { in_transaction = true })) b c f h k (there early h.was_open);
+      whole = whole_after (state g (record conn { in_transaction = true })) b c f h k (present early h.was_open);
       ready = k.ready;
     }
 
@@ -92,7 +92,7 @@ nothing_changed a b is = subst (KeepsOthers a) (sym is) (record {
   schema = refl;
   listed = refl;
   theirs = all_of (λ (t : Table). is_our_name t.name ≡ false → a.trees t.tree ≡ a.trees t.tree) (λ t other. refl) a.schema.tables;
-  frozen = record { rows = λ tree it. refl; texts = λ row there foreign. there; version = refl };
+  frozen = record { rows = λ tree it. refl; texts = λ row present foreign. present; version = refl };
 })
 
 -- over two steps too
@@ -103,7 +103,7 @@ others_then a b c h k = record {
   theirs = theirs_then a b c h.schema h.theirs k.theirs;
   frozen = record {
     rows = λ tree is. k.frozen.rows tree (subst (λ (s : Schema). IsFrozen s tree) (sym h.schema) is) ∙ h.frozen.rows tree is;
-    texts = λ row there foreign. k.frozen.texts row (h.frozen.texts row there foreign) foreign;
+    texts = λ row present foreign. k.frozen.texts row (h.frozen.texts row present foreign) foreign;
     version = k.frozen.version ∙ h.frozen.version;
   };
 }

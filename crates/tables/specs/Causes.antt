@@ -1,7 +1,7 @@
 -- Why a file isn't opened as a store.
 use Rattle.std.specs.Prelude.{Option}
 use Rattle.std.specs.Option.{option_map_or}
-use Rattle.sqlite_disk.specs.declared.Disk as disk
+use Rattle.tables_open.specs.Disk as disk
 use Rattle.tables_open.specs.declared.file.Unopened.{Unopened as NoFile}
 use Rattle.tables_open.specs.declared.file.Unopened.TheVariants as file
 use Rattle.tables.specs.declared.refusing.Cause.{Cause}

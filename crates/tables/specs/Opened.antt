@@ -1,9 +1,9 @@
 -- What opening a file says of it.
 use Rattle.std.specs.Prelude.{◌≡◌, ℕ, false, List, IsTrue}
-use Rattle.sqlite_disk.specs.declared.Disk as disk
-use Rattle.sqlite_disk.specs.declared.calls.Calls as calls
-use Rattle.sqlite_disk.specs.declared.modelled.Modelled.{Modelled}
-use Rattle.sqlite_disk.specs.declared.start.Start.{Ghosts}
+use Rattle.tables_open.specs.Disk as disk
+use Rattle.tables_open.specs.DiskCalls as calls
+use Rattle.tables_open.specs.Modelled.{Modelled}
+use Rattle.tables_open.specs.DiskStart.{Ghosts}
 use Rattle.sqlite_std_file.specs.declared.host.Host.{Host}
 use Rattle.sqlite_wal.specs.Recovery.{Image}
 use Rattle.sqlite_store.specs.declared.store.FileStore.{FileStore}

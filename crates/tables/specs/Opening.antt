@@ -76,7 +76,7 @@ module _ {S : Type 0} (g : Ghosts S) where
     pub holds : HoldsBy V3 dir db
     pub is_open : IsTrue (state g t.connection).is_open
     pub same : (state g t.connection).now ≡ db
-    pub told : HasWorld g t (world_in (contents_of db))
+    pub reported : HasWorld g t (world_in (contents_of db))
 
   -- None of the store's tables was there: they were made next to the tables of other programs, and have the new world.
   pub record OpensNew (db : Database) (t : Kept S) : Type 0 where
@@ -85,7 +85,7 @@ module _ {S : Type 0} (g : Ghosts S) where
     pub schema : (state g t.connection).now.schema ≡ store_tables_created db.schema
     pub theirs : KeepsTheirs db (state g t.connection).now
     pub frozen : SparesFrozen db (state g t.connection).now
-    pub told : HasWorld g t no_world
+    pub reported : HasWorld g t no_world
 
   -- A store of an earlier schema was there: what it held was brought to the third, next to the tables of other programs, and the tables have the world of the rows that it had.
   pub record OpensMigrated (from : Schema) (dir : List ℕ) (db : Database) (t : Kept S) : Type 0 where
@@ -95,7 +95,7 @@ module _ {S : Type 0} (g : Ghosts S) where
     pub contents_are : contents_of (state g t.connection).now ≡ migrated_contents from dir (contents_of db)
     pub theirs : KeepsTheirs db (state g t.connection).now
     pub frozen : SparesFrozen db (state g t.connection).now
-    pub told : HasWorld g t (world_in (contents_of db))
+    pub reported : HasWorld g t (world_in (contents_of db))
 
   -- one of these
   abbrev pub OpensStore : List ℕ → Database → Kept S → Type 0

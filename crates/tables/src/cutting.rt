@@ -38,7 +38,7 @@ pub(crate) fn put_pieces<S: Alter>(
 ) -> Result<(), Failure>
     requires under_way { HasCleanDisk (state S.Store tx.old.conn.now) → IsUnderWay (state S.Store tx.old.conn.now) }
     requires is_open { HasCleanDisk (state S.Store tx.old.conn.now) → IsTrue (state S.Store tx.old.conn.now).is_open }
-    requires stands { HasCleanDisk (state S.Store tx.old.conn.now) → HasFurther (state S.Store tx.old.conn.now).now piece }
+    requires exists { HasCleanDisk (state S.Store tx.old.conn.now) → HasFurther (state S.Store tx.old.conn.now).now piece }
     requires free { HasCleanDisk (state S.Store tx.old.conn.now)
         → AreFree (contents_of (state S.Store tx.old.conn.now).now).pieces
         (map (λ e. (base.now, e.0)) (further_pieces nar.now)) }

@@ -13,7 +13,7 @@ ghost use Rattle.tables.specs.Opening.{IsFoundBy, AreRead, OpensMigrated, Leaves
 
 use crate::keeping::Tables;
 use crate::refusing::{Cause, Unadopted};
-use crate::rows::{Taken, read_as};
+use crate::rows::{Loaded, read_as};
 use paths::StoreDir;
 use sqlite::{Alter, Connection};
 use std::alloc::Global;
@@ -47,22 +47,22 @@ fn read_and_bring<S: Alter>(
     conn: &mut Connection<S>,
     dir: &StoreDir,
     schema: Schema,
-) -> Result<Taken, Cause>
+) -> Result<Loaded, Cause>
     requires alone { conn.old.in_transaction ≡ false }
     requires ready { HasCleanDisk (state S.Store conn.old) → IsReady (state S.Store conn.old) }
     requires found { HasCleanDisk (state S.Store conn.old) → IsFoundBy schema (state S.Store conn.old).now }
     ensures alone { conn.new.in_transaction ≡ false }
     ensures dir { IfOk result (λ r. r.dir ≡ dir.now) }
-    ensures told { HasCleanDisk (state S.Store conn.new) → IfOk result (λ r. AreRead schema dir.now (state S.Store conn.old).now r.outline) }
+    ensures reported { HasCleanDisk (state S.Store conn.new) → IfOk result (λ r. AreRead schema dir.now (state S.Store conn.old).now r.outline) }
     ensures brought { HasCleanDisk (state S.Store conn.new) → OnOk result (IsMigrated schema dir.now (state S.Store conn.old) (state S.Store conn.new)) }
     ensures cause { HasCleanDisk (state S.Store conn.new)
         → IfErr result (IsCause dir.now (state S.Store conn.old) (state S.Store conn.new)) }
     ensures same { HasCleanDisk (state S.Store conn.new) → OnErr result (KeepsShown (state S.Store conn.old) (state S.Store conn.new)) }
     ensures survives { Survives (state S.Store conn.old) (state S.Store conn.new) (LeavesMigration schema dir.now (state S.Store conn.old).now) }
 {
-    let taken = read_as(alloc, conn, dir, schema)?;
+    let loaded = read_as(alloc, conn, dir, schema)?;
     match bring(alloc, conn, schema) {
-        Ok(()) => Ok(taken),
+        Ok(()) => Ok(loaded),
         Err(failure) => Err(Cause::Failed(failure)),
     }
 }
@@ -86,8 +86,8 @@ pub(crate) fn open_earlier<S: Alter>(
     ensures survives { MatchResult result (λ t. Survives (state S.Store conn) (state S.Store t.connection) (LeavesMigration schema dir.now (state S.Store conn).now)) (λ e. Survives (state S.Store conn) (state S.Store e.conn) (LeavesMigration schema dir.now (state S.Store conn).now)) }
 {
     match read_and_bring(alloc, &mut conn, dir, schema) {
-        Ok(taken) => {
-            let Taken { dir: own, outline } = taken;
+        Ok(loaded) => {
+            let Loaded { dir: own, outline } = loaded;
             Ok(Tables::over(alloc, conn, own, outline))
         }
         Err(cause) => Err(Unadopted { conn, cause }),

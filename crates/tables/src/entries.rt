@@ -8,19 +8,19 @@ ghost use Rattle.tables_sql.specs.Calls.{KeepsShown};
 ghost use Rattle.model.specs.World.{World, roots_of};
 ghost use Rattle.tables_outline.specs.View.{profile_view};
 ghost use Rattle.tables_outline.specs.Outline.{outlined};
-ghost use Rattle.tables_listing.specs.View.{root_view};
+ghost use Rattle.paths.specs.RootView.{root_view};
 ghost use Rattle.tables.specs.Entries.{object_view};
 ghost use Rattle.tables.specs.Frames.{FailsToAsk};
 ghost use Rattle.tables.specs.Kept.{HasWorld};
 
 use crate::keeping::Tables;
 use crate::user_roots::owned;
-use paths::StorePath;
+use paths::{Root, StorePath};
 use sqlite::Alter;
 use std::alloc::{AllocError, Global};
 use std::collections::BTreeMap;
 use streams::Pieces;
-use tables_listing::{Root, root_list};
+use tables_listing::root_list;
 use tables_outline::{Profile, Summary};
 use tables_sql::failure::Failure;
 

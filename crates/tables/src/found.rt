@@ -11,7 +11,7 @@ ghost use Rattle.tables.specs.Opening.{IsFoundBy, OpensExisting, OpensNew, IsCau
 
 use crate::keeping::Tables;
 use crate::refusing::{Cause, Unadopted};
-use crate::rows::{Taken, read_as};
+use crate::rows::{Loaded, read_as};
 use paths::StoreDir;
 use sqlite::{Alter, Connection};
 use std::alloc::Global;
@@ -38,8 +38,8 @@ pub(crate) fn open_existing<S: Alter>(
     ensures survives { MatchResult result (λ t. Survives (state S.Store conn) (state S.Store t.connection) (λ _. ⊥)) (λ e. Survives (state S.Store conn) (state S.Store e.conn) (λ _. ⊥)) }
 {
     match read_as(alloc, &mut conn, dir, Schema::V3) {
-        Ok(taken) => {
-            let Taken { dir: own, outline } = taken;
+        Ok(loaded) => {
+            let Loaded { dir: own, outline } = loaded;
             Ok(Tables::over(alloc, conn, own, outline))
         }
         Err(cause) => Err(Unadopted { conn, cause }),

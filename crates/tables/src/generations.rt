@@ -35,7 +35,7 @@ impl<S: Alter> Tables<S> {
         generation: Option<(u32, &StorePath)>,
         current: u32,
     ) -> Result<(), Failure>
-        requires there { IfNone generation
+        requires present { IfNone generation
             (IsTrue (finite.contains_key self.old.outline.profiles (owner.now, name.now))) }
         requires sound { StaysSound S.Store self.old
             (with_numbers (owner.now, name.now) (option_map (λ e. (e.0, e.1.now)) generation) current) }
@@ -84,7 +84,7 @@ impl<S: Alter> Tables<S> {
         target: &StorePath,
         current: u32,
     ) -> Result<(), Failure>
-        requires there { IsTrue (has_generation (profile_of self.old.outline (owner.now, name.now)) number) }
+        requires present { IsTrue (has_generation (profile_of self.old.outline (owner.now, name.now)) number) }
         requires sound { StaysSound S.Store self.old
             (with_profile_by (owner.now, name.now) (λ p. switched (put_at p number target.now) current)) }
         ensures frame { CommitsChange S.Store self.old self.new result
@@ -191,7 +191,7 @@ impl<S: Alter> Tables<S> {
     /// assert_eq!(rt; tables.profile("ann", "default")?.map(|profile| profile.current), Some(1));
     /// ```
     pub fn switch_generation(&mut self, owner: &str, name: &str, number: u32) -> Result<(), Failure>
-        requires there { IsTrue (finite.contains_key self.old.outline.profiles (owner.now, name.now)) }
+        requires present { IsTrue (finite.contains_key self.old.outline.profiles (owner.now, name.now)) }
         requires sound { StaysSound S.Store self.old (with_profile_by (owner.now, name.now) (λ p. switched p number)) }
         ensures frame { CommitsChange S.Store self.old self.new result
             (with_profile_by (owner.now, name.now) (λ p. switched p number)) }
@@ -222,7 +222,7 @@ impl<S: Alter> Tables<S> {
     /// assert_eq!(rt; profile.map(|profile| profile.generations.len()), Some(1));
     /// ```
     pub fn drop_generation(&mut self, owner: &str, name: &str, number: u32) -> Result<(), Failure>
-        requires there { IsTrue (finite.contains_key self.old.outline.profiles (owner.now, name.now)) }
+        requires present { IsTrue (finite.contains_key self.old.outline.profiles (owner.now, name.now)) }
         requires sound { StaysSound S.Store self.old
             (with_profile_by (owner.now, name.now) (λ p. without_generation p number)) }
         ensures frame { CommitsChange S.Store self.old self.new result

@@ -38,8 +38,9 @@ pub use named_roots::RootName;
 pub use refusing::{Cause, Unadopted, Unopened};
 
 // What callers name besides, so that they need no library but this one and `paths`.
+pub use paths::{Root, RootKind};
 pub use sqlite::{Alter, Connection, MemStore, Start, Unknown};
 pub use streams::Pieces;
-pub use tables_listing::{Kind, Root};
+pub use tables_open::Disk;
 pub use tables_outline::{Outline, Profile, Summary};
 pub use tables_sql::failure::Failure;

@@ -27,7 +27,7 @@ pub(crate) fn delete_references<S: Alter>(
 ) -> Result<(), Failure>
     requires under_way { HasCleanDisk (state S.Store tx.old.conn.now) → IsUnderWay (state S.Store tx.old.conn.now) }
     requires is_open { HasCleanDisk (state S.Store tx.old.conn.now) → IsTrue (state S.Store tx.old.conn.now).is_open }
-    requires told { HasCleanDisk (state S.Store tx.old.conn.now) → (r : List ℕ) → IsTrue (finite.contains_key (contents_of (state S.Store tx.old.conn.now).now).refs (base.now, r)) → IsTrue (finite.contains_key object.now.references r) }
+    requires reported { HasCleanDisk (state S.Store tx.old.conn.now) → (r : List ℕ) → IsTrue (finite.contains_key (contents_of (state S.Store tx.old.conn.now).now).refs (base.now, r)) → IsTrue (finite.contains_key object.now.references r) }
     ensures same_reference { tx.new.conn.ghost_name ≡ tx.old.conn.ghost_name }
     ensures done { HasCleanDisk (state S.Store tx.new.conn.now) → OnOk result (Changes (state S.Store tx.old.conn.now) (state S.Store tx.new.conn.now)
         (λ c. record c { refs = finite.retain_keys c.refs (λ k. not (same k.0 base.now)) })) }
@@ -49,7 +49,7 @@ pub(crate) fn delete_outputs<S: Alter>(
 ) -> Result<(), Failure>
     requires under_way { HasCleanDisk (state S.Store tx.old.conn.now) → IsUnderWay (state S.Store tx.old.conn.now) }
     requires is_open { HasCleanDisk (state S.Store tx.old.conn.now) → IsTrue (state S.Store tx.old.conn.now).is_open }
-    requires told { HasCleanDisk (state S.Store tx.old.conn.now) → (name : List ℕ) → IsTrue (finite.contains_key (contents_of (state S.Store tx.old.conn.now).now).outs (base.now, name)) → IsTrue (finite.contains_key object.now.outputs name) }
+    requires reported { HasCleanDisk (state S.Store tx.old.conn.now) → (name : List ℕ) → IsTrue (finite.contains_key (contents_of (state S.Store tx.old.conn.now).now).outs (base.now, name)) → IsTrue (finite.contains_key object.now.outputs name) }
     ensures same_reference { tx.new.conn.ghost_name ≡ tx.old.conn.ghost_name }
     ensures done { HasCleanDisk (state S.Store tx.new.conn.now) → OnOk result (Changes (state S.Store tx.old.conn.now) (state S.Store tx.new.conn.now)
         (λ c. record c { outs = finite.retain_keys c.outs (λ k. not (same k.0 base.now)) })) }
@@ -71,8 +71,8 @@ pub(crate) fn delete_pieces<S: Alter>(
 ) -> Result<(), Failure>
     requires under_way { HasCleanDisk (state S.Store tx.old.conn.now) → IsUnderWay (state S.Store tx.old.conn.now) }
     requires is_open { HasCleanDisk (state S.Store tx.old.conn.now) → IsTrue (state S.Store tx.old.conn.now).is_open }
-    requires stands { HasCleanDisk (state S.Store tx.old.conn.now) → HasFurther (state S.Store tx.old.conn.now).now piece }
-    requires told { HasCleanDisk (state S.Store tx.old.conn.now) → (n : ℤ) → IsTrue (finite.contains_key (contents_of (state S.Store tx.old.conn.now).now).pieces (base.now, n)) → piece_size < object.now.size }
+    requires exists { HasCleanDisk (state S.Store tx.old.conn.now) → HasFurther (state S.Store tx.old.conn.now).now piece }
+    requires reported { HasCleanDisk (state S.Store tx.old.conn.now) → (n : ℤ) → IsTrue (finite.contains_key (contents_of (state S.Store tx.old.conn.now).now).pieces (base.now, n)) → piece_size < object.now.size }
     ensures same_reference { tx.new.conn.ghost_name ≡ tx.old.conn.ghost_name }
     ensures done { HasCleanDisk (state S.Store tx.new.conn.now) → OnOk result (Changes (state S.Store tx.old.conn.now) (state S.Store tx.new.conn.now)
         (λ c. record c { pieces = finite.retain_keys c.pieces (λ k. not (same k.0 base.now)) })) }

@@ -52,7 +52,7 @@ impl Tables<MemStore> {
     /// Memory was refused.
     pub fn open_in_memory(alloc: Global, dir: &StoreDir) -> Result<Tables<MemStore>, Failure>
         ensures dir { IfOk result (λ t. t.dir ≡ dir.now) }
-        ensures told { IfOk result (λ t. HasWorld over_memory t no_world) }
+        ensures reported { IfOk result (λ t. HasWorld over_memory t no_world) }
         // No disk is asked, and a store directory fits into a row.
         ensures cause { IfErr result (λ failure. failure ≡ Memory) }
     {

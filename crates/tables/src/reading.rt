@@ -50,7 +50,7 @@ pub(crate) fn read_archive<S: Alter>(
     requires alone { conn.old.in_transaction ≡ false }
     requires ready { HasCleanDisk (state S.Store conn.old) → IsTrue (state S.Store conn.old).is_open
         → IsReady (state S.Store conn.old) }
-    requires stands { HasCleanDisk (state S.Store conn.old) → IsTrue (state S.Store conn.old).is_open
+    requires exists { HasCleanDisk (state S.Store conn.old) → IsTrue (state S.Store conn.old).is_open
         → HasFurther (state S.Store conn.old).now piece }
     requires cut { HasCleanDisk (state S.Store conn.old) → IsTrue (state S.Store conn.old).is_open
         → (o : Stored) → finite.get (contents_of (state S.Store conn.old).now).objects base.now ≡ Some o → IsCut o.nar (finite.entries (pieces_in (rows_of (contents_of (state S.Store conn.old).now)) base.now)) }

@@ -4,8 +4,7 @@ ghost use Rattle.std.specs.Prelude.{◌≡◌};
 ghost use Rattle.tables.specs.Causes.{cause_of};
 
 use sqlite::{Alter, Connection};
-use sqlite_disk::Disk;
-use tables_open::file;
+use tables_open::{Disk, file};
 use tables_sql::failure::Failure;
 
 /// Why a database isn't opened as a store.
@@ -21,6 +20,7 @@ pub enum Cause {
 }
 
 /// A connection that isn't opened as a store, returned.
+#[derive(Drop)]
 pub struct Unadopted<S: Alter> {
     /// The connection, outside a transaction.
     pub conn: Connection<S>,
@@ -29,6 +29,7 @@ pub struct Unadopted<S: Alter> {
 }
 
 /// Why a file isn't opened as a store, and what is left of it. `cause` says why. `S` is the store of a connection, over files `D`.
+#[derive(Drop)]
 pub enum Unopened<S: Alter, D: Disk> {
     /// The file wasn't opened, or what it holds can't be read.
     File(file::Unopened<S, D>),

@@ -22,7 +22,7 @@ use tables_sql::failure::Failure;
 
 /// What the rows of a store say: its directory, and all that is kept in memory.
 #[derive(Drop)]
-pub(crate) struct Taken {
+pub(crate) struct Loaded {
     pub(crate) dir: StoreDir,
     pub(crate) outline: Outline,
 }
@@ -32,12 +32,12 @@ fn read<S: Alter>(
     alloc: Global,
     conn: &mut Connection<S>,
     schema: Schema,
-) -> Result<Option<Taken>, Failure>
+) -> Result<Option<Loaded>, Failure>
     requires alone { conn.old.in_transaction ≡ false }
     requires ready { HasCleanDisk (state S.Store conn.old) → IsTrue (state S.Store conn.old).is_open → IsReady (state S.Store conn.old) }
     requires further { HasCleanDisk (state S.Store conn.old) → IsTrue (state S.Store conn.old).is_open → HasFurtherOf schema (state S.Store conn.old).now }
     ensures alone { conn.new.in_transaction ≡ false }
-    ensures told { HasCleanDisk (state S.Store conn.new) → IfOk result (λ o. MatchOption o
+    ensures reported { HasCleanDisk (state S.Store conn.new) → IfOk result (λ o. MatchOption o
         ((dir : List ℕ) → ¬ IsSoundBy schema dir (contents_of (state S.Store conn.old).now))
         (λ r. IsSoundBy schema r.dir (contents_of (state S.Store conn.old).now) × (outline_of (world_in (contents_of (state S.Store conn.old).now)) ≡ r.outline))) }
     ensures unchanged { HasCleanDisk (state S.Store conn.new) → OnOk result (IsUnchanged (state S.Store conn.old) (state S.Store conn.new)) }
@@ -56,7 +56,7 @@ fn read<S: Alter>(
     if !load_roots(alloc, conn, schema, &mut outline)? {
         return Ok(None);
     }
-    Ok(Some(Taken { dir, outline }))
+    Ok(Some(Loaded { dir, outline }))
 }
 
 fn is_same(a: &StoreDir, b: &StoreDir) -> bool
@@ -71,13 +71,13 @@ pub(crate) fn read_as<S: Alter>(
     conn: &mut Connection<S>,
     dir: &StoreDir,
     schema: Schema,
-) -> Result<Taken, Cause>
+) -> Result<Loaded, Cause>
     requires alone { conn.old.in_transaction ≡ false }
     requires ready { HasCleanDisk (state S.Store conn.old) → IsReady (state S.Store conn.old) }
     requires found { HasCleanDisk (state S.Store conn.old) → IsFoundBy schema (state S.Store conn.old).now }
     ensures alone { conn.new.in_transaction ≡ false }
     ensures dir { IfOk result (λ r. r.dir ≡ dir.now) }
-    ensures told { HasCleanDisk (state S.Store conn.new) → IfOk result (λ r. AreRead schema r.dir (state S.Store conn.old).now r.outline) }
+    ensures reported { HasCleanDisk (state S.Store conn.new) → IfOk result (λ r. AreRead schema r.dir (state S.Store conn.old).now r.outline) }
     ensures unchanged { HasCleanDisk (state S.Store conn.new) → OnOk result (IsUnchanged (state S.Store conn.old) (state S.Store conn.new)) }
     ensures cause { HasCleanDisk (state S.Store conn.new)
         → IfErr result (IsCause dir.now (state S.Store conn.old) (state S.Store conn.new)) }
@@ -86,9 +86,9 @@ pub(crate) fn read_as<S: Alter>(
     ensures survives { Survives (state S.Store conn.old) (state S.Store conn.new) (λ _. ⊥) }
 {
     match read(alloc, conn, schema) {
-        Ok(Some(taken)) => {
-            if is_same(&taken.dir, dir) {
-                Ok(taken)
+        Ok(Some(loaded)) => {
+            if is_same(&loaded.dir, dir) {
+                Ok(loaded)
             } else {
                 Err(Cause::OtherStoreDir)
             }

@@ -1,21 +1,10 @@
--- What roots in memory stand for.
-use Rattle.std.specs.Prelude.{List, string_bytes}
-use Rattle.paths.specs.Root as roots
+-- Roots in memory as a set.
+use Rattle.std.specs.Prelude.{List}
+use Rattle.paths.specs.Root.{Set, root_cmp}
+use Rattle.paths.specs.RootView.{root_view}
+use Rattle.paths.specs.declared.root.Root.{Root}
 use Rattle.tables_outline.specs.Maps.{seen_set}
-use Rattle.tables_listing.specs.declared.root.Kind.{Kind}
-use Rattle.tables_listing.specs.declared.root.Kind.TheVariants.{Permanent, User, Profile, Runtime, Temporary}
-use Rattle.tables_listing.specs.declared.root.Root.{Root}
-
-abbrev pub kind_view : Kind → roots.Kind
-kind_view Permanent = roots.permanent
-kind_view User = roots.user
-kind_view Profile = roots.profile
-kind_view Runtime = roots.runtime
-kind_view Temporary = roots.temporary
-
-abbrev pub root_view : Root → roots.Root
-root_view r = record { kind = kind_view r.kind; target = r.target; label = string_bytes r.label }
 
 -- some roots as a set
-abbrev pub root_set : List Root → roots.Set roots.root_cmp
-root_set keys = seen_set roots.root_cmp root_view keys
+abbrev pub root_set : List Root → Set root_cmp
+root_set keys = seen_set root_cmp root_view keys

@@ -12,7 +12,8 @@ ghost use Rattle.tables_listing.specs.Rooted.{rooted};
 ghost use Rattle.tables_listing.specs.View.{root_set};
 
 use crate::labels::{generation_label, permanent_label, temporary_label, user_label};
-use crate::root::{Kind, Root, add};
+use crate::root::add;
+use paths::{Root, RootKind};
 use std::alloc::{AllocError, Global};
 use std::collections::BTreeSet;
 use tables_outline::{Outline, Profile};
@@ -29,7 +30,7 @@ fn add_generations(
         let owner = owned.0.as_str();
         let name = owned.1.as_str();
         let label = generation_label(alloc, owner, name, *number)?;
-        add(roots, Kind::Profile, path, label)?;
+        add(roots, RootKind::Profile, path, label)?;
     }
     Ok(())
 }
@@ -43,7 +44,7 @@ fn add_permanent(
 {
     for (name, path) in outline.permanent_roots().iter() {
         let label = permanent_label(alloc, name.as_str())?;
-        add(roots, Kind::Permanent, path, label)?;
+        add(roots, RootKind::Permanent, path, label)?;
     }
     Ok(())
 }
@@ -55,7 +56,7 @@ fn add_users(alloc: Global, roots: &mut BTreeSet<Root>, outline: &Outline) -> Re
         let owner = owned.0.as_str();
         let name = owned.1.as_str();
         let label = user_label(alloc, owner, name)?;
-        add(roots, Kind::User, path, label)?;
+        add(roots, RootKind::User, path, label)?;
     }
     Ok(())
 }
@@ -77,7 +78,7 @@ fn add_runtime(roots: &mut BTreeSet<Root>, outline: &Outline) -> Result<(), Allo
     ensures { OnOk result (Gains root_cmp (root_set roots.old.keys) (map runtime_root (finite.keys outline.now.runtime)) (root_set roots.new.keys)) }
 {
     for pair in outline.runtime_roots().iter() {
-        add(roots, Kind::Runtime, &pair.1, pair.0.clone()?)?;
+        add(roots, RootKind::Runtime, &pair.1, pair.0.clone()?)?;
     }
     Ok(())
 }
@@ -91,7 +92,7 @@ fn add_temporary(
 {
     for kept in outline.temporary_roots().iter() {
         let label = temporary_label(alloc, kept.1)?;
-        add(roots, Kind::Temporary, &kept.2, label)?;
+        add(roots, RootKind::Temporary, &kept.2, label)?;
     }
     Ok(())
 }

@@ -7,4 +7,3 @@ mod listing;
 mod root;
 
 pub use listing::root_list;
-pub use root::{Kind, Root};

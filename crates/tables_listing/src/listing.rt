@@ -3,10 +3,10 @@
 ghost use Rattle.std.specs.Prelude.{◌≡◌, IfOk, map};
 ghost use Rattle.model.specs.World.{roots_of};
 ghost use Rattle.tables_listing.specs.Rooted.{rooted};
-ghost use Rattle.tables_listing.specs.View.{root_view};
+ghost use Rattle.paths.specs.RootView.{root_view};
 
 use crate::all_roots::all_roots;
-use crate::root::Root;
+use paths::Root;
 use std::alloc::{AllocError, Global};
 use tables_outline::Outline;
 

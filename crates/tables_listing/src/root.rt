@@ -2,43 +2,18 @@
 
 ghost use Rattle.std.specs.Prelude.{[], ◌∷◌, OnOk, string_bytes};
 ghost use Rattle.paths.specs.Root.{root_cmp};
+ghost use Rattle.paths.specs.RootView.{kind_view};
 ghost use Rattle.tables_listing.specs.Gaining.{Gains};
-ghost use Rattle.tables_listing.specs.View.{kind_view, root_set};
+ghost use Rattle.tables_listing.specs.View.{root_set};
 
-use paths::StorePath;
+use paths::{Root, RootKind, StorePath};
 use std::alloc::AllocError;
 use std::collections::BTreeSet;
-
-/// Which table a root is in, in the order of roots.
-#[derive(Clone, Copy, PartialEq, Eq, PartialOrd, Ord)]
-pub enum Kind {
-    /// Permanent roots, by name.
-    Permanent,
-    /// Roots of users, by owner and name.
-    User,
-    /// Generations of profiles.
-    Profile,
-    /// Paths that processes use.
-    Runtime,
-    /// Paths that sessions keep.
-    Temporary,
-}
-
-/// A root, in the order of roots: by kind, then target, then label.
-#[derive(PartialEq, Eq, PartialOrd, Ord, Drop)]
-pub struct Root {
-    /// The table.
-    pub kind: Kind,
-    /// The path that it keeps.
-    pub target: StorePath,
-    /// The label.
-    pub label: String,
-}
 
 /// Puts a root among the others.
 pub(crate) fn add(
     roots: &mut BTreeSet<Root>,
-    kind: Kind,
+    kind: RootKind,
     target: &StorePath,
     label: String,
 ) -> Result<(), AllocError>

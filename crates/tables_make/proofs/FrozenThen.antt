@@ -19,7 +19,7 @@ automatics_apart table at tree (key ∷ keys) t h = (λ (e : tree ≡ t). absurd
 
 -- what is frozen has a tree below the next
 below_next : (s : Schema) (tree : ℕ) → IsFrozen s tree → tree < next_tree s
-below_next s tree is = omega (arith, view_below s is.object is.stands, is.its)
+below_next s tree is = omega (arith, view_below s is.object is.exists, is.its)
 
 still_one : (s : Schema) (t : Table) (tree : ℕ) → IsFrozen s tree → IsFrozen (created s t) tree
 still_one s t tree is =
@@ -27,7 +27,7 @@ still_one s t tree is =
     let new : Table = record t { tree = next_tree s } in
     record {
       object = is.object;
-      stands = is.stands;
+      exists = is.exists;
       its = is.its;
       aside = is.aside;
       unshown = (
@@ -47,7 +47,7 @@ frozen_before s (t ∷ ts) tree is =
     let up = frozen_before (created s t) ts tree is in
     record {
       object = up.object;
-      stands = up.stands;
+      exists = up.exists;
       its = up.its;
       aside = up.aside;
       unshown = ((one_list (λ (u : Table). u.tree ≢ tree) s.tables _ up.unshown.0).0, (one_list (λ (i : Index). i.tree ≢ tree) s.indexes _ up.unshown.1).0);

@@ -63,9 +63,9 @@ module _ (a b : Database) (sound : IsDatabase b) (fs : List Parts) (made : b.sch
 
   further_still : (f : Parts) → HasFurther a (table_of f) → HasFurther b (table_of f)
   further_still f it = record {
-    stands = still_stands f it.stands;
-    keyed = subst IsKeyed (sym (rows_still f it.stands)) it.keyed;
-    readable = subst (AreReadableRows (table_of f)) (sym (rows_still f it.stands)) it.readable;
+    exists = still_stands f it.exists;
+    keyed = subst IsKeyed (sym (rows_still f it.exists)) it.keyed;
+    readable = subst (AreReadableRows (table_of f)) (sym (rows_still f it.exists)) it.readable;
   }
 
 -- ---- the tables that were made
@@ -73,7 +73,7 @@ module _ (a b : Database) (sound : IsDatabase b) (fs : List Parts) (made : b.sch
 -- what a further table holds stays, and it stands if it stood
 pub record IsKept (a b : Database) (t : Table) : Type 0 where
   pub rows : rows_if_any b t.name ≡ rows_if_any a t.name
-  pub stands : HasFurther a t → HasFurther b t
+  pub exists : HasFurther a t → HasFurther b t
 
 module _ (fs : List Parts) (apart : are_apart (map table_of fs) ≡ true) (a b : State) (under : IsUnderWay a) (free : AllByRecursion (λ t. IsFree a.now.schema t.name) (map table_of fs)) (h : Makes (map table_of fs) a b) where
   abbrev ours : IsStoreDatabase a.now
@@ -89,12 +89,12 @@ module _ (fs : List Parts) (apart : are_apart (map table_of fs) ≡ true) (a b :
 
   -- neither before nor after is there a row
   pub new_kept : (t : Table) → IsFree a.now.schema t.name → HasFurther b.now t × (rows_named b.now t.name ≡ []) → IsKept a.now b.now t
-  new_kept t unused it = record { rows = if_any_named b.now t it.0.stands ∙ it.1 ∙ sym (if_any_free a.now t.name unused); stands = λ there. it.0 }
+  new_kept t unused it = record { rows = if_any_named b.now t it.0.exists ∙ it.1 ∙ sym (if_any_free a.now t.name unused); exists = λ present. it.0 }
 
   pub old_kept : (f : Parts) → IsIntact a.now.schema (table_of f) → IsKept a.now b.now (table_of f)
-  old_kept f stands = record {
-    rows = if_any_named b.now (table_of f) (still_stands a.now b.now h.sound fs h.schema h.kept f stands) ∙ rows_still a.now b.now h.sound fs h.schema h.kept f stands ∙ sym (if_any_named a.now (table_of f) stands);
-    stands = further_still a.now b.now h.sound fs h.schema h.kept f;
+  old_kept f exists = record {
+    rows = if_any_named b.now (table_of f) (still_stands a.now b.now h.sound fs h.schema h.kept f exists) ∙ rows_still a.now b.now h.sound fs h.schema h.kept f exists ∙ sym (if_any_named a.now (table_of f) exists);
+    exists = further_still a.now b.now h.sound fs h.schema h.kept f;
   }
 
   pub makes_further : IsKept a.now b.now piece → IsKept a.now b.now temp_root → MakesFurther (map table_of fs) a b
@@ -108,7 +108,7 @@ module _ (fs : List Parts) (apart : are_apart (map table_of fs) ≡ true) (a b :
     frozen = h.frozen ours.sound;
     ours = ours_still a.now b.now h.sound fs h.schema h.kept ours;
     stand = all_weaker (λ (t : Table). HasFurther b.now t × (rows_named b.now t.name ≡ [])) (HasFurther b.now) (λ t it. it.0) (map table_of fs) these;
-    further = (pieces.stands, (temp_roots.stands, tt));
+    further = (pieces.exists, (temp_roots.exists, tt));
     committed = h.committed;
     mode = h.mode;
   }

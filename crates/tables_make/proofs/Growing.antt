@@ -34,7 +34,7 @@ module _ (tables : List Table) (named : (s : Schema) → AllByRecursion (λ t. i
         theirs = theirs_then (grown tables a.now) b.now (record b.now { trees = db }) h.schema (theirs_grown a b h) left.theirs;
         frozen = record {
           rows = λ tree is. left.frozen.rows tree (subst (λ (s : Schema). IsFrozen s tree) (sym h.schema) is) ∙ h.frozen.rows tree (frozen_before a.now.schema tables tree is);
-          texts = λ row there foreign. left.frozen.texts row (h.frozen.texts row there foreign) foreign;
+          texts = λ row present foreign. left.frozen.texts row (h.frozen.texts row present foreign) foreign;
           version = left.frozen.version ∙ h.frozen.version;
         };
       }

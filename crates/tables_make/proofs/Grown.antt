@@ -50,7 +50,7 @@ module _ (tables : List Table) (a b c : State) (f : Contents → Contents) (made
 
 pub pieces_still : (tables : List Table) (a b : State) → MakesFurther tables a b → HasFurther a.now piece → HasFurther b.now piece
 unfolding KeepsFurther
-pieces_still tables a b made there = made.further.0 there
+pieces_still tables a b made present = made.further.0 present
 
 pub makes_under : (tables : List Table) (a b : State) → MakesFurther tables a b → IsUnderWay b
 makes_under tables a b made = record { ours = λ _. made.ours; mode = made.mode }
@@ -111,7 +111,7 @@ module _ (tables : List Table) (named : (s : Schema) → AllByRecursion (λ t. i
     theirs = theirs_then (grown tables a.now) b.now (record b.now { trees = db }) h.schema (theirs_grown a b h) l.theirs;
     frozen = record {
       rows = λ tree is. l.frozen.rows tree (subst (λ (s : Schema). IsFrozen s tree) (sym h.schema) is) ∙ h.frozen.rows tree (frozen_before a.now.schema tables tree is);
-      texts = λ row there foreign. l.frozen.texts row (h.frozen.texts row there foreign) foreign;
+      texts = λ row present foreign. l.frozen.texts row (h.frozen.texts row present foreign) foreign;
       version = l.frozen.version ∙ h.frozen.version;
     };
   }

@@ -54,7 +54,7 @@ pub record AreMade (ts : List OurTable) (n : ℕ) (a b : State) : Type 0 where
 
 pub none_made : (ts : List OurTable) (a : State) → IsMaking (map form ts) a → AreMade ts 0 a a
 none_made ts a under = record {
-  made = λ up. record { was_open = up; is_open = up; sound = under.sound up; schema = refl; kept = all_of (λ (t : Table). a.now.trees t.tree ≡ a.now.trees t.tree) (λ t. refl) a.now.schema.tables; empty = tt; frozen = λ sound. record { rows = λ tree is. refl; texts = λ row there foreign. there; version = refl }; committed = refl; mode = under.mode };
+  made = λ up. record { was_open = up; is_open = up; sound = under.sound up; schema = refl; kept = all_of (λ (t : Table). a.now.trees t.tree ≡ a.now.trees t.tree) (λ t. refl) a.now.schema.tables; empty = tt; frozen = λ sound. record { rows = λ tree is. refl; texts = λ row present foreign. present; version = refl }; committed = refl; mode = under.mode };
   shut = λ shut. (refl, shut);
   rest = under;
 }

@@ -49,11 +49,11 @@ unfolding store_tables_created digits everything
 standing old sound none = all_stand old.schema (part meta ∷ others) refl (together (λ t. IsFree old.schema t.name) none.free none.further) (are_low old sound)
 
 no_rows : (t : Table) (rows : List Row) → rows ≡ [] → AreReadableRows t rows
-no_rows t rows is = subst (AreReadableRows t) (sym is) (λ row at there low. absurd there)
+no_rows t rows is = subst (AreReadableRows t) (sym is) (λ row at present low. absurd present)
 
 -- a further table that holds no row
 pub made_further : (d : Database) (t : Table) → IsIntact d.schema t → rows_named d t.name ≡ [] → HasFurther d t
-made_further d t stands none = record { stands = stands; keyed = subst IsKeyed (sym none) keyed_none; readable = no_rows t _ none }
+made_further d t exists none = record { exists = exists; keyed = subst IsKeyed (sym none) keyed_none; readable = no_rows t _ none }
 
 module _ (dir : Bytes) (s : Schema) (d : Database) (sound : IsDatabase d) (stand : AllByRecursion (StandsAs d.schema) (placed s all_tables)) (settings : AreSettings dir (d.trees (next_tree s))) (empty : AllByRecursion (λ t. d.trees t.tree ≡ []) (others_placed s)) where
   own : rows_named d (codes "meta") ≡ d.trees (next_tree s)
@@ -64,8 +64,8 @@ module _ (dir : Bytes) (s : Schema) (d : Database) (sound : IsDatabase d) (stand
   unfolding others_placed
   none = by_names (λ n. d.trees n ≡ []) d.schema (created s meta) others stand.1 empty
 
-  stands : AllByRecursion (IsIntact d.schema) our_tables × (IsIntact d.schema piece × IsIntact d.schema temp_root)
-  stands = apart (IsIntact d.schema) (each_stands d sound s (part meta ∷ others) stand)
+  exists : AllByRecursion (IsIntact d.schema) our_tables × (IsIntact d.schema piece × IsIntact d.schema temp_root)
+  exists = apart (IsIntact d.schema) (each_stands d sound s (part meta ∷ others) stand)
 
   pieces : rows_named d piece.name ≡ []
   pieces = none.1.1.1.1.1.1.1.1.0
@@ -80,7 +80,7 @@ module _ (dir : Bytes) (s : Schema) (d : Database) (sound : IsDatabase d) (stand
   pub contents_made : contents_of d ≡ first_contents dir
   unfolding map_of
   contents_made =
-      contents_alike (rows_named d) made_rows _ [] _ [] (apart (λ t. rows_named d t.name ≡ made_rows t.name) (own, none)).0 (if_any_named d piece stands.1.0 ∙ pieces) (if_any_named d temp_root stands.1.1 ∙ temp_roots)
+      contents_alike (rows_named d) made_rows _ [] _ [] (apart (λ t. rows_named d t.name ≡ made_rows t.name) (own, none)).0 (if_any_named d piece exists.1.0 ∙ pieces) (if_any_named d temp_root exists.1.1 ∙ temp_roots)
       ∙ ap (λ m. record (first_contents dir) { meta = m }) settings.settings
 
   keyed_made : AllByRecursion (λ t. IsKeyed (rows_named d t.name)) our_tables
@@ -92,9 +92,9 @@ module _ (dir : Bytes) (s : Schema) (d : Database) (sound : IsDatabase d) (stand
 
   pub whole_made : IsUtf8 dir → IsWhole d
   whole_made utf8 = record {
-    ours = record { sound = sound; has = stands.0; keyed = keyed_made; readable = readable_made utf8 };
-    pieces = made_further d piece stands.1.0 pieces;
-    temp_roots = made_further d temp_root stands.1.1 temp_roots;
+    ours = record { sound = sound; has = exists.0; keyed = keyed_made; readable = readable_made utf8 };
+    pieces = made_further d piece exists.1.0 pieces;
+    temp_roots = made_further d temp_root exists.1.1 temp_roots;
   }
 
 pub theirs_of : (old : Database) (trees : Trees) (ts : List Table) → AllByRecursion (λ t. trees t.tree ≡ old.trees t.tree) ts → AllByRecursion (λ t. is_our_name t.name ≡ false → trees t.tree ≡ old.trees t.tree) ts

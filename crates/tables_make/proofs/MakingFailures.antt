@@ -70,7 +70,7 @@ module _ (s : Schema) (text : List ℕ) (title : Bytes) (cs : List Column) (key 
   refused_table : IsFree s title → (why : Refusal) → RefusesTable s text why → LacksNumbers s (form ∷ []) ⊎ LacksNames s (form ∷ [])
   refused_table free (Invalid e) h = absurd (let no = sym accepted.defined ∙ h in cc)
   refused_table free NameTaken (t, is, inl used) = absurd (let no = sym (none_used s title (free.table, free.index, free.view)) ∙ ap (λ (x : Table). is_used s x.name) (sym (its t is)) ∙ used in cc)
-  refused_table free NameTaken (t, is, inr taken) = inr (loaded_outline (subst (λ (x : Table). (index : Index) × Has (automatics x 0 0 x.uniques) index × (is_used s index.name ≡ true)) (its t is) taken))
+  refused_table free NameTaken (t, is, inr loaded) = inr (loaded_outline (subst (λ (x : Table). (index : Index) × Has (automatics x 0 0 x.uniques) index × (is_used s index.name ≡ true)) (its t is) loaded))
   refused_table free BadName (t, is, inl odd) = absurd (odd (subst (λ (x : Table). IsUtf8 x.name) (sym (its t is)) accepted.named))
   refused_table free BadName (t, is, inr own) = absurd (let no = sym accepted.own ∙ ap (λ (x : Table). is_reserved x.name) (sym (its t is)) ∙ own.0 in cc)
   refused_table free TooBig (t, is, inl many) = inl (let few : length t.uniques ≡ 1 = ap (λ (x : Table). length x.uniques) (its t is) in omega (arith, few, many))
@@ -97,11 +97,11 @@ module _ (s : Schema) (text : List ℕ) (title : Bytes) (cs : List Column) (key 
 -- ---- what the failure is
 
 -- a write that failed
-pub told : (tables : List Table) (large refused : Type 0) (old new : State) → (large → IsTrue old.is_open) → (f : Failure) → FailsWith old new large (refused ⊎ (LacksNumbers old.now.schema tables ⊎ LacksNames old.now.schema tables)) f → FailsToMakeThese tables large refused old new f
-told tables large refused old new up Memory h = tt
-told tables large refused old new up Size h = (h.0, up h.0)
-told tables large refused old new up Disk (inl h) = inl h.0
-told tables large refused old new up Disk (inr h) = inr h.0
+pub reported : (tables : List Table) (large refused : Type 0) (old new : State) → (large → IsTrue old.is_open) → (f : Failure) → FailsWith old new large (refused ⊎ (LacksNumbers old.now.schema tables ⊎ LacksNames old.now.schema tables)) f → FailsToMakeThese tables large refused old new f
+reported tables large refused old new up Memory h = tt
+reported tables large refused old new up Size h = (h.0, up h.0)
+reported tables large refused old new up Disk (inl h) = inl h.0
+reported tables large refused old new up Disk (inr h) = inr h.0
 
 refusal_is : (why : Refusal) → failure_of (alter_error why) ≡ Disk
 refusal_is (Invalid e) = refl
@@ -128,4 +128,4 @@ module _ (text : List ℕ) (title : Bytes) (cs : List Column) (key : List ℕ) (
       table_may_stop (free up) stop (stops old.now.schema text title cs key accepted old.now (lacks up) old.step_limit (mode_of old) [] stop (subst (λ t. Does old.step_limit (mode_of old) [] old.now t None CreateTable (Err stop)) whole does)))
       h.2.0 h.2.2 in
       let shut : FailsWith old new (old.is_open ≡ false) Refused h.0 = fails_wider old new (OrShut old ⊥) (old.is_open ≡ false) Refused Refused (λ x. elim x [ inl none ↦ absurd none | inr closed ↦ closed ]) (λ x. x) h.0 (subst (FailsWith old new (OrShut old ⊥) Refused) (sym h.2.1) it) in
-      told these ⊥ ⊥ old new (λ none. absurd none) f (subst (FailsWith old new ⊥ Refused) (sym h.1) (fails_unsized old new Refused h.0 shut))
+      reported these ⊥ ⊥ old new (λ none. absurd none) f (subst (FailsWith old new ⊥ Refused) (sym h.1) (fails_unsized old new Refused h.0 shut))

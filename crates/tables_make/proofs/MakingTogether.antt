@@ -34,7 +34,7 @@ two_more s title cs key =
     let table : Table = record (strict title cs key) { tree = n } in
     let tables = fold (λ k (t : Table). max k (t.tree + 1)) (past_views s) s.tables in
     let low : tables ≤ n = most_from (λ (i : Index). i.tree) tables s.indexes in
-    let first = most_below (λ (i : Index). i.tree) (max tables (n + 1)) (n + 1) s.indexes (omega (arith, low)) (λ i there. omega (arith, index_below s i there)) in
+    let first = most_below (λ (i : Index). i.tree) (max tables (n + 1)) (n + 1) s.indexes (omega (arith, low)) (λ i present. omega (arith, index_below s i present)) in
     let more = ap (λ m. fold (λ k (i : Index). max k (i.tree + 1)) m (created s (strict title cs key)).indexes) (most_push (λ (t : Table). t.tree) (past_views s) s.tables table) in
     omega (arith, first, more, most_push (λ (i : Index). i.tree) (max tables (n + 1)) s.indexes (automatic table 0 key (n + 1)))
 
@@ -67,7 +67,7 @@ module _ (s : Schema) (title : Bytes) (cs : List Column) (key : List ℕ) where
   -- what the others lack then, they lacked together with it
   lacks_before : (us : List Table) → list_all (λ u. is_clear title u.name && is_clear title (index_of u.name)) us ≡ true → Lacks after us → Lacks s (strict title cs key ∷ us)
   lacks_before us clear (inl few) = inl (omega (arith, two_more s title cs key, few))
-  lacks_before us clear (inr taken) = inr (or_right (is_used s (index_of title)) _ (names_before us clear taken))
+  lacks_before us clear (inr loaded) = inr (or_right (is_used s (index_of title)) _ (names_before us clear loaded))
 
 abbrev pub part : Table → Parts
 part t = (t.name, (t.columns, t.primary))
@@ -97,7 +97,7 @@ module _ (large refused : Type 0) (a b c : State) where
   fails_wider large_too refused_too grows more ts us rise Disk (inl (inr shut)) = inl (inr shut)
   fails_wider large_too refused_too grows more ts us rise Disk (inr (inl why)) = inr (inl (more why))
   fails_wider large_too refused_too grows more ts us rise Disk (inr (inr (inl few))) = inr (inr (inl (omega (arith, length-append ts us, few))))
-  fails_wider large_too refused_too grows more ts us rise Disk (inr (inr (inr taken))) = inr (inr (inr (list_any-append (λ (t : Table). is_used a.now.schema (index_of t.name)) ts us ∙ or_left _ _ taken)))
+  fails_wider large_too refused_too grows more ts us rise Disk (inr (inr (inr loaded))) = inr (inr (inr (list_any-append (λ (t : Table). is_used a.now.schema (index_of t.name)) ts us ∙ or_left _ _ loaded)))
 
 -- one of several, after these were made, where the whole may fail for further reasons
 pub fails_after : (large refused : Type 0) (a b c : State) (fs : List Parts) (ts us : List Table) → are_apart (map table_of fs ++ (ts ++ us)) ≡ true → IsTrue a.is_open → b.now.schema ≡ all_created a.now.schema (map table_of fs) → IsTrue b.is_open → a.faults ≤ b.faults

@@ -41,7 +41,7 @@ put_open rows a b t values Taken in_rows free Size h = (h.0.1, (a.now, here a.no
 put_open rows a b t values Taken in_rows free Disk (inl h) = inl h.0
 put_open rows a b t values Taken in_rows free Disk (inr (inl limit, same)) = inr (inl limit)
 put_open rows a b t values Taken in_rows free Disk (inr (inr (inl full), same)) = inr (inr (a.now, here a.now, t, values, in_rows, full))
-put_open rows a b t values Taken in_rows free Disk (inr (inr (inr taken), same)) = absurd (free same.0.was_open taken)
+put_open rows a b t values Taken in_rows free Disk (inr (inr (inr loaded), same)) = absurd (free same.0.was_open loaded)
 
 -- one that puts a row where none is
 pub put_reason : (rows : Rows) (a b : State) (t : Table) (values : Row) (Taken : Type 0) → rows t values → (Taken → ⊥) → (f : Failure) → FailsToInsert t values Taken a b f → IsReason rows a b f

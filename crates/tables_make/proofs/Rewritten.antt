@@ -147,14 +147,14 @@ module _ (dir : List ℕ) (c : Contents) (none : c.pieces ≡ finite.empty) wher
   all : List Path
   all = finite.keys c.objects
 
-  there : (q : Path) → list_any (eq_by_cmp bytes_cmp q) all ≡ is_some (finite.get c.objects q)
+  present : (q : Path) → list_any (eq_by_cmp bytes_cmp q) all ≡ is_some (finite.get c.objects q)
   unfolding all
-  there q = sym (finite.contains_key-keys c.objects q)
+  present q = sym (finite.contains_key-keys c.objects q)
 
   same_objects : (cut_objects all c).objects ≡ (migrated V1 dir (rows_of c)).objects
   same_objects = finite.same_map texts_total texts_antisymmetric (cut_objects all c).objects (migrated V1 dir (rows_of c)).objects (λ q.
       some_objects all q c
-      ∙ ap (λ b. cond b (option_map cut_stored (finite.get c.objects q)) (finite.get c.objects q)) (there q)
+      ∙ ap (λ b. cond b (option_map cut_stored (finite.get c.objects q)) (finite.get c.objects q)) (present q)
       ∙ by q (finite.get c.objects q)
       ∙ sym (get-migrated_row dir (rows_of c) q))
     where
@@ -165,7 +165,7 @@ module _ (dir : List ℕ) (c : Contents) (none : c.pieces ≡ finite.empty) wher
   same_pieces : (cut_objects all c).pieces ≡ (migrated V1 dir (rows_of c)).pieces
   same_pieces = finite.same_map numbered_total numbered_antisymmetric (cut_objects all c).pieces (migrated V1 dir (rows_of c)).pieces (λ k.
       some_pieces all k.0 k.1 c
-      ∙ ap (λ b. cond b (option_or (piece_at k.1 (finite.get c.objects k.0)) (finite.get c.pieces k)) (finite.get c.pieces k)) (there k.0)
+      ∙ ap (λ b. cond b (option_or (piece_at k.1 (finite.get c.objects k.0)) (finite.get c.pieces k)) (finite.get c.pieces k)) (present k.0)
       ∙ ap (λ x. cond (is_some (finite.get c.objects k.0)) (option_or (piece_at k.1 (finite.get c.objects k.0)) x) x) (ap (λ (m : Pieces). finite.get m k) none ∙ finite.get-empty numbered_cmp k)
       ∙ by k.0 k.1 (finite.get c.objects k.0)
       ∙ sym (get-migrated_piece dir (rows_of c) k.0 k.1))

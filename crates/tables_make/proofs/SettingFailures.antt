@@ -40,7 +40,7 @@ use Rattle.tables_sql.proofs.WriteFailures as write
 use Rattle.tables_sql.proofs.Additions.{IsNewKey, insert_stops}
 use Rattle.tables_make.proofs.Settles.{meta_tree}
 use Rattle.tables_make.proofs.Stood.{AreLow, StandsAs, are_low, all_stand, each_stands}
-use Rattle.tables_make.proofs.MakingFailures.{told}
+use Rattle.tables_make.proofs.MakingFailures.{reported}
 use Rattle.tables_make.proofs.MakingTogether.{part, fails_then}
 
 -- ---- the rows
@@ -113,10 +113,10 @@ oversized s tree id word value own short (inr (i, listed, its, large)) =
 no_rowid_lacks : (db : Database) (rows : List Row) (word value : Bytes) → rows_named db meta.name ≡ rows → IsNew rows word value → HasNoRowidLeft db meta → ⊥
 unfolding HasNoRowidLeft
 no_rowid_lacks db rows word value has new (inl unfit) = both_ways _ (subst (λ r. fits_i64 (next_rowid r) ≡ false) has unfit) new.fits
-no_rowid_lacks db rows word value has new (inr taken) = both_ways _ new.fresh (subst (λ r. list_any (has_rowid (next_rowid r)) r ≡ true) has taken)
+no_rowid_lacks db rows word value has new (inr loaded) = both_ways _ new.fresh (subst (λ r. list_any (has_rowid (next_rowid r)) r ≡ true) has loaded)
 
 new_key : (db : Database) (rows : List Row) (word value : Bytes) → rows_named db meta.name ≡ rows → IsNew rows word value → IsNewKey meta.name meta.primary db (Text word ∷ Text value ∷ [])
-new_key db rows word value has new = subst (λ all. (r : Row) → Has all r → agree plain (1 ∷ []) r (1 ∷ []) (row_of all word value) ≡ true → ⊥) (sym has) (λ r there same. both_ways _ (new.apart r there) same)
+new_key db rows word value has new = subst (λ all. (r : Row) → Has all r → agree plain (1 ∷ []) r (1 ∷ []) (row_of all word value) ≡ true → ⊥) (sym has) (λ r present same. both_ways _ (new.apart r present) same)
 
 too_long : (db : Database) (word value : Bytes) → HasOwnIndex db.schema (tree_named db.schema meta.name) → length word + 36 ≤ 10 ^ 9 → IsTooLarge db meta (Text word ∷ Text value ∷ []) → 10 ^ 9 < length word + length value + 54
 unfolding IsTooLarge
@@ -132,18 +132,18 @@ module _ (a : State) (free : IsFree a.now.schema (codes "meta")) (sound : IsData
   in_meta : (b c : State) (rows : List Row) (word value : Bytes) (large : Type 0) → IsTrue a.is_open → b.now.schema ≡ created a.now.schema meta → IsTrue b.is_open → IsDatabase b.now → rows_named b.now meta.name ≡ rows → IsNew rows word value → length word + 36 ≤ 10 ^ 9
       → (10 ^ 9 < length word + length value + 54 → large) → a.faults ≤ b.faults → b.step_limit ≡ a.step_limit → (f : Failure) → IsWriteFailure insert_text (Text word ∷ Text value ∷ []) b c f → FailsToMakeThese (meta ∷ []) large (IsSome a.step_limit) a c f
   in_meta b c rows word value large was_open made is_open sound_b has new short grows rise limit f h =
-      let stands = stands_in b.now sound_b made in
+      let exists = stands_in b.now sound_b made in
       let values = Text word ∷ Text value ∷ [] in
       let tree : tree_named b.now.schema meta.name ≡ next_tree a.now.schema = ap (λ (s : Schema). tree_named s meta.name) made ∙ meta_tree a.now.schema free in
       let own = subst (λ n. HasOwnIndex b.now.schema n) (sym tree) (subst (λ s. HasOwnIndex s (next_tree a.now.schema)) (sym made) (own_index a.now.schema (are_low a.now sound))) in
       let Refused = IsSome b.step_limit ⊎ (HasNoRowidLeft b.now meta ⊎ ⊥) in
-      let it = write.write_fails b c insert_text values (Insert stands.at (Values (terms_of settings) 3)) refl (IsTooLarge b.now meta values) Refused (λ up. write.is_write b insert_text values _ refl (insert_is b.now.schema stands.at _ stands.known.named))
-      (λ up st its. insert_stops meta.name meta.columns meta.primary b.now sound_b stands values refl refl ⊥ (inl (new_key b.now rows word value has new)) b.step_limit values (terms_of settings) 3 refl (rw cast_null refl) st) h.0 h.2 in
+      let it = write.write_fails b c insert_text values (Insert exists.at (Values (terms_of settings) 3)) refl (IsTooLarge b.now meta values) Refused (λ up. write.is_write b insert_text values _ refl (insert_is b.now.schema exists.at _ exists.known.named))
+      (λ up st its. insert_stops meta.name meta.columns meta.primary b.now sound_b exists values refl refl ⊥ (inl (new_key b.now rows word value has new)) b.step_limit values (terms_of settings) 3 refl (rw cast_null refl) st) h.0 h.2 in
       let Lacks = LacksNumbers b.now.schema [] ⊎ LacksNames b.now.schema [] in
       let big : write.OrShut b (IsTooLarge b.now meta values) → large = λ x. elim x [ inl long ↦ grows (too_long b.now word value own short long) | inr shut ↦ absurd (both_ways _ shut is_open) ] in
       let why : Refused → IsSome a.step_limit ⊎ Lacks = λ x. elim x [ inl limited ↦ inl (subst IsSome limit limited) | inr more ↦ elim more [ inl full ↦ absurd (no_rowid_lacks b.now rows word value has new full) | inr none ↦ absurd none ] ] in
       fails_then large (IsSome a.step_limit) a b c (part meta ∷ []) [] refl was_open made is_open rise f
-      (told [] large (IsSome a.step_limit) b c (λ big. is_open) f (write.fails_wider b c _ large _ (IsSome a.step_limit ⊎ Lacks) big why f (subst (FailsWith b c (write.OrShut b (IsTooLarge b.now meta values)) Refused) (sym h.1) it)))
+      (reported [] large (IsSome a.step_limit) b c (λ big. is_open) f (write.fails_wider b c _ large _ (IsSome a.step_limit ⊎ Lacks) big why f (subst (FailsWith b c (write.OrShut b (IsTooLarge b.now meta values)) Refused) (sym h.1) it)))
 
   module _ (b : State) (made : Makes (meta ∷ []) a b) (rise : a.faults ≤ b.faults) (limit : b.step_limit ≡ a.step_limit) where
     tree_b : tree_named b.now.schema meta.name ≡ next_tree a.now.schema

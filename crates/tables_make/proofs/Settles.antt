@@ -127,7 +127,7 @@ meta_made dir a b c d free h p q =
     let free_c : finite.get (settings_in (rows_named c.now (codes "meta"))) (codes "store-dir") ≡ None = ap (λ m. finite.get m (codes "store-dir")) map_c ∙ after in
     let map_d : settings_in (rows_named d.now (codes "meta")) ≡ first_settings dir = q.rows.put free_c ∙ ap (λ m. finite.insert m (codes "store-dir") dir) map_c in
     let keyed : IsKeyed (rows_named d.now (codes "meta")) = q.rows.keyed (p.rows.keyed (subst IsKeyed (sym rows_b) keyed_none)) in
-    let none : AreReadableRows meta (rows_named b.now (codes "meta")) = subst (AreReadableRows meta) (sym rows_b) (λ row at there low. absurd there) in
+    let none : AreReadableRows meta (rows_named b.now (codes "meta")) = subst (AreReadableRows meta) (sym rows_b) (λ row at present low. absurd present) in
     let made : AreSettings dir (rows_named d.now (codes "meta")) = record { keyed = keyed; readable = λ utf8. q.rows.readable words_utf8.2 utf8 (p.rows.readable words_utf8.0 words_utf8.1 none); settings = map_d } in
     let kept_c = put_keeps s free (codes "schema") (codes "3") b c h.schema p in
     let kept_d = put_keeps s free (codes "store-dir") dir c d (p.schema ∙ h.schema) q in

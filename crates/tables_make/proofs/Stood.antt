@@ -44,10 +44,10 @@ same_swap a b = swapped (map _ a) (map _ b)
 -- ---- lists
 
 implied : {X : Type 0} (p q : X → Bool) → ((x : X) → p x ≡ true → q x ≡ true) → (xs : List X) → list_all p xs ≡ true → list_all q xs ≡ true
-implied p q so xs h = test_from q xs (λ x there. so x (test_has p xs x h there))
+implied p q so xs h = test_from q xs (λ x present. so x (test_has p xs x h present))
 
 tested : {X : Type 0} (P : X → Type 0) (q : X → Bool) → ((x : X) → P x → q x ≡ true) → (xs : List X) → AllByRecursion P xs → list_all q xs ≡ true
-tested P q so xs h = test_from q xs (λ x there. so x (all_has P xs x h there))
+tested P q so xs h = test_from q xs (λ x present. so x (all_has P xs x h present))
 
 found_still : {X : Type 0} (p : X → Bool) (xs : List X) (y x : X) → find p xs ≡ Some x → find p (xs ++ y ∷ []) ≡ Some x
 found_still p xs y x h = rw (find-append p xs (y ∷ []), h) refl
@@ -179,14 +179,14 @@ all_stand s (f ∷ fs) clear free low =
 -- ---- in a database that lists its schema
 
 pub are_low : (db : Database) → IsDatabase db → AreLow db.schema
-are_low db sound = all_from (λ (i : Index). i.table < next_tree db.schema) db.schema.indexes (λ i there.
-    let row = (zipped_left (IsIndexRow db.schema.tables) _ db.schema.indexes i sound.lists.listed.indexes there).2 in
+are_low db sound = all_from (λ (i : Index). i.table < next_tree db.schema) db.schema.indexes (λ i present.
+    let row = (zipped_left (IsIndexRow db.schema.tables) _ db.schema.indexes i sound.lists.listed.indexes present).2 in
     let below = all_has (λ (t : Table). t.tree < next_tree db.schema) db.schema.tables row.table (trees_below db.schema) row.listed in
     omega (arith, index_owner row.table i _ row.defined, below))
 
 tree_low : (db : Database) → IsDatabase db → (at : ℕ) (t : Table) → slice_get db.schema.tables at ≡ Some t → nat_le (2 ^ 31) t.tree ≡ false
-tree_low db sound at t there =
-    let row = (zipped_left IsTableRow _ db.schema.tables t sound.lists.listed.tables (has_got db.schema.tables at t there)).2 in
+tree_low db sound at t present =
+    let row = (zipped_left IsTableRow _ db.schema.tables t sound.lists.listed.tables (has_got db.schema.tables at t present)).2 in
     lt-leb (2 ^ 31) t.tree (omega (arith, row.described.low))
 
 pub one_stands : (db : Database) → IsDatabase db → (f : Parts) (tree : ℕ) → StandsAs db.schema (record (table_of f) { tree = tree }) → IsIntact db.schema (table_of f)

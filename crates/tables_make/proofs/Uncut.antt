@@ -51,12 +51,12 @@ unfolding map_of
 no_pieces db free = ap (map_of numbered_cmp is_piece piece_of) (if_any_free db piece.name free)
 
 pub none_cut : (c : Contents) → c.pieces ≡ finite.empty → IsUncut c
-none_cut c none p o there long n = ap (λ (m : finite.FinMap numbered_cmp (List ℕ)). finite.get m (p, n)) none ∙ finite.get-empty numbered_cmp (p, n)
+none_cut c none p o present long n = ap (λ (m : finite.FinMap numbered_cmp (List ℕ)). finite.get m (p, n)) none ∙ finite.get-empty numbered_cmp (p, n)
 
 -- what is longer than a row takes once an object is cut is another, and as it was
 module _ (p : Path) (c : Contents) where
   still : (q : Path) (o : Stored) → finite.get (cut_object p c).objects q ≡ Some o → piece_size < length o.nar → (eq_by_cmp bytes_cmp q p ≡ false) × (finite.get c.objects q ≡ Some o)
-  still q o there long = by (eq_by_cmp bytes_cmp q p) (finite.get c.objects q) refl refl (sym (one_object p q c) ∙ there)
+  still q o present long = by (eq_by_cmp bytes_cmp q p) (finite.get c.objects q) refl refl (sym (one_object p q c) ∙ present)
     where
       by : (b : Bool) (g : Option Stored) → eq_by_cmp bytes_cmp q p ≡ b → finite.get c.objects q ≡ g → cond (eq_by_cmp bytes_cmp q p) (option_map cut_stored (finite.get c.objects q)) (finite.get c.objects q) ≡ Some o
           → (eq_by_cmp bytes_cmp q p ≡ false) × (finite.get c.objects q ≡ Some o)
@@ -67,8 +67,8 @@ module _ (p : Path) (c : Contents) where
           absurd (omega (arith, ap (λ (y : Stored). length y.nar) cut, length-take piece_size x.nar, long))
 
   pub uncut_next : IsUncut c → IsUncut (cut_object p c)
-  uncut_next h q o there long n =
-      let is = still q o there long in
+  uncut_next h q o present long n =
+      let is = still q o present long in
       one_piece p q n c ∙ ap (λ b. cond b (option_or (piece_at n (finite.get c.objects q)) (finite.get c.pieces (q, n))) (finite.get c.pieces (q, n))) is.0 ∙ h q o is.1 long n
 
   pub rows_before : (t : Table) (row : Row) → AllCutRows (cut_object p c) t row → AllCutRows c t row

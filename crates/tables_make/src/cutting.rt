@@ -30,7 +30,7 @@ pub(crate) fn put_pieces<S: Alter>(
 ) -> Result<(), Failure>
     requires under_way { HasCleanDisk (state S.Store tx.old.conn.now) → IsUnderWay (state S.Store tx.old.conn.now) }
     requires is_open { HasCleanDisk (state S.Store tx.old.conn.now) → IsTrue (state S.Store tx.old.conn.now).is_open }
-    requires stands { HasCleanDisk (state S.Store tx.old.conn.now) → HasFurther (state S.Store tx.old.conn.now).now piece }
+    requires exists { HasCleanDisk (state S.Store tx.old.conn.now) → HasFurther (state S.Store tx.old.conn.now).now piece }
     requires free { HasCleanDisk (state S.Store tx.old.conn.now) → (n : ℤ) → finite.get (contents_of (state S.Store tx.old.conn.now).now).pieces (base.now, n) ≡ None }
     ensures same_reference { tx.new.conn.ghost_name ≡ tx.old.conn.ghost_name }
     ensures done { HasCleanDisk (state S.Store tx.new.conn.now) → OnOk result (Changes (state S.Store tx.old.conn.now) (state S.Store tx.new.conn.now)
@@ -57,7 +57,7 @@ pub(crate) fn put_pieces<S: Alter>(
 pub(crate) fn put_cut<S: Alter>(tx: &mut Transaction<'_, S>, object: &Object) -> Result<(), Failure>
     requires under_way { HasCleanDisk (state S.Store tx.old.conn.now) → IsUnderWay (state S.Store tx.old.conn.now) }
     requires is_open { HasCleanDisk (state S.Store tx.old.conn.now) → IsTrue (state S.Store tx.old.conn.now).is_open }
-    requires stands { HasCleanDisk (state S.Store tx.old.conn.now) → HasFurther (state S.Store tx.old.conn.now).now piece }
+    requires exists { HasCleanDisk (state S.Store tx.old.conn.now) → HasFurther (state S.Store tx.old.conn.now).now piece }
     requires long { 65536 < length object.now.nar.items }
     requires free { HasCleanDisk (state S.Store tx.old.conn.now) → (n : ℤ)
         → finite.get (contents_of (state S.Store tx.old.conn.now).now).pieces ((stored_of object.now).0, n) ≡ None }
@@ -82,8 +82,8 @@ pub(crate) fn cut_found<S: Alter>(
 ) -> Result<(), Failure>
     requires under_way { HasCleanDisk (state S.Store tx.old.conn.now) → IsUnderWay (state S.Store tx.old.conn.now) }
     requires is_open { HasCleanDisk (state S.Store tx.old.conn.now) → IsTrue (state S.Store tx.old.conn.now).is_open }
-    requires stands { HasCleanDisk (state S.Store tx.old.conn.now) → HasFurther (state S.Store tx.old.conn.now).now piece }
-    requires there { HasCleanDisk (state S.Store tx.old.conn.now) → finite.get (contents_of (state S.Store tx.old.conn.now).now).objects (stored_of object.now).0 ≡ Some (stored_of object.now).1 }
+    requires exists { HasCleanDisk (state S.Store tx.old.conn.now) → HasFurther (state S.Store tx.old.conn.now).now piece }
+    requires present { HasCleanDisk (state S.Store tx.old.conn.now) → finite.get (contents_of (state S.Store tx.old.conn.now).now).objects (stored_of object.now).0 ≡ Some (stored_of object.now).1 }
     requires free { HasCleanDisk (state S.Store tx.old.conn.now) → piece_size < length (stored_of object.now).1.nar → (n : ℤ)
         → finite.get (contents_of (state S.Store tx.old.conn.now).now).pieces ((stored_of object.now).0, n) ≡ None }
     ensures same_reference { tx.new.conn.ghost_name ≡ tx.old.conn.ghost_name }
@@ -107,7 +107,7 @@ pub(crate) fn cut<S: Alter>(
     base: &str,
 ) -> Result<(), Failure>
     requires under_way { HasCleanDisk (state S.Store tx.old.conn.now) → IsUnderWay (state S.Store tx.old.conn.now) }
-    requires stands { HasCleanDisk (state S.Store tx.old.conn.now) → IsTrue (state S.Store tx.old.conn.now).is_open → HasFurther (state S.Store tx.old.conn.now).now piece }
+    requires exists { HasCleanDisk (state S.Store tx.old.conn.now) → IsTrue (state S.Store tx.old.conn.now).is_open → HasFurther (state S.Store tx.old.conn.now).now piece }
     requires uncut { HasCleanDisk (state S.Store tx.old.conn.now) → IsTrue (state S.Store tx.old.conn.now).is_open → IsUncut (contents_of (state S.Store tx.old.conn.now).now) }
     ensures same_reference { tx.new.conn.ghost_name ≡ tx.old.conn.ghost_name }
     ensures done { HasCleanDisk (state S.Store tx.new.conn.now) → OnOk result (Changes (state S.Store tx.old.conn.now) (state S.Store tx.new.conn.now) (cut_object base.now)) }
@@ -131,7 +131,7 @@ pub(crate) fn cut_all<S: Alter>(
 ) -> Result<(), Failure>
     requires under_way { HasCleanDisk (state S.Store tx.old.conn.now) → IsUnderWay (state S.Store tx.old.conn.now) }
     requires is_open { HasCleanDisk (state S.Store tx.old.conn.now) → IsTrue (state S.Store tx.old.conn.now).is_open }
-    requires stands { HasCleanDisk (state S.Store tx.old.conn.now) → HasFurther (state S.Store tx.old.conn.now).now piece }
+    requires exists { HasCleanDisk (state S.Store tx.old.conn.now) → HasFurther (state S.Store tx.old.conn.now).now piece }
     requires uncut { HasCleanDisk (state S.Store tx.old.conn.now) → IsUncut (contents_of (state S.Store tx.old.conn.now).now) }
     ensures same_reference { tx.new.conn.ghost_name ≡ tx.old.conn.ghost_name }
     ensures done { HasCleanDisk (state S.Store tx.new.conn.now) → OnOk result (Changes (state S.Store tx.old.conn.now) (state S.Store tx.new.conn.now) (cut_objects (map string_bytes bases.now))) }

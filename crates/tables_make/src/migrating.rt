@@ -32,7 +32,7 @@ fn rewrite<S: Alter>(
 ) -> Result<(), Failure>
     requires under_way { HasCleanDisk (state S.Store tx.old.conn.now) → IsUnderWay (state S.Store tx.old.conn.now) }
     requires is_open { HasCleanDisk (state S.Store tx.old.conn.now) → IsTrue (state S.Store tx.old.conn.now).is_open }
-    requires stands { HasCleanDisk (state S.Store tx.old.conn.now) → HasFurther (state S.Store tx.old.conn.now).now piece }
+    requires exists { HasCleanDisk (state S.Store tx.old.conn.now) → HasFurther (state S.Store tx.old.conn.now).now piece }
     requires uncut { HasCleanDisk (state S.Store tx.old.conn.now) → IsUncut (contents_of (state S.Store tx.old.conn.now).now) }
     ensures same_reference { tx.new.conn.ghost_name ≡ tx.old.conn.ghost_name }
     ensures done { HasCleanDisk (state S.Store tx.new.conn.now) → OnOk result (Changes (state S.Store tx.old.conn.now) (state S.Store tx.new.conn.now) (λ c. renumbered (cut_objects (map string_bytes bases.now) c))) }

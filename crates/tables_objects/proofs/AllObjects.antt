@@ -12,7 +12,7 @@ use Rattle.tables_world.proofs.Columns.{object_at}
 use Rattle.tables_outline.specs.Outline.{Outlined, outlined, outline_of}
 use Rattle.tables_outline.proofs.Orders.{bytes_total, bytes_antisymmetric}
 use Rattle.tables_outline.proofs.Puts.{tied_is}
-use Rattle.tables_outline.proofs.Told.{get-told}
+use Rattle.tables_outline.proofs.Reported.{get-reported}
 use Rattle.tables_objects.specs.Loaded.{Objects, with_stored, with_object, with_objects}
 
 module _ (c : Contents) where
@@ -59,7 +59,7 @@ module _ (c : Contents) where
 
   told_here : (q : Path) → finite.get (outline_of (world_in c)).objects q ≡ here q
   told_here q =
-      get-told bytes_total bytes_antisymmetric (λ (k : Path) (o : Object). outlined o) (world_in c).objects q
+      get-reported bytes_total bytes_antisymmetric (λ (k : Path) (o : Object). outlined o) (world_in c).objects q
       ∙ ap (option_map outlined) (object_at (rows_of c) q)
       ∙ both (finite.get c.objects q)
     where

@@ -42,8 +42,8 @@ module _ (c : Contents) where
     one_cut p s o e = subst (λ (x : Stored). IsCutBy schema x.nar (finite.entries (pieces_in (rows_of c) p))) (same_Some s.stored o (sym s.found ∙ e)) s.cut
 
     among : (ps : List Path) → AllByRecursion (IsSoundOne schema dir c) ps → (p : Path) → list_any (eq_by_cmp bytes_cmp p) ps ≡ true → IsSoundOne schema dir c p
-    among [] h p there = absurd (false≢true there)
-    among (q ∷ ps) h p there = by (eq_by_cmp bytes_cmp p q) refl there (among ps h.1 p)
+    among [] h p present = absurd (false≢true present)
+    among (q ∷ ps) h p present = by (eq_by_cmp bytes_cmp p q) refl present (among ps h.1 p)
       where
         by : (b : Bool) → eq_by_cmp bytes_cmp p q ≡ b → (b || list_any (eq_by_cmp bytes_cmp p) ps) ≡ true → (list_any (eq_by_cmp bytes_cmp p) ps ≡ true → IsSoundOne schema dir c p) → IsSoundOne schema dir c p
         by true t k later = subst (IsSoundOne schema dir c) (sym (tied_is bytes_antisymmetric p q t)) h.0
@@ -82,7 +82,7 @@ module _ (c : Contents) where
 
       -- each is under a base name
       pub named_here : (p : Path) → finite.contains_key m p ≡ true → is_base_name p ≡ true
-      named_here p there = by (finite.get c.objects p) refl (sym (ap (λ (n : Objects). finite.contains_key n p) is ∙ has_here c p) ∙ there)
+      named_here p present = by (finite.get c.objects p) refl (sym (ap (λ (n : Objects). finite.contains_key n p) is ∙ has_here c p) ∙ present)
         where
           by : (g : Option Stored) → finite.get c.objects p ≡ g → is_some g ≡ true → is_base_name p ≡ true
           by None e h = absurd (false≢true h)
@@ -106,8 +106,8 @@ module _ (c : Contents) where
       key_of (Some x) h = (x, refl)
 
       pieces_tested : tested_pieces ≡ true → (p : Path) (n : ℤ) → IsTrue (finite.contains_key c.pieces (p, n)) → IsTrue (finite.contains_key c.objects p)
-      pieces_tested h p n there =
-          let e = key_of (finite.get c.pieces (p, n)) there in
+      pieces_tested h p n present =
+          let e = key_of (finite.get c.pieces (p, n)) present in
           let all = sym (by_key (is_owned m) (finite.entries c.pieces)) ∙ h in
           sym (object_is p) ∙ (tested_entries numbered_total numbered_antisymmetric c.pieces (λ (d : Numbered × List ℕ). is_owned m d.0)).0 all (p, n) e.0 e.1
 
@@ -118,13 +118,13 @@ module _ (c : Contents) where
           record {
             objects = record {
               objects = sound;
-              references = λ p r there.
-                  let e = key_of (finite.get c.refs (p, r)) there in
+              references = λ p r present.
+                  let e = key_of (finite.get c.refs (p, r)) present in
                   let t = (tested_entries pair_total pair_antisymmetric c.refs (is_reference m)).0 both.0 (p, r) e.0 e.1 in
                   let parts = both_so (is_object m p) (is_object m r) t in
                   (sym (object_is p) ∙ parts.0, sym (object_is r) ∙ parts.1);
-              outputs = λ p name there.
-                  let e = key_of (finite.get c.outs (p, name)) there in
+              outputs = λ p name present.
+                  let e = key_of (finite.get c.outs (p, name)) present in
                   sym (object_is p) ∙ (tested_entries pair_total pair_antisymmetric c.outs (is_output m)).0 both.1 (p, name) e.0 e.1;
             };
             cut = cut;

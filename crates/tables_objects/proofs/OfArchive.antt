@@ -61,16 +61,16 @@ pub tree_found : (r : Result Tree NarError) → fault_of r ≡ None → (t : Tre
 tree_found (Ok t) none = (t, refl)
 tree_found (Err e) none = let no : ⊥ = cc in absurd no
 
-module _ (dir : List ℕ) (p : Path) (a : Arrived) (told : DescribesBytes a) (sound : a.fault ≡ None) where
+module _ (dir : List ℕ) (p : Path) (a : Arrived) (reported : DescribesBytes a) (sound : a.fault ≡ None) where
   found : (t : Tree) × (outcome_of a.pieces ≡ Ok t)
-  found = tree_found (outcome_of a.pieces) (sym told.fault ∙ sound)
+  found = tree_found (outcome_of a.pieces) (sym reported.fault ∙ sound)
 
   pub told_of : (r : Result (Option Listed) AllocError) (rows : List (List ℕ × Path))
       → ((t : Tree) → outcome_of a.pieces ≡ Ok t → IfOk r (λ o. MatchOption o (¬ (IfDerivation dir p t × (rows ≡ finite.entries (outputs_in dir p t)))) (λ l. IfDerivation dir p t × (rows ≡ finite.entries (outputs_in dir p t)) × IsListed (map string_bytes l.names.items) l.paths.items (outputs_in dir p t))))
       → IfOk r (λ o. MatchOption o (¬ (IsRecorded dir p a.pieces × (rows ≡ finite.entries (outputs_at dir p a.pieces)))) (λ l. IsRecorded dir p a.pieces × (rows ≡ finite.entries (outputs_at dir p a.pieces)) × IsListed (map string_bytes l.names.items) l.paths.items (outputs_at dir p a.pieces)))
   told_of r rows h = told_by dir p a.pieces found.0
-      ((outcome_archive a.pieces found.0 told.bytes).0 found.1)
-      (λ t is. same_tree found.0 t (sym found.1 ∙ (outcome_archive a.pieces t told.bytes).1 is))
+      ((outcome_archive a.pieces found.0 reported.bytes).0 found.1)
+      (λ t is. same_tree found.0 t (sym found.1 ∙ (outcome_archive a.pieces t reported.bytes).1 is))
       found.1 r rows (h found.0 found.1)
 
 pub no_fault : (o : Option NarError) → is_some o ≡ false → o ≡ None
@@ -80,7 +80,7 @@ no_fault (Some e) h = absurd (false≢true (sym h))
 -- bytes with a fault are no sound archive
 pub no_archive : (dir : List ℕ) (p : Path) (a : Arrived) (hash : List ℕ) (ca : Option ContentAddress) (refs : List Path) (outputs : List (List ℕ × Path)) → DescribesBytes a → is_some a.fault ≡ true
     → ¬ IsSoundArchive dir p a.pieces hash ca refs outputs
-no_archive dir p a hash ca refs outputs told faulty = λ s.
+no_archive dir p a hash ca refs outputs reported faulty = λ s.
     let tree = s.recorded.tree in
-    let none : a.fault ≡ None = told.fault ∙ ap fault_of ((outcome_archive a.pieces tree told.bytes).1 s.recorded.archive) in
+    let none : a.fault ≡ None = reported.fault ∙ ap fault_of ((outcome_archive a.pieces tree reported.bytes).1 s.recorded.archive) in
     absurd (false≢true (sym (ap is_some none) ∙ faulty))

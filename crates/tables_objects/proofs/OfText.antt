@@ -12,14 +12,14 @@ use Rattle.model.specs.Objects.{outputs_if_sound, tree_outputs}
 use Rattle.tables_objects.specs.Tested.{HoldsDerivation, outputs_view}
 
 module _ (dir : List ℕ) where
-  abbrev Told : List ℕ → Option (BTreeMap (String Global) Path) → Type 0
-  Told text o = MatchOption o (¬ IsOk (outputs_of dir text)) (λ map. IsOk (outputs_of dir text) × (outputs_view map.entries ≡ outputs_if_sound (outputs_of dir text)))
+  abbrev Reported : List ℕ → Option (BTreeMap (String Global) Path) → Type 0
+  Reported text o = MatchOption o (¬ IsOk (outputs_of dir text)) (λ map. IsOk (outputs_of dir text) × (outputs_view map.entries ≡ outputs_if_sound (outputs_of dir text)))
 
   abbrev Held : Tree → Option (BTreeMap (String Global) Path) → Type 0
   Held t o = MatchOption o (¬ HoldsDerivation dir t) (λ map. HoldsDerivation dir t × (outputs_view map.entries ≡ tree_outputs {E = NarError} dir (Ok t)))
 
   -- the contents of a tree are read as its derivation text
-  pub of_text : (text : List ℕ) (t : Tree) → Some text ≡ contents_of (Ok t) → (r : Result (Option (BTreeMap (String Global) Path)) AllocError) → IfOk r (Told text) → IfOk r (Held t)
+  pub of_text : (text : List ℕ) (t : Tree) → Some text ≡ contents_of (Ok t) → (r : Result (Option (BTreeMap (String Global) Path)) AllocError) → IfOk r (Reported text) → IfOk r (Held t)
   of_text text (regular e c) is (Err x) h = tt
   of_text text (regular e c) is (Ok None) h = λ d.
       let regular_is = d.is_regular in

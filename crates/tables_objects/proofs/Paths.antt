@@ -60,11 +60,11 @@ paths_rise (p ∷ ps) h =
 -- ---- each is a base name
 
 pub each_base : (last : Option Path) (ps : List Path) → are_paths last ps ≡ true → (q : Path) → list_any (eq_by_cmp bytes_cmp q) ps ≡ true → is_base_name q ≡ true
-each_base last [] h q there = absurd (false≢true there)
-each_base last (p ∷ ps) h q there =
+each_base last [] h q present = absurd (false≢true present)
+each_base last (p ∷ ps) h q present =
     let first = both_so (is_above last p) (is_base_name p && are_paths (Some p) ps) h in
     let second = both_so (is_base_name p) (are_paths (Some p) ps) first.1 in
-    by (eq_by_cmp bytes_cmp q p) refl second.0 there (each_base (Some p) ps second.1 q)
+    by (eq_by_cmp bytes_cmp q p) refl second.0 present (each_base (Some p) ps second.1 q)
   where
     by : (b : Bool) → eq_by_cmp bytes_cmp q p ≡ b → is_base_name p ≡ true → (b || list_any (eq_by_cmp bytes_cmp q) ps) ≡ true
         → (list_any (eq_by_cmp bytes_cmp q) ps ≡ true → is_base_name q ≡ true) → is_base_name q ≡ true
@@ -90,7 +90,7 @@ rising_paths last (p ∷ ps) base up above =
     let parts = both_T (below_all bytes_cmp p (map unit ps)) (is_sorted bytes_cmp (map unit ps)) up in
     and_so (is_above last p) (is_base_name p && are_paths (Some p) ps) (above p ps refl)
     (and_so (is_base_name p) (are_paths (Some p) ps) (base p (first_in p ps))
-    (rising_paths (Some p) ps (λ q there. base q (later_in q p ps there)) parts.1 (next ps parts.0)))
+    (rising_paths (Some p) ps (λ q present. base q (later_in q p ps present)) parts.1 (next ps parts.0)))
   where
     next : (qs : List Path) → Above p qs → (q : Path) (rest : List Path) → qs ≡ q ∷ rest → is_above (Some p) q ≡ true
     next qs h q rest e = to_true _ (both_T (is_lt (bytes_cmp p q)) (below_all bytes_cmp p (map unit rest)) (subst (λ (l : List Path). T (below_all bytes_cmp p (map unit l))) e h)).0
@@ -101,7 +101,7 @@ units (e ∷ es) = ap (λ (l : List (Path × Unit {0})). e ∷ l) (units es)
 
 -- what a set of base names lists passes the test
 pub keys_are_paths : (s : Set bytes_cmp) → ((p : Path) → finite.contains_key s p ≡ true → is_base_name p ≡ true) → are_paths None (finite.keys s) ≡ true
-keys_are_paths s base = rising_paths None (finite.keys s) (λ p there. base p (finite.contains_key-keys s p ∙ there))
+keys_are_paths s base = rising_paths None (finite.keys s) (λ p present. base p (finite.contains_key-keys s p ∙ present))
     (subst (λ (l : List (Path × Unit {0})). T (is_sorted bytes_cmp l)) (sym (units (finite.entries s))) (finite.entries_sorted s)) (λ p rest e. refl)
 
 -- the set of what a set lists

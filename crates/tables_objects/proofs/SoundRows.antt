@@ -73,7 +73,7 @@ module _ (dir : List ℕ) (p : Path) (o : Stored) (nar : List ℕ) (refs : Set b
     archive = h.archive.recorded.archive;
     deriver = base_of_some o.deriver h.deriver;
     address_text = address_of_some o.ca h.address_text;
-    names = λ r there. each_base None (finite.keys refs) h.names r (sym (finite.contains_key-keys refs r) ∙ there);
+    names = λ r present. each_base None (finite.keys refs) h.names r (sym (finite.contains_key-keys refs r) ∙ present);
     reference_count = subst (λ n. n ≤ most_references) (sym (as_many refs)) h.count;
     no_self_reference = fits_other dir p nar refs (address_in o.ca) h.archive.address;
     address = fits_verified dir p nar refs (address_in o.ca) h.archive.address;

@@ -25,7 +25,7 @@ fn refers_to(refs: &[StorePath], path: &StorePath) -> bool
 
 /// What an address of such a method asks for of an archive: its contents are hashed for that of a text alone.
 fn facts(method: Method, archive: &Arrived) -> Facts
-    requires told { DescribesBytes archive.now }
+    requires reported { DescribesBytes archive.now }
     ensures { HasFactsFor method archive.now.pieces result }
 {
     match method {
@@ -47,7 +47,7 @@ pub(crate) fn fits_address(
     ca: Option<Ca>,
     refs: &[StorePath],
 ) -> Result<bool, AllocError>
-    requires told { DescribesBytes archive.now }
+    requires reported { DescribesBytes archive.now }
     ensures { IfOk result (λ ok. ok ≡ tested.fits_address ca dir.now path.now refs.now archive.now.pieces) }
 {
     let Some(ca) = ca else {

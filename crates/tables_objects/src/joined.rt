@@ -43,7 +43,7 @@ fn keys_of<S: Alter>(
     requires alone { conn.old.in_transaction ≡ false }
     requires ready { HasCleanDisk (state S.Store conn.old) → IsTrue (state S.Store conn.old).is_open → IsReady (state S.Store conn.old) }
     requires opened { HasCleanDisk (state S.Store conn.old) → IsTrue (state S.Store conn.old).is_open }
-    requires stands { HasCleanDisk (state S.Store conn.old) → IsTrue (has_pieces schema) → IsTrue (state S.Store conn.old).is_open → HasFurther (state S.Store conn.old).now piece }
+    requires exists { HasCleanDisk (state S.Store conn.old) → IsTrue (has_pieces schema) → IsTrue (state S.Store conn.old).is_open → HasFurther (state S.Store conn.old).now piece }
     requires no_table { HasCleanDisk (state S.Store conn.old) → IsFalse (has_pieces schema) → IsTrue (state S.Store conn.old).is_open → (contents_of (state S.Store conn.old).now).pieces ≡ finite.empty }
     ensures alone { conn.new.in_transaction ≡ false }
     ensures cause { FailsInReads S.Store conn.old conn.new result }
@@ -67,7 +67,7 @@ pub(crate) fn read_joined<S: Alter>(
 ) -> Result<Joined, Failure>
     requires alone { conn.old.in_transaction ≡ false }
     requires ready { HasCleanDisk (state S.Store conn.old) → IsTrue (state S.Store conn.old).is_open → IsReady (state S.Store conn.old) }
-    requires stands { HasCleanDisk (state S.Store conn.old) → IsTrue (has_pieces schema) → IsTrue (state S.Store conn.old).is_open → HasFurther (state S.Store conn.old).now piece }
+    requires exists { HasCleanDisk (state S.Store conn.old) → IsTrue (has_pieces schema) → IsTrue (state S.Store conn.old).is_open → HasFurther (state S.Store conn.old).now piece }
     requires no_table { HasCleanDisk (state S.Store conn.old) → IsFalse (has_pieces schema) → IsTrue (state S.Store conn.old).is_open → (contents_of (state S.Store conn.old).now).pieces ≡ finite.empty }
     ensures alone { conn.new.in_transaction ≡ false }
     ensures cause { FailsInReads S.Store conn.old conn.new result }

@@ -37,7 +37,7 @@ fn sound_outputs(
     archive: &Arrived,
     rows: &[Output],
 ) -> Result<Option<Listed>, AllocError>
-    requires told { DescribesBytes archive.now }
+    requires reported { DescribesBytes archive.now }
     requires sound { archive.now.fault ≡ None }
     ensures { IfOk result (λ o. MatchOption o
         (¬ (IsRecorded dir.now path.now archive.now.pieces × (named_of rows.now ≡ finite.entries (outputs_at dir.now path.now archive.now.pieces))))
@@ -83,7 +83,7 @@ fn sound_archive(
     ca: Option<Ca>,
     outputs: &[Output],
 ) -> Result<Option<Summary>, AllocError>
-    requires told { DescribesBytes archive.now }
+    requires reported { DescribesBytes archive.now }
     requires refs { IsTrue (rise refs.items) }
     ensures { IfOk result (λ o. MatchOption o
         (¬ IsSoundArchive dir.now path.now archive.now.pieces hash.now ca refs.items (named_of outputs.now))

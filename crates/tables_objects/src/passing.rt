@@ -30,7 +30,7 @@ pub(crate) fn archive_of(
     pieces: Vec<Piece>,
 ) -> Result<Arrived, AllocError>
     ensures pieces { IfOk result (λ a. a.pieces ≡ row.items ++ joined (parts_of pieces.items)) }
-    ensures told { IfOk result DescribesBytes }
+    ensures reported { IfOk result DescribesBytes }
 {
     Arrived::of_pieces(alloc, gathered(alloc, row, pieces)?)
 }

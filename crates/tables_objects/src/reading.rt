@@ -41,7 +41,7 @@ fn pieces_of<S: Alter>(
     requires alone { conn.old.in_transaction ≡ false }
     requires ready { HasCleanDisk (state S.Store conn.old) → IsTrue (state S.Store conn.old).is_open → IsReady (state S.Store conn.old) }
     requires opened { HasCleanDisk (state S.Store conn.old) → IsTrue (state S.Store conn.old).is_open }
-    requires stands { HasCleanDisk (state S.Store conn.old) → IsTrue (has_pieces schema) → IsTrue (state S.Store conn.old).is_open → HasFurther (state S.Store conn.old).now piece }
+    requires exists { HasCleanDisk (state S.Store conn.old) → IsTrue (has_pieces schema) → IsTrue (state S.Store conn.old).is_open → HasFurther (state S.Store conn.old).now piece }
     requires no_table { HasCleanDisk (state S.Store conn.old) → IsFalse (has_pieces schema) → IsTrue (state S.Store conn.old).is_open → (contents_of (state S.Store conn.old).now).pieces ≡ finite.empty }
     requires listed { HasCleanDisk (state S.Store conn.old) → map numbered_in keys.now ≡ finite.keys (contents_of (state S.Store conn.old).now).pieces }
     ensures alone { conn.new.in_transaction ≡ false }
@@ -71,7 +71,7 @@ pub(crate) fn rows_at<S: Alter>(
 ) -> Result<Option<ObjectRows>, Failure>
     requires alone { conn.old.in_transaction ≡ false }
     requires ready { HasCleanDisk (state S.Store conn.old) → IsTrue (state S.Store conn.old).is_open → IsReady (state S.Store conn.old) }
-    requires stands { HasCleanDisk (state S.Store conn.old) → IsTrue (has_pieces schema) → IsTrue (state S.Store conn.old).is_open → HasFurther (state S.Store conn.old).now piece }
+    requires exists { HasCleanDisk (state S.Store conn.old) → IsTrue (has_pieces schema) → IsTrue (state S.Store conn.old).is_open → HasFurther (state S.Store conn.old).now piece }
     requires no_table { HasCleanDisk (state S.Store conn.old) → IsFalse (has_pieces schema) → IsTrue (state S.Store conn.old).is_open → (contents_of (state S.Store conn.old).now).pieces ≡ finite.empty }
     requires listed { HasCleanDisk (state S.Store conn.old) → map numbered_in keys.now ≡ finite.keys (contents_of (state S.Store conn.old).now).pieces }
     ensures alone { conn.new.in_transaction ≡ false }

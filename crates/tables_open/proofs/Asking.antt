@@ -35,5 +35,5 @@ asks_all d q {text} s is = record {
   scan = scan_of (outputs_of q.shown) (take q.by q.shown) [];
   is = is;
   reads = s.reads;
-  fails = λ old new stands. standing_read_fails d.name d.columns d.key old new stands text [] (names_on q.shown) (query_on q.shown q.by s.filter) (scan_of (outputs_of q.shown) (take q.by q.shown) s.filter) s.is s.reads s.accepts;
+  fails = λ old new exists. standing_read_fails d.name d.columns d.key old new exists text [] (names_on q.shown) (query_on q.shown q.by s.filter) (scan_of (outputs_of q.shown) (take q.by q.shown) s.filter) s.is s.reads s.accepts;
 }

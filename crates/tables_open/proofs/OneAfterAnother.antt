@@ -29,26 +29,26 @@ module _ {T : Type 0} (Keyed Readable : Database → T → Type 0) (ts : List T)
     pub rests : IsTrue a.is_open → IsUnchanged a b
     pub kept : KeepsShown a b
     pub keyed : AllByRecursion (Keyed a.now) (drop n ts) → AllByRecursion (Keyed a.now) ts
-    pub told : IsTrue readable × AllByRecursion (Readable a.now) (drop n ts) ↔ AllByRecursion (Readable a.now) ts
+    pub reported : IsTrue readable × AllByRecursion (Readable a.now) (drop n ts) ↔ AllByRecursion (Readable a.now) ts
 
   module _ (n : ℕ) (b d : State) (p : Bool) (t : T) (split : drop n ts ≡ t ∷ drop (n + 1) ts) (it : AreTested n b p) where
     -- one more was tested
     pub next_tested : (q : Bool) → IsUnchanged b d × Keyed b.now t × (IsTrue q ↔ Readable b.now t) → AreTested (n + 1) d (p && q)
-    next_tested q told =
-        let up : IsTrue a.is_open = it.kept.was_open told.0.0.was_open in
-        let same : IsUnchanged a d = unchanged_then a b d (it.rests up) told.0 in
-        let first : b.now ≡ a.now = it.kept.now told.0.0.was_open in
-        let keyed : Keyed a.now t = subst (λ (x : Database). Keyed x t) first told.1 in
-        let readable : IsTrue q ↔ Readable a.now t = subst (λ (x : Database). IsTrue q ↔ Readable x t) first told.2 in
+    next_tested q reported =
+        let up : IsTrue a.is_open = it.kept.was_open reported.0.0.was_open in
+        let same : IsUnchanged a d = unchanged_then a b d (it.rests up) reported.0 in
+        let first : b.now ≡ a.now = it.kept.now reported.0.0.was_open in
+        let keyed : Keyed a.now t = subst (λ (x : Database). Keyed x t) first reported.1 in
+        let readable : IsTrue q ↔ Readable a.now t = subst (λ (x : Database). IsTrue q ↔ Readable x t) first reported.2 in
         record {
           begun = inr up;
           rests = λ _. same;
           kept = unchanged_before a d same;
           keyed = λ rest. it.keyed (subst (AllByRecursion (Keyed a.now)) (sym split) (keyed, rest));
-          told = (
-            λ both. let yes = and_so p q both.0 in it.told.0 (yes.0, subst (AllByRecursion (Readable a.now)) (sym split) (readable.0 yes.1, both.1)),
+          reported = (
+            λ both. let yes = and_so p q both.0 in it.reported.0 (yes.0, subst (AllByRecursion (Readable a.now)) (sym split) (readable.0 yes.1, both.1)),
             λ all.
-                let was = it.told.1 all in
+                let was = it.reported.1 all in
                 let left = subst (AllByRecursion (Readable a.now)) split was.1 in
                 (and_from p q was.0 (readable.1 left.0), left.1),
           );

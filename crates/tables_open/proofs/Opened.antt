@@ -32,8 +32,8 @@ use Rattle.tables_sql.proofs.Lists.{one_list}
 
 -- rowids were tested, and then it was told of the texts: of what the connection showed at first
 pub then_told : (K R : Database → Type 0) (a m n : State) (r : Result Bool Failure) → IsUnchanged a m × K a.now → IfOk r (λ b. IsUnchanged m n × (IsTrue b ↔ R m.now)) → IfOk r (λ b. IsUnchanged a n × K a.now × (IsTrue b ↔ R a.now))
-then_told K R a m n (Err e) keyed told = tt
-then_told K R a m n (Ok b) keyed told = (unchanged_then a m n keyed.0 told.0, keyed.1, subst (λ (d : Database). IsTrue b ↔ R d) keyed.0.0.now_is told.1)
+then_told K R a m n (Err e) keyed reported = tt
+then_told K R a m n (Ok b) keyed reported = (unchanged_then a m n keyed.0 reported.0, keyed.1, subst (λ (d : Database). IsTrue b ↔ R d) keyed.0.0.now_is reported.1)
 
 -- ---- what is found then
 
@@ -72,9 +72,9 @@ module _ (r : Recognised) (a n : State) (by : IsRecognised r a.now.schema) (same
 
   -- by a test that tells whether they can
   pub found_if : (P : Type 0) (b : Bool) → IsTrue b ↔ P → P ↔ AreReadable (contents_of a.now) → (P → IsReadyBy r n) → r ≢ Nothing → (b ≡ true → IsFound r n) × (b ≡ false → IsFound Other n)
-  found_if P b told maps ready some = (
-    λ yes. found_so (maps.0 (told.0 yes)) (ready (told.0 yes)),
-    λ no. found_other some (λ readable. let yes : b ≡ true = told.1 (maps.1 readable) in absurd cc),
+  found_if P b reported maps ready some = (
+    λ yes. found_so (maps.0 (reported.0 yes)) (ready (reported.0 yes)),
+    λ no. found_other some (λ readable. let yes : b ≡ true = reported.1 (maps.1 readable) in absurd cc),
   )
 
 -- there are no tables of ours, or they are no schema's
@@ -109,36 +109,36 @@ module _ (a n : State) (b : Bool) (sound : IsDatabase a.now) (settled : a.now �
 
   pub found_by : (v : Schema) → IsRecognised (Tables v) a.now.schema → Tested (schema_tables v) a n b → (b ≡ true → IsFound (Tables v) n) × (b ≡ false → IsFound Other n)
   unfolding HasReadableRows
-  found_by V1 by told =
+  found_by V1 by reported =
       let has = by.first.0 refl in
-      let maps = readable_by_maps a.now sound has.0 told.1 _ _ (no_pieces a.now has.1) (no_temp_roots a.now has.2) in
-      found_if (Tables V1) a n by told.0 settled (HasReadableRows a.now) b told.2 (λ rows. maps.0 (rows, tt, tt), λ readable. (maps.1 readable).0)
-      (λ rows. ready_by told.0 (record { sound = sound; has = has.0; keyed = told.1; readable = rows })) (λ is. absurd cc)
-  found_by V2 by told =
+      let maps = readable_by_maps a.now sound has.0 reported.1 _ _ (no_pieces a.now has.1) (no_temp_roots a.now has.2) in
+      found_if (Tables V1) a n by reported.0 settled (HasReadableRows a.now) b reported.2 (λ rows. maps.0 (rows, tt, tt), λ readable. (maps.1 readable).0)
+      (λ rows. ready_by reported.0 (record { sound = sound; has = has.0; keyed = reported.1; readable = rows })) (λ is. absurd cc)
+  found_by V2 by reported =
       let has = by.second.0 refl in
-      let keyed = one_list Keyed our_tables (piece ∷ []) told.1 in
+      let keyed = one_list Keyed our_tables (piece ∷ []) reported.1 in
       let maps = readable_by_maps a.now sound has.0 keyed.0 _ _ (pieces_by_maps a.now sound has.1 keyed.1.0) (no_temp_roots a.now has.2) in
-      found_if (Tables V2) a n by told.0 settled (AllByRecursion Readable (our_tables ++ piece ∷ [])) b told.2
+      found_if (Tables V2) a n by reported.0 settled (AllByRecursion Readable (our_tables ++ piece ∷ [])) b reported.2
       (λ rows. let each = one_list Readable our_tables (piece ∷ []) rows in maps.0 (each.0, each.1.0, tt), λ readable. let all = maps.1 readable in all-append Readable our_tables (piece ∷ []) all.0 (all.1, tt))
       (λ rows.
       let each = one_list Readable our_tables (piece ∷ []) rows in (
-        ready_by told.0 (record { sound = sound; has = has.0; keyed = keyed.0; readable = each.0 }),
-        subst (λ (d : Database). HasFurther d piece) (sym told.0.0.now_is) (record { stands = has.1; keyed = keyed.1.0; readable = each.1.0 }),
+        ready_by reported.0 (record { sound = sound; has = has.0; keyed = keyed.0; readable = each.0 }),
+        subst (λ (d : Database). HasFurther d piece) (sym reported.0.0.now_is) (record { exists = has.1; keyed = keyed.1.0; readable = each.1.0 }),
       )) (λ is. absurd cc)
-  found_by V3 by told =
+  found_by V3 by reported =
       let has = by.third.0 refl in
-      let keyed = one_list Keyed our_tables further_tables told.1 in
+      let keyed = one_list Keyed our_tables further_tables reported.1 in
       let maps = readable_by_maps a.now sound has.0 keyed.0 _ _ (pieces_by_maps a.now sound has.1 keyed.1.0) (temp_roots_by_maps a.now sound has.2 keyed.1.1.0) in
-      found_if (Tables V3) a n by told.0 settled (AllByRecursion Readable (our_tables ++ further_tables)) b told.2
+      found_if (Tables V3) a n by reported.0 settled (AllByRecursion Readable (our_tables ++ further_tables)) b reported.2
       (λ rows. let each = one_list Readable our_tables further_tables rows in maps.0 (each.0, each.1.0, each.1.1.0), λ readable. let all = maps.1 readable in all-append Readable our_tables further_tables all.0 (all.1, (all.2, tt)))
       (λ rows.
       let each = one_list Readable our_tables further_tables rows in
       let ours : IsStoreDatabase a.now = record { sound = sound; has = has.0; keyed = keyed.0; readable = each.0 } in (
-        ready_by told.0 ours,
-        subst IsWhole (sym told.0.0.now_is) (record {
+        ready_by reported.0 ours,
+        subst IsWhole (sym reported.0.0.now_is) (record {
           ours = ours;
-          pieces = record { stands = has.1; keyed = keyed.1.0; readable = each.1.0 };
-          temp_roots = record { stands = has.2; keyed = keyed.1.1.0; readable = each.1.1.0 };
+          pieces = record { exists = has.1; keyed = keyed.1.0; readable = each.1.0 };
+          temp_roots = record { exists = has.2; keyed = keyed.1.1.0; readable = each.1.1.0 };
         }),
       )) (λ is. absurd cc)
 

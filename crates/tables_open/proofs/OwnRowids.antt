@@ -136,7 +136,7 @@ distinct_ints (n ∷ ns) h =
     (all-map (λ v. tie (Int n) v ≡ false) Int ns (all_weaker (λ m. eq_by_cmp int_cmp n m ≡ false) (λ m. tie (Int n) (Int m) ≡ false) (λ m apart. ap is_eq (value_cmp-Int n m) ∙ apart) ns h.0), distinct_ints ns h.1)
 
 int_of : (rows : List Row) (ns : List ℤ) → map first rows ≡ map Int ns → (x : Row) → Has rows x → IsInt (first x)
-int_of rows ns e x there = let n = has_mapped Int ns (first x) (subst (λ vs. Has vs (first x)) e (mapped_has first rows x there)) in (n.0, n.2)
+int_of rows ns e x present = let n = has_mapped Int ns (first x) (subst (λ vs. Has vs (first x)) e (mapped_has first rows x present)) in (n.0, n.2)
 
 keyed_from : (order : List (Term × Key)) (tree : ℕ) (db : Trees) (rows : List Row) → IsAnswer (query order tree) db [] rows → ShowIds rows → IsKeyed (db tree)
 keyed_from order tree db rows answer ids =
@@ -154,10 +154,10 @@ ShowsApart text old new = (rows : List Row) × IsAnswered text [] old new rows �
 -- each row of the table has a rowid of its own, and nothing changes
 pub keyed_if : (name : List ℕ) (columns : List Column) (key : List ℕ) (text : List ℕ) (order : List (Term × Key)) (old new : State) → IsIntact old.now.schema (strict name columns key)
     → {count : ℕ} → Compiles name columns key text count (λ at tree. Select (whole order tree) (codes "rowid" ∷ [])) → ShowsApart text old new → IsUnchanged old new × IsKeyed (rows_named old.now name)
-keyed_if name columns key text order old new stands is h =
+keyed_if name columns key text order old new exists is h =
     let tree = tree_named old.now.schema name in
-    let answer = answer_of name columns key old new text [] (query order) is stands h.0 h.1.0 in
-    (h.1.1.1, subst IsKeyed (overlay_low old.now.trees tree stands.known.low) (keyed_from order tree (overlay old.now.trees []) h.0 answer h.2))
+    let answer = answer_of name columns key old new text [] (query order) is exists h.0 h.1.0 in
+    (h.1.1.1, subst IsKeyed (overlay_low old.now.trees tree exists.known.low) (keyed_from order tree (overlay old.now.trees []) h.0 answer h.2))
 
 -- ---- what a sort and a test of neighbours say of integers
 

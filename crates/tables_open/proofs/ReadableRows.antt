@@ -51,19 +51,19 @@ module _ (name : List ℕ) (columns : List Column) (key : List ℕ) (text : List
   -- nothing changes, and the texts of the table are UTF-8 exactly where those are that were shown
   pub told_if : (old new : State) → IsIntact old.now.schema (strict name columns key) → ((tree : ℕ) (r : Row) → Has (rows_named old.now name) r → IsReadableRow (shows (query tree) [] r) ↔ AreOfUtf8 (length columns) r)
       → (b : Bool) → Tells text old new b → IsUnchanged old new × (IsTrue b ↔ AreReadableRows (strict name columns key) (rows_named old.now name))
-  told_if old new stands each b h =
+  told_if old new exists each b h =
       let tree = tree_named old.now.schema name in
       let db = overlay old.now.trees [] in
-      let same_rows : db tree ≡ old.now.trees tree = overlay_low old.now.trees tree stands.known.low in
-      let answer = answer_of name columns key old new text [] query is stands h.0 h.1.0 in (
+      let same_rows : db tree ≡ old.now.trees tree = overlay_low old.now.trees tree exists.known.low in
+      let answer = answer_of name columns key old new text [] query is exists h.0 h.1.0 in (
         h.1.1.1,
         (
-          λ yes row at there low.
-              (each tree row there).0 (all_has IsReadableRow h.0 _ (h.2.0 yes) (scan_complete (query tree) tree (scan tree) db [] h.0 answer row (subst (λ rows. Has rows row) (sym same_rows) there) (rw (whole tree) refl))) at low,
+          λ yes row at present low.
+              (each tree row present).0 (all_has IsReadableRow h.0 _ (h.2.0 yes) (scan_complete (query tree) tree (scan tree) db [] h.0 answer row (subst (λ rows. Has rows row) (sym same_rows) present) (rw (whole tree) refl))) at low,
           λ all. h.2.1 (all_from IsReadableRow h.0 (λ x shown.
               let r = scan_sound (query tree) tree (scan tree) db [] h.0 answer x shown in
-              let there = subst (λ rows. Has rows r.0) same_rows r.1 in
-              subst IsReadableRow (sym r.3) ((each tree r.0 there).1 (λ at low. all r.0 at there low)))),
+              let present = subst (λ rows. Has rows r.0) same_rows r.1 in
+              subst IsReadableRow (sym r.3) ((each tree r.0 present).1 (λ at low. all r.0 at present low)))),
         ),
       )
 

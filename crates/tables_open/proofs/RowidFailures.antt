@@ -45,7 +45,7 @@ ints_of = map (λ (row : Row). id_in (first row))
 
 ints_are : (rows : List Row) → ((x : Row) → Has rows x → IsTrue (is_int (first x))) → map first rows ≡ map Int (ints_of rows)
 ints_are [] ints = refl
-ints_are (r ∷ rows) ints = ap₂ (λ v vs. v ∷ vs) (int_is (first r) (ints r (inl refl))) (ints_are rows (λ x there. ints x (inr there)))
+ints_are (r ∷ rows) ints = ap₂ (λ v vs. v ∷ vs) (int_is (first r) (ints r (inl refl))) (ints_are rows (λ x present. ints x (inr present)))
 
 ints_distinct : (ns : List ℤ) → IsDistinct tie (map Int ns) → IsDistinct (eq_by_cmp int_cmp) ns
 unfolding IsDistinct
@@ -55,17 +55,17 @@ ints_distinct (n ∷ ns) h =
 
 ids_from : (order : List (Term × Key)) (tree : ℕ) (db : Trees) (rows : List Row) → IsAnswer (query order tree) db [] rows → IsKeyed (db tree) → ShowIds rows
 ids_from order tree db rows answer keyed =
-    let ints = ints_are rows (λ x there. let r = scan_sound (query order tree) tree (scan order tree) db [] rows answer x there in subst (λ y. IsTrue (is_int (first y))) (sym r.3) (keyed.ints r.0 r.1)) in
+    let ints = ints_are rows (λ x present. let r = scan_sound (query order tree) tree (scan order tree) db [] rows answer x present in subst (λ y. IsTrue (is_int (first y))) (sym r.3) (keyed.ints r.0 r.1)) in
     let shown : IsDistinct tie (map first rows) = IsDistinct-IsPermutation tie turned _ _ (same_rowids order tree db rows answer) keyed.apart in
     (ints_of rows, ints, ints_distinct (ints_of rows) (subst (IsDistinct tie) ints shown))
 
 -- where each row has a rowid of its own, those are shown
 pub ids_if : (name : List ℕ) (columns : List Column) (key : List ℕ) (text : List ℕ) (order : List (Term × Key)) (old new : State) → IsIntact old.now.schema (strict name columns key)
     → {count : ℕ} → Compiles name columns key text count (λ at tree. Select (whole order tree) names) → (rows : List Row) → Answered text [] old new rows → IsKeyed (rows_named old.now name) → ShowIds rows
-ids_if name columns key text order old new stands is rows shown keyed =
+ids_if name columns key text order old new exists is rows shown keyed =
     let tree = tree_named old.now.schema name in
-    let answer = answer_of name columns key old new text [] (query order) is stands rows shown in
-    ids_from order tree (overlay old.now.trees []) rows answer (subst IsKeyed (sym (overlay_low old.now.trees tree stands.known.low)) keyed)
+    let answer = answer_of name columns key old new text [] (query order) is exists rows shown in
+    ids_from order tree (overlay old.now.trees []) rows answer (subst IsKeyed (sym (overlay_low old.now.trees tree exists.known.low)) keyed)
 
 -- ---- why the test fails
 
@@ -78,7 +78,7 @@ module _ (name : List ℕ) (columns : List Column) (key : List ℕ) (text : List
   check_fails f (inl h) = test_fails old new text _ (it.fails old new at) f h
   check_fails f (inr (rows, given, inl memory)) = subst (FailsToTest old new (¬ IsKeyed (rows_named old.now name))) (sym memory) tt
   check_fails f (inr (rows, given, inr h)) =
-      let stands = at given.1.0.was_open in
+      let exists = at given.1.0.was_open in
       let tree = tree_named old.now.schema name in
-      let all = all_rows text [] old new names (query order tree) (it.is old.now.schema stands.at tree stands.known) rows given in
-      subst (FailsToTest old new (¬ IsKeyed (rows_named old.now name))) (sym h.0) (inr (inr (λ keyed. h.1 (front rows all.0 (ids_if name columns key text order old new stands it.is (rows ++ all.0) all.1 keyed)))))
+      let all = all_rows text [] old new names (query order tree) (it.is old.now.schema exists.at tree exists.known) rows given in
+      subst (FailsToTest old new (¬ IsKeyed (rows_named old.now name))) (sym h.0) (inr (inr (λ keyed. h.1 (front rows all.0 (ids_if name columns key text order old new exists it.is (rows ++ all.0) all.1 keyed)))))

@@ -48,10 +48,10 @@ unfolding everything
 named = refl
 
 module _ (name : Name) (columns : List Column) (key : List ℕ) (bare : column_named (strict name columns key) (codes "rowid") ≡ None) where
-  module _ (s : Schema) (at tree : ℕ) (there : slice_get s.tables at ≡ Some (record (strict name columns key) { tree = tree })) (low : nat_lt tree (2 ^ 31) ≡ true) where
+  module _ (s : Schema) (at tree : ℕ) (present : slice_get s.tables at ≡ Some (record (strict name columns key) { tree = tree })) (low : nat_lt tree (2 ^ 31) ≡ true) where
     rowid_is : (e : Expr) → out-Expr e ≡ Expr-F.Column None (codes "rowid") → IsRowid (context name columns key s at [] true) e at
     unfolding found_in in_level only hit column_in is_among rowid_in declared
-    rowid_is e names = record { names = names; found = rw (there, bare, named, low); heading = rw there }
+    rowid_is e names = record { names = names; found = rw (present, bare, named, low); heading = rw present }
 
   unfiltered : (s : Schema) (at : ℕ) {filter : Option Expr} → filter ≡ None → tests lower (context name columns key s at (rowid_column ∷ []) false) [] filter (plain_state 99999 None) ≡ Ok ([], plain_state 99999 None)
   unfolding tests
@@ -72,5 +72,5 @@ module _ (name : Name) (columns : List Column) (key : List ℕ) (bare : column_n
         scan = scan order;
         is = is;
         reads = reads;
-        fails = λ old new stands. standing_read_fails name columns key old new stands text [] names (query order) (scan order) is reads accepts;
+        fails = λ old new exists. standing_read_fails name columns key old new exists text [] names (query order) (scan order) is reads accepts;
       }

@@ -36,7 +36,7 @@ pub record AreTests (t : Table) (rowids texts : List ℕ) : Type 1 where
   pub keyed : (old new : State) → IsIntact old.now.schema t → ShowsApart rowids old new → IsUnchanged old new × IsKeyed (rows_named old.now t.name)
   pub unkeyed : (old new : State) → (IsTrue old.is_open → IsIntact old.now.schema t) → (f : Failure) → FailsToCheck rowids old new f → FailsToTest old new (¬ IsKeyed (rows_named old.now t.name)) f
   pub texts_read : IsSelect texts
-  pub told : (old new : State) → IsDatabase old.now → IsIntact old.now.schema t → (b : Bool) → Tells texts old new b → IsUnchanged old new × (IsTrue b ↔ AreReadableRows t (rows_named old.now t.name))
+  pub reported : (old new : State) → IsDatabase old.now → IsIntact old.now.schema t → (b : Bool) → Tells texts old new b → IsUnchanged old new × (IsTrue b ↔ AreReadableRows t (rows_named old.now t.name))
   pub untold : (old new : State) → (IsTrue old.is_open → IsIntact old.now.schema t) → (f : Failure) → FailsOfTexts texts old new f → FailsToTest old new ⊥ f
 
 -- the queries mean so: the second shows texts that are UTF-8 where all of a row are
@@ -46,9 +46,9 @@ pub tests_by : (name : List ℕ) (columns : List Column) (key : List ℕ) {rowid
     → AreTests (strict name columns key) rowids texts
 tests_by name columns key {rowids} {texts} order of_rowids {shown} {reading} of_texts whole each = record {
   rowids_read = of_rowids.reads;
-  keyed = λ old new stands. keyed_if name columns key rowids order old new stands of_rowids.is;
+  keyed = λ old new exists. keyed_if name columns key rowids order old new exists of_rowids.is;
   unkeyed = λ old new at. check_fails name columns key rowids order old new at of_rowids;
   texts_read = of_texts.reads;
-  told = λ old new sound stands. told_if name columns key texts shown reading of_texts.scan whole of_texts.is old new stands (each old.now sound stands);
+  reported = λ old new sound exists. told_if name columns key texts shown reading of_texts.scan whole of_texts.is old new exists (each old.now sound exists);
   untold = λ old new at. texts_fail old new texts (of_texts.fails old new at);
 }

@@ -1,3 +1,7 @@
+pub use Rattle.sqlite_disk.specs.declared.Disk
+pub use Rattle.sqlite_disk.specs.declared.calls.Calls as DiskCalls
+pub use Rattle.sqlite_disk.specs.declared.modelled.Modelled
+pub use Rattle.sqlite_disk.specs.declared.start.Start as DiskStart
 pub use Rattle.tables_schema.specs.Forms
 pub use Rattle.tables_schema.specs.OurTables
 pub use Rattle.tables_schema.specs.Intact

@@ -28,6 +28,7 @@ pub struct Opened<S: Alter> {
 }
 
 /// A database that was opened, but what it has of the store's tables can't be read.
+#[derive(Drop)]
 pub struct Unreadable<S: Alter> {
     /// The connection, as it was, outside a transaction.
     pub conn: Connection<S>,
@@ -36,6 +37,7 @@ pub struct Unreadable<S: Alter> {
 }
 
 /// Why a file wasn't opened. `S` is the store of a connection, over files `D`.
+#[derive(Drop)]
 pub enum Unopened<S: Alter, D: Disk> {
     /// `sqlite` didn't open it.
     Refused {

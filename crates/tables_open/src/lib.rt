@@ -10,3 +10,6 @@ mod queries;
 mod rowids;
 mod testing;
 mod texts;
+
+// What callers name besides, so that they need no library for it.
+pub use sqlite_disk::Disk;

@@ -5,6 +5,6 @@ pub mod ProfileEntries
 pub mod Puts
 pub mod SessionTrees
 pub mod SetTrees
-pub mod Told
+pub mod Reported
 pub mod Trees
 pub mod Written

@@ -60,14 +60,14 @@ pub profile_is : (es : Kept) (q : Pair) (p : InMemory) → Some p ≡ find_profi
 profile_is es q p found = sym (ap profile_or_new (profile_found es q p found))
 
 pub profile_missing : (es : Kept) (q : Pair) → None ≡ find_profile es q → is_some (finite.get (profiles_seen es) q) ≡ true → ⊥
-profile_missing es q none there =
-    false≢true (ap (λ o. is_some (option_map profile_view o)) none ∙ sym (ap is_some (get_seen pair_cmp pair_bytes profile_view pair_total pair_antisymmetric es q)) ∙ there)
+profile_missing es q none present =
+    false≢true (ap (λ o. is_some (option_map profile_view o)) none ∙ sym (ap is_some (get_seen pair_cmp pair_bytes profile_view pair_total pair_antisymmetric es q)) ∙ present)
 
 -- and it has no generation
 pub generation_missing : (es : Kept) (q : Pair) (n : ℕ) → None ≡ find_profile es q → has_generation (profile_or_new (finite.get (profiles_seen es) q)) n ≡ true → ⊥
-generation_missing es q n none there =
+generation_missing es q n none present =
     false≢true (sym (ap is_some (finite.get-empty nat_cmp n)) ∙ ap (λ o. has_generation (profile_or_new (option_map profile_view o)) n) none
-    ∙ sym (ap (λ o. has_generation (profile_or_new o) n) (get_seen pair_cmp pair_bytes profile_view pair_total pair_antisymmetric es q)) ∙ there)
+    ∙ sym (ap (λ o. has_generation (profile_or_new o) n) (get_seen pair_cmp pair_bytes profile_view pair_total pair_antisymmetric es q)) ∙ present)
 
 -- a profile is written at a key that is there
 pub profile_written : (es new : Kept) (q : Pair) (p x : InMemory) (v : Profile) → Some p ≡ find_profile es q → new ≡ set_value (λ k. eq_by_cmp pair_cmp q (pair_bytes k)) es x → profile_view x ≡ v

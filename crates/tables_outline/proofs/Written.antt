@@ -31,8 +31,8 @@ module _ {K X L Y : Type 0} (R : L → L → Ordering) (key : K → L) (value : 
 
   set_at : (k q : L) (es : List (K × X)) (x : X) → is_some (lookup (λ y. eq_by_cmp R k (key y)) es) ≡ true
       → lookup (λ y. eq_by_cmp R q (key y)) (set_value (λ y. eq_by_cmp R k (key y)) es x) ≡ cond (eq_by_cmp R q k) (Some x) (lookup (λ y. eq_by_cmp R q (key y)) es)
-  set_at k q [] x there = absurd (false≢true there)
-  set_at k q (e ∷ es) x there = by (eq_by_cmp R k (key e.0)) refl there (set_at k q es x)
+  set_at k q [] x present = absurd (false≢true present)
+  set_at k q (e ∷ es) x present = by (eq_by_cmp R k (key e.0)) refl present (set_at k q es x)
     where
       by : (b : Bool) → eq_by_cmp R k (key e.0) ≡ b → is_some (cond b (Some e.1) (lookup (λ y. eq_by_cmp R k (key y)) es)) ≡ true
           → (is_some (lookup (λ y. eq_by_cmp R k (key y)) es) ≡ true → lookup (λ y. eq_by_cmp R q (key y)) (set_value (λ y. eq_by_cmp R k (key y)) es x) ≡ cond (eq_by_cmp R q k) (Some x) (lookup (λ y. eq_by_cmp R q (key y)) es))
@@ -50,8 +50,8 @@ module _ {K X L Y : Type 0} (R : L → L → Ordering) (key : K → L) (value : 
   -- a value is written at a key that is there
   pub written : finite.IsAntisymmetric R → (es : List (K × X)) (k : L) (x : X) → is_some (lookup (λ y. eq_by_cmp R k (key y)) es) ≡ true
       → seen_map R key value (set_value (λ y. eq_by_cmp R k (key y)) es x) ≡ finite.insert (seen_map R key value es) k (value x)
-  written same es k x there = finite.same_map o same _ _ (λ q.
-      get_seen R key value o same (set_value (λ y. eq_by_cmp R k (key y)) es x) q ∙ ap (option_map value) (set_at k q es x there) ∙ mapped (eq_by_cmp R q k) (lookup (λ y. eq_by_cmp R q (key y)) es)
+  written same es k x present = finite.same_map o same _ _ (λ q.
+      get_seen R key value o same (set_value (λ y. eq_by_cmp R k (key y)) es x) q ∙ ap (option_map value) (set_at k q es x present) ∙ mapped (eq_by_cmp R q k) (lookup (λ y. eq_by_cmp R q (key y)) es)
       ∙ sym (finite.get-insert o (seen_map R key value es) k (value x) q ∙ ap (cond (eq_by_cmp R q k) (Some (value x))) (get_seen R key value o same es q)))
     where
       mapped : (b : Bool) (r : Option X) → option_map value (cond b (Some x) r) ≡ cond b (Some (value x)) (option_map value r)

@@ -70,8 +70,8 @@ impl Outline {
         number: u32,
         target: StorePath,
     ) -> Result<bool, AllocError>
-        ensures there { IfOk result (λ there. there ≡ finite.contains_key self.old.profiles (pair_bytes owned.now)) }
-        ensures done { IfOk result (λ there. IsTrue there → self.new ≡ record self.old { profiles = with_generation (pair_bytes owned.now) number target self.old.profiles }) }
+        ensures present { IfOk result (λ present. present ≡ finite.contains_key self.old.profiles (pair_bytes owned.now)) }
+        ensures done { IfOk result (λ present. IsTrue present → self.new ≡ record self.old { profiles = with_generation (pair_bytes owned.now) number target self.old.profiles }) }
     {
         match self.profiles.get_mut(owned) {
             Some(profile) => {

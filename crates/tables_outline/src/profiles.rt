@@ -43,7 +43,7 @@ impl Profile {
         ensures { result ≡ is_highest (profile_view self.now) target.now }
     {
         match self.generations.get(&self.highest()) {
-            Some(there) => there.as_str() == target.as_str(),
+            Some(present) => present.as_str() == target.as_str(),
             None => false,
         }
     }
@@ -108,10 +108,10 @@ impl Profile {
         requires { IsTrue (has_generation (profile_view self.old) number) }
         ensures { profile_view self.new ≡ put_at (profile_view self.old) number target }
     {
-        let Some(there) = self.generations.get_mut(&number) else {
+        let Some(present) = self.generations.get_mut(&number) else {
             return;
         };
-        *there = target;
+        *present = target;
         self.current = number;
     }
 

@@ -11,32 +11,32 @@ use Rattle.tables_roots.specs.Loaded.{Objects, are_temporary, AreObjects, AreAll
 use Rattle.tables_roots.proofs.Sessions.{sessions_sound, no_session}
 
 module _ (objects : Objects) (c : Contents) where
-  abbrev pub Told : Bool → Type 0
-  Told ok = AreObjects objects c → (IsTrue ok ↔ AreSoundRoots (rows_of c))
+  abbrev pub Reported : Bool → Type 0
+  Reported ok = AreObjects objects c → (IsTrue ok ↔ AreSoundRoots (rows_of c))
 
   abbrev pub ToldAll : Bool → Type 0
   ToldAll ok = AreObjects objects c → (IsTrue ok ↔ AreAllSound (rows_of c))
 
-  pub all_unsound : (ok : Bool) → ok ≡ false → Told ok → ToldAll false
-  all_unsound ok failed told are = (
+  pub all_unsound : (ok : Bool) → ok ≡ false → Reported ok → ToldAll false
+  all_unsound ok failed reported are = (
     λ h. absurd (false≢true h),
-    λ all. sym failed ∙ (told are).1 all.roots,
+    λ all. sym failed ∙ (reported are).1 all.roots,
   )
 
   -- there is no table of temporary roots
-  pub all_lasting : (ok : Bool) → ok ≡ true → c.temp_roots ≡ finite.empty → Told ok → ToldAll true
-  all_lasting ok passed none told are = (
-    λ h. record { roots = (told are).0 passed; sessions = no_session c none },
-    λ all. sym passed ∙ (told are).1 all.roots,
+  pub all_lasting : (ok : Bool) → ok ≡ true → c.temp_roots ≡ finite.empty → Reported ok → ToldAll true
+  all_lasting ok passed none reported are = (
+    λ h. record { roots = (reported are).0 passed; sessions = no_session c none },
+    λ all. sym passed ∙ (reported are).1 all.roots,
   )
 
   -- the sessions decide
-  pub sessions_decide : (ok : Bool) → ok ≡ true → Told ok → (last : Bool) → last ≡ are_temporary objects c → ToldAll last
-  sessions_decide ok passed told last is are = (
-    λ h. record { roots = (told are).0 passed; sessions = (sessions_sound objects c are).0 (sym is ∙ h) },
+  pub sessions_decide : (ok : Bool) → ok ≡ true → Reported ok → (last : Bool) → last ≡ are_temporary objects c → ToldAll last
+  sessions_decide ok passed reported last is are = (
+    λ h. record { roots = (reported are).0 passed; sessions = (sessions_sound objects c are).0 (sym is ∙ h) },
     λ all. is ∙ (sessions_sound objects c are).1 all.sessions,
   )
 
-  pub sessions_told : (r : Result Bool Failure) (ok : Bool) → ok ≡ true → Told ok → (y : Bool) → y ≡ are_temporary objects c → IfOk r (λ last. last ≡ y) → IfOk r ToldAll
-  sessions_told (Ok last) ok passed told y same h = sessions_decide ok passed told last (h ∙ same)
-  sessions_told (Err e) ok passed told y same h = tt
+  pub sessions_told : (r : Result Bool Failure) (ok : Bool) → ok ≡ true → Reported ok → (y : Bool) → y ≡ are_temporary objects c → IfOk r (λ last. last ≡ y) → IfOk r ToldAll
+  sessions_told (Ok last) ok passed reported y same h = sessions_decide ok passed reported last (h ∙ same)
+  sessions_told (Err e) ok passed reported y same h = tt

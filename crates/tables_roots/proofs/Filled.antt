@@ -21,7 +21,7 @@ use Rattle.tables_outline.specs.Outline.{OutlineValue}
 use Rattle.tables_outline.specs.Filling.{with_number, with_found, with_generation}
 use Rattle.tables_outline.proofs.Orders.{nat_antisymmetric, pair_total, pair_antisymmetric}
 use Rattle.tables_outline.proofs.Puts.{tied_is, option_same}
-use Rattle.tables_outline.proofs.Told.{told, told_insert, get-told}
+use Rattle.tables_outline.proofs.Reported.{reported, told_insert, get-reported}
 use Rattle.tables_roots.specs.Loaded.{all_pass, all_put, LoadAs, Objects, is_target, is_number, is_generation, bare, bare_profiles}
 use Rattle.tables_roots.proofs.PutAll.{all_put_again}
 use Rattle.tables_roots.proofs.EachEntry.{all_true, each_key}
@@ -33,18 +33,18 @@ abbrev pub bare_of : Pair × ℤ → Pair × Profile
 bare_of e = (e.0, bare e.1)
 
 module _ {K X Y : Type 0} {R : K → K → Ordering} (o : IsTotalOrder R) (alike : finite.IsAntisymmetric R) (f : K → X → Y) where
-  told_each : (es : List (K × X)) (m : finite.FinMap R X) → put_all (map (λ e. (e.0, f e.0 e.1)) es) (told o alike f m) ≡ told o alike f (put_all es m)
+  told_each : (es : List (K × X)) (m : finite.FinMap R X) → put_all (map (λ e. (e.0, f e.0 e.1)) es) (reported o alike f m) ≡ reported o alike f (put_all es m)
   told_each [] m = refl
   told_each (e ∷ es) m = ap (put_all (map (λ d. (d.0, f d.0 d.1)) es)) (sym (told_insert o alike f m e.0 e.1)) ∙ told_each es (finite.insert m e.0 e.1)
 
-  told_none : told o alike f finite.empty ≡ finite.empty
-  told_none = finite.same_map o alike _ _ (λ q. get-told o alike f finite.empty q ∙ ap (option_map (f q)) (finite.get-empty R q) ∙ sym (finite.get-empty R q))
+  told_none : reported o alike f finite.empty ≡ finite.empty
+  told_none = finite.same_map o alike _ _ (λ q. get-reported o alike f finite.empty q ∙ ap (option_map (f q)) (finite.get-empty R q) ∙ sym (finite.get-empty R q))
 
   -- entries whose values are changed make the map with its values changed
-  pub told_again : (m : finite.FinMap R X) → put_all (map (λ e. (e.0, f e.0 e.1)) (finite.entries m)) finite.empty ≡ told o alike f m
+  pub told_again : (m : finite.FinMap R X) → put_all (map (λ e. (e.0, f e.0 e.1)) (finite.entries m)) finite.empty ≡ reported o alike f m
   told_again m =
       ap (put_all (map (λ e. (e.0, f e.0 e.1)) (finite.entries m))) (sym told_none) ∙ told_each (finite.entries m) finite.empty
-      ∙ ap (told o alike f) (all_put_again o alike m)
+      ∙ ap (reported o alike f) (all_put_again o alike m)
 
 pub bare_again : (m : finite.FinMap pair_cmp ℤ) → put_all (map bare_of (finite.entries m)) finite.empty ≡ bare_profiles m
 bare_again = told_again pair_total pair_antisymmetric (λ _ n. bare n)
@@ -191,8 +191,8 @@ module _ (objects : Objects) (c : Contents) (sound : list_all (is_generation obj
   some_key (Some x) h = (x, refl)
 
   pub no_negative : (owner name : List ℕ) (n : ℤ) → IsTrue (finite.contains_key c.generations (owner, name, n)) → (k : ℕ) × (n ≡ pos k)
-  no_negative owner name n there =
-      let t = some_key (finite.get c.generations (owner, name, n)) there in
+  no_negative owner name n present =
+      let t = some_key (finite.get c.generations (owner, name, n)) present in
       each_key triple_total triple_antisymmetric (λ (e : Triple × Path). (k : ℕ) × (e.0.2 ≡ pos k)) c.generations all_numbers (owner, name, n) t.0 t.1
 
   filled : (q : Pair) → put_all (parts_of q (finite.entries c.generations)) finite.empty ≡ generations_in (rows_of c) q
@@ -205,7 +205,7 @@ module _ (objects : Objects) (c : Contents) (sound : list_all (is_generation obj
   pub profiles_filled : with_all (finite.entries c.generations) (bare_profiles c.profiles) ≡ (world_in c).profiles
   profiles_filled = finite.same_map pair_total pair_antisymmetric _ _ (λ q.
       get-all (finite.entries c.generations) (bare_profiles c.profiles) q
-      ∙ ap (option_map (λ (p : Profile). record p { generations = put_all (parts_of q (finite.entries c.generations)) p.generations })) (get-told pair_total pair_antisymmetric (λ _ n. bare n) c.profiles q)
+      ∙ ap (option_map (λ (p : Profile). record p { generations = put_all (parts_of q (finite.entries c.generations)) p.generations })) (get-reported pair_total pair_antisymmetric (λ _ n. bare n) c.profiles q)
       ∙ by q (finite.get c.profiles q)
       ∙ sym (profile_at (rows_of c) q))
     where
@@ -218,7 +218,7 @@ module _ (objects : Objects) (c : Contents) (sound : list_all (is_generation obj
 
 -- a profile that has no generations yet is there already
 bare_has : (m : finite.FinMap pair_cmp ℤ) (q : Pair) → finite.contains_key (bare_profiles m) q ≡ finite.contains_key m q
-bare_has m q = ap is_some (get-told pair_total pair_antisymmetric (λ _ n. bare n) m q) ∙ some (finite.get m q)
+bare_has m q = ap is_some (get-reported pair_total pair_antisymmetric (λ _ n. bare n) m q) ∙ some (finite.get m q)
   where
     some : (g : Option ℤ) → is_some (option_map bare g) ≡ is_some g
     some None = refl
@@ -236,6 +236,6 @@ module _ (xs : List Generation) (o : OutlineValue) (c : Contents) (reads : map g
 
   pub load_generations : LoadAs (λ r (p : OutlineValue). is_generation p.objects p.profiles (generation_in r)) put_generation xs o (list_all (is_generation o.objects c.profiles) (finite.entries c.generations)) (record o { profiles = (world_in c).profiles })
   load_generations = record {
-    told = generations_told;
-    taken = λ sound. generation_put xs o ∙ ap (λ m. record o { profiles = m }) (ap₂ with_all reads profiles ∙ profiles_filled o.objects c sound);
+    reported = generations_told;
+    loaded = λ sound. generation_put xs o ∙ ap (λ m. record o { profiles = m }) (ap₂ with_all reads profiles ∙ profiles_filled o.objects c sound);
   }

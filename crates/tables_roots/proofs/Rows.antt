@@ -48,8 +48,8 @@ module _ {X E K V : Type 0} {R : K → K → Ordering} (entry : X → E) (test :
   pub load_entries : (m : finite.FinMap R V) (es : List E) → put_all (map seen es) finite.empty ≡ m → (xs : List X) → map entry xs ≡ es → (o : OutlineValue) → part o ≡ finite.empty
       → LoadAs (λ x (p : OutlineValue). test p.objects (entry x)) put_entry xs o (list_all (test o.objects) es) (with_part m o)
   load_entries m es makes xs listed o none = record {
-    told = pass_each entry test put_entry (λ x p. is.objects _ p) xs o ∙ ap (list_all (test o.objects)) listed;
-    taken = λ sound. put_each xs o ∙ ap₂ (λ l n. with_part (put_all (map seen l) n) o) listed none ∙ ap (λ n. with_part n o) makes;
+    reported = pass_each entry test put_entry (λ x p. is.objects _ p) xs o ∙ ap (list_all (test o.objects)) listed;
+    loaded = λ sound. put_each xs o ∙ ap₂ (λ l n. with_part (put_all (map seen l) n) o) listed none ∙ ap (λ n. with_part n o) makes;
   }
 
 -- entries as they are

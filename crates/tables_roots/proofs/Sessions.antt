@@ -94,12 +94,12 @@ module _ (objects : Objects) (c : Contents) (are : AreObjects objects c) where
 
   pub sessions_sound : (are_temporary objects c ≡ true) ↔ ((k : Kept) → IsTrue (finite.contains_key c.temp_roots k) → IsSoundSession (rows_of c) k)
   sessions_sound = (
-    λ h k there.
-        let x = some_key (finite.get c.temp_roots k) there in
+    λ h k present.
+        let x = some_key (finite.get c.temp_roots k) present in
         session_from k ((tested_entries kept_total kept_antisymmetric c.temp_roots (is_temporary_root objects)).0 h k x.0 x.1),
     λ sound. (tested_entries kept_total kept_antisymmetric c.temp_roots (is_temporary_root objects)).1 (λ k x e. session_to k (sound k (ap is_some e))),
   )
 
 -- none is unsound where there are no rows
 pub no_session : (c : Contents) → c.temp_roots ≡ finite.empty → (k : Kept) → IsTrue (finite.contains_key c.temp_roots k) → IsSoundSession (rows_of c) k
-no_session c none k there = absurd (no_key (Unit {0}) kept_cmp k (sym (ap (λ (m : Set kept_cmp). finite.contains_key m k) none) ∙ there))
+no_session c none k present = absurd (no_key (Unit {0}) kept_cmp k (sym (ap (λ (m : Set kept_cmp). finite.contains_key m k) none) ∙ present))

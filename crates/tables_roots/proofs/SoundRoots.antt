@@ -54,7 +54,7 @@ module _ (objects : Objects) (c : Contents) (are : AreObjects objects c) where
   from_target t h = sym (are.same t) ∙ second_true (is_base_name t) (finite.contains_key objects t) h
 
   pub to_target : (t : Path) → IsTrue (finite.contains_key c.objects t) → is_target objects t ≡ true
-  to_target t h = let there = are.same t ∙ h in both_true (is_base_name t) (finite.contains_key objects t) (are.named t there) there
+  to_target t h = let present = are.same t ∙ h in both_true (is_base_name t) (finite.contains_key objects t) (are.named t present) present
 
   -- a current number is that of a row, where no number is negative
   current_at : ((owner name : List ℕ) (n : ℤ) → IsTrue (finite.contains_key c.generations (owner, name, n)) → (k : ℕ) × (n ≡ pos k))
@@ -86,12 +86,12 @@ module _ (objects : Objects) (c : Contents) (are : AreObjects objects c) where
         let number = first_true (is_number n) _ it in
         let rest = second_true (is_number n) _ it in
         let k = is_positive n number in
-        let told = sym (ap is_number k.1) ∙ number in
+        let reported = sym (ap is_number k.1) ∙ number in
         record {
           number = k.0;
           is_number = k.1;
-          lowest = number_lowest k.0 told;
-          highest = number_highest k.0 told;
+          lowest = number_lowest k.0 reported;
+          highest = number_highest k.0 reported;
           profile = second_true (is_target objects t) _ rest;
           target = from_target t (first_true (is_target objects t) _ rest);
         }
@@ -119,8 +119,8 @@ module _ (objects : Objects) (c : Contents) (are : AreObjects objects c) where
           let it = (tested_entries pair_total pair_antisymmetric c.user_roots (is_user_root objects)).0 (second_true (list_all (is_permanent_root objects) (finite.entries c.permanent)) _ fixed_true) owned t e in
           let rest = second_true (is_plain_name owned.0) _ it in
           (first_true (is_plain_name owned.0) _ it, first_true (is_plain_name owned.1) _ rest, from_target t (second_true (is_plain_name owned.1) _ rest));
-      runtime = λ r there.
-          let x = some_key (finite.get c.runtime r) there in
+      runtime = λ r present.
+          let x = some_key (finite.get c.runtime r) present in
           let it = (tested_entries pair_total pair_antisymmetric c.runtime (is_runtime_root objects)).0 runtime_true r x.0 x.1 in
           (first_true (is_runtime_label r.0) _ it, from_target r.1 (second_true (is_runtime_label r.0) _ it));
       profiles = profile_from;
@@ -131,8 +131,8 @@ module _ (objects : Objects) (c : Contents) (are : AreObjects objects c) where
 
   module _ (h : AreSoundRoots (rows_of c)) where
     numbers : (owner name : List ℕ) (n : ℤ) → IsTrue (finite.contains_key c.generations (owner, name, n)) → (k : ℕ) × (n ≡ pos k)
-    numbers owner name n there =
-        let t = some_key (finite.get c.generations (owner, name, n)) there in
+    numbers owner name n present =
+        let t = some_key (finite.get c.generations (owner, name, n)) present in
         let it = h.generations owner name n t.0 t.1 in
         (it.number, it.is_number)
 
@@ -155,9 +155,9 @@ module _ (objects : Objects) (c : Contents) (are : AreObjects objects c) where
     current_to : (owned : Pair) (p : Profile) → finite.get (world_in c).profiles owned ≡ Some p → finite.contains_key p.generations p.current ≡ true
     current_to owned p e =
         let it = some_mapped (profile_in (rows_of c) owned) (finite.get c.profiles owned) p (sym (profile_at (rows_of c) owned) ∙ e) in
-        let there = (h.profiles owned it.0 it.1).2 in
-        let k = numbers owned.0 owned.1 it.0 there in
-        subst (λ (q : Profile). finite.contains_key q.generations q.current ≡ true) it.2 (current_at numbers owned it.0 k.0 k.1 ∙ there)
+        let present = (h.profiles owned it.0 it.1).2 in
+        let k = numbers owned.0 owned.1 it.0 present in
+        subst (λ (q : Profile). finite.contains_key q.generations q.current ≡ true) it.2 (current_at numbers owned it.0 k.0 k.1 ∙ present)
 
     fixed_to : are_fixed objects c ≡ true
     fixed_to =

@@ -26,8 +26,8 @@ all_put put (x ∷ xs) o = all_put put xs (put x o)
 
 -- tested and put one after another, beginning with this outline, all rows pass exactly if the answer is true, and then make the other outline
 pub record LoadAs {X : Type 0} (passes : X → OutlineValue → Bool) (put : X → OutlineValue → OutlineValue) (rows : List X) (from : OutlineValue) (answer : Bool) (to : OutlineValue) : Type 0 where
-  pub told : all_pass passes put rows from ≡ answer
-  pub taken : IsTrue answer → all_put put rows from ≡ to
+  pub reported : all_pass passes put rows from ≡ answer
+  pub loaded : IsTrue answer → all_put put rows from ≡ to
 
 abbrev pub Objects : Type 0
 Objects = finite.FinMap bytes_cmp Outlined

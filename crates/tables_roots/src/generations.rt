@@ -29,7 +29,7 @@ impl RootTable for Generation {
 
     ghost are_sound = { λ objects c. list_all (is_generation objects c.profiles) (finite.entries c.generations) };
 
-    ghost loaded = { λ o c. record o { profiles = (world_in c).profiles } };
+    ghost with_rows = { λ o c. record o { profiles = (world_in c).profiles } };
 
     fn all<S: Alter>(alloc: Global, conn: &mut Connection<S>) -> Result<Vec<Generation>, Failure> {
         stored::all(alloc, conn)

@@ -25,7 +25,7 @@ impl RootTable for PermanentRoot {
 
     ghost are_sound = { λ objects c. list_all (is_permanent_root objects) (finite.entries c.permanent) };
 
-    ghost loaded = { λ o c. record o { permanent = c.permanent } };
+    ghost with_rows = { λ o c. record o { permanent = c.permanent } };
 
     fn all<S: Alter>(
         alloc: Global,

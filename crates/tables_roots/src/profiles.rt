@@ -37,7 +37,7 @@ impl RootTable for Profile {
 
     ghost are_sound = { λ objects c. list_all is_profile (finite.entries c.profiles) };
 
-    ghost loaded = { λ o c. record o { profiles = bare_profiles c.profiles } };
+    ghost with_rows = { λ o c. record o { profiles = bare_profiles c.profiles } };
 
     fn all<S: Alter>(alloc: Global, conn: &mut Connection<S>) -> Result<Vec<Profile>, Failure> {
         stored::all(alloc, conn)
@@ -71,9 +71,9 @@ pub fn read<S: Alter>(
     requires empty { HasCleanDisk (state S.Store conn.old) → outline.old.profiles ≡ finite.empty }
     ensures frame { LeftAsItWas S.Store conn.old conn.new }
     ensures cause { FailsInReads S.Store conn.old conn.new result }
-    ensures told { HasCleanDisk (state S.Store conn.new) → IfOk result
+    ensures reported { HasCleanDisk (state S.Store conn.new) → IfOk result
         (λ ok. ok ≡ are_profiles outline.old.objects (contents_of (state S.Store conn.old).now)) }
-    ensures taken { HasCleanDisk (state S.Store conn.new) → IfOk result
+    ensures loaded { HasCleanDisk (state S.Store conn.new) → IfOk result
         (λ ok. IsTrue ok → outline.new
         ≡ record outline.old { profiles = (world_in (contents_of (state S.Store conn.old).now)).profiles }) }
     ensures unchanged { HasCleanDisk (state S.Store conn.new) → OnOk result

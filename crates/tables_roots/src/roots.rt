@@ -37,9 +37,9 @@ fn load_fixed<S: Alter>(
     requires user_roots { HasCleanDisk (state S.Store conn.old) → outline.old.user_roots ≡ finite.empty }
     ensures frame { LeftAsItWas S.Store conn.old conn.new }
     ensures cause { FailsInReads S.Store conn.old conn.new result }
-    ensures told { HasCleanDisk (state S.Store conn.new) → IfOk result
+    ensures reported { HasCleanDisk (state S.Store conn.new) → IfOk result
         (λ ok. ok ≡ are_fixed outline.old.objects (contents_of (state S.Store conn.old).now)) }
-    ensures taken { HasCleanDisk (state S.Store conn.new) → IfOk result
+    ensures loaded { HasCleanDisk (state S.Store conn.new) → IfOk result
         (λ ok. IsTrue ok → outline.new
         ≡ record outline.old {
           permanent = (contents_of (state S.Store conn.old).now).permanent;
@@ -65,9 +65,9 @@ fn load_moving<S: Alter>(
     requires runtime { HasCleanDisk (state S.Store conn.old) → outline.old.runtime ≡ finite.empty }
     ensures frame { LeftAsItWas S.Store conn.old conn.new }
     ensures cause { FailsInReads S.Store conn.old conn.new result }
-    ensures told { HasCleanDisk (state S.Store conn.new) → IfOk result
+    ensures reported { HasCleanDisk (state S.Store conn.new) → IfOk result
         (λ ok. ok ≡ are_moving outline.old.objects (contents_of (state S.Store conn.old).now)) }
-    ensures taken { HasCleanDisk (state S.Store conn.new) → IfOk result
+    ensures loaded { HasCleanDisk (state S.Store conn.new) → IfOk result
         (λ ok. IsTrue ok → outline.new
         ≡ record outline.old {
           profiles = (world_in (contents_of (state S.Store conn.old).now)).profiles;
@@ -95,10 +95,10 @@ fn load_explicit<S: Alter>(
     requires runtime { HasCleanDisk (state S.Store conn.old) → outline.old.runtime ≡ finite.empty }
     ensures frame { LeftAsItWas S.Store conn.old conn.new }
     ensures cause { FailsInReads S.Store conn.old conn.new result }
-    ensures told { HasCleanDisk (state S.Store conn.new) → IfOk result
+    ensures reported { HasCleanDisk (state S.Store conn.new) → IfOk result
         (λ ok. AreObjects outline.old.objects (contents_of (state S.Store conn.old).now)
         → (IsTrue ok ↔ AreSoundRoots (rows_of (contents_of (state S.Store conn.old).now)))) }
-    ensures taken { HasCleanDisk (state S.Store conn.new) → IfOk result
+    ensures loaded { HasCleanDisk (state S.Store conn.new) → IfOk result
         (λ ok. IsTrue ok → outline.new ≡ with_explicit outline.old (contents_of (state S.Store conn.old).now)) }
     ensures unchanged { HasCleanDisk (state S.Store conn.new) → OnOk result
         (IsUnchanged (state S.Store conn.old) (state S.Store conn.new)) }
@@ -122,7 +122,7 @@ pub fn load_roots<S: Alter>(
     outline: &mut Outline,
 ) -> Result<bool, Failure>
     requires frame { MayRead S.Store conn.old }
-    requires stands { HasCleanDisk (state S.Store conn.old) → IsTrue (has_temporary schema)
+    requires exists { HasCleanDisk (state S.Store conn.old) → IsTrue (has_temporary schema)
         → IsTrue (state S.Store conn.old).is_open → HasFurther (state S.Store conn.old).now temp_root }
     requires no_table { HasCleanDisk (state S.Store conn.old) → IsFalse (has_temporary schema)
         → IsTrue (state S.Store conn.old).is_open → (contents_of (state S.Store conn.old).now).temp_roots
@@ -134,10 +134,10 @@ pub fn load_roots<S: Alter>(
     requires temporary { HasCleanDisk (state S.Store conn.old) → outline.old.temporary ≡ finite.empty }
     ensures frame { LeftAsItWas S.Store conn.old conn.new }
     ensures cause { FailsInReads S.Store conn.old conn.new result }
-    ensures told { HasCleanDisk (state S.Store conn.new) → IfOk result
+    ensures reported { HasCleanDisk (state S.Store conn.new) → IfOk result
         (λ ok. AreObjects outline.old.objects (contents_of (state S.Store conn.old).now)
         → (IsTrue ok ↔ AreAllSound (rows_of (contents_of (state S.Store conn.old).now)))) }
-    ensures taken { HasCleanDisk (state S.Store conn.new) → IfOk result
+    ensures loaded { HasCleanDisk (state S.Store conn.new) → IfOk result
         (λ ok. IsTrue ok → outline.new ≡ with_roots outline.old (contents_of (state S.Store conn.old).now)) }
     ensures unchanged { HasCleanDisk (state S.Store conn.new) → OnOk result
         (IsUnchanged (state S.Store conn.old) (state S.Store conn.new)) }

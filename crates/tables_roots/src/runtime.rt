@@ -25,7 +25,7 @@ impl RootTable for RuntimeRoot {
 
     ghost are_sound = { λ objects c. list_all (is_runtime_root objects) (finite.entries c.runtime) };
 
-    ghost loaded = { λ o c. record o { runtime = c.runtime } };
+    ghost with_rows = { λ o c. record o { runtime = c.runtime } };
 
     fn all<S: Alter>(alloc: Global, conn: &mut Connection<S>) -> Result<Vec<RuntimeRoot>, Failure> {
         stored::all(alloc, conn)

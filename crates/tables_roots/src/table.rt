@@ -33,22 +33,22 @@ pub trait RootTable: Sized + Drop {
     ghost are_sound: { Objects → Contents → Bool };
 
     // The outline with all roots.
-    ghost loaded: { OutlineValue → Contents → OutlineValue };
+    ghost with_rows: { OutlineValue → Contents → OutlineValue };
 
     /// All rows, in order.
     fn all<S: Alter>(alloc: Global, conn: &mut Connection<S>) -> Result<Vec<Self>, Failure>
         requires frame { MayRead S.Store conn.old }
-        requires stands { HasCleanDisk (state S.Store conn.old) → IsTrue (state S.Store conn.old).is_open
+        requires exists { HasCleanDisk (state S.Store conn.old) → IsTrue (state S.Store conn.old).is_open
             → needs (state S.Store conn.old).now }
         ensures frame { LeftAsItWas S.Store conn.old conn.new }
         ensures reads { Reads S.Store conn.old conn.new result (λ c rows. (o : OutlineValue) → fits o c
-            → LoadAs passes put rows.items o (are_sound o.objects c) (loaded o c)) }
+            → LoadAs passes put rows.items o (are_sound o.objects c) (with_rows o c)) }
         ensures cause { FailsAlone S.Store conn.old conn.new result };
 
     /// Whether the row passes. If so, its root is put into the outline.
     fn take(self, alloc: Global, outline: &mut Outline) -> Result<bool, AllocError>
-        ensures told { IfOk result (λ ok. ok ≡ passes self outline.old) }
-        ensures taken { IfOk result (λ ok. IsTrue ok → outline.new ≡ put self outline.old) };
+        ensures reported { IfOk result (λ ok. ok ≡ passes self outline.old) }
+        ensures loaded { IfOk result (λ ok. IsTrue ok → outline.new ≡ put self outline.old) };
 }
 
 /// Whether each row passes. If so, the outline has them all.
@@ -57,8 +57,8 @@ fn load_rows<T: RootTable>(
     outline: &mut Outline,
     rows: Vec<T>,
 ) -> Result<bool, AllocError>
-    ensures told { IfOk result (λ ok. ok ≡ all_pass T.passes T.put rows.items outline.old) }
-    ensures taken { IfOk result (λ ok. IsTrue ok → outline.new ≡ all_put T.put rows.items outline.old) }
+    ensures reported { IfOk result (λ ok. ok ≡ all_pass T.passes T.put rows.items outline.old) }
+    ensures loaded { IfOk result (λ ok. IsTrue ok → outline.new ≡ all_put T.put rows.items outline.old) }
 {
     'rows: for row in rows {
         if !row.take(alloc, outline)? {
@@ -79,16 +79,16 @@ pub fn load_table<T: RootTable, S: Alter>(
     outline: &mut Outline,
 ) -> Result<bool, Failure>
     requires frame { MayRead S.Store conn.old }
-    requires stands { HasCleanDisk (state S.Store conn.old) → IsTrue (state S.Store conn.old).is_open
+    requires exists { HasCleanDisk (state S.Store conn.old) → IsTrue (state S.Store conn.old).is_open
         → T.needs (state S.Store conn.old).now }
     requires fits { HasCleanDisk (state S.Store conn.old)
         → T.fits outline.old (contents_of (state S.Store conn.old).now) }
     ensures frame { LeftAsItWas S.Store conn.old conn.new }
     ensures cause { FailsInReads S.Store conn.old conn.new result }
-    ensures told { HasCleanDisk (state S.Store conn.new) → IfOk result
+    ensures reported { HasCleanDisk (state S.Store conn.new) → IfOk result
         (λ ok. ok ≡ T.are_sound outline.old.objects (contents_of (state S.Store conn.old).now)) }
-    ensures taken { HasCleanDisk (state S.Store conn.new) → IfOk result
-        (λ ok. IsTrue ok → outline.new ≡ T.loaded outline.old (contents_of (state S.Store conn.old).now)) }
+    ensures loaded { HasCleanDisk (state S.Store conn.new) → IfOk result
+        (λ ok. IsTrue ok → outline.new ≡ T.with_rows outline.old (contents_of (state S.Store conn.old).now)) }
     ensures unchanged { HasCleanDisk (state S.Store conn.new) → OnOk result
         (IsUnchanged (state S.Store conn.old) (state S.Store conn.new)) }
 {

@@ -32,7 +32,7 @@ impl RootTable for TempRoot {
 
     ghost are_sound = { are_temporary };
 
-    ghost loaded = { λ o c. record o { temporary = (world_in c).temporary } };
+    ghost with_rows = { λ o c. record o { temporary = (world_in c).temporary } };
 
     fn all<S: Alter>(alloc: Global, conn: &mut Connection<S>) -> Result<Vec<TempRoot>, Failure> {
         stored::all(alloc, conn)

@@ -25,7 +25,7 @@ impl RootTable for UserRoot {
 
     ghost are_sound = { λ objects c. list_all (is_user_root objects) (finite.entries c.user_roots) };
 
-    ghost loaded = { λ o c. record o { user_roots = c.user_roots } };
+    ghost with_rows = { λ o c. record o { user_roots = c.user_roots } };
 
     fn all<S: Alter>(alloc: Global, conn: &mut Connection<S>) -> Result<Vec<UserRoot>, Failure> {
         stored::all(alloc, conn)

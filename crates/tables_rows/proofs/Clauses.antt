@@ -98,7 +98,7 @@ module _ {old new : State} (survives : Survives old new (λ _. ⊥)) (ready : Wa
   still_ready = ready_after old new (ready (early survives clean)) shows_same
 
   pub still_stands : (t : Table) → (HasCleanDisk old → IsTrue old.is_open → HasFurther old.now t) → IsTrue new.is_open → HasFurther new.now t
-  still_stands t stands up = subst (λ (db : Database). HasFurther db t) (sym (shows_same.now up)) (stands (early survives clean) (shows_same.was_open up))
+  still_stands t exists up = subst (λ (db : Database). HasFurther db t) (sym (shows_same.now up)) (exists (early survives clean) (shows_same.was_open up))
 
 -- ---- one entry more
 

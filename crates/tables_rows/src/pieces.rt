@@ -21,11 +21,11 @@ use tables_sql::statement;
 /// Which pieces there are, in the order of their bases and then of their numbers. It copies no bytes of theirs.
 pub fn keys<S: Alter>(alloc: Global, conn: &mut Connection<S>) -> Result<Vec<PieceKey>, Failure>
     requires frame { MayRead S.Store conn.old }
-    requires stands { HasTable S.Store conn.old piece }
+    requires exists { HasTable S.Store conn.old piece }
     ensures frame { LeftAsItWas S.Store conn.old conn.new }
     ensures reads { Reads S.Store conn.old conn.new result (λ c all. map numbered_in all.items ≡ finite.keys c.pieces) }
     ensures cause { FailsAlone S.Store conn.old conn.new result }
-    ensures stands { HasTable S.Store conn.new piece }
+    ensures exists { HasTable S.Store conn.new piece }
 {
     reading::select(
         alloc,
@@ -38,11 +38,11 @@ pub fn keys<S: Alter>(alloc: Global, conn: &mut Connection<S>) -> Result<Vec<Pie
 /// All pieces with their bytes, in the order of their bases and then of their numbers.
 pub fn all<S: Alter>(alloc: Global, conn: &mut Connection<S>) -> Result<Vec<Piece>, Failure>
     requires frame { MayRead S.Store conn.old }
-    requires stands { HasTable S.Store conn.old piece }
+    requires exists { HasTable S.Store conn.old piece }
     ensures frame { LeftAsItWas S.Store conn.old conn.new }
     ensures reads { Reads S.Store conn.old conn.new result (λ c all. map piece_in all.items ≡ finite.entries c.pieces) }
     ensures cause { FailsAlone S.Store conn.old conn.new result }
-    ensures stands { HasTable S.Store conn.new piece }
+    ensures exists { HasTable S.Store conn.new piece }
 {
     reading::select(
         alloc,
@@ -59,12 +59,12 @@ pub fn of<S: Alter>(
     base: &str,
 ) -> Result<Vec<Piece>, Failure>
     requires frame { MayRead S.Store conn.old }
-    requires stands { HasTable S.Store conn.old piece }
+    requires exists { HasTable S.Store conn.old piece }
     ensures frame { LeftAsItWas S.Store conn.old conn.new }
     ensures reads { Reads S.Store conn.old conn.new result (λ c all. map piece_in all.items
         ≡ finite.entries (finite.retain_keys c.pieces (λ k. eq_by_cmp texts_cmp k.0 base.now))) }
     ensures cause { FailsAlone S.Store conn.old conn.new result }
-    ensures stands { HasTable S.Store conn.new piece }
+    ensures exists { HasTable S.Store conn.new piece }
 {
     reading::select(
         alloc,
@@ -83,7 +83,7 @@ pub fn insert<S: Alter>(
     bytes: &[u8],
 ) -> Result<(), Failure>
     requires under { IsInside S.Store tx.old.conn }
-    requires stands { HasTable S.Store tx.old.conn.now piece }
+    requires exists { HasTable S.Store tx.old.conn.now piece }
     ensures frame { StaysInside S.Store tx.old.conn tx.new.conn result }
     ensures done { Makes S.Store tx.old.conn tx.new.conn result
         (λ c. record c { pieces = finite.insert c.pieces (base.now, (pos number)) bytes.now }) }
@@ -104,7 +104,7 @@ pub fn insert<S: Alter>(
 /// Removes the pieces of this base.
 pub fn delete_of<S: Alter>(tx: &mut Transaction<'_, S>, base: &str) -> Result<(), Failure>
     requires under { IsInside S.Store tx.old.conn }
-    requires stands { HasTable S.Store tx.old.conn.now piece }
+    requires exists { HasTable S.Store tx.old.conn.now piece }
     ensures frame { StaysInside S.Store tx.old.conn tx.new.conn result }
     ensures done { Makes S.Store tx.old.conn tx.new.conn result
         (λ c. record c { pieces = finite.retain_keys c.pieces (λ k. not (eq_by_cmp texts_cmp k.0 base.now)) }) }

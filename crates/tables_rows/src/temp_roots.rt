@@ -21,12 +21,12 @@ pub use tables_sql::temp_roots::TempRoot;
 /// All temporary roots, in order.
 pub fn all<S: Alter>(alloc: Global, conn: &mut Connection<S>) -> Result<Vec<TempRoot>, Failure>
     requires frame { MayRead S.Store conn.old }
-    requires stands { HasTable S.Store conn.old temp_root }
+    requires exists { HasTable S.Store conn.old temp_root }
     ensures frame { LeftAsItWas S.Store conn.old conn.new }
     ensures reads { Reads S.Store conn.old conn.new result
         (λ c all. map temp_root_of all.items ≡ finite.entries c.temp_roots) }
     ensures cause { FailsAlone S.Store conn.old conn.new result }
-    ensures stands { HasTable S.Store conn.new temp_root }
+    ensures exists { HasTable S.Store conn.new temp_root }
 {
     reading::select(
         alloc,
@@ -44,13 +44,13 @@ pub fn of<S: Alter>(
     session: u32,
 ) -> Result<Vec<TempRoot>, Failure>
     requires frame { MayRead S.Store conn.old }
-    requires stands { HasTable S.Store conn.old temp_root }
+    requires exists { HasTable S.Store conn.old temp_root }
     ensures frame { LeftAsItWas S.Store conn.old conn.new }
     ensures reads { Reads S.Store conn.old conn.new result (λ c all. map temp_root_of all.items
         ≡ finite.entries (finite.retain_keys c.temp_roots
         (λ k. eq_by_cmp texts_cmp k.0 owner.now && eq_by_cmp int_cmp k.1 (pos session)))) }
     ensures cause { FailsAlone S.Store conn.old conn.new result }
-    ensures stands { HasTable S.Store conn.new temp_root }
+    ensures exists { HasTable S.Store conn.new temp_root }
 {
     reading::select(
         alloc,
@@ -69,7 +69,7 @@ pub fn insert<S: Alter>(
     target: &str,
 ) -> Result<(), Failure>
     requires under { IsInside S.Store tx.old.conn }
-    requires stands { HasTable S.Store tx.old.conn.now temp_root }
+    requires exists { HasTable S.Store tx.old.conn.now temp_root }
     ensures frame { StaysInside S.Store tx.old.conn tx.new.conn result }
     ensures done { Makes S.Store tx.old.conn tx.new.conn result
         (λ c. record c { temp_roots = finite.insert c.temp_roots (owner.now, (pos session), target.now) tt }) }
@@ -96,7 +96,7 @@ pub fn delete_of<S: Alter>(
     session: u32,
 ) -> Result<(), Failure>
     requires under { IsInside S.Store tx.old.conn }
-    requires stands { HasTable S.Store tx.old.conn.now temp_root }
+    requires exists { HasTable S.Store tx.old.conn.now temp_root }
     ensures frame { StaysInside S.Store tx.old.conn tx.new.conn result }
     ensures done { Makes S.Store tx.old.conn tx.new.conn result
         (λ c. record c {
@@ -120,7 +120,7 @@ pub fn delete<S: Alter>(
     target: &str,
 ) -> Result<(), Failure>
     requires under { IsInside S.Store tx.old.conn }
-    requires stands { HasTable S.Store tx.old.conn.now temp_root }
+    requires exists { HasTable S.Store tx.old.conn.now temp_root }
     ensures frame { StaysInside S.Store tx.old.conn tx.new.conn result }
     ensures done { Makes S.Store tx.old.conn tx.new.conn result
         (λ c. record c {

@@ -5,7 +5,7 @@ ghost use Rattle.tables_schema.specs.Intact.{IsIntact};
 ghost use Rattle.tables_schema.specs.Forms.{piece, temp_root};
 
 use crate::form::Expected;
-use crate::intact::stands;
+use crate::intact::exists;
 use sqlite_schema::schema::{Kind, Schema};
 
 const PIECE: [Expected<'static>; 3] = [
@@ -47,11 +47,11 @@ const TEMP_ROOT: [Expected<'static>; 3] = [
 pub(crate) fn piece_is_intact(schema: &Schema) -> bool
     ensures { IsTrue result ↔ IsIntact schema.now piece }
 {
-    stands(schema, b"piece", &PIECE, &[1, 2])
+    exists(schema, b"piece", &PIECE, &[1, 2])
 }
 
 pub(crate) fn temp_root_is_intact(schema: &Schema) -> bool
     ensures { IsTrue result ↔ IsIntact schema.now temp_root }
 {
-    stands(schema, b"temp_root", &TEMP_ROOT, &[1, 2, 3])
+    exists(schema, b"temp_root", &TEMP_ROOT, &[1, 2, 3])
 }

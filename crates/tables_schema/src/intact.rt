@@ -152,7 +152,7 @@ fn is_this(
 }
 
 /// Whether the first table of the name is of this form, and nothing else acts on it.
-pub(crate) fn stands(schema: &Schema, name: &[u8], columns: &[Expected<'_>], key: &[usize]) -> bool
+pub(crate) fn exists(schema: &Schema, name: &[u8], columns: &[Expected<'_>], key: &[usize]) -> bool
     ensures { IsTrue result ↔ IsIntact schema.now (strict name.now (map expected_column columns.now) key.now) }
 {
     match schema.table_named(name) {

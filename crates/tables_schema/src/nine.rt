@@ -5,7 +5,7 @@ ghost use Rattle.tables_schema.specs.Intact.{IsIntact};
 ghost use Rattle.tables_schema.specs.Forms.{meta, object, refs, outs, permanent, user_root, profile, generation, runtime};
 
 use crate::form::Expected;
-use crate::intact::stands;
+use crate::intact::exists;
 use sqlite_schema::schema::{Kind, Schema};
 
 const META: [Expected<'static>; 2] = [
@@ -168,53 +168,53 @@ const RUNTIME: [Expected<'static>; 2] = [
 pub(crate) fn meta_is_intact(schema: &Schema) -> bool
     ensures { IsTrue result ↔ IsIntact schema.now meta }
 {
-    stands(schema, b"meta", &META, &[1])
+    exists(schema, b"meta", &META, &[1])
 }
 
 pub(crate) fn object_is_intact(schema: &Schema) -> bool
     ensures { IsTrue result ↔ IsIntact schema.now object }
 {
-    stands(schema, b"object", &OBJECT, &[1])
+    exists(schema, b"object", &OBJECT, &[1])
 }
 
 pub(crate) fn refs_is_intact(schema: &Schema) -> bool
     ensures { IsTrue result ↔ IsIntact schema.now refs }
 {
-    stands(schema, b"refs", &REFS, &[1, 2])
+    exists(schema, b"refs", &REFS, &[1, 2])
 }
 
 pub(crate) fn outs_is_intact(schema: &Schema) -> bool
     ensures { IsTrue result ↔ IsIntact schema.now outs }
 {
-    stands(schema, b"outs", &OUTS, &[1, 2])
+    exists(schema, b"outs", &OUTS, &[1, 2])
 }
 
 pub(crate) fn permanent_is_intact(schema: &Schema) -> bool
     ensures { IsTrue result ↔ IsIntact schema.now permanent }
 {
-    stands(schema, b"permanent", &PERMANENT, &[1])
+    exists(schema, b"permanent", &PERMANENT, &[1])
 }
 
 pub(crate) fn user_root_is_intact(schema: &Schema) -> bool
     ensures { IsTrue result ↔ IsIntact schema.now user_root }
 {
-    stands(schema, b"user_root", &USER_ROOT, &[1, 2])
+    exists(schema, b"user_root", &USER_ROOT, &[1, 2])
 }
 
 pub(crate) fn profile_is_intact(schema: &Schema) -> bool
     ensures { IsTrue result ↔ IsIntact schema.now profile }
 {
-    stands(schema, b"profile", &PROFILE, &[1, 2])
+    exists(schema, b"profile", &PROFILE, &[1, 2])
 }
 
 pub(crate) fn generation_is_intact(schema: &Schema) -> bool
     ensures { IsTrue result ↔ IsIntact schema.now generation }
 {
-    stands(schema, b"generation", &GENERATION, &[1, 2, 3])
+    exists(schema, b"generation", &GENERATION, &[1, 2, 3])
 }
 
 pub(crate) fn runtime_is_intact(schema: &Schema) -> bool
     ensures { IsTrue result ↔ IsIntact schema.now runtime }
 {
-    stands(schema, b"runtime", &RUNTIME, &[1, 2])
+    exists(schema, b"runtime", &RUNTIME, &[1, 2])
 }

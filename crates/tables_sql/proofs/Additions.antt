@@ -58,7 +58,7 @@ unfit false h = refl
 abbrev pub IsNewKey : List ℕ → List ℕ → Database → Row → Type 0
 IsNewKey name key db values = (r : Row) → Has (rows_named db name) r → agree plain key r key (Int (next_rowid (rows_named db name)) ∷ values) ≡ true → ⊥
 
-module _ (name : List ℕ) (columns : List Column) (key : List ℕ) (db : Database) (sound : IsDatabase db) (stands : IsIntact db.schema (strict name columns key)) where
+module _ (name : List ℕ) (columns : List Column) (key : List ℕ) (db : Database) (sound : IsDatabase db) (exists : IsIntact db.schema (strict name columns key)) where
   abbrev tree : ℕ
   tree = tree_named db.schema name
 
@@ -84,7 +84,7 @@ module _ (name : List ℕ) (columns : List Column) (key : List ℕ) (db : Databa
     refused_by (Violates Datatype) h = absurd (not_both _ (rw typed refl) h)
     refused_by (Violates NotNull) h = absurd (not_both _ present h)
     refused_by (Violates PrimaryKey) h = (refl, inl (inr (not_free _ h)))
-    refused_by (Violates Unique) h = elim free [ inl fresh ↦ absurd (h (unique_put db.schema db.trees tree key stands.unguarded row refl fresh (sound.obeys.rules Unique))) | inr taken ↦ (refl, inr taken) ]
+    refused_by (Violates Unique) h = elim free [ inl fresh ↦ absurd (h (unique_put db.schema db.trees tree key exists.unguarded row refl fresh (sound.obeys.rules Unique))) | inr loaded ↦ (refl, inr loaded) ]
     refused_by (Violates ForeignKey) h = absurd h
     refused_by NoRowid h = (refl, inl (inl (unfit _ h)))
     refused_by TooDeep h = absurd h
@@ -110,8 +110,8 @@ module _ (name : List ℕ) (columns : List Column) (key : List ℕ) (db : Databa
       refers_grown : (next : Trees) → Edited db.schema Enforced db.trees addition (Ok next) → Refers All db.schema next
       refers_grown next h =
           let a = one_step db.schema Enforced db.trees next addition (works_of_none db.schema Enforced 0 tree (row ∷ [])) h in
-          refers_still db.schema tree stands.unreferred db.trees next (λ t listed other. all_has _ db.schema.tables t a.tables listed other)
-          (λ t r listed same there. inr (ap (λ (u : Table). u.references) (only_ours db (strict name columns key) sound stands t listed same))) (sound.obeys.rules ForeignKey)
+          refers_still db.schema tree exists.unreferred db.trees next (λ t listed other. all_has _ db.schema.tables t a.tables listed other)
+          (λ t r listed same there. inr (ap (λ (u : Table). u.references) (only_ours db (strict name columns key) sound exists t listed same))) (sound.obeys.rules ForeignKey)
 
       module _ (params : Row) (terms : List Term) (width : ℕ) (accepts : accepts_terms terms (stamped own params) ≡ true)
           (made : numbered Chosen rows (map (λ s. cast_row own (drop 0 s)) (value_rows (stamped own params) width (length terms / width) terms)) ≡ row ∷ []) where
@@ -139,10 +139,10 @@ module _ (name : List ℕ) (columns : List Column) (key : List ℕ) (db : Databa
             subst (Refers All db.schema) (sym (ap (λ (it : Written). it.trees) (same_value is) ∙ same_value counting)) (refers_grown mid (subst (λ it. Edited db.schema Enforced db.trees it (Ok mid)) (edit_is sources given.1) written))
 
         -- how the command stops
-        pub insert_stops : (st : List ℕ) (stop : Option Error) → Does limit plain_mode params db st None (Insert stands.at (Values terms width)) (Err stop) → MayEnd stop
-        insert_stops st stop h = go (at_place _ (slice_get db.schema.tables stands.at) own (Err stop) stands.known.named.1 h)
+        pub insert_stops : (st : List ℕ) (stop : Option Error) → Does limit plain_mode params db st None (Insert exists.at (Values terms width)) (Err stop) → MayEnd stop
+        insert_stops st stop h = go (at_place _ (slice_get db.schema.tables exists.at) own (Err stop) exists.known.named.1 h)
           where
-            go : OnRows task plain_mode None (Insert stands.at (Values terms width)) db.trees (Err stop) → MayEnd stop
+            go : OnRows task plain_mode None (Insert exists.at (Values terms width)) db.trees (Err stop) → MayEnd stop
             go (inl (other, h, is)) = stops_at MayEnd stop other is (adds other h)
             go (inr (w, h, ended)) = absurd (concluded db.schema limit own params w (grown w h) stop ended)
 
@@ -159,4 +159,4 @@ module _ (name : List ℕ) (columns : List Column) (key : List ℕ) (old new : S
         → (e : Error) → ExecutesInside 0 text params old new (Err e) → FailsWith old new (OrShut old (IsTooLarge old.now table values)) (IsSome old.step_limit ⊎ (HasNoRowidLeft old.now table ⊎ Taken)) (failure_of e)
     insert_fails Taken free e h =
         our_write_fails name columns key old new standing text count params _ (λ at tree. refl) given is (IsTooLarge old.now table values) (IsSome old.step_limit ⊎ (HasNoRowidLeft old.now table ⊎ Taken))
-        (λ up stands. insert_stops name columns key old.now (under.ours up).sound stands values typed (present _) Taken (free up) old.step_limit params terms width accepts (made _)) e h
+        (λ up exists. insert_stops name columns key old.now (under.ours up).sound exists values typed (present _) Taken (free up) old.step_limit params terms width accepts (made _)) e h

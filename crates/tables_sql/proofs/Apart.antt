@@ -30,18 +30,18 @@ AreApart rows = IsDistinct tie (map rowid rows)
 -- ---- rows of one rowid are one
 
 lacks : (v : Value) (rows : List Row) (b : Row) → Lack v rows → Has rows b → tie v (rowid b) ≡ false
-lacks v [] b h there = absurd there
+lacks v [] b h present = absurd present
 lacks v (r ∷ rows) b h (inl is) = ap (λ (x : Row). tie v (rowid x)) is ∙ h.0
-lacks v (r ∷ rows) b h (inr there) = lacks v rows b h.1 there
+lacks v (r ∷ rows) b h (inr present) = lacks v rows b h.1 present
 
 pub once : (rows : List Row) → AreApart rows → (a b : Row) → Has rows a → Has rows b → tie (rowid a) (rowid b) ≡ true → a ≡ b
 unfolding IsDistinct
 once [] d a b h g e = absurd h
 once (r ∷ rows) d a b (inl is) (inl same) e = is ∙ sym same
-once (r ∷ rows) d a b (inl is) (inr there) e = absurd (let no = sym (lacks (rowid r) rows b d.0 there) ∙ ap (λ (x : Row). tie (rowid x) (rowid b)) (sym is) ∙ e in cc)
-once (r ∷ rows) d a b (inr there) (inl same) e =
-    absurd (let no = sym (lacks (rowid r) rows a d.0 there) ∙ turned (rowid r) (rowid a) ∙ ap (λ (x : Row). tie (rowid a) (rowid x)) (sym same) ∙ e in cc)
-once (r ∷ rows) d a b (inr here) (inr there) e = once rows d.1 a b here there e
+once (r ∷ rows) d a b (inl is) (inr present) e = absurd (let no = sym (lacks (rowid r) rows b d.0 present) ∙ ap (λ (x : Row). tie (rowid x) (rowid b)) (sym is) ∙ e in cc)
+once (r ∷ rows) d a b (inr present) (inl same) e =
+    absurd (let no = sym (lacks (rowid r) rows a d.0 present) ∙ turned (rowid r) (rowid a) ∙ ap (λ (x : Row). tie (rowid a) (rowid x)) (sym same) ∙ e in cc)
+once (r ∷ rows) d a b (inr here) (inr present) e = once rows d.1 a b here present e
 
 -- ---- a new row
 

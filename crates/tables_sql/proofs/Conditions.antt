@@ -146,20 +146,20 @@ converted_so affinity.Blob h at j = refl
 converted_so affinity.None h at j = refl
 
 firm_at : (ks : List Column) (at : ℕ) (k : Column) → are_firm ks ≡ true → slice_get ks at ≡ Some k → is_firm (of_declared k) ≡ true
-firm_at ks at k h there = all-slice_get (λ k. is_firm (of_declared k) ≡ true) ks at k there (each ks h)
+firm_at ks at k h present = all-slice_get (λ k. is_firm (of_declared k) ≡ true) ks at k present (each ks h)
   where
     each : (ks : List Column) → are_firm ks ≡ true → AllByRecursion (λ k. is_firm (of_declared k) ≡ true) ks
     each [] h = tt
     each (k ∷ ks) h = let b = and_so _ _ h in (b.0, each ks b.1)
 
 module _ (name : Name) (columns : List Column) (key : List ℕ) (firm : are_firm columns ≡ true)
-    (s : Schema) (at tree : ℕ) (there : slice_get s.tables at ≡ Some (record (strict name columns key) { tree = tree })) (results : List Output) where
+    (s : Schema) (at tree : ℕ) (present : slice_get s.tables at ≡ Some (record (strict name columns key) { tree = tree })) (results : List Output) where
   abbrev cx : Context
   cx = context name columns key s at results false
 
   affinity_is : (c : Place) (is : IsColumn name columns key c) → affinity_of cx (col 1 (c.1 + 1)) ≡ of_declared is.1.0
   unfolding affinity_of of_column
-  affinity_is c is = rw (add-one c.1, there, is.1.1)
+  affinity_is c is = rw (add-one c.1, present, is.1.1)
 
   no_affinity : (j : ℕ) → affinity_of cx (col 0 j) ≡ affinity.None
   unfolding affinity_of of_column
@@ -175,7 +175,7 @@ module _ (name : Name) (columns : List Column) (key : List ℕ) (firm : are_firm
   one_so n c is j last budget enough =
       let b = and_so _ _ enough in
       let d = and_so _ _ b.1 in
-      let lowered = lower_to_column n cx (expr.Column None c.0) c.0 at c.1 (col 1 (c.1 + 1)) (Some Binary) None (budget - 1) refl (found name columns key s at tree there results false c is) (column name columns key s at tree there c is) d.0 in
+      let lowered = lower_to_column n cx (expr.Column None c.0) c.0 at c.1 (col 1 (c.1 + 1)) (Some Binary) None (budget - 1) refl (found name columns key s at tree present results false c is) (column name columns key s at tree present c is) d.0 in
       equal_is (suc n) cx (compares c j) (expr.Column None c.0) (expr.Parameter j) (col 1 (c.1 + 1)) (col 0 (j - 1)) (test_of c j) (Some Binary) None last budget (budget - 1 - 1) (budget - 1 - 1 - 1) refl b.0
       lowered (parameter_is n cx (expr.Parameter j) j (Some Binary) (budget - 1 - 1) refl d.1) (compared_so c is (j - 1))
 

@@ -14,16 +14,16 @@ use Rattle.tables_sql.proofs.Places.{own_rows, others_kept, if_any_kept}
 
 -- ---- each of the nine has the rows that it had, but the one that was written
 
-module _ (old new : State) (has : HasTables old.now.schema) (rows : List Row) (a : Table) (stands : IsIntact old.now.schema a) (sets : SetsRows old new (tree_named old.now.schema a.name) rows) where
+module _ (old new : State) (has : HasTables old.now.schema) (rows : List Row) (a : Table) (exists : IsIntact old.now.schema a) (sets : SetsRows old new (tree_named old.now.schema a.name) rows) where
   abbrev after : Table → List Row
   after t = if bytes_eq t.name a.name then rows else rows_named old.now t.name
 
   has_after : (t : Table) → IsIntact old.now.schema t → rows_named new.now t.name ≡ after t
-  has_after t there = go (bytes_eq t.name a.name) refl
+  has_after t present = go (bytes_eq t.name a.name) refl
     where
       go : (b : Bool) → bytes_eq t.name a.name ≡ b → rows_named new.now t.name ≡ (if b then rows else rows_named old.now t.name)
-      go true is = ap (rows_named new.now) ((bytes_eq-Decides t.name a.name).0 is) ∙ own_rows a old new rows stands sets
-      go false is = others_kept a old new rows stands sets t there is
+      go true is = ap (rows_named new.now) ((bytes_eq-Decides t.name a.name).0 is) ∙ own_rows a old new rows exists sets
+      go false is = others_kept a old new rows exists sets t present is
 
   -- what our tables hold then, by the rows of the further two
   abbrev pub contents_by : List Row → List Row → Contents
@@ -58,7 +58,7 @@ module _ (old new : State) (has : HasTables old.now.schema) (rows : List Row) (a
 
   -- a write to one of them leaves the further tables
   after_one : same_name a.name piece.name ≡ false → same_name a.name temp_root.name ≡ false → contents_of new.now ≡ contents_by (rows_if_any old.now piece.name) (rows_if_any old.now temp_root.name)
-  after_one pieces temp_roots = after_write _ _ (if_any_kept a old new rows stands sets piece.name pieces) (if_any_kept a old new rows stands sets temp_root.name temp_roots)
+  after_one pieces temp_roots = after_write _ _ (if_any_kept a old new rows exists sets piece.name pieces) (if_any_kept a old new rows exists sets temp_root.name temp_roots)
 
 -- ---- what our tables hold then
 

@@ -75,7 +75,7 @@ pub record Description (K X : Type 0) : Type 1 where
   pub held : (db : Database) → IsIn db.schema → of (contents_of db) ≡ map_of order kind entry (rows_named db name)
   -- it is one of ours
   pub named : is_our_name name ≡ true
-  pub stands : (s : Schema) → IsIn s → IsIntact s (strict name columns key)
+  pub exists : (s : Schema) → IsIn s → IsIntact s (strict name columns key)
   pub keyed : (db : Database) → IsStoreDatabase db → IsOwn db → IsKeyed (rows_named db name)
   pub kept : (db : Database) → IsStoreDatabase db → IsOwn db → AreKept kind (λ r. (entry r).0) (length columns) (rows_named db name)
   -- what our tables hold after a write to it, and that it is still there
@@ -126,11 +126,11 @@ module _ {K X : Type 0} (d : Description K X) (old new : State) (under : IsUnder
   -- its rowid is new, and it comes to the rows that were there
   puts : (count : ℕ) → ExecutesInside 0 text params old new (Ok count) → (is_taken rows row ≡ false) × SetsRows old new (tree_named old.now.schema d.name) (put_row row rows)
   puts count h =
-      let stands = d.stands old.now.schema (in_schema d old new under own h.1.was_open) in
+      let exists = d.exists old.now.schema (in_schema d old new under own h.1.was_open) in
       let tree = tree_named old.now.schema d.name in
       let own : Table = record (form d) { tree = tree } in
-      let m = means_command old.now.schema text _ (a.is old.now.schema stands.at tree stands.known.named) in
-      let it = inserts_in d.name d.columns d.key tree stands.at (length (terms_of d)) (terms_of d) text params old new count under.mode stands.known.named.1 m.0 m.1 h.0 in
+      let m = means_command old.now.schema text _ (a.is old.now.schema exists.at tree exists.known.named) in
+      let it = inserts_in d.name d.columns d.key tree exists.at (length (terms_of d)) (terms_of d) text params old new count under.mode exists.known.named.1 m.0 m.1 h.0 in
       let addition : Edit = record { table = own; gone = []; news = row ∷ [] } in
       let same : edit_of old.now.trees own [] Chosen 0 (value_rows (stamped own params) (length (terms_of d)) (length (terms_of d) / length (terms_of d)) (terms_of d)) ≡ addition = ap (λ (all : List Row). let e : Edit = record { table = own; gone = []; news = all } in e) (a.made rows) in
       let applies : Applies old.now.schema Enforced old.now.trees addition new.now.trees = subst (λ e. Applies old.now.schema Enforced old.now.trees e new.now.trees) same it.0 in
@@ -146,26 +146,26 @@ module _ {K X : Type 0} (d : Description K X) (old new : State) (under : IsUnder
       let ours = under.ours h.1.was_open in
       let mine = own h.1.was_open in
       let here = d.within old.now ours mine in
-      let stands = d.stands old.now.schema here in
+      let exists = d.exists old.now.schema here in
       let it = puts count h in
       let e = a.entry (next_rowid rows) in
       let keyed : IsKeyed rows → IsKeyed (put_row row rows) = keyed_put row rows it.0 refl in
       let readable = put_readable (form d) row rows (tt, texts) in
-      let after : IsStoreDatabase new.now = ours_kept (form d) old new (put_row row rows) stands it.1 ours keyed readable in
-      let once : HasOneRowEach d.total d.same d.kind d.entry (put_row row rows) = subst (HasOneRowEach d.total d.same d.kind d.entry) (own_rows (form d) old new (put_row row rows) stands it.1) (d.kept new.now after (d.still old new (put_row row rows) stands it.1 keyed readable mine)).once in
+      let after : IsStoreDatabase new.now = ours_kept (form d) old new (put_row row rows) exists it.1 ours keyed readable in
+      let once : HasOneRowEach d.total d.same d.kind d.entry (put_row row rows) = subst (HasOneRowEach d.total d.same d.kind d.entry) (own_rows (form d) old new (put_row row rows) exists it.1) (d.kept new.now after (d.still old new (put_row row rows) exists it.1 keyed readable mine)).once in
       let lacks : finite.get (map_of d.order d.kind d.entry rows) (d.entry row).0 ≡ None = was_none d.total d.same d.kind d.entry row rows it.0 (a.kind _) once in
       let more : map_of d.order d.kind d.entry (put_row row rows) ≡ finite.insert (map_of d.order d.kind d.entry rows) k x =
       put_map d.total d.same d.kind d.entry row rows it.0 (a.kind _) lacks ∙ ap (λ (p : K × X). finite.insert (map_of d.order d.kind d.entry rows) p.0 p.1) e in
       let held = d.held old.now here in (
         subst (λ m. finite.get m k ≡ None) (sym held) (subst (λ (p : K × X). finite.get (map_of d.order d.kind d.entry rows) p.0 ≡ None) e lacks),
-        changed (form d) old new (put_row row rows) stands it.1 _ ours keyed readable d.named (d.written old new (put_row row rows) ours.has here it.1 _ (more ∙ ap (λ m. finite.insert m k x) (sym held))),
+        changed (form d) old new (put_row row rows) exists it.1 _ ours keyed readable d.named (d.written old new (put_row row rows) ours.has here it.1 _ (more ∙ ap (λ m. finite.insert m k x) (sym held))),
       )
 
   -- why it isn't added: beside the store, for a limit on steps, for want of a rowid, or since its key is there
   pub adds_not : (e : Error) → ExecutesInside 0 text params old new (Err e)
       → FailsWith old new (IsTooLarge old.now (form d) values ⊎ (old.is_open ≡ false)) (IsSome old.step_limit ⊎ (HasNoRowidLeft old.now (form d) ⊎ IsSome (finite.get (d.of (contents_of old.now)) k))) (failure_of e)
   adds_not e h =
-      insert_fails d.name d.columns d.key old new under (λ up. d.stands old.now.schema (in_schema d old new under own up)) text (length params) params (terms_of d) (length (terms_of d)) values refl (λ s at tree known. a.is s at tree known.named) a.accepts a.made a.typed a.present
+      insert_fails d.name d.columns d.key old new under (λ up. d.exists old.now.schema (in_schema d old new under own up)) text (length params) params (terms_of d) (length (terms_of d)) values refl (λ s at tree known. a.is s at tree known.named) a.accepts a.made a.typed a.present
       (IsSome (finite.get (d.of (contents_of old.now)) k)) (λ up. free (under.ours up) (own up) (finite.get (d.of (contents_of old.now)) k) refl) e h
     where
       free : IsStoreDatabase old.now → d.IsOwn old.now → (o : Option X) → finite.get (d.of (contents_of old.now)) k ≡ o → IsNewKey d.name d.key old.now values ⊎ IsSome (finite.get (d.of (contents_of old.now)) k)
@@ -187,12 +187,12 @@ module _ {K X : Type 0} (d : Description K X) (old new : State) (under : IsUnder
       let ours = under.ours h.1.was_open in
       let mine = own h.1.was_open in
       let here = d.within old.now ours mine in
-      let stands = d.stands old.now.schema here in
-      let it = deletes_part d.name d.columns d.key d.total d.same d.kind d.entry old new (λ _. stands) under text params r.filter test r.said r.is count h (d.keyed old.now ours mine) in
-      changed (form d) old new it.0 stands it.1 _ ours it.2 it.3 d.named (d.written old new it.0 ours.has here it.1 _ (it.4 ∙ ap (λ m. finite.retain_keys m (λ k. not (test k))) (sym (d.held old.now here))))
+      let exists = d.exists old.now.schema here in
+      let it = deletes_part d.name d.columns d.key d.total d.same d.kind d.entry old new (λ _. exists) under text params r.filter test r.said r.is count h (d.keyed old.now ours mine) in
+      changed (form d) old new it.0 exists it.1 _ ours it.2 it.3 d.named (d.written old new it.0 ours.has here it.1 _ (it.4 ∙ ap (λ m. finite.retain_keys m (λ k. not (test k))) (sym (d.held old.now here))))
 
   pub removes_not : (e : Error) → ExecutesInside 0 text params old new (Err e) → FailsWith old new (old.is_open ≡ false) (IsSome old.step_limit) (failure_of e)
-  removes_not e h = delete_fails d.name d.columns d.key old new under (λ up. d.stands old.now.schema (in_schema d old new under own up)) text (length params) params r.filter refl r.is r.accepts e h
+  removes_not e h = delete_fails d.name d.columns d.key old new under (λ up. d.exists old.now.schema (in_schema d old new under own up)) text (length params) params r.filter refl r.is r.accepts e h
 
 -- ---- reading
 
@@ -244,20 +244,20 @@ module _ {K X Y T : Type 0} (d : Description K X) {p : Part d Y} {ShowsItem : Ro
       let ours = (ready is_open).ours in
       let here = d.within old.now ours (own is_open) in
       let read =
-      reads_part d.name d.columns d.key d.total d.same p.has (λ r. made d.order p.of (d.entry r)) old new (λ _. d.stands old.now.schema here) ready text params (names_on q.shown)
+      reads_part d.name d.columns d.key d.total d.same p.has (λ r. made d.order p.of (d.entry r)) old new (λ _. d.exists old.now.schema here) ready text params (names_on q.shown)
       (query_on q.shown q.by s.filter) scan test (λ tree r has. s.said r has) ShowsItem item (q.fits params s.filter) s.is (Ok all) got up in
       let of_rows = part_made d.order p.of d.kind p.has d.entry d.total d.same test (rows_named old.now d.name) (p.alike old.now ours (own is_open)) in
       (read.0, read.1 ∙ of_rows ∙ ap (λ m. map (made d.order p.of) (finite.entries (finite.retain_keys m test))) (sym (d.held old.now here)))
 
   -- why they aren't read
   pub selects_not : (IsTrue old.is_open → d.IsIn old.now.schema) → (e : Error) → FailsToQuery text params old new e → FailsWith old new ⊥ (IsSome old.step_limit) (failure_of e)
-  selects_not here = standing_read_fails d.name d.columns d.key old new (λ up. d.stands old.now.schema (here up)) text params (names_on q.shown) (query_on q.shown q.by s.filter) scan s.is s.reads s.accepts
+  selects_not here = standing_read_fails d.name d.columns d.key old new (λ up. d.exists old.now.schema (here up)) text params (names_on q.shown) (query_on q.shown q.by s.filter) scan s.is s.reads s.accepts
 
   -- what is shown can be read, and rises
   pub never_amiss : (IsTrue old.is_open → IsReady old) → (IsTrue old.is_open → d.IsOwn old.now) → (rows : List Row) → HasBegunWith text params old new rows → ¬ IsAmiss IsLegible ShowsItem (λ x y. is_lt (d.order (item x).0 (item y).0)) rows
   never_amiss ready own rows begun =
       let mine = own begun.1.0.was_open in
-      shown_well d.name d.columns d.key d.same d.kind (λ r. (d.entry r).0) (length d.columns) old new ready (λ _. d.stands old.now.schema (d.within old.now (ready begun.1.0.was_open).ours mine)) (λ ours. d.kept old.now ours mine) text params (names_on q.shown) (query_on q.shown q.by s.filter) scan s.is (q.orders params s.filter)
+      shown_well d.name d.columns d.key d.same d.kind (λ r. (d.entry r).0) (length d.columns) old new ready (λ _. d.exists old.now.schema (d.within old.now (ready begun.1.0.was_open).ours mine)) (λ ours. d.kept old.now ours mine) text params (names_on q.shown) (query_on q.shown q.by s.filter) scan s.is (q.orders params s.filter)
       ShowsItem (λ t. (item t).0) (λ tree row t h. ap (λ e. e.0) (q.fits params s.filter tree row t h).1) IsLegible (q.legible params s.filter) rows begun
 
 -- ---- in other words

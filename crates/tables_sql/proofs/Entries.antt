@@ -46,8 +46,8 @@ module _ {K X T : Type 0} {R : K → K → Ordering} (o : IsTotalOrder R) (same 
       let r = has_mapped entry _ e k.0 in
       let kept = has_filtered kind _ r.0 r.1 in
       let passes = said r.0 kept.1 ∙ subst (λ (x : K × X). test x.0 ≡ true) r.2 k.1 in
-      let there = scan_complete q tree scan db params rows answer r.0 kept.0 passes in
-      let p = zipped_right Shown rows all _ texts there in
+      let present = scan_complete q tree scan db params rows answer r.0 kept.0 passes in
+      let p = zipped_right Shown rows all _ texts present in
       let f = fits r.0 p.0 p.2 in
       subst (Has (map item all)) (sym (r.2 ∙ f.1)) (mapped_has item all p.0 p.1)
 
@@ -86,8 +86,8 @@ left_is [] rows = sym (filter_all (λ _. true) rows (all_of (λ _. true ≡ true
 left_is (i ∷ ids) rows =
     let others = λ (r : Row). not (has_rowid i r) in
     left_is ids (without_rowid i rows)
-    ∙ filter_same (is_spared ids) (is_spared (i ∷ ids)) (filter others rows) (all_from (λ r. is_spared ids r ≡ is_spared (i ∷ ids) r) (filter others rows) (λ r there. rw (has_filtered others rows r there).1 refl))
-    ∙ filter_within (is_spared (i ∷ ids)) others rows (λ r there spared. (and_so _ _ spared).0)
+    ∙ filter_same (is_spared ids) (is_spared (i ∷ ids)) (filter others rows) (all_from (λ r. is_spared ids r ≡ is_spared (i ∷ ids) r) (filter others rows) (λ r present. rw (has_filtered others rows r present).1 refl))
+    ∙ filter_within (is_spared (i ∷ ids)) others rows (λ r present spared. (and_so _ _ spared).0)
 
 module _ (tree : ℕ) (terms : List Term) (db : Trees) (params : Row) (rows : List Row) (answer : IsAnswer (rowids_where tree terms) db params rows) (keyed : IsKeyed (db tree)) where
   abbrev passing : Row → Bool
@@ -101,12 +101,12 @@ module _ (tree : ℕ) (terms : List Term) (db : Trees) (params : Row) (rows : Li
       alike x h = go (is_spared (ids_of rows) x) refl (passing x) refl
         where
           go : (b : Bool) → is_spared (ids_of rows) x ≡ b → (c : Bool) → passing x ≡ c → b ≡ not c
-          go true e true f = let was = gone_from tree terms db params rows answer keyed x (left_has (ids_of rows) (db tree) x h (λ id there. not_so _ (test_has (λ i. not (has_rowid i x)) (ids_of rows) id e there))) in absurd (let g = sym f ∙ was.1 in cc)
+          go true e true f = let was = gone_from tree terms db params rows answer keyed x (left_has (ids_of rows) (db tree) x h (λ id present. not_so _ (test_has (λ i. not (has_rowid i x)) (ids_of rows) id e present))) in absurd (let g = sym f ∙ was.1 in cc)
           go true e false f = refl
           go false e true f = refl
           go false e false f =
-              let there = left_from (ids_of rows) (db tree) x (spared tree terms db params rows answer keyed x h f) in
-              absurd (let g = sym e ∙ test_from (λ i. not (has_rowid i x)) (ids_of rows) (λ id known. ap not (there.1 id known)) in cc)
+              let present = left_from (ids_of rows) (db tree) x (spared tree terms db params rows answer keyed x h f) in
+              absurd (let g = sym e ∙ test_from (λ i. not (has_rowid i x)) (ids_of rows) (λ id known. ap not (present.1 id known)) in cc)
 
 -- a filter of the rows of one kind by what their keys say
 filtered : {K X : Type 0} (kind p : Row → Bool) (entry : Row → K × X) (keep : K → Bool) (rows : List Row) → ((r : Row) → kind r ≡ true → p r ≡ keep (entry r).0)

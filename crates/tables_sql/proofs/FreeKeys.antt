@@ -62,5 +62,5 @@ agreed_three p q w id more r like h =
 module _ {K X : Type 0} {R : K → K → Ordering} (o : IsTotalOrder R) (same : finite.IsAntisymmetric R) (kind : Row → Bool) (entry : Row → K × X) (rows : List Row) (k : K) (none : finite.get (map_of R kind entry rows) k ≡ None) where
   pub lacks : (r : Row) → Has rows r → kind r ≡ true → (entry r).0 ≡ k → ⊥
   unfolding map_of
-  lacks r there is e =
-      tied_some o same k (entry r).0 (map entry (filter kind rows)) (entry r).1 (mapped_has entry (filter kind rows) r (has_kept kind rows r there is)) (ap (λ l. R k l) e ∙ tied_itself o k) (sym (finite.get-from_entries o (map entry (filter kind rows)) k) ∙ none)
+  lacks r present is e =
+      tied_some o same k (entry r).0 (map entry (filter kind rows)) (entry r).1 (mapped_has entry (filter kind rows) r (has_kept kind rows r present is)) (ap (λ l. R k l) e ∙ tied_itself o k) (sym (finite.get-from_entries o (map entry (filter kind rows)) k) ∙ none)

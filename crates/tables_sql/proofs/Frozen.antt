@@ -36,7 +36,7 @@ frozen_of old trees sound keeps =
     let list = listed_of old trees sound keeps in
     record {
       rows = λ tree is. keeps tree is.unshown;
-      texts = λ row there foreign. subst (λ rows. Has rows row) (sym list) there;
+      texts = λ row present foreign. subst (λ rows. Has rows row) (sym list) present;
       version = keeps version_tree (high old sound version_tree (omega arith));
     }
 
@@ -49,7 +49,7 @@ some_found {X} p (y ∷ xs) x h is none = go (p y) refl none h (some_found p xs 
     go : (b : Bool) → p y ≡ b → ◌≡◌ {A = Option X} (cond b (Some y) (find p xs)) None → Has (y ∷ xs) x → (Has xs x → p x ≡ true → find p xs ≡ None → ⊥) → ⊥
     go true same e k later = absurd (let f = e in cc)
     go false same e (inl one) later = absurd (let f = sym is ∙ ap p one ∙ same in cc)
-    go false same e (inr there) later = later there is e
+    go false same e (inr present) later = later present is e
 
 aside_code : (row : Row) (w : Stored) (kind owner : List ℕ) (code : ℕ) (foreign : Option (List ℕ)) → IsSome foreign → w.binds ≡ false → IsAside row w kind owner code foreign → 4 ≤ code % 8
 aside_code row w kind owner code None some free h = absurd (let f = some in cc)
@@ -61,7 +61,7 @@ aside_code row w kind owner code (Some table) some free h = elim h.2 [
 
 listed_code : (db : Database) → IsDatabase db → (tree : ℕ) → IsFrozen db.schema tree → (o : Option Row) → find (has_rowid (pos (tree + 1))) (db.trees catalog_tree) ≡ o → 4 ≤ number_in (column (unwrap_or o []) 5) % 8
 listed_code db sound tree is None e =
-    let r = zipped_left IsViewRow _ db.schema.views is.object sound.lists.listed.views is.stands in
+    let r = zipped_left IsViewRow _ db.schema.views is.object sound.lists.listed.views is.exists in
     let own = has_own_rowid r.0 (tree + 1) (r.2.described.id ∙ ap (λ n. Int (pos (n + 1))) is.its) in
     absurd (some_found (has_rowid (pos (tree + 1))) (db.trees catalog_tree) r.0 (has_filtered is_view_row (db.trees catalog_tree) r.0 r.1).0 own e)
 listed_code db sound tree is (Some row) e =
@@ -82,7 +82,7 @@ listed_code db sound tree is (Some row) e =
     ]
 
 low : (db : Database) → IsDatabase db → (tree : ℕ) → IsFrozen db.schema tree → tree < 65536
-low db sound tree is = let r = zipped_left IsViewRow _ db.schema.views is.object sound.lists.listed.views is.stands in omega (arith, r.2.described.low, is.its)
+low db sound tree is = let r = zipped_left IsViewRow _ db.schema.views is.object sound.lists.listed.views is.exists in omega (arith, r.2.described.low, is.its)
 
 -- what one statement spares
 pub spared : (old new : Database) → IsDatabase old → SparesFrozen old new → KeepsFrozen old new.trees
@@ -99,7 +99,7 @@ spared old new sound h = record {
 pub frozen_both : (a b : Database) (trees : Trees) → ((tree : ℕ) → IsFrozen a.schema tree → IsFrozen b.schema tree) → KeepsFrozen a b.trees → KeepsFrozen b trees → KeepsFrozen a trees
 frozen_both a b trees still h k = record {
   rows = λ tree is. k.rows tree (still tree is) ∙ h.rows tree is;
-  texts = λ row there foreign. k.texts row (h.texts row there foreign) foreign;
+  texts = λ row present foreign. k.texts row (h.texts row present foreign) foreign;
   version = k.version ∙ h.version;
 }
 

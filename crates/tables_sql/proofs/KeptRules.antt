@@ -41,9 +41,9 @@ more_clash o places some all row are h = let c = some_has _ some h in some_from 
 
 -- rows that go leave no two of one key
 pub unique_fewer : (s : Schema) (old new : Trees) → ((t : Table) (r : Row) → Has s.tables t → Has (new t.tree) r → Has (old t.tree) r) → Keeps Unique s old → Keeps Unique s new
-unique_fewer s old new was keeps = keeps_from Unique s new (λ t row listed there. test_from _ s.indexes (λ i known. not_from_false _ (false_from_ne_true _ (λ both.
+unique_fewer s old new was keeps = keeps_from Unique s new (λ t row listed present. test_from _ s.indexes (λ i known. not_from_false _ (false_from_ne_true _ (λ both.
     let parts = and_parts _ _ both in
-    both_ways _ (not-true _ (test_has _ s.indexes i (keeps_at Unique s old t row keeps listed (was t row listed there)) known))
+    both_ways _ (not-true _ (test_has _ s.indexes i (keeps_at Unique s old t row keeps listed (was t row listed present)) known))
     (and_from _ _ parts.0 (more_clash i.order i.columns (new t.tree) (old t.tree) row (λ r h. was t r listed h) parts.1))))))
 
 -- ---- a table that no foreign key refers to
@@ -68,9 +68,9 @@ module _ (s : Schema) (tree : ℕ) (unreferred : is_unreferred s tree ≡ true) 
   -- where the other tables are as they were, each row that was there still has its parents
   pub refers_still : (old new : Trees) → ((t : Table) → Has s.tables t → t.tree ≢ tree → new t.tree ≡ old t.tree)
       → ((t : Table) (r : Row) → Has s.tables t → t.tree ≡ tree → Has (new t.tree) r → Has (old t.tree) r ⊎ (t.references ≡ [])) → Refers All s old → Refers All s new
-  refers_still old new others own refers = refers_from All s new (λ t ref row listed known is there. elim (cases_eq t.tree tree) [
-    | inl same ↦ elim (own t row listed same there) [ inl was ↦ still t ref row listed known was | inr none ↦ absurd (subst (λ l. Has l ref) none known) ]
-    | inr other ↦ still t ref row listed known (subst (λ l. Has l row) (others t listed other) there)
+  refers_still old new others own refers = refers_from All s new (λ t ref row listed known is present. elim (cases_eq t.tree tree) [
+    | inl same ↦ elim (own t row listed same present) [ inl was ↦ still t ref row listed known was | inr none ↦ absurd (subst (λ l. Has l ref) none known) ]
+    | inr other ↦ still t ref row listed known (subst (λ l. Has l row) (others t listed other) present)
   ])
     where
       held : (ref : Reference) (row : Row) (o : Option ParentKey) → not (points_at s tree ref) ≡ true → parent_key s.tables ref ≡ o → is_held new ref.columns row o ≡ is_held old ref.columns row o
@@ -93,8 +93,8 @@ none_to_fit s own at named unreferred = test_from _ s.tables (λ t listed. test_
 
 -- ---- a table of ours is found by its tree
 
-pub only_ours : (db : Database) (table : Table) → IsDatabase db → (stands : IsIntact db.schema table) → (t : Table) → Has db.schema.tables t → t.tree ≡ tree_named db.schema table.name → t ≡ record table { tree = tree_named db.schema table.name }
-only_ours db table sound stands t listed same =
+pub only_ours : (db : Database) (table : Table) → IsDatabase db → (exists : IsIntact db.schema table) → (t : Table) → Has db.schema.tables t → t.tree ≡ tree_named db.schema table.name → t ≡ record table { tree = tree_named db.schema table.name }
+only_ours db table sound exists t listed same =
     let own : Table = record table { tree = tree_named db.schema table.name } in
-    let named : bytes_eq t.name table.name ≡ true = rw (eq-eqb _ _ same) at (test_has _ db.schema.tables t stands.alone listed) in
-    named_once db.schema.tables t own sound.lists.listed.named listed (has_got db.schema.tables stands.at own stands.known.named.1) ((lowered t.name table.name).1 (ap (map to_ascii_lowercase) ((bytes_eq-Decides _ _).0 named)))
+    let named : bytes_eq t.name table.name ≡ true = rw (eq-eqb _ _ same) at (test_has _ db.schema.tables t exists.alone listed) in
+    named_once db.schema.tables t own sound.lists.listed.named listed (has_got db.schema.tables exists.at own exists.known.named.1) ((lowered t.name table.name).1 (ap (map to_ascii_lowercase) ((bytes_eq-Decides _ _).0 named)))

@@ -17,8 +17,8 @@ module _ {K X : Type 0} {R : K → K → Ordering} (o : IsTotalOrder R) (same : 
   row_of k v h =
       let found = found_has o same k (map entry (filter kind rows)) v (sym (finite.get-from_entries o (map entry (filter kind rows)) k) ∙ h) in
       let r = has_mapped entry (filter kind rows) (found.0, v) found.2 in
-      let there = has_filtered kind rows r.0 r.1 in
-      (r.0, there.0, there.1, sym r.2 ∙ ap (λ l. (l, v)) (sym (same k found.0 found.1)))
+      let present = has_filtered kind rows r.0 r.1 in
+      (r.0, present.0, present.1, sym r.2 ∙ ap (λ l. (l, v)) (sym (same k found.0 found.1)))
 
   -- rows of one key are one
   abbrev pub HasOneRowEach : Type 0
@@ -27,14 +27,14 @@ module _ {K X : Type 0} {R : K → K → Ordering} (o : IsTotalOrder R) (same : 
   -- and where no two rows have one key, each row has its entry there
   pub entry_of : HasOneRowEach → (row : Row) → Has rows row → kind row ≡ true → finite.get (map_of R kind entry rows) (entry row).0 ≡ Some (entry row).1
   unfolding map_of
-  entry_of once row there is = go (find R (entry row).0 (map entry (filter kind rows))) refl
+  entry_of once row present is = go (find R (entry row).0 (map entry (filter kind rows))) refl
     where
       entries : List (K × X)
       entries = map entry (filter kind rows)
 
       go : (a : Option X) → find R (entry row).0 (map entry (filter kind rows)) ≡ a → finite.get (map_of R kind entry rows) (entry row).0 ≡ Some (entry row).1
-      go None a = absurd (tied_some o same (entry row).0 (entry row).0 (map entry (filter kind rows)) (entry row).1 (mapped_has entry (filter kind rows) row (has_kept kind rows row there is)) (tied_itself o (entry row).0) a)
+      go None a = absurd (tied_some o same (entry row).0 (entry row).0 (map entry (filter kind rows)) (entry row).1 (mapped_has entry (filter kind rows) row (has_kept kind rows row present is)) (tied_itself o (entry row).0) a)
       go (Some v) a =
           let r = row_of (entry row).0 v (finite.get-from_entries o (map entry (filter kind rows)) (entry row).0 ∙ a) in
-          let one : r.0 ≡ row = once r.0 row r.1 there r.2 is (ap (λ e. e.0) r.3) in
+          let one : r.0 ≡ row = once r.0 row r.1 present r.2 is (ap (λ e. e.0) r.3) in
           finite.get-from_entries o (map entry (filter kind rows)) (entry row).0 ∙ a ∙ ap Some (sym (ap (λ e. e.1) r.3) ∙ ap (λ x. (entry x).1) one)

@@ -149,7 +149,7 @@ pub matching_is : (cx : Context) (name : Name) (at slot : ℕ) (shown : List Out
     → slice_get cx.schema.tables at ≡ Some table → tests lower (within cx (record { tables = record { name = name; table = at; slot = slot; shared = [] } ∷ []; shown = shown }) false) [] (out-Core core).filter s0 ≡ Ok (filter, s1)
     → matching lower cx (record { tables = record { name = name; table = at; slot = slot; shared = [] } ∷ []; shown = shown }) core s0 ≡ Ok (record { steps = Inner table.tree ∷ []; filter = filter }, s1)
 unfolding matching joins join inner_join shared tests
-matching_is cx name at slot shown core source table filter s0 s1 from not_left on using there tested = rw (from, on, using, there, not_left, tested)
+matching_is cx name at slot shown core source table filter s0 s1 from not_left on using present tested = rw (from, on, using, present, not_left, tested)
 
 -- a column that is no alias
 pub sort_is : (cx : Context) (shown : List Output) (done : List (Term × Key)) (s : Sort) (t : Term) (s0 s1 : State) (c : Collation) → alias_in shown (peeled (out-Sort s).key) ≡ None → is_numeral (peeled (out-Sort s).key) ≡ false → written_on (out-Sort s).key ≡ None → (out-Sort s).nulls_first ≡ None → reads_below 1 t ≡ false

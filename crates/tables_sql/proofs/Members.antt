@@ -36,7 +36,7 @@ pub keyed_put : (new : Row) (rows : List Row) → is_taken rows new ≡ false �
 keyed_put new rows free int keyed = record { ints = ints; apart = apart_put new rows free keyed.apart }
   where
     ints : (a : Row) → Has (put_row new rows) a → IsTrue (is_int (rowid a))
-    ints a h = elim (from_put new rows a h) [ inl is ↦ subst (λ r. IsTrue (is_int (rowid r))) (sym is) int | inr there ↦ keyed.ints a there ]
+    ints a h = elim (from_put new rows a h) [ inl is ↦ subst (λ r. IsTrue (is_int (rowid r))) (sym is) int | inr present ↦ keyed.ints a present ]
 
 -- ---- rows that go
 
@@ -49,12 +49,12 @@ left_from [] rows x h = (h, λ id none. absurd none)
 left_from (i ∷ ids) rows x h =
     let later = left_from ids (without_rowid i rows) x h in
     let here = has_filtered (λ r. not (has_rowid i r)) rows x later.0 in
-    (here.0, λ id is. elim is [ inl same ↦ ap (λ n. has_rowid n x) same ∙ not_so _ here.1 | inr there ↦ later.1 id there ])
+    (here.0, λ id is. elim is [ inl same ↦ ap (λ n. has_rowid n x) same ∙ not_so _ here.1 | inr present ↦ later.1 id present ])
 
 pub left_has : (ids : List ℤ) (rows : List Row) (x : Row) → Has rows x → Spares ids x → Has (without_all rows ids) x
 left_has [] rows x h spares = h
 left_has (i ∷ ids) rows x h spares =
-    left_has ids (without_rowid i rows) x (has_kept (λ r. not (has_rowid i r)) rows x h (ap not (spares i (inl refl)))) (λ id there. spares id (inr there))
+    left_has ids (without_rowid i rows) x (has_kept (λ r. not (has_rowid i r)) rows x h (ap not (spares i (inl refl)))) (λ id present. spares id (inr present))
 
 pub keyed_left : (ids : List ℤ) (rows : List Row) → IsKeyed rows → IsKeyed (without_all rows ids)
 keyed_left ids rows keyed = record { ints = λ a h. keyed.ints a (left_from ids rows a h).0; apart = apart_left ids rows keyed.apart }
@@ -76,18 +76,18 @@ module _ (tree : ℕ) (terms : List Term) (db : Trees) (params : Row) (rows : Li
       (was.0, go (passes x) refl was.0 was.1)
     where
       go : (b : Bool) → passes x ≡ b → Has (db tree) x → Spares (ids_of rows) x → passes x ≡ false
-      go false is there spares = is
-      go true is there spares =
-          let shown = scan_complete (rowids_where tree terms) tree scan db params rows answer x there is in
+      go false is present spares = is
+      go true is present spares =
+          let shown = scan_complete (rowids_where tree terms) tree scan db params rows answer x present is in
           let id = mapped_has (λ (r : Row). id_in (rowid r)) rows _ shown in
-          absurd (let e = sym (has_own x (keyed.ints x there)) ∙ spares (id_in (rowid x)) id in cc)
+          absurd (let e = sym (has_own x (keyed.ints x present)) ∙ spares (id_in (rowid x)) id in cc)
 
   pub spared : (x : Row) → Has (db tree) x → passes x ≡ false → Has (without_all (db tree) (ids_of rows)) x
   spared x h fails = left_has (ids_of rows) (db tree) x h other
     where
       other : Spares (ids_of rows) x
-      other id there =
-          let s = has_mapped (λ (r : Row). id_in (rowid r)) rows id there in
+      other id present =
+          let s = has_mapped (λ (r : Row). id_in (rowid r)) rows id present in
           let r = scan_sound (rowids_where tree terms) tree scan db params rows answer s.0 s.1 in
           let is : id ≡ id_in (rowid r.0) = s.2 ∙ ap (λ (row : Row). id_in (rowid row)) r.3 in
           go r.0 r.1 r.2 is (has_rowid id x) refl

@@ -22,13 +22,13 @@ use Rattle.sqlite_rules.proofs.ListLemmas.{test_has, test_from, some_has, some_f
 use Rattle.sqlite_rules.proofs.KeyLemmas.{agree_back}
 use Rattle.sqlite_rules.proofs.RuleLemmas.{keeps_at, keeps_from}
 use Rattle.tables_schema.specs.Intact.{is_unguarded}
-use Rattle.tables_sql.proofs.Truths.{told}
+use Rattle.tables_sql.proofs.Truths.{reported}
 use Rattle.sqlite_rules.proofs.TableLemmas.{put_has as from_put}
 use Rattle.tables_sql.proofs.KeptRules.{set_here, set_other}
 
 same_rowid : (v : Value) → IsTrue (is_int v) → differ v v ≡ false
 unfolding binary
-same_rowid (Int n) h = told _ ∙ ap is_ne (tied_itself value_cmp_total (Int n))
+same_rowid (Int n) h = reported _ ∙ ap is_ne (tied_itself value_cmp_total (Int n))
 same_rowid v h = cc
 
 -- in no unique index of the tree does this row clash with one of these
@@ -48,12 +48,12 @@ module _ (s : Schema) (db : Trees) (tree : ℕ) (key : List ℕ) (unguarded : is
 
   apart : ((x : Row) → Has (db tree) x → IsFree s tree (db tree) x) → (i : Index) → Has s.indexes i → (i.is_unique && (i.table == tree)) ≡ true → (x : Row) → Has rows x → clashes i.order i.columns rows x ≡ true → ⊥
   unfolding rows
-  apart were i known on x there clash =
+  apart were i known on x present clash =
       let is = of_key i known on in
       let other = some_has (λ y. agree i.order i.columns y i.columns x && differ (rowid y) (rowid x)) rows clash in
       let parts = and_parts (agree i.order i.columns other.0 i.columns x) (differ (rowid other.0) (rowid x)) other.2 in
       let agrees : agree plain key other.0 key x ≡ true = subst (λ ps. agree plain ps other.0 ps x ≡ true) is.1 (subst (λ o. agree o i.columns other.0 i.columns x ≡ true) is.0 parts.0) in
-      elim (from_put row (db tree) x there) [
+      elim (from_put row (db tree) x present) [
         | inl new ↦ elim (from_put row (db tree) other.0 other.1) [
           | inl too ↦ both_ways _ (same_rowid (rowid row) int) (subst (λ r. differ (rowid r) (rowid row) ≡ true) too (subst (λ r. differ (rowid other.0) (rowid r) ≡ true) new parts.1))
           | inr old ↦ fresh other.0 old (subst (λ r. agree plain key other.0 key r ≡ true) new agrees)
@@ -67,13 +67,13 @@ module _ (s : Schema) (db : Trees) (tree : ℕ) (key : List ℕ) (unguarded : is
   -- a row of a new key leaves no two of one key
   pub unique_put : Keeps Unique s db → Keeps Unique s (with_tree db tree (put_row row (db tree)))
   unfolding rows
-  unique_put keeps = keeps_from Unique s (with_tree db tree rows) (λ t x listed there. elim (cases_eq t.tree tree) [
+  unique_put keeps = keeps_from Unique s (with_tree db tree rows) (λ t x listed present. elim (cases_eq t.tree tree) [
     | inl same ↦
         let were : (y : Row) → Has (db tree) y → IsFree s tree (db tree) y = subst (λ n. (y : Row) → Has (db n) y → IsFree s n (db n) y) same (λ y here. keeps_at Unique s db t y keeps listed here) in
         let here = set_here db tree rows t.tree same in
-        let free : IsFree s tree rows x = test_from _ s.indexes (λ i known. not_from_false _ (false_from_ne_true _ (λ both. let parts = and_parts _ _ both in apart were i known parts.0 x (subst (λ l. Has l x) here there) parts.1))) in
+        let free : IsFree s tree rows x = test_from _ s.indexes (λ i known. not_from_false _ (false_from_ne_true _ (λ both. let parts = and_parts _ _ both in apart were i known parts.0 x (subst (λ l. Has l x) here present) parts.1))) in
         subst (λ l. IsFree s t.tree l x) (sym here) (subst (λ n. IsFree s n rows x) (sym same) free)
     | inr other ↦
         let here = set_other db tree rows t.tree other in
-        subst (λ l. IsFree s t.tree l x) (sym here) (keeps_at Unique s db t x keeps listed (subst (λ l. Has l x) here there))
+        subst (λ l. IsFree s t.tree l x) (sym here) (keeps_at Unique s db t x keeps listed (subst (λ l. Has l x) here present))
   ])

@@ -132,6 +132,6 @@ none_of objects base (x ∷ all) read none = absurd (none (omega arith))
 pub last_is : (objects : finite.FinMap texts_cmp Stored) (base : Bytes) (all : Vec Object Global) (rest : List Object) (last : Option Object) → map stored_of all.items ≡ finite.entries (finite.retain_keys objects (λ k. eq_by_cmp texts_cmp k base))
     → all.items ≡ rest ++ option_to_list last → (IsSome last ↔ (0 < vec_len all)) → IsStored objects base last
 last_is objects base all rest (Some x) read is some =
-    let there : Has all.items x = subst (λ l. Has l x) (sym is) (has_right rest (x ∷ []) x (inl refl)) in
-    one_is texts_total texts_antisymmetric objects base (stored_of x).0 (stored_of x).1 (subst (λ l. Has l (stored_of x)) read (mapped_has stored_of all.items x there))
+    let present : Has all.items x = subst (λ l. Has l x) (sym is) (has_right rest (x ∷ []) x (inl refl)) in
+    one_is texts_total texts_antisymmetric objects base (stored_of x).0 (stored_of x).1 (subst (λ l. Has l (stored_of x)) read (mapped_has stored_of all.items x present))
 last_is objects base all rest None read is some = none_of objects base all.items read (λ more. absurd (let e = some.1 (omega (arith, all.ok.0, more)) in cc))

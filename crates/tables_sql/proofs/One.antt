@@ -45,21 +45,21 @@ module _ {K X : Type 0} {R : K → K → Ordering} (o : IsTotalOrder R) (same : 
     alike : (k x : K) → R k x ≡ Equal → own x ≡ own k
     alike k x e = ap own (sym (same k x e))
 
-    taken : (k : K) (v : X) (b : Bool) → own k ≡ b → cond b (finite.get m k) None ≡ Some v → (k ≡ q) × (finite.get m q ≡ Some v)
-    taken k v true is h = let e = same k q (equal _ is) in (e, subst (λ x. finite.get m x ≡ Some v) e h)
-    taken k v false is h = absurd (let e = h in cc)
+    loaded : (k : K) (v : X) (b : Bool) → own k ≡ b → cond b (finite.get m k) None ≡ Some v → (k ≡ q) × (finite.get m q ≡ Some v)
+    loaded k v true is h = let e = same k q (equal _ is) in (e, subst (λ x. finite.get m x ≡ Some v) e h)
+    loaded k v false is h = absurd (let e = h in cc)
 
     -- what is listed is the entry of the key
     pub one_is : (k : K) (v : X) → Has (finite.entries (finite.retain_keys m own)) (k, v) → (k ≡ q) × (finite.get m q ≡ Some v)
     one_is k v h =
         let kept = finite.retain_keys m own in
-        let there : finite.get kept k ≡ Some v = finite.get-entries kept k ∙ found (finite.entries kept) k v (finite.entries_sorted kept) h in
-        taken k v (own k) refl (sym (finite.get-retain_keys m own k (alike k)) ∙ there)
+        let present : finite.get kept k ≡ Some v = finite.get-entries kept k ∙ found (finite.entries kept) k v (finite.entries_sorted kept) h in
+        loaded k v (own k) refl (sym (finite.get-retain_keys m own k (alike k)) ∙ present)
 
     -- and where none is listed, there is none
     pub none_is : [] ≡ finite.entries (finite.retain_keys m own) → finite.get m q ≡ None
     none_is h =
         let kept = finite.retain_keys m own in
-        let there : finite.get kept q ≡ None = finite.get-entries kept q ∙ sym (ap (find R q) h) in
+        let present : finite.get kept q ≡ None = finite.get-entries kept q ∙ sym (ap (find R q) h) in
         let passes : own q ≡ true = (eq_by_cmp_equiv o).refl q in
-        sym (ap (λ b. cond b (finite.get m q) None) passes) ∙ sym (finite.get-retain_keys m own q (alike q)) ∙ there
+        sym (ap (λ b. cond b (finite.get m q) None) passes) ∙ sym (finite.get-retain_keys m own q (alike q)) ∙ present

@@ -26,7 +26,7 @@ abbrev pub one_of_nine : {K X : Type 0} (t : Table) {order : K → K → Orderin
     → ((db : Database) → IsStoreDatabase db → AreKept kind (λ r. (entry r).0) (length t.columns) (rows_named db t.name))
     → ((old new : State) → HasTables old.now.schema → (rows : List Row) → SetsRows old new (tree_named old.now.schema t.name) rows → (m : finite.FinMap order X) → map_of order kind entry rows ≡ m → contents_of new.now ≡ put (contents_of old.now) m)
     → Description K X
-one_of_nine t {order} total same kind entry of put named held stands keyed kept written = record {
+one_of_nine t {order} total same kind entry of put named held exists keyed kept written = record {
   name = t.name;
   columns = t.columns;
   key = t.primary;
@@ -42,9 +42,9 @@ one_of_nine t {order} total same kind entry of put named held stands keyed kept 
   put = put;
   held = held;
   named = named;
-  stands = stands;
+  exists = exists;
   keyed = λ db ours mine. keyed db ours;
   kept = λ db ours mine. kept db ours;
   written = λ old new rows has here sets m is. written old new has rows sets m is;
-  still = λ old new rows stands sets keyed readable mine. tt;
+  still = λ old new rows exists sets keyed readable mine. tt;
 }

@@ -147,18 +147,18 @@ module _ (name : Name) (columns : List Column) (key : List ℕ) where
   abbrev pub context : Schema → ℕ → List Output → Bool → Context
   context s at results grouped = record { schema = s; levels = record { tables = record { name = name; table = at; slot = 1; shared = [] } ∷ []; shown = results } ∷ []; may_aggregate = grouped; may_alias = true }
 
-  module _ (s : Schema) (at tree : ℕ) (there : slice_get s.tables at ≡ Some (record (strict name columns key) { tree = tree })) where
+  module _ (s : Schema) (at tree : ℕ) (present : slice_get s.tables at ≡ Some (record (strict name columns key) { tree = tree })) where
     pub found : (results : List Output) (grouped : Bool) (c : Place) → IsColumn c → found_in (context s at results grouped) None c.0 ≡ Ok (found_as.Column 1 at c.1)
     unfolding found_in in_level only hit column_in is_among
-    found results grouped c is = rw (there, is.0)
+    found results grouped c is = rw (present, is.0)
 
     pub column : (c : Place) → IsColumn c → column_at s 1 at c.1 ≡ Ok (col 1 (c.1 + 1), record { collation = Some Binary; is_written = false })
     unfolding column_at
-    column c is = rw (there, is.1.1, is.1.2)
+    column c is = rw (present, is.1.1, is.1.2)
 
     heads : (c : Place) → IsColumn c → declared s at (Some c.1) ≡ Some c.0
     unfolding declared
-    heads c is = rw (there, is.1.1, is.1.3)
+    heads c is = rw (present, is.1.1, is.1.3)
 
     shows : (results : List Output) (grouped : Bool) (tables : List Bound) (done : List Output) (x : Shown) (c : Place) → IsColumn c → (e : Expr) (text : Name) → out-Shown x ≡ Shown-F.One e None text → out-Expr e ≡ Expr-F.Column None c.0 → (last : Option Collation) (budget : ℕ) → nat_lt 1 budget ≡ true
         → shown lower (context s at results grouped) tables done x (plain_state budget last) ≡ Ok (done ++ shown_column c.0 (c.1 + 1) ∷ [], plain_state (budget - 1) (Some Binary))
@@ -187,10 +187,10 @@ module _ (name : Name) (columns : List Column) (key : List ℕ) where
         let lowered = lower_column cx _ c.0 at c.1 (col 1 (c.1 + 1)) (Some Binary) last budget e.1 (found results false c are.0) (column c are.0) enough.0 in
         rw (sort_is cx results done x (col 1 (c.1 + 1)) (plain_state budget last) (plain_state (budget - 1) (Some Binary)) Binary e.0.0 e.0.1 e.0.2 e.0.3 refl lowered alone_is, e.2, sorts_all results (done ++ key_of c ∷ []) xs cs each.1 are.1 (Some Binary) (budget - 1) enough.1, append_assoc done (key_of c ∷ []) (map key_of cs)) refl
 
-  ordered : (s : Schema) (at tree : ℕ) (there : slice_get s.tables at ≡ Some (record (strict name columns key) { tree = tree })) (outs : List Output) (xs : List Sort) (by : List Place) → AreSorts outs xs by → AllByRecursion IsColumn by → (last : Option Collation) (budget : ℕ) → AreAbove (length by) budget
+  ordered : (s : Schema) (at tree : ℕ) (present : slice_get s.tables at ≡ Some (record (strict name columns key) { tree = tree })) (outs : List Output) (xs : List Sort) (by : List Place) → AreSorts outs xs by → AllByRecursion IsColumn by → (last : Option Collation) (budget : ℕ) → AreAbove (length by) budget
       → sorts lower (context s at outs false) outs xs (plain_state budget last) ≡ Ok (map key_of by, plain_state (spent (length by) budget) (last_of by last))
   unfolding sorts
-  ordered s at tree there outs xs by sorted rise last budget more = sorts_all s at tree there outs [] xs by sorted rise last budget more
+  ordered s at tree present outs xs by sorted rise last budget more = sorts_all s at tree present outs [] xs by sorted rise last budget more
 
   -- a text that shows these results of the table, where they meet a condition, and rises by some columns
   pub selects_by : (text : List ℕ) {count : ℕ} (outs : List Output) (by : List Place) → AllByRecursion IsColumn by → (reads : IsSelect text) {source : Source} → IsOfOne name reads.4 source → AreSorts outs (out-Select reads.4).order by
@@ -203,7 +203,7 @@ module _ (name : Name) (columns : List Column) (key : List ℕ) where
       → Compiles name columns key text count (λ at tree. Select (whole (query_of outs by filter) tree) (map (λ o. o.name) outs))
   unfolding result
   selects_by text outs by rise reads {source} one sorted seen last left budget displayed filter more tested typed ends given s at tree known =
-      let there = known.named.1 in
+      let present = known.named.1 in
       let core = (out-Select reads.4).first in (
         _,
         scan_means text reads.5 s (record { name = name; table = at; slot = 1; shared = [] } ∷ []) outs (record { steps = Inner tree ∷ []; filter = filter }) (map key_of by) (lit (Int (negsuc 0)), lit (Int (pos 0)))
@@ -211,8 +211,8 @@ module _ (name : Name) (columns : List Column) (key : List ℕ) where
             one.6 one.7 (paging_is s reads.4 one.8 one.9) (one.13 s) one.10 one.11 one.12
             (bounds_are s (out-Core core).from one.0 name at one.1 one.2 one.3 known.named.0)
             (displayed s at tree known)
-            (matching_is (outermost s) name at 1 outs core source (record (strict name columns key) { tree = tree }) filter (plain_state left seen) (plain_state budget last) one.0 one.4 one.5 one.3 there (tested s at tree known))
-            (ordered s at tree there outs (out-Select reads.4).order by sorted rise last budget more)
+            (matching_is (outermost s) name at 1 outs core source (record (strict name columns key) { tree = tree }) filter (plain_state left seen) (plain_state budget last) one.0 one.4 one.5 one.3 present (tested s at tree known))
+            (ordered s at tree present outs (out-Select reads.4).order by sorted rise last budget more)
             (typed s at tree known),
         refl,
         refl,

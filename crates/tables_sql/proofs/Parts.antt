@@ -233,11 +233,11 @@ IsTaken d cs text params =
 
 abbrev pub removed : {K X : Type 0} (d : Description K X) (cs : List Place) → AllByRecursion (IsColumn d.name d.columns d.key) cs → are_firm d.columns ≡ true
     → (text : List ℕ) (params : Row) {test : K → Bool} → IsTaken d cs text params → Says d d.kind cs params test → Removal d text params test
-removed d cs are firm text params taken said = record {
+removed d cs are firm text params loaded said = record {
   filter = of_first cs (length params);
-  is = deletes_first d.name d.columns d.key cs are firm (length params) text taken.0 taken.1 (λ s at tree known. (taken.2 s at tree known).0);
+  is = deletes_first d.name d.columns d.key cs are firm (length params) text loaded.0 loaded.1 (λ s at tree known. (loaded.2 s at tree known).0);
   said = said;
-  accepts = λ s at tree known. (taken.2 s at tree known).1;
+  accepts = λ s at tree known. (loaded.2 s at tree known).1;
 }
 
 -- ---- what is put

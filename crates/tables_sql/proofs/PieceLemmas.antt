@@ -39,16 +39,16 @@ table = record {
   entry = piece_of;
   IsIn = λ s. IsIntact s piece;
   IsOwn = λ db. HasFurther db piece;
-  within = λ db ours mine. mine.stands;
+  within = λ db ours mine. mine.exists;
   of = λ c. c.pieces;
   put = λ c m. record c { pieces = m };
   held = pieces_held;
   named = refl;
-  stands = λ s here. here;
+  exists = λ s here. here;
   keyed = λ db ours mine. mine.keyed;
   kept = piece_kept;
   written = λ old new rows has here sets m is. pieces_set old new has rows here sets m is;
-  still = λ old new rows stands sets keyed readable mine. further_kept piece old new rows stands sets keyed readable piece mine;
+  still = λ old new rows exists sets keyed readable mine. further_kept piece old new rows exists sets keyed readable piece mine;
 }
 
 -- ---- one more

@@ -22,7 +22,7 @@ use Rattle.tables_sql.proofs.Truths.{and_so}
 
 -- what holds of a table in the list holds at its place
 list_all_at : (p : Table → Bool) (ts : List Table) (at : ℕ) (t : Table) → slice_get ts at ≡ Some t → list_all p ts ≡ true → p t ≡ true
-list_all_at p ts at t there h = all-slice_get (λ x. p x ≡ true) ts at t there (each ts h)
+list_all_at p ts at t present h = all-slice_get (λ x. p x ≡ true) ts at t present (each ts h)
   where
     each : (xs : List Table) → list_all p xs ≡ true → AllByRecursion (λ x. p x ≡ true) xs
     each [] h = tt
@@ -37,21 +37,21 @@ columns_named s name = unwrap_or (option_map (λ (t : Table). t.columns) (option
 
 -- two tables that stand under one name have the same columns
 own_columns : (s : Schema) (t : Table) → IsIntact s t → columns_named s t.name ≡ t.columns
-own_columns s t stands =
-    ap (λ o. unwrap_or (option_map (λ (x : Table). x.columns) (option_and_then (slice_get s.tables) o)) []) stands.known.named.0
-    ∙ ap (λ o. unwrap_or (option_map (λ (x : Table). x.columns) o) []) stands.known.named.1
+own_columns s t exists =
+    ap (λ o. unwrap_or (option_map (λ (x : Table). x.columns) (option_and_then (slice_get s.tables) o)) []) exists.known.named.0
+    ∙ ap (λ o. unwrap_or (option_map (λ (x : Table). x.columns) o) []) exists.known.named.1
 
 one_form : (s : Schema) (t a : Table) → IsIntact s t → IsIntact s a → t.name ≡ a.name → t.columns ≡ a.columns
 one_form s t a this that is = sym (own_columns s t this) ∙ ap (columns_named s) is ∙ own_columns s a that
 
-module _ (s : Schema) (a : Table) (stands : IsIntact s a) where
+module _ (s : Schema) (a : Table) (exists : IsIntact s a) where
   abbrev tree : ℕ
   tree = tree_named s a.name
 
   -- two of our tables have two trees
   pub apart : (b : Table) → IsIntact s b → bytes_eq b.name a.name ≡ false → tree_named s b.name ≢ tree
   apart b other names e =
-      let alone = list_all_at _ s.tables other.at _ other.known.named.1 stands.alone in
+      let alone = list_all_at _ s.tables other.at _ other.known.named.1 exists.alone in
       absurd (let f = rw (eq-eqb _ _ e, names) at alone in cc)
 
   kept : (p : Table → Type 0) (ts : List Table) → list_all (λ t. not (t.tree == tree) || bytes_eq t.name a.name) ts ≡ true → AllByRecursion (λ t. t.tree ≢ tree → p t) ts → is_our_name a.name ≡ true → AllByRecursion (λ t. is_our_name t.name ≡ false → p t) ts
@@ -68,7 +68,7 @@ module _ (s : Schema) (a : Table) (stands : IsIntact s a) where
   at_tree p b other h = all-slice_get (λ (t : Table). t.tree ≢ tree → p t.tree) s.tables other.at _ other.known.named.1 h
 
 -- after a write to the rows of one of our tables
-module _ (a : Table) (old new : State) (rows : List Row) (stands : IsIntact old.now.schema a) (sets : SetsRows old new (tree_named old.now.schema a.name) rows) where
+module _ (a : Table) (old new : State) (rows : List Row) (exists : IsIntact old.now.schema a) (sets : SetsRows old new (tree_named old.now.schema a.name) rows) where
   pub own_rows : rows_named new.now a.name ≡ rows
   own_rows = ap (λ s. new.now.trees (tree_named s a.name)) sets.schema ∙ sets.rows_are
 
@@ -76,14 +76,14 @@ module _ (a : Table) (old new : State) (rows : List Row) (stands : IsIntact old.
   pub others_kept : (b : Table) → IsIntact old.now.schema b → bytes_eq b.name a.name ≡ false → rows_named new.now b.name ≡ rows_named old.now b.name
   others_kept b other names =
       ap (λ s. new.now.trees (tree_named s b.name)) sets.schema
-      ∙ at_tree old.now.schema a stands (λ tree. new.now.trees tree ≡ old.now.trees tree) b other sets.others (apart old.now.schema a stands b other names)
+      ∙ at_tree old.now.schema a exists (λ tree. new.now.trees tree ≡ old.now.trees tree) b other sets.others (apart old.now.schema a exists b other names)
 
   -- and so has one of another name, if there is one
   pub if_any_kept : (name : List ℕ) → same_name a.name name ≡ false → rows_if_any new.now name ≡ rows_if_any old.now name
   unfolding rows_if_any
   if_any_kept name names =
       ap (λ (s : Schema). unwrap_or (option_map (λ (t : Table). new.now.trees t.tree) (find (λ (t : Table). same_name t.name name) s.tables)) []) sets.schema
-      ∙ walk old.now.schema.tables stands.alone sets.others
+      ∙ walk old.now.schema.tables exists.alone sets.others
     where
       other : (t : Table) → (not (t.tree == tree_named old.now.schema a.name) || bytes_eq t.name a.name) ≡ true → same_name t.name name ≡ true → t.tree ≢ tree_named old.now.schema a.name
       other t alone is e =
@@ -103,7 +103,7 @@ module _ (a : Table) (old new : State) (rows : List Row) (stands : IsIntact old.
 
   -- and so has each of theirs
   pub theirs_kept : is_our_name a.name ≡ true → KeepsTheirs old.now new.now
-  theirs_kept = kept old.now.schema a stands (λ t. new.now.trees t.tree ≡ old.now.trees t.tree) old.now.schema.tables stands.alone sets.others
+  theirs_kept = kept old.now.schema a exists (λ t. new.now.trees t.tree ≡ old.now.trees t.tree) old.now.schema.tables exists.alone sets.others
 
   -- what holds of the columns and the rows of each table of ours holds after the write, where the write keeps it of its own
   after : (P : List Column → List Row → Type 0) → (P a.columns (rows_named old.now a.name) → P a.columns rows) → (ts : List Table) → AllByRecursion (IsIntact old.now.schema) ts → AllByRecursion (λ t. P t.columns (rows_named old.now t.name)) ts → AllByRecursion (λ t. P t.columns (rows_named new.now t.name)) ts
@@ -113,7 +113,7 @@ module _ (a : Table) (old new : State) (rows : List Row) (stands : IsIntact old.
       go : (b : Bool) → bytes_eq t.name a.name ≡ b → P t.columns (rows_named new.now t.name)
       go true e =
           let is : t.name ≡ a.name = bytes_same _ _ e in
-          let same : t.columns ≡ a.columns = one_form old.now.schema t a has.0 stands is in
+          let same : t.columns ≡ a.columns = one_form old.now.schema t a has.0 exists is in
           subst₂ P (sym same) (sym (ap (rows_named new.now) is ∙ own_rows)) (keeps (subst₂ P same (ap (rows_named old.now) is) held.0))
       go false e = subst (P t.columns) (sym (others_kept t has.0 e)) held.0
 
@@ -128,10 +128,10 @@ module _ (a : Table) (old new : State) (rows : List Row) (stands : IsIntact old.
 
   -- a further table that stood stands still
   pub further_kept : (IsKeyed (rows_named old.now a.name) → IsKeyed rows) → (AreReadableRows a (rows_named old.now a.name) → AreReadableRows a rows) → (t : Table) → HasFurther old.now t → HasFurther new.now t
-  further_kept keyed readable t there = record {
-    stands = subst (λ (s : Schema). IsIntact s t) (sym sets.schema) there.stands;
-    keyed = (after (λ columns rs. IsKeyed rs) keyed (t ∷ []) (there.stands, tt) (there.keyed, tt)).0;
-    readable = (after (λ columns rs. (row : Row) (at : ℕ) → Has rs row → at < length columns → IsReadable (column row (at + 1))) readable (t ∷ []) (there.stands, tt) (there.readable, tt)).0;
+  further_kept keyed readable t present = record {
+    exists = subst (λ (s : Schema). IsIntact s t) (sym sets.schema) present.exists;
+    keyed = (after (λ columns rs. IsKeyed rs) keyed (t ∷ []) (present.exists, tt) (present.keyed, tt)).0;
+    readable = (after (λ columns rs. (row : Row) (at : ℕ) → Has rs row → at < length columns → IsReadable (column row (at + 1))) readable (t ∷ []) (present.exists, tt) (present.readable, tt)).0;
   }
 
   -- what the write makes of what our tables hold

@@ -137,10 +137,10 @@ pub standing_read_fails : (name : List ℕ) (columns : List Column) (key : List 
     → ((s : Schema) (at tree : ℕ) → IsKnown s name at (record (strict name columns key) { tree = tree }) → accepts_program s [] (query tree) params ≡ true)
     → (e : Error) → FailsToQuery text params old new e → FailsWith old new ⊥ (IsSome old.step_limit) (failure_of e)
 standing_read_fails name columns key old new at text params names query scan is reads typed =
-    query_fails old new text params names (query tree) (λ same. is old.now.schema (stands same).at tree (stands same).known) reads (λ same. typed old.now.schema (stands same).at tree (stands same).known) (sums_nothing (query tree) tree (scan tree) params)
+    query_fails old new text params names (query tree) (λ same. is old.now.schema (exists same).at tree (exists same).known) reads (λ same. typed old.now.schema (exists same).at tree (exists same).known) (sums_nothing (query tree) tree (scan tree) params)
   where
     tree : ℕ
     tree = tree_named old.now.schema name
 
-    stands : IsUnchanged old new → IsIntact old.now.schema (strict name columns key)
-    stands same = at same.0.was_open
+    exists : IsUnchanged old new → IsIntact old.now.schema (strict name columns key)
+    exists same = at same.0.was_open

@@ -26,14 +26,14 @@ module _ (rows : List Row) (typed : (row : Row) → Has rows row → is_piece ro
     λ h base n content got.
         let r = row_of numbered_total numbered_antisymmetric is_piece piece_of rows (base, n) content got in
         subst IsUtf8 (ap (λ e. e.0.0) r.3) (utf8_of (column r.0 1) (and_so _ _ (and_so _ _ r.2).0).0 (h r.0 0 r.1 (omega arith))),
-    λ h row at there low. columns row there (h _ _ _ (entry_of numbered_total numbered_antisymmetric is_piece piece_of rows once row there (typed row there))) at low,
+    λ h row at present low. columns row present (h _ _ _ (entry_of numbered_total numbered_antisymmetric is_piece piece_of rows once row present (typed row present))) at low,
   )
     where
       columns : (row : Row) → Has rows row → IsUtf8 (bytes (column row 1)) → (at : ℕ) → at < 3 → IsReadable (column row (at + 1))
-      columns row there one zero low = readable_of (column row 1) (and_so _ _ (and_so _ _ (typed row there)).0).0 one
-      columns row there one (suc zero) low = readable_int (column row 2) (and_so (is_text (column row 1)) (is_int (column row 2)) (and_so (is_text (column row 1) && is_int (column row 2)) _ (typed row there)).0).1
-      columns row there one (suc (suc zero)) low = blob_readable (column row 3) (and_so _ _ (typed row there)).1
-      columns row there one (suc (suc (suc at))) low = absurd (omega (arith, low))
+      columns row present one zero low = readable_of (column row 1) (and_so _ _ (and_so _ _ (typed row present)).0).0 one
+      columns row present one (suc zero) low = readable_int (column row 2) (and_so (is_text (column row 1)) (is_int (column row 2)) (and_so (is_text (column row 1) && is_int (column row 2)) _ (typed row present)).0).1
+      columns row present one (suc (suc zero)) low = blob_readable (column row 3) (and_so _ _ (typed row present)).1
+      columns row present one (suc (suc (suc at))) low = absurd (omega (arith, low))
 
 module _ (rows : List Row) (typed : (row : Row) → Has rows row → is_kept row ≡ true) where
   temp_roots_readable : HasOneRowEach kept_total kept_antisymmetric is_kept kept_of rows → Rows 3 rows ↔ OfTempRoots (map_of kept_cmp is_kept kept_of rows)
@@ -44,23 +44,23 @@ module _ (rows : List Row) (typed : (row : Row) → Has rows row → is_kept row
           subst IsUtf8 (ap (λ e. e.0.0) r.3) (utf8_of (column r.0 1) (and_so _ _ whole.0).0 (h r.0 0 r.1 (omega arith))),
           subst IsUtf8 (ap (λ e. e.0.2) r.3) (utf8_of (column r.0 3) whole.1 (h r.0 2 r.1 (omega arith))),
         ),
-    λ h row at there low. let both = h _ _ _ (entry_of kept_total kept_antisymmetric is_kept kept_of rows once row there (typed row there)) in columns row there both.0 both.1 at low,
+    λ h row at present low. let both = h _ _ _ (entry_of kept_total kept_antisymmetric is_kept kept_of rows once row present (typed row present)) in columns row present both.0 both.1 at low,
   )
     where
       columns : (row : Row) → Has rows row → IsUtf8 (bytes (column row 1)) → IsUtf8 (bytes (column row 3)) → (at : ℕ) → at < 3 → IsReadable (column row (at + 1))
-      columns row there one three zero low = readable_of (column row 1) (and_so _ _ (and_so _ _ (typed row there)).0).0 one
-      columns row there one three (suc zero) low = readable_int (column row 2) (and_so (is_text (column row 1)) (is_int (column row 2)) (and_so (is_text (column row 1) && is_int (column row 2)) _ (typed row there)).0).1
-      columns row there one three (suc (suc zero)) low = readable_of (column row 3) (and_so _ _ (typed row there)).1 three
-      columns row there one three (suc (suc (suc at))) low = absurd (omega (arith, low))
+      columns row present one three zero low = readable_of (column row 1) (and_so _ _ (and_so _ _ (typed row present)).0).0 one
+      columns row present one three (suc zero) low = readable_int (column row 2) (and_so (is_text (column row 1)) (is_int (column row 2)) (and_so (is_text (column row 1) && is_int (column row 2)) _ (typed row present)).0).1
+      columns row present one three (suc (suc zero)) low = readable_of (column row 3) (and_so _ _ (typed row present)).1 three
+      columns row present one three (suc (suc (suc at))) low = absurd (omega (arith, low))
 
 module _ (db : Database) (sound : IsDatabase db) where
   -- where they stand
   pub pieces_by_maps : IsIntact db.schema piece → IsKeyed (rows_named db piece.name) → AreReadableRows piece (rows_named db piece.name) ↔ OfPieces (contents_of db).pieces
-  pieces_by_maps stands keyed = subst (λ (m : finite.FinMap numbered_cmp Bytes). AreReadableRows piece (rows_named db piece.name) ↔ OfPieces m) (sym (pieces_held db stands)) (pieces_readable (rows_named db piece.name) (pieces_typed db sound stands) (pieces_once db sound stands keyed))
+  pieces_by_maps exists keyed = subst (λ (m : finite.FinMap numbered_cmp Bytes). AreReadableRows piece (rows_named db piece.name) ↔ OfPieces m) (sym (pieces_held db exists)) (pieces_readable (rows_named db piece.name) (pieces_typed db sound exists) (pieces_once db sound exists keyed))
 
   pub temp_roots_by_maps : IsIntact db.schema temp_root → IsKeyed (rows_named db temp_root.name) → AreReadableRows temp_root (rows_named db temp_root.name) ↔ OfTempRoots (contents_of db).temp_roots
-  temp_roots_by_maps stands keyed =
-      subst (λ (m : finite.FinMap kept_cmp (Unit {0})). AreReadableRows temp_root (rows_named db temp_root.name) ↔ OfTempRoots m) (sym (temp_roots_held db stands)) (temp_roots_readable (rows_named db temp_root.name) (temp_roots_typed db sound stands) (temp_roots_once db sound stands keyed))
+  temp_roots_by_maps exists keyed =
+      subst (λ (m : finite.FinMap kept_cmp (Unit {0})). AreReadableRows temp_root (rows_named db temp_root.name) ↔ OfTempRoots m) (sym (temp_roots_held db exists)) (temp_roots_readable (rows_named db temp_root.name) (temp_roots_typed db sound exists) (temp_roots_once db sound exists keyed))
 
 -- where they don't, there are no texts
 module _ (db : Database) where
@@ -84,4 +84,4 @@ module _ (db : Database) where
 pub whole_readable : (db : Database) → IsWhole db → AreReadable (contents_of db)
 whole_readable db whole =
     let ours = whole.ours in
-    (readable_by_maps db ours.sound ours.has ours.keyed _ _ (pieces_by_maps db ours.sound whole.pieces.stands whole.pieces.keyed) (temp_roots_by_maps db ours.sound whole.temp_roots.stands whole.temp_roots.keyed)).0 (ours.readable, whole.pieces.readable, whole.temp_roots.readable)
+    (readable_by_maps db ours.sound ours.has ours.keyed _ _ (pieces_by_maps db ours.sound whole.pieces.exists whole.pieces.keyed) (temp_roots_by_maps db ours.sound whole.temp_roots.exists whole.temp_roots.keyed)).0 (ours.readable, whole.pieces.readable, whole.temp_roots.readable)

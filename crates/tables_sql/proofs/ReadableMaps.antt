@@ -36,23 +36,23 @@ Rows n rows = (row : Row) (at : ℕ) → Has rows row → at < n → IsReadable 
 
 module _ (rows : List Row) (typed : (row : Row) → Has rows row → is_pair row ≡ true) where
   two_columns : (row : Row) → Has rows row → IsUtf8 (bytes (column row 1)) → IsUtf8 (bytes (column row 2)) → (at : ℕ) → at < 2 → IsReadable (column row (at + 1))
-  two_columns row there one two zero low = readable_of (column row 1) (and_so _ _ (typed row there)).0 one
-  two_columns row there one two (suc zero) low = readable_of (column row 2) (and_so _ _ (typed row there)).1 two
-  two_columns row there one two (suc (suc at)) low = absurd (omega (arith, low))
+  two_columns row present one two zero low = readable_of (column row 1) (and_so _ _ (typed row present)).0 one
+  two_columns row present one two (suc zero) low = readable_of (column row 2) (and_so _ _ (typed row present)).1 two
+  two_columns row present one two (suc (suc at)) low = absurd (omega (arith, low))
 
   columns_two : Rows 2 rows → (row : Row) → Has rows row → IsUtf8 (bytes (column row 1)) × IsUtf8 (bytes (column row 2))
-  columns_two h row there = (utf8_of (column row 1) (and_so _ _ (typed row there)).0 (h row 0 there (omega arith)), utf8_of (column row 2) (and_so _ _ (typed row there)).1 (h row 1 there (omega arith)))
+  columns_two h row present = (utf8_of (column row 1) (and_so _ _ (typed row present)).0 (h row 0 present (omega arith)), utf8_of (column row 2) (and_so _ _ (typed row present)).1 (h row 1 present (omega arith)))
 
   pub map_readable : HasOneRowEach texts_total texts_antisymmetric is_pair pair_of rows → Rows 2 rows ↔ ((k v : Bytes) → finite.get (map_of texts_cmp is_pair pair_of rows) k ≡ Some v → IsUtf8 k × IsUtf8 v)
   map_readable once = (
     λ h k v got. let r = row_of texts_total texts_antisymmetric is_pair pair_of rows k v got in let both = columns_two h r.0 r.1 in (subst IsUtf8 (ap (λ e. e.0) r.3) both.0, subst IsUtf8 (ap (λ e. e.1) r.3) both.1),
-    λ h row at there low. let both = h _ _ (entry_of texts_total texts_antisymmetric is_pair pair_of rows once row there (typed row there)) in two_columns row there both.0 both.1 at low,
+    λ h row at present low. let both = h _ _ (entry_of texts_total texts_antisymmetric is_pair pair_of rows once row present (typed row present)) in two_columns row present both.0 both.1 at low,
   )
 
   pub set_readable : HasOneRowEach pair_total pair_antisymmetric is_pair member_of rows → Rows 2 rows ↔ ((a b : Bytes) → finite.get (map_of pair_cmp is_pair member_of rows) (a, b) ≡ Some tt → IsUtf8 a × IsUtf8 b)
   set_readable once = (
     λ h a b got. let r = row_of pair_total pair_antisymmetric is_pair member_of rows (a, b) tt got in let both = columns_two h r.0 r.1 in (subst IsUtf8 (ap (λ e. e.0.0) r.3) both.0, subst IsUtf8 (ap (λ e. e.0.1) r.3) both.1),
-    λ h row at there low. let both = h _ _ (entry_of pair_total pair_antisymmetric is_pair member_of rows once row there (typed row there)) in two_columns row there both.0 both.1 at low,
+    λ h row at present low. let both = h _ _ (entry_of pair_total pair_antisymmetric is_pair member_of rows once row present (typed row present)) in two_columns row present both.0 both.1 at low,
   )
 
 -- ---- three texts
@@ -68,14 +68,14 @@ module _ (rows : List Row) (typed : (row : Row) → Has rows row → is_triple r
           subst IsUtf8 (ap (λ e. e.0.1) r.3) (utf8_of (column r.0 2) pair.1 (h r.0 1 r.1 (omega arith))),
           subst IsUtf8 (ap (λ e. e.1) r.3) (utf8_of (column r.0 3) whole.1 (h r.0 2 r.1 (omega arith))),
         ),
-    λ h row at there low. let all = h _ _ _ (entry_of pair_total pair_antisymmetric is_triple target_of rows once row there (typed row there)) in columns row there all.0 all.1 all.2 at low,
+    λ h row at present low. let all = h _ _ _ (entry_of pair_total pair_antisymmetric is_triple target_of rows once row present (typed row present)) in columns row present all.0 all.1 all.2 at low,
   )
     where
       columns : (row : Row) → Has rows row → IsUtf8 (bytes (column row 1)) → IsUtf8 (bytes (column row 2)) → IsUtf8 (bytes (column row 3)) → (at : ℕ) → at < 3 → IsReadable (column row (at + 1))
-      columns row there one two three zero low = readable_of (column row 1) (and_so _ _ (and_so _ _ (typed row there)).0).0 one
-      columns row there one two three (suc zero) low = readable_of (column row 2) (and_so _ _ (and_so _ _ (typed row there)).0).1 two
-      columns row there one two three (suc (suc zero)) low = readable_of (column row 3) (and_so _ _ (typed row there)).1 three
-      columns row there one two three (suc (suc (suc at))) low = absurd (omega (arith, low))
+      columns row present one two three zero low = readable_of (column row 1) (and_so _ _ (and_so _ _ (typed row present)).0).0 one
+      columns row present one two three (suc zero) low = readable_of (column row 2) (and_so _ _ (and_so _ _ (typed row present)).0).1 two
+      columns row present one two three (suc (suc zero)) low = readable_of (column row 3) (and_so _ _ (typed row present)).1 three
+      columns row present one two three (suc (suc (suc at))) low = absurd (omega (arith, low))
 
 -- ---- a profile, a generation, an object
 
@@ -88,14 +88,14 @@ module _ (rows : List Row) (typed : (row : Row) → Has rows row → is_profile 
           subst IsUtf8 (ap (λ e. e.0.0) r.3) (utf8_of (column r.0 1) pair.0 (h r.0 0 r.1 (omega arith))),
           subst IsUtf8 (ap (λ e. e.0.1) r.3) (utf8_of (column r.0 2) pair.1 (h r.0 1 r.1 (omega arith))),
         ),
-    λ h row at there low. let all = h _ _ _ (entry_of pair_total pair_antisymmetric is_profile profile_of rows once row there (typed row there)) in columns row there all.0 all.1 at low,
+    λ h row at present low. let all = h _ _ _ (entry_of pair_total pair_antisymmetric is_profile profile_of rows once row present (typed row present)) in columns row present all.0 all.1 at low,
   )
     where
       columns : (row : Row) → Has rows row → IsUtf8 (bytes (column row 1)) → IsUtf8 (bytes (column row 2)) → (at : ℕ) → at < 3 → IsReadable (column row (at + 1))
-      columns row there one two zero low = readable_of (column row 1) (and_so _ _ (and_so _ _ (typed row there)).0).0 one
-      columns row there one two (suc zero) low = readable_of (column row 2) (and_so _ _ (and_so _ _ (typed row there)).0).1 two
-      columns row there one two (suc (suc zero)) low = readable_int (column row 3) (and_so _ _ (typed row there)).1
-      columns row there one two (suc (suc (suc at))) low = absurd (omega (arith, low))
+      columns row present one two zero low = readable_of (column row 1) (and_so _ _ (and_so _ _ (typed row present)).0).0 one
+      columns row present one two (suc zero) low = readable_of (column row 2) (and_so _ _ (and_so _ _ (typed row present)).0).1 two
+      columns row present one two (suc (suc zero)) low = readable_int (column row 3) (and_so _ _ (typed row present)).1
+      columns row present one two (suc (suc (suc at))) low = absurd (omega (arith, low))
 
 module _ (rows : List Row) (typed : (row : Row) → Has rows row → is_generation row ≡ true) where
   pub generations_readable : HasOneRowEach triple_total triple_antisymmetric is_generation generation_of rows
@@ -109,15 +109,15 @@ module _ (rows : List Row) (typed : (row : Row) → Has rows row → is_generati
           subst IsUtf8 (ap (λ e. e.0.1) r.3) (utf8_of (column r.0 2) pair.1 (h r.0 1 r.1 (omega arith))),
           subst IsUtf8 (ap (λ e. e.1) r.3) (utf8_of (column r.0 4) whole.1 (h r.0 3 r.1 (omega arith))),
         ),
-    λ h row at there low. let all = h _ _ _ _ (entry_of triple_total triple_antisymmetric is_generation generation_of rows once row there (typed row there)) in columns row there all.0 all.1 all.2 at low,
+    λ h row at present low. let all = h _ _ _ _ (entry_of triple_total triple_antisymmetric is_generation generation_of rows once row present (typed row present)) in columns row present all.0 all.1 all.2 at low,
   )
     where
       columns : (row : Row) → Has rows row → IsUtf8 (bytes (column row 1)) → IsUtf8 (bytes (column row 2)) → IsUtf8 (bytes (column row 4)) → (at : ℕ) → at < 4 → IsReadable (column row (at + 1))
-      columns row there one two four zero low = readable_of (column row 1) (and_so _ _ (and_so _ _ (and_so _ _ (typed row there)).0).0).0 one
-      columns row there one two four (suc zero) low = readable_of (column row 2) (and_so _ _ (and_so _ _ (and_so _ _ (typed row there)).0).0).1 two
-      columns row there one two four (suc (suc zero)) low = readable_int (column row 3) (and_so _ _ (and_so _ _ (typed row there)).0).1
-      columns row there one two four (suc (suc (suc zero))) low = readable_of (column row 4) (and_so _ _ (typed row there)).1 four
-      columns row there one two four (suc (suc (suc (suc at)))) low = absurd (omega (arith, low))
+      columns row present one two four zero low = readable_of (column row 1) (and_so _ _ (and_so _ _ (and_so _ _ (typed row present)).0).0).0 one
+      columns row present one two four (suc zero) low = readable_of (column row 2) (and_so _ _ (and_so _ _ (and_so _ _ (typed row present)).0).0).1 two
+      columns row present one two four (suc (suc zero)) low = readable_int (column row 3) (and_so _ _ (and_so _ _ (typed row present)).0).1
+      columns row present one two four (suc (suc (suc zero))) low = readable_of (column row 4) (and_so _ _ (typed row present)).1 four
+      columns row present one two four (suc (suc (suc (suc at)))) low = absurd (omega (arith, low))
 
 module _ (rows : List Row) (typed : (row : Row) → Has rows row → is_object row ≡ true) where
   pub objects_readable : HasOneRowEach texts_total texts_antisymmetric is_object object_of rows
@@ -132,16 +132,16 @@ module _ (rows : List Row) (typed : (row : Row) → Has rows row → is_object r
           subst (λ (d : Option Bytes). IfSome d IsUtf8) (ap (λ e. e.1.deriver) r.3) (utf8_if (column r.0 4) four.1 (h r.0 3 r.1 (omega arith))),
           subst (λ (d : Option Bytes). IfSome d IsUtf8) (ap (λ e. e.1.ca) r.3) (utf8_if (column r.0 5) five.1 (h r.0 4 r.1 (omega arith))),
         ),
-    λ h row at there low. let all = h _ _ (entry_of texts_total texts_antisymmetric is_object object_of rows once row there (typed row there)) in columns row there all.0 all.1 all.2 at low,
+    λ h row at present low. let all = h _ _ (entry_of texts_total texts_antisymmetric is_object object_of rows once row present (typed row present)) in columns row present all.0 all.1 all.2 at low,
   )
     where
       columns : (row : Row) → Has rows row → IsUtf8 (bytes (column row 1)) → IfSome (text_if_any (column row 4)) IsUtf8 → IfSome (text_if_any (column row 5)) IsUtf8 → (at : ℕ) → at < 5 → IsReadable (column row (at + 1))
-      columns row there one four five zero low = readable_of (column row 1) (and_so _ _ (and_so _ _ (and_so _ _ (and_so _ _ (typed row there)).0).0).0).0 one
-      columns row there one four five (suc zero) low = blob_readable (column row 2) (and_so _ _ (and_so _ _ (and_so _ _ (and_so _ _ (typed row there)).0).0).0).1
-      columns row there one four five (suc (suc zero)) low = blob_readable (column row 3) (and_so _ _ (and_so _ _ (and_so _ _ (typed row there)).0).0).1
-      columns row there one four five (suc (suc (suc zero))) low = readable_if (column row 4) four
-      columns row there one four five (suc (suc (suc (suc zero)))) low = readable_if (column row 5) five
-      columns row there one four five (suc (suc (suc (suc (suc at))))) low = absurd (omega (arith, low))
+      columns row present one four five zero low = readable_of (column row 1) (and_so _ _ (and_so _ _ (and_so _ _ (and_so _ _ (typed row present)).0).0).0).0 one
+      columns row present one four five (suc zero) low = blob_readable (column row 2) (and_so _ _ (and_so _ _ (and_so _ _ (and_so _ _ (typed row present)).0).0).0).1
+      columns row present one four five (suc (suc zero)) low = blob_readable (column row 3) (and_so _ _ (and_so _ _ (and_so _ _ (typed row present)).0).0).1
+      columns row present one four five (suc (suc (suc zero))) low = readable_if (column row 4) four
+      columns row present one four five (suc (suc (suc (suc zero)))) low = readable_if (column row 5) five
+      columns row present one four five (suc (suc (suc (suc (suc at))))) low = absurd (omega (arith, low))
 
 -- ---- all nine
 
@@ -174,21 +174,21 @@ module _ (db : Database) (sound : IsDatabase db) (has : HasTables db.schema) (ke
   runtime_typed = pairs_typed db sound runtime.name (codes "label") (codes "target") runtime.primary has.1.1.1.1.1.1.1.1.0
 
   pub meta_once : HasOneRowEach texts_total texts_antisymmetric is_pair pair_of (rows_named db meta.name)
-  meta_once a b here there ka kb same = one_key db sound meta.name meta.columns meta.primary has.0 keyed.0 a b here there (agree_one a b 1 (texts_equal (column a 1) (column b 1) (and_so _ _ ka).0 (and_so _ _ kb).0 same))
+  meta_once a b here present ka kb same = one_key db sound meta.name meta.columns meta.primary has.0 keyed.0 a b here present (agree_one a b 1 (texts_equal (column a 1) (column b 1) (and_so _ _ ka).0 (and_so _ _ kb).0 same))
 
   pub object_once : HasOneRowEach texts_total texts_antisymmetric is_object object_of (rows_named db object.name)
-  object_once a b here there ka kb same =
-      one_key db sound object.name object.columns object.primary has.1.0 keyed.1.0 a b here there (agree_one a b 1 (texts_equal (column a 1) (column b 1) (base_is a ka) (base_is b kb) same))
+  object_once a b here present ka kb same =
+      one_key db sound object.name object.columns object.primary has.1.0 keyed.1.0 a b here present (agree_one a b 1 (texts_equal (column a 1) (column b 1) (base_is a ka) (base_is b kb) same))
 
   pair_once : {X : Type 0} (name : Bytes) (kind : Row → Bool) (entry : Row → (Bytes × Bytes) × X) → ((r : Row) → kind r ≡ true → is_pair r ≡ true) → ((r : Row) → (entry r).0 ≡ (bytes (column r 1), bytes (column r 2)))
       → ((a b : Row) → Has (rows_named db name) a → Has (rows_named db name) b → agree plain (1 ∷ 2 ∷ []) a (1 ∷ 2 ∷ []) b ≡ true → a ≡ b) → HasOneRowEach pair_total pair_antisymmetric kind entry (rows_named db name)
-  pair_once name kind entry is_one key one a b here there ka kb same =
+  pair_once name kind entry is_one key one a b here present ka kb same =
       let e = sym (key a) ∙ same ∙ key b in
-      one a b here there (agree_two a b 1 2 (texts_equal (column a 1) (column b 1) (and_so _ _ (is_one a ka)).0 (and_so _ _ (is_one b kb)).0 (ap (λ p. p.0) e)) (texts_equal (column a 2) (column b 2) (and_so _ _ (is_one a ka)).1 (and_so _ _ (is_one b kb)).1 (ap (λ p. p.1) e)))
+      one a b here present (agree_two a b 1 2 (texts_equal (column a 1) (column b 1) (and_so _ _ (is_one a ka)).0 (and_so _ _ (is_one b kb)).0 (ap (λ p. p.0) e)) (texts_equal (column a 2) (column b 2) (and_so _ _ (is_one a ka)).1 (and_so _ _ (is_one b kb)).1 (ap (λ p. p.1) e)))
 
   pub generation_once : HasOneRowEach triple_total triple_antisymmetric is_generation generation_of (rows_named db generation.name)
-  generation_once a b here there ka kb same =
-      one_key db sound generation.name generation.columns generation.primary has.1.1.1.1.1.1.1.0 keyed.1.1.1.1.1.1.1.0 a b here there
+  generation_once a b here present ka kb same =
+      one_key db sound generation.name generation.columns generation.primary has.1.1.1.1.1.1.1.0 keyed.1.1.1.1.1.1.1.0 a b here present
       (agree_three a b 1 2 3 (texts_equal (column a 1) (column b 1) (pair a ka).0 (pair b kb).0 (ap (λ t. t.0) same)) (texts_equal (column a 2) (column b 2) (pair a ka).1 (pair b kb).1 (ap (λ t. t.1) same)) (ints_equal (column a 3) (column b 3) (number a ka) (number b kb) (ap (λ t. t.2) same)))
     where
       pair : (r : Row) → is_generation r ≡ true → (is_text (column r 1) ≡ true) × (is_text (column r 2) ≡ true)
@@ -198,8 +198,8 @@ module _ (db : Database) (sound : IsDatabase db) (has : HasTables db.schema) (ke
       number r k = (and_so (is_pair r) (is_int (column r 3)) (and_so (is_pair r && is_int (column r 3)) (is_text (column r 4)) k).0).1
 
   pub permanent_once : HasOneRowEach texts_total texts_antisymmetric is_pair pair_of (rows_named db permanent.name)
-  permanent_once a b here there ka kb same =
-      one_key db sound permanent.name permanent.columns permanent.primary has.1.1.1.1.0 keyed.1.1.1.1.0 a b here there (agree_one a b 1 (texts_equal (column a 1) (column b 1) (and_so _ _ ka).0 (and_so _ _ kb).0 same))
+  permanent_once a b here present ka kb same =
+      one_key db sound permanent.name permanent.columns permanent.primary has.1.1.1.1.0 keyed.1.1.1.1.0 a b here present (agree_one a b 1 (texts_equal (column a 1) (column b 1) (and_so _ _ ka).0 (and_so _ _ kb).0 same))
 
   pub refs_once : HasOneRowEach pair_total pair_antisymmetric is_pair member_of (rows_named db refs.name)
   refs_once = pair_once refs.name is_pair member_of (λ r k. k) (λ r. refl) (one_key db sound refs.name refs.columns refs.primary has.1.1.0 keyed.1.1.0)

@@ -64,7 +64,7 @@ module _ (name : List ℕ) (columns : List Column) (key : List ℕ) (tree at : �
 
     -- no rule refuses it
     never_refused : (gone : List Row) (why : Refusal) → IsRefused db.schema Enforced db.trees (removal gone) why → ⊥
-    never_refused gone (Violates Unique) h = h (unique_fewer db.schema db.trees (with_tree db.trees tree (edited db.trees (removal gone))) (λ t r listed there. fewer gone t r there) (sound.obeys.rules Unique))
+    never_refused gone (Violates Unique) h = h (unique_fewer db.schema db.trees (with_tree db.trees tree (edited db.trees (removal gone))) (λ t r listed present. fewer gone t r present) (sound.obeys.rules Unique))
     never_refused gone (Violates ForeignKey) h = h
     never_refused gone BadReference h = both_ways _ h (or_right (not (nat_lt 0 (length (ids_of gone)))) _ (none_to_fit db.schema own at named unreferred))
     never_refused gone TooDeep h = h
@@ -80,7 +80,7 @@ module _ (name : List ℕ) (columns : List Column) (key : List ℕ) (tree at : �
     refers_left gone next h =
         let a = one_step db.schema Enforced db.trees next (removal gone) (works_unreferred db.schema Enforced 0 tree (taken_by db.trees (removal gone)) unreferred) h in
         refers_still db.schema tree unreferred db.trees next (λ t listed other. all_has _ db.schema.tables t a.tables listed other)
-        (λ t r listed same there. inl (subst (λ n. Has (db.trees n) r) (sym same) (without_all_has (ids_of gone) (db.trees tree) r (subst (λ l. Has l r) a.rows (subst (λ n. Has (next n) r) same there))))) (sound.obeys.rules ForeignKey)
+        (λ t r listed same present. inl (subst (λ n. Has (db.trees n) r) (sym same) (without_all_has (ids_of gone) (db.trees tree) r (subst (λ l. Has l r) a.rows (subst (λ n. Has (next n) r) same present))))) (sound.obeys.rules ForeignKey)
 
     module _ (limit : Option ℕ) (params : Row) (accepts : accepts_program db.schema [] (rowids_where tree filter) params ≡ true) where
       abbrev task : Task
@@ -114,7 +114,7 @@ module _ (name : List ℕ) (columns : List Column) (key : List ℕ) (old new : S
   delete_fails text count params filter given is accepts e h =
       fails_wider old new (OrShut old ⊥) (old.is_open ≡ false) (IsSome old.step_limit) (IsSome old.step_limit) shut_alone (λ l. l) (failure_of e)
       (our_write_fails name columns key old new standing text count params _ (λ at tree. refl) given is ⊥ (IsSome old.step_limit)
-      (λ up stands. let tree = tree_named old.now.schema name in delete_stops name columns key tree stands.at filter old.now (under.ours up).sound stands.known.named stands.unreferred old.step_limit params (accepts old.now.schema stands.at tree stands.known)) e h)
+      (λ up exists. let tree = tree_named old.now.schema name in delete_stops name columns key tree exists.at filter old.now (under.ours up).sound exists.known.named exists.unreferred old.step_limit params (accepts old.now.schema exists.at tree exists.known)) e h)
     where
       shut_alone : OrShut old ⊥ → old.is_open ≡ false
       shut_alone (inl none) = absurd none

@@ -87,7 +87,7 @@ module _ {X E : Type 0} (c : X → X → Ordering) (test : Row → Bool) (env : 
 
   others : (r : Row) (rows : List Row) → ((s : Row) → Has rows s → eq_by_cmp c (out (env r)) (out (env s)) ≡ false) → AllByRecursion (λ x. eq_by_cmp c (out (env r)) x ≡ false) (passed rows)
   others r [] h = tt
-  others r (s ∷ rows) h = go (test s) (h s (inl refl)) (others r rows (λ x there. h x (inr there)))
+  others r (s ∷ rows) h = go (test s) (h s (inl refl)) (others r rows (λ x present. h x (inr present)))
     where
       go : (b : Bool) → eq_by_cmp c (out (env r)) (out (env s)) ≡ false → AllByRecursion (λ x. eq_by_cmp c (out (env r)) x ≡ false) (passed rows)
           → AllByRecursion (λ x. eq_by_cmp c (out (env r)) x ≡ false) (map out (cond b (env s ∷ []) [] ++ flat_map (λ r. cond (test r) (env r ∷ []) []) rows))
@@ -95,20 +95,20 @@ module _ {X E : Type 0} (c : X → X → Ordering) (test : Row → Bool) (env : 
       go false e later = later
 
   not_tied : (r : Row) (rows : List Row) → AllByRecursion (λ v. tie (rowid r) v ≡ false) (map rowid rows) → ((s : Row) → Has rows s → c (out (env r)) (out (env s)) ≡ Equal → r ≡ s) → (s : Row) → Has rows s → eq_by_cmp c (out (env r)) (out (env s)) ≡ false
-  not_tied r rows apart once s there = go (eq_by_cmp c (out (env r)) (out (env s))) refl
+  not_tied r rows apart once s present = go (eq_by_cmp c (out (env r)) (out (env s))) refl
     where
       go : (b : Bool) → eq_by_cmp c (out (env r)) (out (env s)) ≡ b → eq_by_cmp c (out (env r)) (out (env s)) ≡ false
       go false e = e
       go true e =
-          let same : r ≡ s = once s there ((Equal-is _).0 e) in
-          let other : tie (rowid r) (rowid s) ≡ false = all_has (λ v. tie (rowid r) v ≡ false) (map rowid rows) (rowid s) apart (mapped_has rowid rows s there) in
+          let same : r ≡ s = once s present ((Equal-is _).0 e) in
+          let other : tie (rowid r) (rowid s) ≡ false = all_has (λ v. tie (rowid r) v ≡ false) (map rowid rows) (rowid s) apart (mapped_has rowid rows s present) in
           absurd (let no = sym (ap is_eq (tied_itself value_cmp_total (rowid r))) ∙ ap (λ x. tie (rowid r) (rowid x)) same ∙ other in cc)
 
   pub passed_apart : (rows : List Row) → AreApart rows → ((a b : Row) → Has rows a → Has rows b → c (out (env a)) (out (env b)) ≡ Equal → a ≡ b) → IsDistinct (eq_by_cmp c) (passed rows)
   unfolding IsDistinct
   passed_apart [] apart once = tt
   passed_apart (r ∷ rows) apart once =
-      go (test r) (others r rows (not_tied r rows apart.0 (λ s there. once r s (inl refl) (inr there)))) (passed_apart rows apart.1 (λ a b here there. once a b (inr here) (inr there)))
+      go (test r) (others r rows (not_tied r rows apart.0 (λ s present. once r s (inl refl) (inr present)))) (passed_apart rows apart.1 (λ a b here present. once a b (inr here) (inr present)))
     where
       go : (b : Bool) → AllByRecursion (λ x. eq_by_cmp c (out (env r)) x ≡ false) (passed rows) → IsDistinct (eq_by_cmp c) (passed rows)
           → IsDistinct (eq_by_cmp c) (map out (cond b (env r ∷ []) [] ++ flat_map (λ r. cond (test r) (env r ∷ []) []) rows))
@@ -153,7 +153,7 @@ module _ (q : Query) (tree : ℕ) (scan : IsScan q tree) (db : Trees) (params : 
     all_fit (x ∷ xs) [] within z = absurd z
     all_fit (x ∷ xs) (t ∷ all) within z =
         let r = ordered_from x (within x (inl refl)) in
-        ((r.0, own.typed r.0 r.1, r.2, fits r.0 t (subst (λ (w : Output). ShowsItem w.1 t) r.2 z.0)), all_fit xs all (λ y there. within y (inr there)) z.1)
+        ((r.0, own.typed r.0 r.1, r.2, fits r.0 t (subst (λ (w : Output). ShowsItem w.1 t) r.2 z.0)), all_fit xs all (λ y present. within y (inr present)) z.1)
 
     pub entries_rise : (all : List T) → AllZip ShowsItem rows all → AllAdjacentBelow (λ x y. true ≡ is_lt (R (item x) (item y))) all (length all)
     entries_rise all z k d low =
@@ -171,15 +171,15 @@ module _ (q : Query) (tree : ℕ) (scan : IsScan q tree) (db : Trees) (params : 
         subst₂ (λ u v. true ≡ is_lt (R u v)) x.3 y.3 (sym (ap is_lt below))
       where
         once : (a b : Row) → Has (db tree) a → Has (db tree) b → output_cmp q (made a) (made b) ≡ Equal → a ≡ b
-        once a b here there e =
+        once a b here present e =
             let p = own.typed a here in
-            let r = own.typed b there in
-            own.once a b here there p r (same (key a) (key b) (sym (orders a b p r) ∙ e))
+            let r = own.typed b present in
+            own.once a b here present p r (same (key a) (key b) (sym (orders a b p r) ∙ e))
 
     -- so each row can be read, and the entries rise
     pub none_amiss : (IsLegible : Row → Type 0) → ((r : Row) → kind r ≡ true → ((at : ℕ) → at < width → IsReadable (column r (at + 1))) → IsLegible (shows q params r)) → ¬ IsAmiss IsLegible ShowsItem (λ x y. is_lt (R (item x) (item y))) rows
-    none_amiss IsLegible legible (inl h) = h (all_from IsLegible rows (λ x there.
-        let r = scan_sound q tree scan db params (rows ++ tail) answer x (has_left rows tail x there) in
+    none_amiss IsLegible legible (inl h) = h (all_from IsLegible rows (λ x present.
+        let r = scan_sound q tree scan db params (rows ++ tail) answer x (has_left rows tail x present) in
         subst IsLegible (sym r.3) (legible r.0 (own.typed r.0 r.1) (λ at low. own.readable r.0 at r.1 low))))
     none_amiss IsLegible legible (inr h) = h.2 (entries_rise h.0 h.1)
 
@@ -194,12 +194,12 @@ module _ (name : List ℕ) (columns : List Column) (primary : List ℕ) {K : Typ
       → (rows : List Row) → HasBegunWith text params old new rows → ¬ IsAmiss IsLegible ShowsItem (λ x y. is_lt (R (item x) (item y))) rows
   shown_well ShowsItem item fits IsLegible legible rows given =
       let ours = (ready given.1.0.was_open).ours in
-      let stands = at ours.has in
+      let exists = at ours.has in
       let tree = tree_named old.now.schema name in
       let db = overlay old.now.trees [] in
-      let same_rows : db tree ≡ old.now.trees tree = overlay_low old.now.trees tree stands.known.low in
-      let all = whole text params old new names (query tree) (is old.now.schema stands.at tree stands.known) rows given in
-      let answer = answer_of name columns primary old new text params query is stands (rows ++ all.0) all.1 in
+      let same_rows : db tree ≡ old.now.trees tree = overlay_low old.now.trees tree exists.known.low in
+      let all = whole text params old new names (query tree) (is old.now.schema exists.at tree exists.known) rows given in
+      let answer = answer_of name columns primary old new text params query is exists (rows ++ all.0) all.1 in
       none_amiss (query tree) tree (scan tree) db params rows all.0 answer same kind key width (subst (AreKept kind key width) (sym same_rows) (own ours)) (orders tree) ShowsItem item (fits tree) IsLegible (legible tree)
 
 -- ---- so a read fails only for want of memory, once its query was answered

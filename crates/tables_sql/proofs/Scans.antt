@@ -38,8 +38,8 @@ has_matched {X} {Y} p f (x ∷ xs) y h = go (p x) refl h (has_matched p f xs y)
     go : (b : Bool) → p x ≡ b → Has (cond b (f x ∷ []) [] ++ flat_map (λ z. cond (p z) (f z ∷ []) []) xs) y
         → (Has (flat_map (λ z. cond (p z) (f z ∷ []) []) xs) y → (z : X) × Has xs z × (p z ≡ true) × (y ≡ f z)) → (z : X) × Has (x ∷ xs) z × (p z ≡ true) × (y ≡ f z)
     go true is (inl same) later = (x, inl refl, is, same)
-    go true is (inr there) later = let r = later there in (r.0, inr r.1, r.2, r.3)
-    go false is there later = let r = later there in (r.0, inr r.1, r.2, r.3)
+    go true is (inr present) later = let r = later present in (r.0, inr r.1, r.2, r.3)
+    go false is present later = let r = later present in (r.0, inr r.1, r.2, r.3)
 
 matched_has : {X Y : Type 0} (p : X → Bool) (f : X → Y) (xs : List X) (x : X) → Has xs x → p x ≡ true → Has (flat_map (λ z. cond (p z) (f z ∷ []) []) xs) (f x)
 matched_has p f [] x h passes = absurd h
@@ -75,8 +75,8 @@ module _ (q : Query) (tree : ℕ) (scan : IsScan q tree) (db : Trees) (params : 
   unfolding test env
   scan_complete r h passes =
       let o = output q (env r) in
-      let there = subst (λ l. Has l o) (sym kept) (mapped_has (output q) _ (env r) (matched_has test env (db tree) r h passes)) in
-      subst (λ l. Has l (shows q params r)) (sym listed) (mapped_has (λ (k : Output). k.1) answer.ordered o (has_permuted answer.ordered answer.kept o (IsPermutation-sym _ _ answer.same) there))
+      let present = subst (λ l. Has l o) (sym kept) (mapped_has (output q) _ (env r) (matched_has test env (db tree) r h passes)) in
+      subst (λ l. Has l (shows q params r)) (sym listed) (mapped_has (λ (k : Output). k.1) answer.ordered o (has_permuted answer.ordered answer.kept o (IsPermutation-sym _ _ answer.same) present))
 
 -- ---- how a query leaves the tables
 

@@ -40,8 +40,8 @@ Compiles name columns key text count command = (s : Schema) (at tree : ℕ) → 
 -- what a query of the table answers, where the table stands
 pub answer_of : (name : List ℕ) (columns : List Column) (key : List ℕ) (old new : State) (text : List ℕ) (params : Row) {names : List (List ℕ)} (query : ℕ → Query)
     → {count : ℕ} → Compiles name columns key text count (λ at tree. Select (record { lets = []; body = query tree }) names) → IsIntact old.now.schema (strict name columns key) → (rows : List Row) → Shown text params old new rows → IsAnswer (query (tree_named old.now.schema name)) (overlay old.now.trees []) params rows
-answer_of name columns key old new text params query is stands rows shown =
-    let m = means_command old.now.schema text _ (is old.now.schema stands.at (tree_named old.now.schema name) stands.known) in
+answer_of name columns key old new text params query is exists rows shown =
+    let m = means_command old.now.schema text _ (is old.now.schema exists.at (tree_named old.now.schema name) exists.known) in
     (reads_as text params old new old.now.schema refl _ m.0 m.1 m.2 rows shown).answer Null
 
 -- the entries that were read, with the rows that show them
@@ -61,11 +61,11 @@ module _ (name : List ℕ) (columns : List Column) (key : List ℕ) {K X : Type 
         → IsUnchanged old new × (map item all ≡ finite.entries (finite.retain_keys rows_are test))
     listed all rows shown texts up =
         let same_all = shown.1.1 in
-        let stands = at (ready same_all.0.was_open).ours.has in
+        let exists = at (ready same_all.0.was_open).ours.has in
         let tree = tree_named old.now.schema name in
         let db = overlay old.now.trees [] in
-        let same_rows : db tree ≡ old.now.trees tree = overlay_low old.now.trees tree stands.known.low in
-        let answer = answer_of name columns key old new text params query is stands rows shown.0 in
+        let same_rows : db tree ≡ old.now.trees tree = overlay_low old.now.trees tree exists.known.low in
+        let answer = answer_of name columns key old new text params query is exists rows shown.0 in
         let part = part_listed o same kind entry tree (query tree) (scan tree) db params rows answer test (said tree) ShowsItem item (fits tree) all texts (rises_by o (λ t. (item t).0) all up) in
         (same_all, part ∙ ap (λ rs. finite.entries (finite.retain_keys (map_of R kind entry rs) test)) same_rows)
 
@@ -81,11 +81,11 @@ module _ (name : List ℕ) (columns : List Column) (key : List ℕ) {K X : Type 
     pub deletes_part : (count : ℕ) → ExecutesInside 0 text params old new (Ok count) → IsKeyed (rows_named old.now name)
         → (rows : List Row) × SetsRows old new (tree_named old.now.schema name) rows × (IsKeyed (rows_named old.now name) → IsKeyed rows) × (AreReadableRows (strict name columns key) (rows_named old.now name) → AreReadableRows (strict name columns key) rows) × (map_of R kind entry rows ≡ finite.retain_keys rows_are (λ k. not (test k)))
     deletes_part count h keyed =
-        let stands = at (under.ours h.1.was_open).has in
+        let exists = at (under.ours h.1.was_open).has in
         let tree = tree_named old.now.schema name in
         let db = overlay old.now.trees [] in
-        let same_rows : db tree ≡ old.now.trees tree = overlay_low old.now.trees tree stands.known.low in
-        let m = means_command old.now.schema text _ (is old.now.schema stands.at tree stands.known) in
-        let it = deletes_in name columns key tree stands.at filter text params old new count stands.unreferred under.mode stands.known.named.1 m.0 m.1 h.0 in
+        let same_rows : db tree ≡ old.now.trees tree = overlay_low old.now.trees tree exists.known.low in
+        let m = means_command old.now.schema text _ (is old.now.schema exists.at tree exists.known) in
+        let it = deletes_in name columns key tree exists.at filter text params old new count exists.unreferred under.mode exists.known.named.1 m.0 m.1 h.0 in
         let left = left_map o same kind entry tree filter db params it.0 it.1 (subst IsKeyed (sym same_rows) keyed) test said in
         (without_all (old.now.trees tree) (ids_of it.0), it.2, keyed_left (ids_of it.0) _, left_readable (strict name columns key) (ids_of it.0) _, subst (λ rs. map_of R kind entry (without_all rs (ids_of it.0)) ≡ finite.retain_keys (map_of R kind entry rs) (λ k. not (test k))) same_rows left)

@@ -31,7 +31,7 @@ changes_then a b c f g h k = record {
   theirs = theirs_then a.now b.now c.now h.schema h.theirs k.theirs;
   unshown = λ tree hidden. k.unshown tree (subst (λ (s : Schema). IsUnshown s tree) (sym h.schema) hidden) ∙ h.unshown tree hidden;
   ours = k.ours;
-  further = (λ there. k.further.0 (h.further.0 there), (λ there. k.further.1.0 (h.further.1.0 there), tt));
+  further = (λ present. k.further.0 (h.further.0 present), (λ present. k.further.1.0 (h.further.1.0 present), tt));
   committed = k.committed ∙ h.committed;
   mode = k.mode;
   marks = k.marks ∙ h.marks;
@@ -67,7 +67,7 @@ changes_none s under is_open = record {
   theirs = all_of (λ (t : Table). is_our_name t.name ≡ false → s.now.trees t.tree ≡ s.now.trees t.tree) (λ t other. refl) s.now.schema.tables;
   unshown = λ tree hidden. refl;
   ours = under.ours is_open;
-  further = (λ there. there, (λ there. there, tt));
+  further = (λ present. present, (λ present. present, tt));
   committed = refl;
   mode = under.mode;
   marks = refl;
@@ -98,7 +98,7 @@ shown_then a b c h k = record {
 -- ---- what a crash leaves of a commit
 
 leaves_now : (d : Database) (db : Trees) → db ≡ d.trees → Leaves d db (contents_of d)
-leaves_now d db is = subst (λ (trees : Trees). Leaves d trees (contents_of d)) (sym is) (record { ours = refl; theirs = all_of (λ (t : Table). is_our_name t.name ≡ false → d.trees t.tree ≡ d.trees t.tree) (λ t other. refl) d.schema.tables; frozen = record { rows = λ tree is. refl; texts = λ row there foreign. there; version = refl } })
+leaves_now d db is = subst (λ (trees : Trees). Leaves d trees (contents_of d)) (sym is) (record { ours = refl; theirs = all_of (λ (t : Table). is_our_name t.name ≡ false → d.trees t.tree ≡ d.trees t.tree) (λ t other. refl) d.schema.tables; frozen = record { rows = λ tree is. refl; texts = λ row present foreign. present; version = refl } })
 
 pub leaves_by : (old new : State) → Survives old new (λ db. db ≡ old.now.trees) → Survives old new (λ db. Leaves old.now db (contents_of old.now))
 leaves_by old new h = survives_weaker old new _ _ (λ clean db is. leaves_now old.now db is) h

@@ -28,20 +28,20 @@ pub cast_int : (n : ℤ) → cast Integer (Int n) ≡ Int n
 unfolding unary
 cast_int n = either _ (Int n)
 
-pub told : (b : Bool) → is_true (from_truth (Some b)) ≡ b
-told true = refl
-told false = refl
+pub reported : (b : Bool) → is_true (from_truth (Some b)) ≡ b
+reported true = refl
+reported false = refl
 
 -- a text against a text
 pub text_test : (v : Value) (t : List ℕ) → is_text v ≡ true → is_true (binary (Compare Eq Binary) v (Text t)) ≡ eq_by_cmp texts_cmp (bytes v) t
 unfolding binary
-text_test (Text s) t h = told _ ∙ ap is_eq (value_cmp-Text s t)
+text_test (Text s) t h = reported _ ∙ ap is_eq (value_cmp-Text s t)
 text_test v t h = absurd (let e = h in cc)
 
 -- an integer against an integer
 pub int_test : (v : Value) (n : ℤ) → is_int v ≡ true → is_true (binary (Compare Eq Binary) v (Int n)) ≡ eq_by_cmp int_cmp (id_in v) n
 unfolding binary
-int_test (Int m) n h = told _ ∙ ap is_eq (value_cmp-Int m n)
+int_test (Int m) n h = reported _ ∙ ap is_eq (value_cmp-Int m n)
 int_test v n h = absurd (let e = h in cc)
 
 pub and_so : (a b : Bool) → (a && b) ≡ true → (a ≡ true) × (b ≡ true)

@@ -31,7 +31,7 @@ use Rattle.tables_sql.specs.Contents.{texts_cmp, is_text, rows_named}
 use Rattle.tables_sql.specs.Calls.{IsKeyed}
 use Rattle.tables_sql.proofs.Orders.{texts_total}
 use Rattle.tables_sql.proofs.Apart.{once}
-use Rattle.tables_sql.proofs.Truths.{text_test, int_test, told}
+use Rattle.tables_sql.proofs.Truths.{text_test, int_test, reported}
 
 -- ---- values that are the same are equal to SQL too, and integers that don't differ are tied
 
@@ -58,7 +58,7 @@ ints_tied : (v w : Value) → IsTrue (is_int v) → IsTrue (is_int w) → differ
 unfolding binary
 ints_tied Null w h k e = absurd (let no = h in cc)
 ints_tied (Int m) Null h k e = absurd (let no = k in cc)
-ints_tied (Int m) (Int n) h k e = not_apart (value_cmp (Int m) (Int n)) (sym (told _) ∙ e)
+ints_tied (Int m) (Int n) h k e = not_apart (value_cmp (Int m) (Int n)) (sym (reported _) ∙ e)
 ints_tied (Int m) (Real x) h k e = absurd (let no = k in cc)
 ints_tied (Int m) (Text t) h k e = absurd (let no = k in cc)
 ints_tied (Int m) (Blob b) h k e = absurd (let no = k in cc)
@@ -83,27 +83,27 @@ agree_three a b p q r h k l = rw (binary_first, h, k, l) refl
 
 -- ---- two rows of one key are one
 
-module _ (db : Database) (sound : IsDatabase db) (name : List ℕ) (columns : List Column) (key : List ℕ) (stands : IsIntact db.schema (strict name columns key)) (keyed : IsKeyed (rows_named db name)) where
+module _ (db : Database) (sound : IsDatabase db) (name : List ℕ) (columns : List Column) (key : List ℕ) (exists : IsIntact db.schema (strict name columns key)) (keyed : IsKeyed (rows_named db name)) where
   own : Table
   own = record (strict name columns key) { tree = tree_named db.schema name }
 
   its_index : (tree : ℕ) × Has db.schema.indexes (automatic own 0 key tree)
   unfolding own
-  its_index = all-slice_get (IsGuarded db.schema.indexes) db.schema.tables stands.at own stands.known.named.1 sound.lists.guarded 0 key refl
+  its_index = all-slice_get (IsGuarded db.schema.indexes) db.schema.tables exists.at own exists.known.named.1 sound.lists.guarded 0 key refl
 
   no_clash : (row : Row) → Has (rows_named db name) row → passes Unique db.schema db.trees own row ≡ true
   unfolding own
-  no_clash row there = all_has (λ r. passes Unique db.schema db.trees own r ≡ true) (db.trees own.tree) row (all-slice_get (λ t. AllByRecursion (λ r. passes Unique db.schema db.trees t r ≡ true) (db.trees t.tree)) db.schema.tables stands.at own stands.known.named.1 (sound.obeys.rules Unique)) there
+  no_clash row present = all_has (λ r. passes Unique db.schema db.trees own r ≡ true) (db.trees own.tree) row (all-slice_get (λ t. AllByRecursion (λ r. passes Unique db.schema db.trees t r ≡ true) (db.trees t.tree)) db.schema.tables exists.at own exists.known.named.1 (sound.obeys.rules Unique)) present
 
   pub one_key : (a b : Row) → Has (rows_named db name) a → Has (rows_named db name) b → agree plain key a key b ≡ true → a ≡ b
   unfolding own
-  one_key a b here there same =
+  one_key a b here present same =
       let index : Index = automatic own 0 key its_index.0 in
-      let free : not (guards index own && clashes index.order index.columns (db.trees own.tree) b) ≡ true = test_has (λ i. not (guards i own && clashes i.order i.columns (db.trees own.tree) b)) db.schema.indexes index (no_clash b there) its_index.1 in
+      let free : not (guards index own && clashes index.order index.columns (db.trees own.tree) b) ≡ true = test_has (λ i. not (guards i own && clashes i.order i.columns (db.trees own.tree) b)) db.schema.indexes index (no_clash b present) its_index.1 in
       let guarded : guards index own ≡ true = grind (arith, nat_tests) in
       let alone : clashes plain key (db.trees own.tree) b ≡ false = apart _ _ guarded free in
       let tied : differ (rowid a) (rowid b) ≡ false = none a here same alone in
-      once (rows_named db name) keyed.apart a b here there (ints_tied (rowid a) (rowid b) (keyed.ints a here) (keyed.ints b there) tied)
+      once (rows_named db name) keyed.apart a b here present (ints_tied (rowid a) (rowid b) (keyed.ints a here) (keyed.ints b present) tied)
     where
       apart : (g c : Bool) → g ≡ true → not (g && c) ≡ true → c ≡ false
       apart g true h k = absurd (let no = rw h at k in cc)

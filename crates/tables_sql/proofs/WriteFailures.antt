@@ -138,17 +138,17 @@ module _ (old new : State) (text : List ℕ) (params : Row) (command : Command) 
 pub our_write_fails : (name : List ℕ) (columns : List Column) (key : List ℕ) (old new : State) → (IsTrue old.is_open → IsIntact old.now.schema (strict name columns key))
     → (text : List ℕ) (count : ℕ) (params : Row) (command : ℕ → ℕ → Command) → ((at tree : ℕ) → changes (command at tree) ≡ true) → length params ≡ count → Compiles name columns key text count command
     → (large refused : Type 0)
-    → (IsTrue old.is_open → (stands : IsIntact old.now.schema (strict name columns key)) (st : List ℕ) (stop : Option Error) → Does old.step_limit (mode_of old) params old.now st None (command stands.at (tree_named old.now.schema name)) (Err stop) → MayStop large refused stop)
+    → (IsTrue old.is_open → (exists : IsIntact old.now.schema (strict name columns key)) (st : List ℕ) (stop : Option Error) → Does old.step_limit (mode_of old) params old.now st None (command exists.at (tree_named old.now.schema name)) (Err stop) → MayStop large refused stop)
     → (e : Error) → ExecutesInside 0 text params old new (Err e) → FailsWith old new (OrShut old large) refused (failure_of e)
 our_write_fails name columns key old new standing text count params command writes given is large refused stops e h = go old.is_open refl
   where
     go : (b : Bool) → old.is_open ≡ b → FailsWith old new (OrShut old large) refused (failure_of e)
     go false shut = write_fails old new text params (command 0 0) (writes 0 0) large refused (λ up. absurd (both_ways _ shut up)) (λ up st its stop does. absurd (both_ways _ shut up)) e h
     go true up =
-        let stands = standing up in
+        let exists = standing up in
         let tree = tree_named old.now.schema name in
-        let c = is old.now.schema stands.at tree stands.known in
-        write_fails old new text params (command stands.at tree) (writes stands.at tree) large refused (λ _. is_write old text params (command stands.at tree) given c) (λ _ st its. stops up stands st) e h
+        let c = is old.now.schema exists.at tree exists.known in
+        write_fails old new text params (command exists.at tree) (writes exists.at tree) large refused (λ _. is_write old text params (command exists.at tree) given c) (λ _ st its. stops up exists st) e h
 
 -- where more may be said of a failure, what was said still holds
 pub fails_wider : (old new : State) (large wider refused more : Type 0) → (large → wider) → (refused → more) → (f : Failure) → FailsWith old new large refused f → FailsWith old new wider more f

@@ -103,14 +103,14 @@ works_unreferred s keys depth tree olds h = no_works s keys depth tree olds s.ta
 -- a write whose one edit was applied
 sets_by : (old new : State) (at : ℕ) (edit : Edit) {command : Command} {text : List ℕ} {params : Row} {count : ℕ} → Writes old new None command text params count → old.in_transaction ≡ true
     → slice_get old.now.schema.tables at ≡ Some edit.table → new.now.schema ≡ old.now.schema → Applies old.now.schema Enforced old.now.trees edit new.now.trees → SetsRows old new edit.table.tree (edited old.now.trees edit)
-sets_by old new at edit w inside there same a = record {
+sets_by old new at edit w inside present same a = record {
   was_open = w.shown.was_open;
   is_open = w.shown.is_open;
   sound = w.sound;
   schema = same;
   rows_are = a.rows;
   others = a.tables;
-  unshown = λ t hidden. a.others t (λ e. all-slice_get (λ (x : Table). x.tree ≢ t) old.now.schema.tables at edit.table there hidden.0 (sym e)) hidden.1;
+  unshown = λ t hidden. a.others t (λ e. all-slice_get (λ (x : Table). x.tree ≢ t) old.now.schema.tables at edit.table present hidden.0 (sym e)) hidden.1;
   committed = w.shown.committed_is ∙ rw inside refl;
   mode = w.shown.mode ∙ inside;
   marks = w.marks;
@@ -125,14 +125,14 @@ module _ (name : List ℕ) (columns : List Column) (key : List ℕ) (tree at wid
       → Executes text params old new (Ok count)
       → (a : Applies old.now.schema Enforced old.now.trees (edit_of old.now.trees table [] Chosen 0 (value_rows (stamped table params) width (length terms / width) terms)) new.now.trees)
       × SetsRows old new tree (edited old.now.trees (edit_of old.now.trees table [] Chosen 0 (value_rows (stamped table params) width (length terms / width) terms)))
-  inserts_in params old new count inside there is plain h =
+  inserts_in params old new count inside present is plain h =
       let db = old.now.trees in
       let command = Insert at (Values terms width) in
       let w = runs_as text params old new old.now.schema refl command is plain count h in
       let st = statement_of text (understood old.now.schema text) in
       let doing : Does old.step_limit (mode_of old) params (record old.now { schema = old.now.schema }) st None command (Ok (w.tally, new.now)) =
       w.changed in
-      let done = went (at_place _ (slice_get old.now.schema.tables at) table _ there doing) in
+      let done = went (at_place _ (slice_get old.now.schema.tables at) table _ present doing) in
       let now = ap (λ (p : Tally × Database). p.1) (same_value (went (went done.2).2).2) in
       let given = went done.1 in
       let written = went (went given.2).2 in
@@ -144,7 +144,7 @@ module _ (name : List ℕ) (columns : List Column) (key : List ℕ) (tree at wid
       let second : Applies old.now.schema Enforced db (edit given.0) new.now.trees = subst (λ (d : Database). Applies old.now.schema Enforced db (edit given.0) d.trees) (sym whole) first in
       let a : Applies old.now.schema Enforced db (edit (value_rows (stamped table params) width (length terms / width) terms)) new.now.trees = subst (λ all. Applies old.now.schema Enforced db (edit all) new.now.trees) given.1.1 second in (
         a,
-        sets_by old new at (edit (value_rows (stamped table params) width (length terms / width) terms)) w inside there (ap (λ (d : Database). d.schema) whole) a,
+        sets_by old new at (edit (value_rows (stamped table params) width (length terms / width) terms)) w inside present (ap (λ (d : Database). d.schema) whole) a,
       )
 
 module _ (name : List ℕ) (columns : List Column) (key : List ℕ) (tree at : ℕ) (filter : List Term) (text : List ℕ) where
@@ -155,14 +155,14 @@ module _ (name : List ℕ) (columns : List Column) (key : List ℕ) (tree at : �
       → slice_get old.now.schema.tables at ≡ Some from → command_of (understood old.now.schema text) ≡ Delete at (record { lets = []; body = rowids_where tree filter }) → IsPlain (understood old.now.schema text)
       → Executes text params old new (Ok count)
       → (rows : List Row) × IsAnswer (rowids_where tree filter) (overlay old.now.trees []) params rows × SetsRows old new tree (without_all (old.now.trees tree) (ids_of rows))
-  deletes_in params old new count unreferred inside there is plain h =
+  deletes_in params old new count unreferred inside present is plain h =
       let db = old.now.trees in
       let command = Delete at (record { lets = []; body = rowids_where tree filter }) in
       let w = runs_as text params old new old.now.schema refl command is plain count h in
       let st = statement_of text (understood old.now.schema text) in
       let doing : Does old.step_limit (mode_of old) params (record old.now { schema = old.now.schema }) st None command (Ok (w.tally, new.now)) =
       w.changed in
-      let done = went (at_place _ (slice_get old.now.schema.tables at) from _ there doing) in
+      let done = went (at_place _ (slice_get old.now.schema.tables at) from _ present doing) in
       let now = ap (λ (p : Tally × Database). p.1) (same_value (went (went done.2).2).2) in
       let given = went done.1 in
       let written = went given.2 in
@@ -173,7 +173,7 @@ module _ (name : List ℕ) (columns : List Column) (key : List ℕ) (tree at : �
       let a : Applies old.now.schema Enforced db edit new.now.trees = subst (λ (d : Database). Applies old.now.schema Enforced db edit d.trees) (sym whole) first in (
         given.0,
         given.1.answer Null,
-        sets_by old new at edit w inside there (ap (λ (d : Database). d.schema) whole) a,
+        sets_by old new at edit w inside present (ap (λ (d : Database). d.schema) whole) a,
       )
 
 -- a tree below those of computed tables shows what it holds

@@ -38,7 +38,7 @@ pub record IsStoreDatabase (db : Database) : Type 0 where
 
 -- a further table is there too, with the same of its rows
 pub record HasFurther (db : Database) (t : Table) : Type 0 where
-  pub stands : IsIntact db.schema t
+  pub exists : IsIntact db.schema t
   pub keyed : IsKeyed (rows_named db t.name)
   pub readable : AreReadableRows t (rows_named db t.name)
 

@@ -20,7 +20,7 @@ KeepsUnshown old trees = (tree : ℕ) → IsUnshown old.schema tree → trees tr
 -- The tree is that of a frozen table, or of an index of one whose text is understood, and of nothing else.
 pub record IsFrozen (s : Schema) (tree : ℕ) : Type 0 where
   pub object : Stored
-  pub stands : Has s.views object
+  pub exists : Has s.views object
   pub its : object.tree ≡ tree
   pub aside : AllByRecursion (λ w. w.tree ≡ tree → IsSome w.foreign × (w.binds ≡ false)) s.views
   pub unshown : IsUnshown s tree

@@ -28,7 +28,7 @@ pub trait Sink: Sized + Drop {
     ghost is_amiss: { List (List Value) → Type 0 };
 
     fn take(&mut self, row: &Row) -> Result<(), Failure>
-        ensures taken { OnOk result ((rows : List (List Value)) → is_of rows self.old → is_of (rows ++ row.now ∷ []) self.new) }
+        ensures loaded { OnOk result ((rows : List (List Value)) → is_of rows self.old → is_of (rows ++ row.now ∷ []) self.new) }
         ensures refused { IfErr result (λ f. (f ≡ Memory) ⊎ ((f ≡ Disk) × ((rows : List (List Value)) → is_of rows self.old → is_amiss (rows ++ row.now ∷ [])))) };
 }
 

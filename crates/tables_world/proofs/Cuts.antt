@@ -19,11 +19,11 @@ go_on part n [] [] many most full = most
 go_on part n [] (b ∷ bs) many most full = absurd (omega arith)
 go_on part n (turn ∷ turns) [] many most full = most
 go_on part n (turn ∷ turns) (b ∷ bs) many most full =
-    let taken : length (take piece_size (b ∷ bs)) ≤ piece_size = omega (arith, length-take piece_size (b ∷ bs)) in
+    let loaded : length (take piece_size (b ∷ bs)) ≤ piece_size = omega (arith, length-take piece_size (b ∷ bs)) in
     let one : 1 ≤ length (take piece_size (b ∷ bs)) = omega (arith, length-take piece_size (b ∷ bs), some) in
     let fewer : length (drop piece_size (b ∷ bs)) ≤ length turns = omega (arith, length-drop piece_size (b ∷ bs), some) in
     let more : 1 ≤ length (drop piece_size (b ∷ bs)) → length (take piece_size (b ∷ bs)) ≡ piece_size = λ h. omega (arith, length-drop piece_size (b ∷ bs), length-take piece_size (b ∷ bs)) in
-    (full (omega arith), refl, one, go_on (take piece_size (b ∷ bs)) (n + 1) turns (drop piece_size (b ∷ bs)) fewer taken more)
+    (full (omega arith), refl, one, go_on (take piece_size (b ∷ bs)) (n + 1) turns (drop piece_size (b ∷ bs)) fewer loaded more)
 
 all_joined : (n : ℕ) (turns rest : List ℕ) → length rest ≤ length turns → joined (pieces_by turns n rest) ≡ rest
 all_joined n [] [] many = refl

@@ -5,4 +5,4 @@ pub mod NewRows
 pub mod NewWorld
 pub mod Recorded
 pub mod SoundParts
-pub mod Told
+pub mod Reported

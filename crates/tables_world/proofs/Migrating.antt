@@ -190,7 +190,7 @@ module _ (dir : List ℕ) (c : Rows) where
     settings_are = refl;
     no_pieces = λ none. absurd (false≢true (sym none));
     no_temporary = λ none. absurd (false≢true (sym none));
-    cut = λ there p o e.
+    cut = λ present p o e.
         let old = row_back p o e in
         subst (λ (x : Stored). IsCut x.nar (finite.entries (pieces_in new p))) old.2 (subst (λ (es : List (ℤ × List ℕ)). IsCut (row_part (archive_in c p old.0)) es) (sym (pieces_are p old.0 old.1)) (cut_right (archive_in c p old.0)));
     hash = λ p o e.

@@ -44,7 +44,7 @@ module _ (schema : Schema) (dir : List ℕ) (c : Rows) where
           tree = row.tree;
           archive = row.archive;
           deriver = row.deriver;
-          references = λ r there. is_valid r (h.objects.references p r (sym (reference_at c p r) ∙ there)).1;
+          references = λ r present. is_valid r (h.objects.references p r (sym (reference_at c p r) ∙ present)).1;
           reference_count = row.reference_count;
           no_self_reference = row.no_self_reference;
           address = row.address;
@@ -53,13 +53,13 @@ module _ (schema : Schema) (dir : List ℕ) (c : Rows) where
         })
 
     numbers : (owner name : List ℕ) (n : ℤ) → IsTrue (finite.contains_key c.generations (owner, name, n)) → (m : ℕ) × (n ≡ pos m)
-    numbers owner name n there =
-        let t = some_key (finite.get c.generations (owner, name, n)) there in
+    numbers owner name n present =
+        let t = some_key (finite.get c.generations (owner, name, n)) present in
         let row = h.roots.generations owner name n t.0 t.1 in
         (row.number, row.is_number)
 
     sessions : (k : Kept) → IsTrue (finite.contains_key c.temp_roots k) → (m : ℕ) × (k.1 ≡ pos m)
-    sessions k there = let s = h.sessions k there in (s.number, s.is_number)
+    sessions k present = let s = h.sessions k present in (s.number, s.is_number)
 
     same_number : (m k : ℕ) → pos m ≡ pos k → k ≡ m
     same_number m k e = ap number_in (sym e)
@@ -73,19 +73,19 @@ module _ (schema : Schema) (dir : List ℕ) (c : Rows) where
           owner = row.0;
           name = row.1;
           current = ap is_some (generation_at c numbers owned.0 owned.1 (number_in it.0) ∙ ap (λ n. finite.get c.generations (owned.0, owned.1, n)) (ap (λ n. pos (number_in n)) current.1 ∙ sym current.1)) ∙ row.2;
-          lowest = λ m there.
-              let t = some_key (finite.get c.generations (owned.0, owned.1, pos m)) (sym (ap is_some (generation_at c numbers owned.0 owned.1 m)) ∙ there) in
+          lowest = λ m present.
+              let t = some_key (finite.get c.generations (owned.0, owned.1, pos m)) (sym (ap is_some (generation_at c numbers owned.0 owned.1 m)) ∙ present) in
               let g = h.roots.generations owned.0 owned.1 (pos m) t.0 t.1 in
               subst (λ k. 1 ≤ k) (same_number m g.number g.is_number) g.lowest;
-          highest = λ m there.
-              let t = some_key (finite.get c.generations (owned.0, owned.1, pos m)) (sym (ap is_some (generation_at c numbers owned.0 owned.1 m)) ∙ there) in
+          highest = λ m present.
+              let t = some_key (finite.get c.generations (owned.0, owned.1, pos m)) (sym (ap is_some (generation_at c numbers owned.0 owned.1 m)) ∙ present) in
               let g = h.roots.generations owned.0 owned.1 (pos m) t.0 t.1 in
               subst (λ k. k ≤ 9999) (same_number m g.number g.is_number) g.highest;
           targets = λ m t found. is_valid t (h.roots.generations owned.0 owned.1 (pos m) t (sym (generation_at c numbers owned.0 owned.1 m) ∙ found)).target;
         })
 
     session_of : (t : Temporary) → IsTrue (finite.contains_key (world_of c).temporary t) → IsSoundSession c (t.owner, pos t.session, t.path)
-    session_of t there = h.sessions (t.owner, pos t.session, t.path) (sym (temporary_at c sessions t) ∙ there)
+    session_of t present = h.sessions (t.owner, pos t.session, t.path) (sym (temporary_at c sessions t) ∙ present)
 
     rows_of_parts : IsSoundRows schema dir c
     rows_of_parts = record {
@@ -97,25 +97,25 @@ module _ (schema : Schema) (dir : List ℕ) (c : Rows) where
       hash = λ p x e. (h.objects.objects p x e).hash;
       address = λ p x text e ca. (h.objects.objects p x e).address_text text ca;
       pieces = h.pieces;
-      references = λ p r there. (h.objects.references p r there).0;
+      references = λ p r present. (h.objects.references p r present).0;
       outputs = h.objects.outputs;
-      generations = λ owner name n there. let t = some_key (finite.get c.generations (owner, name, n)) there in (h.roots.generations owner name n t.0 t.1).profile;
+      generations = λ owner name n present. let t = some_key (finite.get c.generations (owner, name, n)) present in (h.roots.generations owner name n t.0 t.1).profile;
       numbers = numbers;
       current = λ owned n e. numbers owned.0 owned.1 n (h.roots.profiles owned n e).2;
       sessions = sessions;
       world = record {
         objects = sound_object;
-        permanent_name = λ name there. let e = some_key (finite.get c.permanent name) there in (h.roots.permanent name e.0 e.1).0;
+        permanent_name = λ name present. let e = some_key (finite.get c.permanent name) present in (h.roots.permanent name e.0 e.1).0;
         permanent_target = λ name t e. is_valid t (h.roots.permanent name t e).1;
-        user_root_owner = λ owned there. let e = some_key (finite.get c.user_roots owned) there in (h.roots.user_roots owned e.0 e.1).0;
-        user_root_name = λ owned there. let e = some_key (finite.get c.user_roots owned) there in (h.roots.user_roots owned e.0 e.1).1;
+        user_root_owner = λ owned present. let e = some_key (finite.get c.user_roots owned) present in (h.roots.user_roots owned e.0 e.1).0;
+        user_root_name = λ owned present. let e = some_key (finite.get c.user_roots owned) present in (h.roots.user_roots owned e.0 e.1).1;
         user_root_target = λ owned t e. is_valid t (h.roots.user_roots owned t e).2;
         profiles = sound_profile;
-        runtime_label = λ r there. (h.roots.runtime r there).0;
-        runtime_target = λ r there. is_valid r.1 (h.roots.runtime r there).1;
-        temporary_owner = λ t there. (session_of t there).owner;
-        temporary_session = λ t there. let s = session_of t there in subst (λ k. IsTrue (is_session k)) (same_number t.session s.number s.is_number) s.session;
-        temporary_target = λ t there. is_valid t.path (session_of t there).target;
+        runtime_label = λ r present. (h.roots.runtime r present).0;
+        runtime_target = λ r present. is_valid r.1 (h.roots.runtime r present).1;
+        temporary_owner = λ t present. (session_of t present).owner;
+        temporary_session = λ t present. let s = session_of t present in subst (λ k. IsTrue (is_session k)) (same_number t.session s.number s.is_number) s.session;
+        temporary_target = λ t present. is_valid t.path (session_of t present).target;
       };
     }
 
@@ -129,15 +129,15 @@ module _ (schema : Schema) (dir : List ℕ) (c : Rows) where
     profile_told owned n e = h.world.profiles owned (profile_in c owned n) (profile_at c owned ∙ ap (option_map (profile_in c owned)) e)
 
     is_object : (p : Path) → IsTrue (has (world_of c) p) → IsTrue (finite.contains_key c.objects p)
-    is_object p there = sym (valid p) ∙ there
+    is_object p present = sym (valid p) ∙ present
 
     generation_sound : (owner name : List ℕ) (n : ℤ) (t : Path) → finite.get c.generations (owner, name, n) ≡ Some t → IsSoundGeneration c owner name n t
     generation_sound owner name n t e =
-        let there = ap is_some e in
-        let profile = h.generations owner name n there in
+        let present = ap is_some e in
+        let profile = h.generations owner name n present in
         let current = some_key (finite.get c.profiles (owner, name)) profile in
         let q = profile_told (owner, name) current.0 current.1 in
-        let m = h.numbers owner name n there in
+        let m = h.numbers owner name n present in
         let found : finite.get (generations_in c (owner, name)) m.0 ≡ Some t = generation_at c h.numbers owner name m.0 ∙ ap (λ k. finite.get c.generations (owner, name, k)) (sym m.1) ∙ e in
         record {
           number = m.0;
@@ -149,16 +149,16 @@ module _ (schema : Schema) (dir : List ℕ) (c : Rows) where
         }
 
     session_sound : (k : Kept) → IsTrue (finite.contains_key c.temp_roots k) → IsSoundSession c k
-    session_sound k there =
-        let m = h.sessions k there in
+    session_sound k present =
+        let m = h.sessions k present in
         let t : Temporary = record { owner = k.0; session = m.0; path = k.2 } in
-        let told : IsTrue (finite.contains_key (world_of c).temporary t) = temporary_at c h.sessions t ∙ ap (λ (n : ℤ). finite.contains_key c.temp_roots (k.0, n, k.2)) (sym m.1) ∙ there in
+        let reported : IsTrue (finite.contains_key (world_of c).temporary t) = temporary_at c h.sessions t ∙ ap (λ (n : ℤ). finite.contains_key c.temp_roots (k.0, n, k.2)) (sym m.1) ∙ present in
         record {
-          owner = h.world.temporary_owner t told;
+          owner = h.world.temporary_owner t reported;
           number = m.0;
           is_number = m.1;
-          session = h.world.temporary_session t told;
-          target = is_object k.2 (h.world.temporary_target t told);
+          session = h.world.temporary_session t reported;
+          target = is_object k.2 (h.world.temporary_target t reported);
         }
 
     parts_of_rows : AreSoundParts schema dir c
@@ -180,23 +180,23 @@ module _ (schema : Schema) (dir : List ℕ) (c : Rows) where
               archive = o.archive;
               deriver = o.deriver;
               address_text = λ text ca. h.address p x text e ca;
-              names = λ r there. let y = some_key (finite.get c.objects r) (is_object r (o.references r there)) in (object_told r y.0 y.1).path;
+              names = λ r present. let y = some_key (finite.get c.objects r) (is_object r (o.references r present)) in (object_told r y.0 y.1).path;
               reference_count = o.reference_count;
               no_self_reference = o.no_self_reference;
               address = o.address;
               derivation = o.derivation;
               outputs_are = o.outputs;
             };
-        references = λ p r there.
-            let from = h.references p r there in
+        references = λ p r present.
+            let from = h.references p r present in
             let x = some_key (finite.get c.objects p) from in
-            (from, is_object r ((object_told p x.0 x.1).references r (reference_at c p r ∙ there)));
+            (from, is_object r ((object_told p x.0 x.1).references r (reference_at c p r ∙ present)));
         outputs = h.outputs;
       };
       roots = record {
         permanent = λ name t e. (h.world.permanent_name name (ap is_some e), is_object t (h.world.permanent_target name t e));
         user_roots = λ owned t e. (h.world.user_root_owner owned (ap is_some e), h.world.user_root_name owned (ap is_some e), is_object t (h.world.user_root_target owned t e));
-        runtime = λ r there. (h.world.runtime_label r there, is_object r.1 (h.world.runtime_target r there));
+        runtime = λ r present. (h.world.runtime_label r present, is_object r.1 (h.world.runtime_target r present));
         profiles = λ owned n e.
             let q = profile_told owned n e in
             let m = h.current owned n e in

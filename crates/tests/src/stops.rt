@@ -1,16 +1,16 @@
 //! Calls over disks in memory that stop, one of them at each of its calls in turn.
+mod cases;
 mod course;
 mod disks;
 mod migrations;
 mod requests;
 mod rows;
-mod standing;
 mod texts;
 
+use crate::stops::cases::{Case, survives};
 use crate::stops::course::make_run;
 use crate::stops::disks::{Contents, files_of, is_stopped};
 use crate::stops::requests::Step;
-use crate::stops::standing::{Case, stands};
 use std::alloc::Global;
 use std::test::Fail;
 
@@ -26,13 +26,13 @@ fn stop_at_each(alloc: Global, case: &Case, is_log: bool) -> Result<u64, Fail> {
         let files = files_of(alloc, &case.start.log, &case.start.db, log, db)?;
         let mut run = make_run(alloc, files, case.settings, case.steps)?;
         if !is_stopped(&mut run.files) {
-            return if run.told.as_slice() == case.told.as_bytes() {
+            return if run.reported.as_slice() == case.reported.as_bytes() {
                 Ok(calls)
             } else {
                 Err(Fail::new("another answer"))
             };
         }
-        stands(alloc, case, run)?;
+        survives(alloc, case, run)?;
     }
     Err(Fail::new("each run meets a stop"))
 }

@@ -1,5 +1,5 @@
 //! A list of calls on a store in memory.
-mod taking_up;
+mod adopting;
 
 use paths::{Name, StoreDir, StorePath};
 use policy::{Caller, Config, store_dir};
@@ -21,7 +21,7 @@ const TEXT: &str = "a0d1zlpv81nsfbam8ay3i7snrc0sgsvr-myfile";
 const TEXT_PATH: &str = "/nix/store/a0d1zlpv81nsfbam8ay3i7snrc0sgsvr-myfile\n";
 
 /// What the calls answer, in turn.
-const TOLD: &str = "/nix/store/a0d1zlpv81nsfbam8ay3i7snrc0sgsvr-myfile
+const PRINTED: &str = "/nix/store/a0d1zlpv81nsfbam8ay3i7snrc0sgsvr-myfile
 /nix/store/jpzwwkzwcap53421pll8gza0knik4xzf-other
 done
 denied: connect
@@ -159,16 +159,21 @@ fn replies(alloc: Global, calls: Vec<(Caller, Request)>) -> Result<Vec<Reply>, F
     Ok(replies?)
 }
 
-pub fn tell(alloc: Global, dir: &StoreDir, reply: Reply, told: &mut Vec<u8>) -> Result<(), Fail> {
+pub fn tell(
+    alloc: Global,
+    dir: &StoreDir,
+    reply: Reply,
+    reported: &mut Vec<u8>,
+) -> Result<(), Fail> {
     let text = reply_pieces(alloc, dir, reply)?.joined()?;
-    told.extend_from_slice(&text)?;
+    reported.extend_from_slice(&text)?;
     Ok(())
 }
 
-pub fn tell_all(alloc: Global, replies: Vec<Reply>, told: &mut Vec<u8>) -> Result<(), Fail> {
+pub fn tell_all(alloc: Global, replies: Vec<Reply>, reported: &mut Vec<u8>) -> Result<(), Fail> {
     let dir = StoreDir::parse(alloc, "/nix/store")?;
     for reply in replies {
-        tell(alloc, &dir, reply, told)?;
+        tell(alloc, &dir, reply, reported)?;
     }
     Ok(())
 }
@@ -180,8 +185,8 @@ fn calls_in_turn(rt: HostRuntime) -> Result<(), Fail> {
     push_all(alloc, &mut calls)?;
     let replies = replies(alloc, calls)?;
     assert_eq!(rt; replies.len(), 7);
-    let mut told = Vec::new(alloc);
-    tell_all(alloc, replies, &mut told)?;
-    assert!(rt; told.as_slice() == TOLD.as_bytes());
+    let mut reported = Vec::new(alloc);
+    tell_all(alloc, replies, &mut reported)?;
+    assert!(rt; reported.as_slice() == PRINTED.as_bytes());
     Ok(())
 }

@@ -163,7 +163,7 @@ not_help ConnectionsWithoutPort kind is (inr help) = let no : MissingRequiredArg
 -- a fault that `clap` didn't find itself asks for no help
 pub misused : (fault : UsageFault) (e : UsageError) (w : Written) → kind_of e ≡ usage_kind fault → ExplainsUsage e w → Explains (Misuse fault) w
 misused fault e w is (inl memory) = inr memory
-misused fault e w is (inr told) = inl (told.1 (λ help. not_help fault (kind_of e) is help))
+misused fault e w is (inr reported) = inl (reported.1 (λ help. not_help fault (kind_of e) is help))
 
 -- a text was given as its kind says, or there was no memory for it
 pub explained : (e : UsageError) (is_fault : Bool) (text : Result (String Global) AllocError) (w : Written)

@@ -42,16 +42,16 @@ module _ {S : Type 0} (g : Ghosts S) (c : Caller) (w : Written) where
   pub served : (s : Settings) (t : Kept S) (made q : Request) (old new : StoreView S) → old ≡ record { tables = t; settings = s } → StepsAs made q
       → (reply : Reply) × Calls g c made reply old new × IsPrinted old.settings.store_dir reply w → Serves g s t c w q
   served s t made q old new is same calls =
-      let over : Serves g old.settings old.tables c w q = record { made = made; same = same; reply = calls.0; new = new; calls = calls.1; told = calls.2 } in
+      let over : Serves g old.settings old.tables c w q = record { made = made; same = same; reply = calls.0; new = new; calls = calls.1; reported = calls.2 } in
       subst (λ (st : StoreView S). Serves g st.settings st.tables c w q) is over
 
   -- it is a step of each world that they told, where the disk is clean
   stepped : ((h : Held S) → HasCleanDisk (state g h)) → (s : Settings) (t : Kept S) (world : World) → HasWorld g t world → (q : Request) → Serves g s t c w q
       → AnswersStep s world c w q
-  stepped clean s t world told q x =
-      let step = x.calls.step world told in
+  stepped clean s t world reported q x =
+      let step = x.calls.step world reported in
       let is = step_clean (HasCleanDisk (state g x.new.tables.connection)) s world c x.made x.reply step.0 (λ _. clean x.new.tables.connection) step.1 in
-      (x.reply, step.0, x.same s world c x.reply step.0 is, x.told)
+      (x.reply, step.0, x.same s world c x.reply step.0 is, x.reported)
 
 module _ (answered : Request → Type 0) (asks : Result Request Refusal → Type 0) (fails : Type 0) (w : Written) where
   -- the request that was made does what is asked
@@ -105,23 +105,23 @@ module _ (answered : Request → Type 0) (ask : Ask) (dir : List ℕ) (c : Calle
 -- each request that is answered so, is answered so too
 module _ (answered also : Request → Type 0) (each : (q : Request) → answered q → also q) (w : Written) where
   of_request : (wanted : Result Request Refusal) → AnswersRequest answered wanted w → AnswersRequest also wanted w
-  of_request (Ok q) told = each q told
-  of_request (Err refusal) told = told
+  of_request (Ok q) reported = each q reported
+  of_request (Err refusal) reported = reported
 
   of_over : (ask : List ℕ → Result Request Refusal → Type 0) (known : Option (List ℕ)) → AnswersOver answered ask known w → AnswersOver also ask known w
-  of_over ask None told = (told.0, (told.1.0, told.1.1, of_request told.1.0 told.1.2))
-  of_over ask (Some bytes) told = (told.0, told.1, of_request told.0 told.2)
+  of_over ask None reported = (reported.0, (reported.1.0, reported.1.1, of_request reported.1.0 reported.1.2))
+  of_over ask (Some bytes) reported = (reported.0, reported.1, of_request reported.0 reported.2)
 
   of_each : (ask : Ask) (dir : List ℕ) (c : Caller) (input : Stream) → AnswersIn answered ask dir c input w → AnswersIn also ask dir c input w
   of_each ask dir c input (inl gone) = inl gone
-  of_each ask dir c input (inr told) = inr (of_over (Demands ask dir c) input.old told)
+  of_each ask dir c input (inr reported) = inr (of_over (Demands ask dir c) input.old reported)
 
 -- what is asked over the tables of a clean disk is asked in each of their worlds
 pub asked_in : {S : Type 0} (g : Ghosts S) → ((h : Held S) → HasCleanDisk (state g h)) → (s : Settings) (t : Kept S) (world : World) → HasWorld g t world
     → (ask : Ask) (c : Caller) (input : Stream) (w : Written) → AnswersIn (Serves g s t c w) ask s.store_dir c input w
     → AnswersIn (AnswersStep s world c w) ask s.store_dir c input w
-asked_in g clean s t world told ask c input w =
-    of_each (Serves g s t c w) (AnswersStep s world c w) (λ q x. stepped g c w clean s t world told q x) w ask s.store_dir c input
+asked_in g clean s t world reported ask c input w =
+    of_each (Serves g s t c w) (AnswersStep s world c w) (λ q x. stepped g c w clean s t world reported q x) w ask s.store_dir c input
 
 module _ (answered : Caller → Type 0) (line : Line) where
   -- the caller of the names was answered

@@ -50,8 +50,8 @@ too_long contents long = lt-leb (112 + padded (length contents)) 16777216 (omega
 
 broken_fault : (few : Bool) (e : NarError) (r : Refusal) (outcome : Result Tree NarError) (rest : List (Option Refusal)) → outcome ≡ Err e → archive_refusal e ≡ Some r
     → first_failing (unless few TooManyReferences ∷ archive_fault outcome ∷ rest) ≡ first_failing (unless few TooManyReferences ∷ Some r ∷ [])
-broken_fault true e r outcome rest is told = ap (λ fault. first_failing (fault ∷ rest)) (ap archive_fault is ∙ told)
-broken_fault false e r outcome rest is told = refl
+broken_fault true e r outcome rest is reported = ap (λ fault. first_failing (fault ∷ rest)) (ap archive_fault is ∙ reported)
+broken_fault false e r outcome rest is reported = refl
 
 module _ (s : Settings) (w : World) (name : List ℕ) (refs : List Path) where
   long_refused : (contents : List ℕ) → nat_le (text_archive_size contents) limit ≡ false → refusal s w (add_text name refs contents) ≡ fault_of refs TooLarge
@@ -62,11 +62,11 @@ module _ (s : Settings) (w : World) (name : List ℕ) (refs : List Path) where
       long
 
   broken_refused : (b : List ℕ) (e : NarError) (r : Refusal) → outcome_of b ≡ Err e → archive_refusal e ≡ Some r → refusal s w (add_source name refs b) ≡ fault_of refs r
-  broken_refused b e r is told =
+  broken_refused b e r is reported =
       let p = source_path s.store_dir name refs b in
       broken_fault (nat_le (length refs) most_references) e r (outcome_of b)
       (unless (not (holds refs p)) SelfReference ∷ if_derivation p (tree_fault s.store_dir (outcome_of b)) ∷ unless (is_complete w p refs) MissingReference ∷ [])
-      is told
+      is reported
 
   -- both are refused alike, whatever the rules say
   steps_long : (c : Caller) (front all : List ℕ) → nat_le (text_archive_size front) limit ≡ false → nat_le (text_archive_size all) limit ≡ false

@@ -51,4 +51,4 @@ pub record Serves {S : Type 0} (g : Ghosts S) (s : Settings) (t : Kept S) (c : C
   pub reply : Reply
   pub new : StoreView S
   pub calls : Calls g c made reply (record { tables = t; settings = s }) new
-  pub told : IsPrinted s.store_dir reply w
+  pub reported : IsPrinted s.store_dir reply w

@@ -1,10 +1,9 @@
 -- What is done with a store in a file.
 use Rattle.std.specs.Prelude.{◌⊎◌, ℕ, List, Err}
-use Rattle.std.specs.Option.{option_map_or}
-use Rattle.sqlite_disk.specs.declared.Disk as disk
-use Rattle.sqlite_disk.specs.declared.calls.Calls as calls
-use Rattle.sqlite_disk.specs.declared.modelled.Modelled.{Modelled}
-use Rattle.sqlite_disk.specs.declared.start.Start.{Ghosts}
+use Rattle.tables.specs.Disk as disk
+use Rattle.tables.specs.DiskCalls as calls
+use Rattle.tables.specs.Modelled.{Modelled}
+use Rattle.tables.specs.DiskStart.{Ghosts}
 use Rattle.sqlite_std_file.specs.declared.host.Host.{Host}
 use Rattle.sqlite_wal.specs.Files.{image_at}
 use Rattle.sqlite_store.specs.declared.store.FileStore.{FileStore}
@@ -12,12 +11,10 @@ use Rattle.sqlite.specs.Files.{over_files}
 use Rattle.tables.specs.Kept.{Kept}
 use Rattle.model.specs.Reply.{failed}
 use Rattle.store_types.specs.View.{failure_view}
-use Rattle.tables_open.specs.declared.file.Unopened.{Unopened as NoFile}
-use Rattle.tables_open.specs.declared.file.Unopened.TheVariants as file
 use Rattle.tables.specs.declared.refusing.Cause.{Cause}
 use Rattle.tables.specs.declared.refusing.Cause.TheVariants.{BadSchema, OtherStoreDir, Failed as Lacks}
 use Rattle.tables.specs.declared.refusing.Unopened.{Unopened}
-use Rattle.tables.specs.declared.refusing.Unopened.TheVariants.{File, Store}
+use Rattle.tables.specs.Causes.{cause_of}
 use Rattle.tables.specs.Opened.{IsUnopened, Opens}
 use Rattle.model.specs.declared.refusal.Refusal.TheVariants as refusal
 use Rattle.tool_pure.specs.Printing.{IsPrinted}
@@ -25,17 +22,6 @@ use Rattle.tool_pure.specs.declared.stops.Stop.TheVariants.{Refused}
 use Rattle.report.specs.Outputs.{Written}
 use Rattle.tool.specs.Works.{Doing, DoesOver}
 use Rattle.tool_pure.specs.Stream.{Answers}
-
-module _ {S D : Type 0} {g : disk.Ghosts D} where
-  -- why no connection was opened as a store: what isn't a database is no store
-  abbrev pub file_cause : NoFile S D g → Cause
-  file_cause (file.Refused failure left) = option_map_or Lacks failure BadSchema
-  file_cause (file.Unreadable it) = Lacks it.failure
-
-  -- why a file isn't opened as a store
-  abbrev pub cause_of : Unopened S D g → Cause
-  cause_of (File e) = file_cause e
-  cause_of (Store e) = e.cause
 
 -- the cause is reported: as a refusal, or as the failure of a call
 abbrev pub AnswersCause : List ℕ → Cause → Written → Type 0

@@ -14,10 +14,10 @@ use crate::requests::is_asked;
 use crate::serve::serve;
 use policy::store_dir;
 use sqlite::{FileFrom, Start};
-use sqlite_disk::Disk;
 use std::alloc::Global;
 use std::io::{Read, Write};
 use std::rt::HostRuntime;
+use tables::Disk;
 use tool_pure::{ls, say, settings, source_path, text_path, who};
 use tool_words::{CommandLine, ObjectArguments, Task};
 

@@ -15,12 +15,11 @@ use crate::stores::with_tables;
 use crate::work::Work;
 use policy::{Caller, Config, store_dir};
 use sqlite::{Alter, FileFrom, Start};
-use sqlite_disk::Disk;
 use std::alloc::Global;
 use std::io::{Read, Write};
 use std::rt::HostRuntime;
 use store::Store;
-use tables::Tables;
+use tables::{Disk, Tables};
 use tool_pure::{parse_caller, say, serve, settings};
 use tool_words::{CommandLine, Task};
 

@@ -18,12 +18,12 @@ use crate::answers::answer;
 use clap::Error;
 use report::print;
 use sqlite::{FileFrom, Start};
-use sqlite_disk::Disk;
 use std::alloc::{AllocError, Global};
 use std::convert::AsStr;
 use std::io;
 use std::io::{ErrorKind, Read, Write};
 use std::rt::HostRuntime;
+use tables::Disk;
 use tool_pure::{Failure, Stop, config_text, give, open_config, say};
 use tool_words::{CommandError, CommandLine, Task, UsageFault, command};
 

@@ -7,15 +7,14 @@ ghost use Rattle.tool_pure.specs.Archive.{max_prefix};
 ghost use Rattle.tool.specs.Files.{DoesFile};
 ghost use Rattle.tool.specs.Works.{DoesNew, DoesWith, OnStore, reads_whole, work_view};
 
-use crate::files::{cause_of, refuse_file};
+use crate::files::refuse_file;
 use crate::work::{Work, work_over};
 use policy::{Config, store_dir};
 use sqlite::{FileFrom, Start};
-use sqlite_disk::Disk;
 use std::io::{Read, Write};
 use std::rt::HostRuntime;
 use store_types::Reply;
-use tables::Tables;
+use tables::{Disk, Tables};
 use tool_pure::print_reply;
 
 /// Does some work with a store that is in memory, for this run.
@@ -80,7 +79,7 @@ fn in_file<F: Start, R: Read, W: Write, E: Write>(
         Err(unopened) => refuse_file(
             rt.alloc(),
             store_dir(&config),
-            cause_of(unopened),
+            unopened.cause(),
             output,
             errors,
         ),

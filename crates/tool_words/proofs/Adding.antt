@@ -8,5 +8,5 @@ use Rattle.clap.specs.Simple.{App, app_of}
 use Rattle.tool_words.specs.Grammar.{adding}
 
 pub added : {E : Type 0} (was before after sub : App) (made : Result Command E) → was ≡ before → IfOk made (λ s. app_of s ≡ sub) → IsOkAnd made (λ s. after ≡ adding was (app_of s)) → after ≡ adding before sub
-added was before after sub (Ok s) same is told = told ∙ ap₂ (λ (a b : App). adding a b) same is
-added was before after sub (Err e) same is told = absurd told
+added was before after sub (Ok s) same is reported = reported ∙ ap₂ (λ (a b : App). adding a b) same is
+added was before after sub (Err e) same is reported = absurd reported

@@ -34,9 +34,9 @@ admitted_at s h c kind dir target body course is d t reads =
 -- the course of one for whose body memory was refused
 lost_course : (s : Settings) (h : RequestHead) (c : Caller) (kind : Kind) (dir target body : List ℕ) (op : Operation) → admission_of s h ≡ admits c kind
     → dir ≡ s.store_dir → target ≡ h.target → AsksOfRules dir kind target body op → HasCourse s h body (replies (response_to s.store_dir (lost_reply s c op)))
-lost_course s h c kind dir target body op is d t told =
+lost_course s h c kind dir target body op is d t reported =
     let course = replies (response_to s.store_dir (lost_reply s c op)) in
-    let here = subst (λ v. AsksOfRules v kind target body op) d told in
+    let here = subst (λ v. AsksOfRules v kind target body op) d reported in
     subst (λ it. Follows s h.target body it course) (sym is) (inr (op, subst (λ v. AsksOfRules s.store_dir kind v body op) t here, refl))
 
 module _ {S : Type 0} (g : Ghosts S) (old : StoreView S) (h : RequestHead) where
@@ -59,16 +59,16 @@ module _ {S : Type 0} (g : Ghosts S) (old : StoreView S) (h : RequestHead) where
 
     -- one for whose body memory was refused
     module _ (c : Caller) (kind : Kind) (dir target : List ℕ) (op : Operation) (config : Settings) (r : Result Response AllocError) (is : admission_of old.settings h ≡ admits c kind)
-        (d : dir ≡ old.settings.store_dir) (t : target ≡ h.target) (told : AsksOfRules dir kind target body op) (s : config ≡ old.settings)
+        (d : dir ≡ old.settings.store_dir) (t : target ≡ h.target) (reported : AsksOfRules dir kind target body op) (s : config ≡ old.settings)
         (said : IfOk r (λ x. replied x ≡ response_to config.store_dir (lost_reply config c op))) where
       said_of_lost : IfOk r (λ x. replied x ≡ response_to old.settings.store_dir (lost_reply old.settings c op))
       said_of_lost = subst (λ v. IfOk r (λ x. replied x ≡ response_to v.store_dir (lost_reply v c op))) s said
 
       pub lost_answer : IfOk r (λ x. Answers g old h body (replied x) old)
-      lost_answer = replied_or_lost (response_to old.settings.store_dir (lost_reply old.settings c op)) r (lost_course old.settings h c kind dir target body op is d t told) said_of_lost
+      lost_answer = replied_or_lost (response_to old.settings.store_dir (lost_reply old.settings c op)) r (lost_course old.settings h c kind dir target body op is d t reported) said_of_lost
 
       pub lost_answered : Answered (Answers g) old h body r old
-      lost_answered = replied_at_once (response_to old.settings.store_dir (lost_reply old.settings c op)) r (lost_course old.settings h c kind dir target body op is d t told) said_of_lost
+      lost_answered = replied_at_once (response_to old.settings.store_dir (lost_reply old.settings c op)) r (lost_course old.settings h c kind dir target body op is d t reported) said_of_lost
 
     -- one that the store was asked for is answered with the response to the reply; or that response is lost
     pub asked : (new : StoreView S) (c : Caller) (q : Request) (reply : Reply) (r : Result Response AllocError)

@@ -32,21 +32,21 @@ module _ {S : Type 0} (g : Ghosts S) where
 
   step_from : (old new : StoreView S) (w : World) (h : RequestHead) (body : List ℕ) (r : Replied) (course : Course) → HasWorld g old.tables w
       → HasCourse old.settings h body course → Ends g course old r new → (next : World) × IsAt old.settings new next × (IsClean new → IsClean old × AnswersFrom old.settings w h body r next)
-  step_from old new w h body r (replies it) told takes (is, stays) =
-      (w, (subst (λ st. HasWorld g st.tables w) (sym stays) told, ap (λ st. st.settings) stays), λ clean. (subst IsClean stays clean, (replies it, takes, (is, refl))))
-  step_from old new w h body r (calls c q) told takes (reply, is, said) =
-      let one = is.step w told in (
+  step_from old new w h body r (replies it) reported takes (is, stays) =
+      (w, (subst (λ st. HasWorld g st.tables w) (sym stays) reported, ap (λ st. st.settings) stays), λ clean. (subst IsClean stays clean, (replies it, takes, (is, refl))))
+  step_from old new w h body r (calls c q) reported takes (reply, is, said) =
+      let one = is.step w reported in (
         one.0,
         (one.2, is.settings),
         λ clean.
             let step = step_clean (IsClean new) old.settings w c q reply one.0 (λ _. clean) one.1 in
-            (clean_before _ _ _ (is.survives w told) clean, (calls c q, takes, (reply, step, said))),
+            (clean_before _ _ _ (is.survives w reported) clean, (calls c q, takes, (reply, step, said))),
       )
 
   answer_from : (s : Settings) (old : StoreView S) (w : World) (h : RequestHead) (body : List ℕ) (r : Replied) (new : StoreView S) → IsAt s old w → Answers g old h body r new
       → (next : World) × IsAt s new next × (IsClean new → IsClean old × AnswersFrom s w h body r next)
-  answer_from s old w h body r new (told, same) (course, takes, ends) =
-      subst (λ t. (next : World) × IsAt t new next × (IsClean new → IsClean old × AnswersFrom t w h body r next)) same (step_from old new w h body r course told takes ends)
+  answer_from s old w h body r new (reported, same) (course, takes, ends) =
+      subst (λ t. (next : World) × IsAt t new next × (IsClean new → IsClean old × AnswersFrom t w h body r next)) same (step_from old new w h body r course reported takes ends)
 
   -- no more than the settings
   abbrev pub IsUnder : Settings → StoreView S → Unit {0} → Type 0
@@ -68,8 +68,8 @@ module _ {S : Type 0} (g : Ghosts S) where
 
   module _ (old new : StoreView S) (known out out' : Option (List ℕ)) (result : Result ℕ WireError) (served : Served (Answers g) known out out' old new result) where
     pub served_from : LeadsWorlds g old new (λ w next. Served (AnswersFrom old.settings) known out out' w next result)
-    served_from w told =
-        let more = served_seen (Answers g) (AnswersFrom old.settings) (IsAt old.settings) IsClean (answer_from old.settings) known out out' old w new result (told, refl) served in
+    served_from w reported =
+        let more = served_seen (Answers g) (AnswersFrom old.settings) (IsAt old.settings) IsClean (answer_from old.settings) known out out' old w new result (reported, refl) served in
         (more.0, more.1.0, λ clean. (more.2 clean).1)
 
     pub served_some : Served (AnswersSome old.settings) known out out' tt tt result
@@ -82,8 +82,8 @@ module _ {S : Type 0} (g : Ghosts S) where
 
   module _ (old new : StoreView S) (n : ℕ) (err err' : Option (List ℕ)) (result : Result ℕ Error) (served : ServesOn (Answers g) n None None None None err err' old new result) where
     serves_from : LeadsWorlds g old new (λ w next. ServesOn (AnswersFrom old.settings) n None None None None err err' w next result)
-    serves_from w told =
-        let more = serves_on_seen (Answers g) (AnswersFrom old.settings) (IsAt old.settings) IsClean (answer_from old.settings) None None None None err err' old w new (told, refl) n result served in
+    serves_from w reported =
+        let more = serves_on_seen (Answers g) (AnswersFrom old.settings) (IsAt old.settings) IsClean (answer_from old.settings) None None None None err err' old w new (reported, refl) n result served in
         (more.0, more.1.0, λ clean. (more.2 clean).1)
 
     serves_some : (new.settings ≡ old.settings) × ServesOn (AnswersSome old.settings) n None None None None err err' tt tt result
@@ -98,10 +98,10 @@ module _ {S : Type 0} (g : Ghosts S) where
 
   pub over_from : (old new : StoreView S) (n : ℕ) (err err' : Option (List ℕ)) (result : Result ℕ Error) → ServesOver (Answers g) n err err' old new result
       → LeadsWorlds g old new (λ w next. ServesOver (AnswersFrom old.settings) n err err' w next result)
-  over_from old new n err err' result (inl served) w told =
-      let more = serves_from old new n err err' result served w told in
+  over_from old new n err err' result (inl served) w reported =
+      let more = serves_from old new n err err' result served w reported in
       (more.0, more.1, λ clean. inl (more.2 clean))
-  over_from old new n err err' result (inr (fault, same, kept)) w told = (w, subst (λ st. HasWorld g st.tables w) (sym same) told, λ clean. inr (fault, refl, kept))
+  over_from old new n err err' result (inr (fault, same, kept)) w reported = (w, subst (λ st. HasWorld g st.tables w) (sym same) reported, λ clean. inr (fault, refl, kept))
 
   module _ (old : StoreView S) (known out out' err err' : Option (List ℕ)) (status : ℕ) (served : ServesStreams (Answers g) known out out' err err' old status) where
     pub streams_steps : EndsStreams (ServedByWorlds g known out out') out out' err err' old status
@@ -111,10 +111,10 @@ module _ {S : Type 0} (g : Ghosts S) where
     ]
 
     pub streams_from : ((held : Held S) → HasCleanDisk (state g held)) → (w : World) → HasWorld g old.tables w → ServesStreams (AnswersFrom old.settings) known out out' err err' w status
-    streams_from clean w told = elim served [
+    streams_from clean w reported = elim served [
       | inl lacks ↦ inl lacks
       | inr (end, new, is, says, ends) ↦
-          let more = served_from old new known out out' (result_of end) is w told in
+          let more = served_from old new known out out' (result_of end) is w reported in
           inr (end, more.0, more.2 (clean new.tables.connection), says, ends)
     ]
 
@@ -133,11 +133,11 @@ module _ {S : Type 0} (g : Ghosts S) where
     ]
 
     pub port_from : ((held : Held S) → HasCleanDisk (state g held)) → (w : World) → HasWorld g old.tables w → ServesPort (AnswersFrom old.settings) n err err' w status
-    port_from clean w told = elim served [
+    port_from clean w reported = elim served [
       | inl lacks ↦ inl lacks
       | inr (inl taken) ↦ inr (inl taken)
       | inr (inr (new, result, said, is, ends)) ↦
-          let more = serves_from old new n err said result is w told in
+          let more = serves_from old new n err said result is w reported in
           inr (inr (more.0, result, said, more.2 (clean new.tables.connection), ends))
     ]
 

@@ -91,9 +91,9 @@ not_empty zero b is no_more = let h : true ≡ false = sym is ∙ no_more in cc
 not_empty (suc n) b is no_more = omega arith
 
 pub nothing_in : (line : List ℕ) (b : Bool) → b ≡ (length line == 0) → b ≡ true → line ≡ []
-nothing_in [] b is told = refl
-nothing_in (x ∷ line) b is told =
-    let h : false ≡ true = sym (ne_eqb (length (x ∷ line)) 0 (λ (e : length (x ∷ line) ≡ 0). omega (arith, e))) ∙ sym is ∙ told in cc
+nothing_in [] b is reported = refl
+nothing_in (x ∷ line) b is reported =
+    let h : false ≡ true = sym (ne_eqb (length (x ∷ line)) 0 (λ (e : length (x ∷ line) ≡ 0). omega (arith, e))) ∙ sym is ∙ reported in cc
 
 pub no_entry : (text : List ℕ) (es : List Entry) (rest line after : List ℕ) → Read text es rest → rest ≡ line ++ 10 ∷ after → Lacks 10 line → 0 < length line
     → ((k v : List ℕ) → line ≡ entry_text (k, v) → Lacks 58 k → IsUtf8 line → ⊥) → (fs : List Entry) (payload : List ℕ) → Reads text fs payload → ⊥

@@ -43,9 +43,9 @@ module _ {A : Type 0} (read : List ℕ → Option A) where
 
 -- what is there, or that nothing is
 abbrev pub Answers : {A B : Type 0} → (A → B) → Option B → Result A BodyError → Type 0
-Answers view there (Ok x) = there ≡ Some (view x)
-Answers view there (Err BadBodyHead) = there ≡ None
-Answers view there (Err Memory) = ⊤
+Answers view present (Ok x) = present ≡ Some (view x)
+Answers view present (Err BadBodyHead) = present ≡ None
+Answers view present (Err Memory) = ⊤
 
 -- none, the one or more of them
 abbrev pub Are : List (List ℕ) → Found → Type 0

@@ -53,13 +53,13 @@ module _ (old new : Option (List ℕ)) (held : List ℕ) (len size left : ℕ) (
   }
 
   -- what took the part that is held and then the rest has taken the body
-  pub body_taken : (n : ℕ) (taken mid taken' : List ℕ) → result ≡ Ok true → n ≡ min size (length (drop len held)) → mid ≡ taken ++ take n (drop len held) → taken' ≡ mid ++ read
-      → taken' ≡ taken ++ take size (drop len (held ++ read))
-  body_taken n taken mid taken' e at first last =
+  pub body_taken : (n : ℕ) (consumed mid consumed' : List ℕ) → result ≡ Ok true → n ≡ min size (length (drop len held)) → mid ≡ consumed ++ take n (drop len held) → consumed' ≡ mid ++ read
+      → consumed' ≡ consumed ++ take size (drop len (held ++ read))
+  body_taken n consumed mid consumed' e at first last =
       let count : length read ≡ size - n = omega (arith, rest.whole e, is, at, length-drop len held) in
-      last ∙ ap (λ t. t ++ read) first ∙ append_assoc taken (take n (drop len held)) read
-      ∙ ap (λ t. taken ++ t) (whole_body (drop len held) read size n at count)
-      ∙ ap (λ t. taken ++ take size t) (sym (drop-append-le len held read fits))
+      last ∙ ap (λ t. t ++ read) first ∙ append_assoc consumed (take n (drop len held)) read
+      ∙ ap (λ t. consumed ++ t) (whole_body (drop len held) read size n at count)
+      ∙ ap (λ t. consumed ++ take size t) (sym (drop-append-le len held read fits))
 
 -- ---- a body that is kept, or was to be
 
@@ -79,19 +79,19 @@ module _ (old new : Option (List ℕ)) (held : List ℕ) (len size left : ℕ) (
   -- memory was refused for what is held of it
   pub body_lost : (rest : (read : List ℕ) × ReadsRest old new left read (has_come result)) → (result ≡ Ok Kept → ⊥) → ((more : List ℕ) → may_be (mid ++ more))
       → KeepsBody old new held len size kept kept' may_be result
-  body_lost rest none told =
+  body_lost rest none reported =
       let all = body_taken old new held len size left rest.0 (has_come result) fits is rest.1 n kept mid in
       record {
         came = body_came old new held len size left rest.0 (has_come result) fits is rest.1;
         kept_all = λ e. absurd (none e);
-        lost = λ e. subst may_be (all (mid ++ rest.0) (ap has_come e) at first refl) (told rest.0);
+        lost = λ e. subst may_be (all (mid ++ rest.0) (ap has_come e) at first refl) (reported rest.0);
       }
 
 -- the rest of a body that was kept so far, when memory is refused for a piece of it
 pub lost_rest : (old mid new end : Option (List ℕ)) (size left n : ℕ) (bs read more kept now kept' : List ℕ) (may_be : List ℕ → Type 0) (result : Result Fate ReceiveError)
     → Consumes old mid bs → length bs + left ≡ size → now ≡ kept ++ bs → Consumes mid new read → length read ≡ n → n ≤ left
     → ReadsRest new end (left - n) more (has_come result) → (result ≡ Ok Kept → ⊥) → ((t : List ℕ) → may_be ((now ++ read) ++ t)) → KeepsRest old end size kept kept' may_be result
-lost_rest old mid new end size left n bs read more kept now kept' may_be result before sum is next count fits rest none told =
+lost_rest old mid new end size left n bs read more kept now kept' may_be result before sum is next count fits rest none reported =
     let all : length (bs ++ (read ++ more)) ≡ length bs + (n + length more) = omega (arith, length-append bs (read ++ more), length-append read more, count) in
     record {
       read = bs ++ (read ++ more);
@@ -101,5 +101,5 @@ lost_rest old mid new end size left n bs read more kept now kept' may_be result 
         short = λ e. ((rest.short e).0, omega (arith, (rest.short e).1, all, sum, fits));
       };
       kept_all = λ e. absurd (none e);
-      lost = λ e. subst may_be (append_assoc now read more ∙ ap (λ t. t ++ (read ++ more)) is ∙ append_assoc kept bs (read ++ more)) (told more);
+      lost = λ e. subst may_be (append_assoc now read more ∙ ap (λ t. t ++ (read ++ more)) is ∙ append_assoc kept bs (read ++ more)) (reported more);
     }

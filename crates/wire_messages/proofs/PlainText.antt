@@ -41,9 +41,9 @@ no_name name group none = rw (no_plain_name name none) refl
 pub no_group : (name group : List ℕ) → (IsUtf8 group → ⊥) → named name (Some group) ≡ None
 no_group name group none = rw (no_plain_name group none) (by (is_plain_name name) (Some (caller_of name (Some group))))
   where
-    by : (v : Bool) (there : Option Caller) → cond (v && false) there None ≡ None
-    by true there = refl
-    by false there = refl
+    by : (v : Bool) (present : Option Caller) → cond (v && false) present None ≡ None
+    by true present = refl
+    by false present = refl
 
 -- the one user, and a group that is no text
 pub no_group_of : (users groups : List (List ℕ)) (user group : Bor (List ℕ)) → Are users (values.One user) → Are groups (values.One group)

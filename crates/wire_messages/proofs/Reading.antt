@@ -16,13 +16,13 @@ use Rattle.wire_messages.proofs.Longer.{head-append}
 -- what was taken and what one more read took
 pub record Took (old new : Option (List ℕ)) (held held' : List ℕ) : Type 0 where
   pub bytes : List ℕ
-  pub taken : Consumes old new bytes
+  pub consumed : Consumes old new bytes
   pub kept : held' ≡ held ++ bytes
 
 pub took_more : (a b c : Option (List ℕ)) (held mid held' bs : List ℕ) → Took a b held mid → Consumes b c bs → held' ≡ mid ++ bs → Took a c held held'
 took_more a b c held mid held' bs before read kept = record {
   bytes = before.bytes ++ bs;
-  taken = Consumes-trans a b c before.bytes bs before.taken read;
+  consumed = Consumes-trans a b c before.bytes bs before.consumed read;
   kept = kept ∙ ap (λ t. t ++ bs) before.kept ∙ append_assoc held before.bytes bs;
 }
 

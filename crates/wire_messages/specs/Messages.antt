@@ -38,7 +38,7 @@ IsFault input TooLarge = FaultOfHead input TooLarge
 
 -- One more read: what it took is appended to what was held, at least a byte where there may be more; else the end was there.
 pub record ReadsMore (old new : Option (List ℕ)) (held held' : List ℕ) (result : Result Bool ReceiveError) : Type 0 where
-  pub taken : (bs : List ℕ) × Consumes old new bs × OnOk result (held' ≡ held ++ bs)
+  pub consumed : (bs : List ℕ) × Consumes old new bs × OnOk result (held' ≡ held ++ bs)
   pub some : result ≡ Ok true → length held < length held'
   pub at_end : result ≡ Ok false → IsAtEnd new × (held' ≡ held)
   pub silent : result ≡ Err Silent → held' ≡ held

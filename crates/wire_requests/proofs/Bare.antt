@@ -22,10 +22,10 @@ by_shape : (dir : List ℕ) (kind : Kind) (target body : List ℕ) (r : Result R
     → ((q : asked.Request) → (is_blank body ≡ true) × (by_target kind target ≡ Some q) → Asks dir kind target body q)
     → ((q : asked.Request) → Asks dir kind target body q → (is_blank body ≡ true) × (by_target kind target ≡ Some q))
     → has_bad_path kind target ≡ false → ReadsTarget kind target body r → Reads dir kind target body r
-by_shape dir kind target body (Ok q) there back good is = there (request_view q) is
-by_shape dir kind target body (Err BadPath) there back good is = absurd is
-by_shape dir kind target body (Err BadBodyHead) there back good is = (good, λ q w. is q (back q w).0 (back q w).1)
-by_shape dir kind target body (Err Memory) there back good is = tt
+by_shape dir kind target body (Ok q) present back good is = present (request_view q) is
+by_shape dir kind target body (Err BadPath) present back good is = absurd is
+by_shape dir kind target body (Err BadBodyHead) present back good is = (good, λ q w. is q (back q w).0 (back q w).1)
+by_shape dir kind target body (Err Memory) present back good is = tt
 
 -- each kind that no other shape has
 pub bare_reads : (dir : List ℕ) (kind : Kind) (target body : List ℕ) (r : Result Request AskError)

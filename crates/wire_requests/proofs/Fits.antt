@@ -8,7 +8,7 @@ use Rattle.matchit.specs.Rows.{RowsOf}
 use Rattle.matchit.specs.Router.{RouteOf}
 use Rattle.matchit.specs.Seek.{first}
 use Rattle.wire_requests.specs.declared.requests.Requests.{Requests}
-use Rattle.wire_requests.specs.Patterns.{fits, behind, is_plain}
+use Rattle.wire_requests.specs.Patterns.{fits, suffix, is_plain}
 use Rattle.wire_requests.specs.Table.{routes, table, first_fit, requests_of}
 use Rattle.wire_requests.specs.Rows.{Has, AreRows, rows}
 use Rattle.wire_requests.proofs.Texts.{AllBytes, and_first, and_last, not_true}
@@ -34,16 +34,16 @@ apart_fits (x ∷ a) (y ∷ b) (c ∷ text) e f g = by (x == 256) refl (y == 256
   where
     by : (v : Bool) → (x == 256) ≡ v → (w : Bool) → (y == 256) ≡ w
         → cond v (cond w (are_apart a b) (y == 47)) (cond w (x == 47) (not (x == y) || are_apart a b)) ≡ true
-        → cond v (not (c == 47) && fits a (behind text)) (x == c && fits a text) ≡ true
-        → cond w (not (c == 47) && fits b (behind text)) (y == c && fits b text) ≡ true
+        → cond v (not (c == 47) && fits a (suffix text)) (x == c && fits a text) ≡ true
+        → cond w (not (c == 47) && fits b (suffix text)) (y == c && fits b text) ≡ true
         → ((t : List ℕ) → are_apart a b ≡ true → fits a t ≡ true → fits b t ≡ true → ⊥) → ⊥
-    by true xv true yw e f g ih = ih (behind text) e (and_last (not (c == 47)) (fits a (behind text)) f) (and_last (not (c == 47)) (fits b (behind text)) g)
+    by true xv true yw e f g ih = ih (suffix text) e (and_last (not (c == 47)) (fits a (suffix text)) f) (and_last (not (c == 47)) (fits b (suffix text)) g)
     by true xv false yw e f g ih =
-        let no_slash = not_true (c == 47) (and_first (not (c == 47)) (fits a (behind text)) f) in
+        let no_slash = not_true (c == 47) (and_first (not (c == 47)) (fits a (suffix text)) f) in
         let same = and_first (y == c) (fits b text) g in
         grind (arith, nat_tests)
     by false xv true yw e f g ih =
-        let no_slash = not_true (c == 47) (and_first (not (c == 47)) (fits b (behind text)) g) in
+        let no_slash = not_true (c == 47) (and_first (not (c == 47)) (fits b (suffix text)) g) in
         let same = and_first (x == c) (fits a text) f in
         grind (arith, nat_tests)
     by false xv false yw e f g ih = differ (x == y) refl e
@@ -126,8 +126,8 @@ module _ (rs : RowsOf (RouteOf Requests)) (are : AreRows rs rows) (text : List �
   pub found_requests : AllBytes text → (r : RouteOf Requests) → first rs text ≡ Some r → requests_of text ≡ Some r.value
   found_requests bytes r e =
       let found = found_row bytes r e in
-      let there = subst (λ rows. Has (found.0, r.value) rows) rows_table (has_map requests_in (found.0, r) rows found.1) in
-      first_is text table found.0 r.value table_apart there found.2
+      let present = subst (λ rows. Has (found.0, r.value) rows) rows_table (has_map requests_in (found.0, r) rows found.1) in
+      first_is text table found.0 r.value table_apart present found.2
 
   pub missing_requests : first rs text ≡ None → requests_of text ≡ None
   missing_requests e = none_first text table (λ t requests has f.

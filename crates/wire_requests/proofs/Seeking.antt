@@ -6,7 +6,7 @@ use Rattle.std.specs.Prelude.{nat_le}
 use Rattle.matchit.specs.Rows.{RowsOf}
 use Rattle.matchit.specs.Seek.{segment, has_slash, own, step, or_else, longest_from, with_suffix, param_step, seek, first}
 use Rattle.wire_requests.specs.Rows.{Has}
-use Rattle.wire_requests.specs.Patterns.{fits, behind, is_at_end, is_plain}
+use Rattle.wire_requests.specs.Patterns.{fits, suffix, is_at_end, is_plain}
 use Rattle.wire_requests.proofs.Texts.{no_slash, with_slash, behind_segment, cuts_slash, cuts_at_slash, and_first, and_last, not_true, AllBytes, bytes_behind, short_behind, fits_parameter, fits_byte}
 use Rattle.wire_requests.proofs.Suffixes.{slash_ahead, AtEnds, none_longest, found_longest, either_longest}
 use Rattle.wire_requests.proofs.Steps.{has_step, step_has, own_has, has_own, suffix_has, has_suffix}
@@ -71,7 +71,7 @@ module _ {K : Type 0} where
       by_step rs b path (0, []) (param_none rs (b ∷ path) l ∙ here) ∙ seek_empty 0 path
 
   to_slash : (rs : RowsOf K) (b : ℕ) (path : List ℕ) → (b == 47) ≡ false → has_slash path ≡ true → longest_from (segment (b ∷ path)) [] rs ≡ 47 ∷ []
-      → by_parameter rs b path ≡ seek 0 (with_suffix (47 ∷ []) rs) (behind path)
+      → by_parameter rs b path ≡ seek 0 (with_suffix (47 ∷ []) rs) (suffix path)
   to_slash rs b path e f l =
       let size : length (segment (b ∷ path)) ≡ suc (length (segment path)) = ap (λ v. length (cond v (b ∷ []) (b ∷ segment path))) e in
       let same : length (segment (b ∷ path)) - 1 - 1 ≡ length (segment path) - 1 = omega arith in
@@ -109,27 +109,27 @@ module _ {K : Type 0} where
   seek_cons rs b path = refl
 
   module _ (rs : RowsOf K) (b : ℕ) (path : List ℕ) (plain : AllPlain rs) where
-    sound_parameter : (k : K) → (seek 0 (with_suffix (47 ∷ []) (step 256 rs)) (behind path) ≡ Some k → Fitting (with_suffix (47 ∷ []) (step 256 rs)) (behind path) k)
+    sound_parameter : (k : K) → (seek 0 (with_suffix (47 ∷ []) (step 256 rs)) (suffix path) ≡ Some k → Fitting (with_suffix (47 ∷ []) (step 256 rs)) (suffix path) k)
         → by_parameter (step 256 rs) b path ≡ Some k → Fitting rs (b ∷ path) k
     sound_parameter k deeper e = by (b == 47) refl (has_slash path) refl
       where
         either : (b == 47) ≡ false → has_slash path ≡ true
             → (longest_from (segment (b ∷ path)) [] (step 256 rs) ≡ []) ⊎ (longest_from (segment (b ∷ path)) [] (step 256 rs) ≡ 47 ∷ []) → Fitting rs (b ∷ path) k
-        either apart there (inl l) = let h : None ≡ Some k = sym (stuck (step 256 rs) b path apart there l) ∙ e in cc
-        either apart there (inr l) =
-            let found = deeper (sym (to_slash (step 256 rs) b path apart there l) ∙ e) in
+        either apart present (inl l) = let h : None ≡ Some k = sym (stuck (step 256 rs) b path apart present l) ∙ e in cc
+        either apart present (inr l) =
+            let found = deeper (sym (to_slash (step 256 rs) b path apart present l) ∙ e) in
             (256 ∷ found.0, step_has 256 found.0 k rs (suffix_has (47 ∷ []) found.0 k (step 256 rs) found.1), fits_parameter found.0 b path apart found.2)
 
         by : (v : Bool) → (b == 47) ≡ v → (w : Bool) → has_slash path ≡ w → Fitting rs (b ∷ path) k
-        by true is w there = let h : None ≡ Some k = sym (at_slash (step 256 rs) b path (ends_step rs plain) is) ∙ e in cc
-        by false is false there =
-            let here = own_has k (step 256 rs) (sym (to_end (step 256 rs) b path (ends_step rs plain) is there) ∙ e) in
-            (256 ∷ [], step_has 256 [] k rs here, fits_parameter [] b path is (ap (fits []) (no_slash path there)))
-        by false is true there =
-            either is there (either_longest (segment (b ∷ path)) (step 256 rs) (ends_step rs plain) (cuts_slash b path is ∙ there))
+        by true is w present = let h : None ≡ Some k = sym (at_slash (step 256 rs) b path (ends_step rs plain) is) ∙ e in cc
+        by false is false present =
+            let here = own_has k (step 256 rs) (sym (to_end (step 256 rs) b path (ends_step rs plain) is present) ∙ e) in
+            (256 ∷ [], step_has 256 [] k rs here, fits_parameter [] b path is (ap (fits []) (no_slash path present)))
+        by false is true present =
+            either is present (either_longest (segment (b ∷ path)) (step 256 rs) (ends_step rs plain) (cuts_slash b path is ∙ present))
 
     sound_step : (k : K) → b < 256 → (seek 0 (step b rs) path ≡ Some k → Fitting (step b rs) path k)
-        → (seek 0 (with_suffix (47 ∷ []) (step 256 rs)) (behind path) ≡ Some k → Fitting (with_suffix (47 ∷ []) (step 256 rs)) (behind path) k)
+        → (seek 0 (with_suffix (47 ∷ []) (step 256 rs)) (suffix path) ≡ Some k → Fitting (with_suffix (47 ∷ []) (step 256 rs)) (suffix path) k)
         → seek 0 rs (b ∷ path) ≡ Some k → Fitting rs (b ∷ path) k
     sound_step k byte next deeper e = by (seek 0 (step b rs) path) refl (by_parameter (step 256 rs) b path) refl (sym (seek_cons rs b path) ∙ e)
       where
@@ -139,35 +139,35 @@ module _ {K : Type 0} where
         by None is (Some l) at e = sound_parameter k deeper (at ∙ e)
         by None is None at e = absurd (no_catch_all rs plain k e)
 
-    complete_parameter : (t : List ℕ) (k : K) → Has (t, k) (step 256 rs) → (b == 47) ≡ false → fits t (behind path) ≡ true
-        → (Has (t, k) (with_suffix (47 ∷ []) (step 256 rs)) → seek 0 (with_suffix (47 ∷ []) (step 256 rs)) (behind path) ≡ None → ⊥)
+    complete_parameter : (t : List ℕ) (k : K) → Has (t, k) (step 256 rs) → (b == 47) ≡ false → fits t (suffix path) ≡ true
+        → (Has (t, k) (with_suffix (47 ∷ []) (step 256 rs)) → seek 0 (with_suffix (47 ∷ []) (step 256 rs)) (suffix path) ≡ None → ⊥)
         → by_parameter (step 256 rs) b path ≡ None → ⊥
     complete_parameter [] k has apart f deeper e = by (has_slash path) refl
       where
         by : (w : Bool) → has_slash path ≡ w → ⊥
-        by false there = has_own k (step 256 rs) has (sym (to_end (step 256 rs) b path (ends_step rs plain) apart there) ∙ e)
-        by true there = let at = with_slash path there in let h : false ≡ true = sym (ap (fits []) at.1) ∙ f in cc
+        by false present = has_own k (step 256 rs) has (sym (to_end (step 256 rs) b path (ends_step rs plain) apart present) ∙ e)
+        by true present = let at = with_slash path present in let h : false ≡ true = sym (ap (fits []) at.1) ∙ f in cc
     complete_parameter (y ∷ u) k has apart f deeper e = by (has_slash path) refl
       where
         by : (w : Bool) → has_slash path ≡ w → ⊥
-        by false there = let h : false ≡ true = sym (ap (fits (y ∷ u)) (no_slash path there)) ∙ f in cc
-        by true there =
+        by false present = let h : false ≡ true = sym (ap (fits (y ∷ u)) (no_slash path present)) ∙ f in cc
+        by true present =
             let ends = ends_step rs plain (y ∷ u) k has in
             let same : y ≡ 47 = grind (arith, nat_tests) in
             let here : Has (47 ∷ u, k) (step 256 rs) = subst (λ z. Has (z ∷ u, k) (step 256 rs)) same has in
-            let long = found_longest (segment (b ∷ path)) u k (step 256 rs) (ends_step rs plain) (cuts_slash b path apart ∙ there) here in
+            let long = found_longest (segment (b ∷ path)) u k (step 256 rs) (ends_step rs plain) (cuts_slash b path apart ∙ present) here in
             let one : segment (y ∷ u) ≡ 47 ∷ [] = ap (λ z. segment (z ∷ u)) same in
-            deeper (has_suffix (47 ∷ []) (y ∷ u) k (step 256 rs) one has) (sym (to_slash (step 256 rs) b path apart there long) ∙ e)
+            deeper (has_suffix (47 ∷ []) (y ∷ u) k (step 256 rs) one has) (sym (to_slash (step 256 rs) b path apart present long) ∙ e)
 
     complete_step : (t : List ℕ) (k : K) → Has (t, k) rs → fits t (b ∷ path) ≡ true
         → ((u : List ℕ) → Has (u, k) (step b rs) → fits u path ≡ true → seek 0 (step b rs) path ≡ None → ⊥)
-        → ((u : List ℕ) → Has (u, k) (with_suffix (47 ∷ []) (step 256 rs)) → fits u (behind path) ≡ true → seek 0 (with_suffix (47 ∷ []) (step 256 rs)) (behind path) ≡ None → ⊥)
+        → ((u : List ℕ) → Has (u, k) (with_suffix (47 ∷ []) (step 256 rs)) → fits u (suffix path) ≡ true → seek 0 (with_suffix (47 ∷ []) (step 256 rs)) (suffix path) ≡ None → ⊥)
         → seek 0 rs (b ∷ path) ≡ None → ⊥
     complete_step [] k has f next deeper e = let h : false ≡ true = f in cc
     complete_step (x ∷ t) k has f next deeper e =
         by (x == 256) refl f (seek 0 (step b rs) path) refl (by_parameter (step 256 rs) b path) refl (sym (seek_cons rs b path) ∙ e)
       where
-        by : (v : Bool) → (x == 256) ≡ v → cond v (not (b == 47) && fits t (behind path)) (x == b && fits t path) ≡ true
+        by : (v : Bool) → (x == 256) ≡ v → cond v (not (b == 47) && fits t (suffix path)) (x == b && fits t path) ≡ true
             → (a : Option K) → seek 0 (step b rs) path ≡ a → (p : Option K) → by_parameter (step 256 rs) b path ≡ p
             → or_else a (or_else p (own (step 257 rs))) ≡ None → ⊥
         by v is f (Some l) found p at e = let h : Some l ≡ None = e in cc
@@ -178,8 +178,8 @@ module _ {K : Type 0} where
             next t (has_step b t k rs (subst (λ z. Has (z ∷ t, k) rs) same has)) (and_last (x == b) (fits t path) f) found
         by true is f None found None at e =
             let same : x ≡ 256 = grind (arith, nat_tests) in
-            let rest = and_last (not (b == 47)) (fits t (behind path)) f in
-            let apart = not_true (b == 47) (and_first (not (b == 47)) (fits t (behind path)) f) in
+            let rest = and_last (not (b == 47)) (fits t (suffix path)) f in
+            let apart = not_true (b == 47) (and_first (not (b == 47)) (fits t (suffix path)) f) in
             complete_parameter t k (has_step 256 t k rs (subst (λ z. Has (z ∷ t, k) rs) same has)) apart rest (λ h. deeper t h rest) at
 
   sound : (n : ℕ) (rs : RowsOf K) (path : List ℕ) → length path ≤ n → AllPlain rs → AllBytes path → (k : K) → seek 0 rs path ≡ Some k → Fitting rs path k
@@ -189,7 +189,7 @@ module _ {K : Type 0} where
   sound (suc n) rs (b ∷ path) short plain bytes k e =
       sound_step rs b path plain k (bytes 0)
       (sound n (step b rs) path (omega arith) (plain_step b rs plain) (λ i. bytes (suc i)) k)
-      (sound n (with_suffix (47 ∷ []) (step 256 rs)) (behind path) (omega (arith, short_behind path)) (plain_suffix rs plain) (bytes_behind path (λ i. bytes (suc i))) k)
+      (sound n (with_suffix (47 ∷ []) (step 256 rs)) (suffix path) (omega (arith, short_behind path)) (plain_suffix rs plain) (bytes_behind path (λ i. bytes (suc i))) k)
       e
 
   complete : (n : ℕ) (rs : RowsOf K) (path : List ℕ) → length path ≤ n → AllPlain rs → (t : List ℕ) (k : K) → Has (t, k) rs → fits t path ≡ true → seek 0 rs path ≡ None → ⊥
@@ -200,7 +200,7 @@ module _ {K : Type 0} where
   complete (suc n) rs (b ∷ path) short plain t k has f e =
       complete_step rs b path plain t k has f
       (λ u h g. complete n (step b rs) path (omega arith) (plain_step b rs plain) u k h g)
-      (λ u h g. complete n (with_suffix (47 ∷ []) (step 256 rs)) (behind path) (omega (arith, short_behind path)) (plain_suffix rs plain) u k h g)
+      (λ u h g. complete n (with_suffix (47 ∷ []) (step 256 rs)) (suffix path) (omega (arith, short_behind path)) (plain_suffix rs plain) u k h g)
       e
 
   -- The walk finds the key of a row that fits the path, and none only where no row does.

@@ -6,23 +6,23 @@ use Rattle.std.specs.Prelude.{nat_eq}
 use Rattle.std.specs.List.{ends_with}
 use Rattle.std.specs.Cmp.Lexicographic.{pointwise}
 use Rattle.matchit.specs.Seek.{segment, has_slash, cuts}
-use Rattle.wire_requests.specs.Patterns.{fits, behind}
+use Rattle.wire_requests.specs.Patterns.{fits, suffix}
 
 -- a text with no slash has nothing behind its front
-pub no_slash : (text : List ℕ) → has_slash text ≡ false → behind text ≡ []
+pub no_slash : (text : List ℕ) → has_slash text ≡ false → suffix text ≡ []
 no_slash [] e = refl
 no_slash (b ∷ text) e = by (b == 47) refl e (no_slash text)
   where
-    by : (v : Bool) → (b == 47) ≡ v → cond v true (has_slash text) ≡ false → (has_slash text ≡ false → behind text ≡ []) → cond v (b ∷ text) (behind text) ≡ []
+    by : (v : Bool) → (b == 47) ≡ v → cond v true (has_slash text) ≡ false → (has_slash text ≡ false → suffix text ≡ []) → cond v (b ∷ text) (suffix text) ≡ []
     by true is e ih = let h : true ≡ false = e in cc
     by false is e ih = ih e
 
-pub with_slash : (text : List ℕ) → has_slash text ≡ true → (rest : List ℕ) × (behind text ≡ 47 ∷ rest)
+pub with_slash : (text : List ℕ) → has_slash text ≡ true → (rest : List ℕ) × (suffix text ≡ 47 ∷ rest)
 with_slash [] e = let h : false ≡ true = e in cc
 with_slash (b ∷ text) e = by (b == 47) refl e (with_slash text)
   where
-    by : (v : Bool) → (b == 47) ≡ v → cond v true (has_slash text) ≡ true → (has_slash text ≡ true → (rest : List ℕ) × (behind text ≡ 47 ∷ rest))
-        → (rest : List ℕ) × (cond v (b ∷ text) (behind text) ≡ 47 ∷ rest)
+    by : (v : Bool) → (b == 47) ≡ v → cond v true (has_slash text) ≡ true → (has_slash text ≡ true → (rest : List ℕ) × (suffix text ≡ 47 ∷ rest))
+        → (rest : List ℕ) × (cond v (b ∷ text) (suffix text) ≡ 47 ∷ rest)
     by true is e ih = let same : b ≡ 47 = grind (arith, nat_tests) in (text, ap (λ c. c ∷ text) same)
     by false is e ih = ih e
 
@@ -39,12 +39,12 @@ slash_some [] e = let h : false ≡ true = e in cc
 slash_some (b ∷ text) e = segment_some b text
 
 -- what is behind the front is what is left behind the segment, but for its slash
-pub behind_segment : (text : List ℕ) → has_slash text ≡ true → drop (length (segment text) - 1) text ≡ behind text
+pub behind_segment : (text : List ℕ) → has_slash text ≡ true → drop (length (segment text) - 1) text ≡ suffix text
 behind_segment [] e = refl
 behind_segment (b ∷ text) e = by (b == 47) e (behind_segment text)
   where
-    by : (v : Bool) → cond v true (has_slash text) ≡ true → (has_slash text ≡ true → drop (length (segment text) - 1) text ≡ behind text)
-        → drop (length (cond v (b ∷ []) (b ∷ segment text)) - 1) (b ∷ text) ≡ cond v (b ∷ text) (behind text)
+    by : (v : Bool) → cond v true (has_slash text) ≡ true → (has_slash text ≡ true → drop (length (segment text) - 1) text ≡ suffix text)
+        → drop (length (cond v (b ∷ []) (b ∷ segment text)) - 1) (b ∷ text) ≡ cond v (b ∷ text) (suffix text)
     by true e ih = refl
     by false e ih =
         let some = slash_some text e in
@@ -94,28 +94,28 @@ not_true false e = refl
 abbrev pub AllBytes : List ℕ → Type 0
 AllBytes text = (i : ℕ) → get_or text i 0 < 256
 
-pub bytes_behind : (text : List ℕ) → AllBytes text → AllBytes (behind text)
+pub bytes_behind : (text : List ℕ) → AllBytes text → AllBytes (suffix text)
 bytes_behind [] bytes i = bytes i
 bytes_behind (b ∷ text) bytes i = by (b == 47) (bytes_behind text (λ j. bytes (suc j)))
   where
-    by : (v : Bool) → AllBytes (behind text) → get_or (cond v (b ∷ text) (behind text)) i 0 < 256
+    by : (v : Bool) → AllBytes (suffix text) → get_or (cond v (b ∷ text) (suffix text)) i 0 < 256
     by true ih = bytes i
     by false ih = ih i
 
-pub short_behind : (text : List ℕ) → length (behind text) ≤ length text
+pub short_behind : (text : List ℕ) → length (suffix text) ≤ length text
 short_behind [] = omega arith
 short_behind (b ∷ text) = by (b == 47) (short_behind text)
   where
-    by : (v : Bool) → length (behind text) ≤ length text → length (cond v (b ∷ text) (behind text)) ≤ length (b ∷ text)
+    by : (v : Bool) → length (suffix text) ≤ length text → length (cond v (b ∷ text) (suffix text)) ≤ length (b ∷ text)
     by true ih = omega arith
     by false ih = omega arith
 
 -- a parameter that fits, and a byte
-pub fits_parameter : (t : List ℕ) (b : ℕ) (path : List ℕ) → (b == 47) ≡ false → fits t (behind path) ≡ true → fits (256 ∷ t) (b ∷ path) ≡ true
-fits_parameter t b path e f = ap (λ v. not v && fits t (behind path)) e ∙ f
+pub fits_parameter : (t : List ℕ) (b : ℕ) (path : List ℕ) → (b == 47) ≡ false → fits t (suffix path) ≡ true → fits (256 ∷ t) (b ∷ path) ≡ true
+fits_parameter t b path e f = ap (λ v. not v && fits t (suffix path)) e ∙ f
 
 pub fits_byte : (t : List ℕ) (b : ℕ) (path : List ℕ) → b < 256 → fits t path ≡ true → fits (b ∷ t) (b ∷ path) ≡ true
 fits_byte t b path byte f =
     let no_parameter : (b == 256) ≡ false = grind (arith, nat_tests) in
     let same : (b == b) ≡ true = grind (arith, nat_tests) in
-    ap (λ v. cond v (not (b == 47) && fits t (behind path)) (b == b && fits t path)) no_parameter ∙ ap (λ v. v && fits t path) same ∙ f
+    ap (λ v. cond v (not (b == 47) && fits t (suffix path)) (b == b && fits t path)) no_parameter ∙ ap (λ v. v && fits t path) same ∙ f

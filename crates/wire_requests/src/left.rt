@@ -17,7 +17,7 @@ use wire_bodies::BodyError;
 ///
 /// `BadBodyHead` where lines are left and no import begins with them, and `Memory`.
 pub fn left_address(alloc: Global, dir: &StoreDir, body: &Body) -> Result<Option<bool>, AskError>
-    ensures ok { IfOk result (λ told. IfSome told (λ has. (all : List ℕ) → IsLeftOf body.now all
+    ensures ok { IfOk result (λ reported. IfSome reported (λ has. (all : List ℕ) → IsLeftOf body.now all
         → (head : ImportOf) × IsImportBody dir.now all head (rest_of all) × (is_some head.ca ≡ has))) }
     ensures bad { result ≡ Err AskError.BadBodyHead → (all : List ℕ) → IsLeftOf body.now all
         → (head : ImportOf) (nar : List ℕ) → IsImportBody dir.now all head nar → ⊥ }

@@ -29,29 +29,29 @@ module _ {S : Type 0} (answers : S → RequestHead → List ℕ → Replied → 
 
   pub told_read : (mid rest out : Option (List ℕ)) (held held' bs : List ℕ) (t : S) (n : ℕ) → Reported answers input mid output out held s t n
       → Consumes mid rest bs → held' ≡ held ++ bs → Reported answers input rest output out held' s t n
-  told_read mid rest out held held' bs t n told read kept = record {
-    done = told.done;
-    replies = told.replies;
-    counted = told.counted;
-    follows = follows_read input mid rest held held' bs told.done told.follows read kept;
-    answered = told.answered;
-    written = told.written;
+  told_read mid rest out held held' bs t n report read kept = record {
+    done = report.done;
+    replies = report.replies;
+    counted = report.counted;
+    follows = follows_read input mid rest held held' bs report.done report.follows read kept;
+    answered = report.answered;
+    written = report.written;
   }
 
   -- broken off before another reply
   pub stopped : (rest out : Option (List ℕ)) (held : List ℕ) (t : S) (n : ℕ) → Reported answers input rest output out held s t n
       → (e : WireError) → (e ≡ Write → ⊥) → Stops answers input output out s t e
-  stopped rest out held t n told e reading = record {
-    items = told.done;
-    replies = told.replies;
-    bytes = joined told.replies;
-    front = begins_all input told.done (follows_any input rest held told.done told.follows);
-    answered = told.answered;
+  stopped rest out held t n report e reading = record {
+    items = report.done;
+    replies = report.replies;
+    bytes = joined report.replies;
+    front = begins_all input report.done (follows_any input rest held report.done report.follows);
+    answered = report.answered;
     written = by e reading;
-    appended = told.written;
+    appended = report.written;
   }
     where
-      by : (v : WireError) → (v ≡ Write → ⊥) → IsWritten v told.replies (joined told.replies)
+      by : (v : WireError) → (v ≡ Write → ⊥) → IsWritten v report.replies (joined report.replies)
       by Read reads = refl
       by Write reads = absurd (reads refl)
       by Memory reads = inl refl
@@ -63,24 +63,24 @@ module _ {S : Type 0} (answers : S → RequestHead → List ℕ → Replied → 
   -- a connection to whose writer nothing was given
   pub still : (rest out out' : Option (List ℕ)) (held : List ℕ) (t : S) (n : ℕ) → Reported answers input rest output out held s t n → Keeps out out'
       → Reported answers input rest output out' held s t n
-  still rest out out' held t n told kept = record {
-    done = told.done;
-    replies = told.replies;
-    counted = told.counted;
-    follows = told.follows;
-    answered = told.answered;
-    written = Appends-kept output out out' (joined told.replies) told.written kept;
+  still rest out out' held t n report kept = record {
+    done = report.done;
+    replies = report.replies;
+    counted = report.counted;
+    follows = report.follows;
+    answered = report.answered;
+    written = Appends-kept output out out' (joined report.replies) report.written kept;
   }
 
   -- left before another message
   pub rested : (rest out : Option (List ℕ)) (held : List ℕ) (t : S) (n : ℕ) → Reported answers input rest output out held s t n → Rests answers input output out s t (reported n)
-  rested rest out held t n told = record {
-    items = told.done;
-    replies = told.replies;
-    counted = ap reported told.counted;
-    front = begins_all input told.done (follows_any input rest held told.done told.follows);
-    answered = told.answered;
-    written = told.written;
+  rested rest out held t n report = record {
+    items = report.done;
+    replies = report.replies;
+    counted = ap reported report.counted;
+    front = begins_all input report.done (follows_any input rest held report.done report.follows);
+    answered = report.answered;
+    written = report.written;
   }
 
   -- which is to be broken off there
@@ -98,67 +98,67 @@ module _ {S : Type 0} (answers : S → RequestHead → List ℕ → Replied → 
   -- as many as are counted
   pub counted_out : (rest out : Option (List ℕ)) (held : List ℕ) (t : S) (n : ℕ) → Reported answers input rest output out held s t n
       → n ≡ 340282366920938463463374607431768211455 → Serves answers input output out s t 18446744073709551615
-  counted_out rest out held t n told is = record {
-    items = told.done;
-    replies = told.replies;
-    counted = ap reported (sym is ∙ told.counted);
-    front = begins_all input told.done (follows_any input rest held told.done told.follows);
-    whole = λ small. absurd (full n (length told.done) is told.counted small);
-    answered = told.answered;
-    written = told.written;
+  counted_out rest out held t n report is = record {
+    items = report.done;
+    replies = report.replies;
+    counted = ap reported (sym is ∙ report.counted);
+    front = begins_all input report.done (follows_any input rest held report.done report.follows);
+    whole = λ small. absurd (full n (length report.done) is report.counted small);
+    answered = report.answered;
+    written = report.written;
   }
 
   -- nothing is left
   pub ended : (rest out : Option (List ℕ)) (held : List ℕ) (t : S) (n : ℕ) → Reported answers input rest output out held s t n → held ≡ [] → IsAtEnd rest
       → Serves answers input output out s t (reported n)
-  ended rest out held t n told none end = record {
-    items = told.done;
-    replies = told.replies;
-    counted = ap reported told.counted;
-    front = begins_all input told.done (follows_any input rest held told.done told.follows);
-    whole = λ small. divides_all input told.done (follows_end input rest held told.done told.follows none end);
-    answered = told.answered;
-    written = told.written;
+  ended rest out held t n report none end = record {
+    items = report.done;
+    replies = report.replies;
+    counted = ap reported report.counted;
+    front = begins_all input report.done (follows_any input rest held report.done report.follows);
+    whole = λ small. divides_all input report.done (follows_end input rest held report.done report.follows none end);
+    answered = report.answered;
+    written = report.written;
   }
 
   -- ---- an input that begins with no message
 
-  module _ (rest out out' : Option (List ℕ)) (held : List ℕ) (t : S) (n : ℕ) (fault : Fault) (told : Reported answers input rest output out held s t n)
+  module _ (rest out out' : Option (List ℕ)) (held : List ℕ) (t : S) (n : ℕ) (fault : Fault) (report : Reported answers input rest output out held s t n)
       (some : 0 < length held) (is : IfSome rest (λ more. IsFault (held ++ more) fault)) where
     pub refused : Appends out out' (fault_reply fault) → Serves answers input output out' s t (reported (n + 1))
     refused sent = record {
-      items = told.done ++ faulty fault ∷ [];
-      replies = told.replies ++ fault_reply fault ∷ [];
-      counted = ap reported (counted_more told.done (faulty fault) n told.counted);
-      front = begins_all input _ (follows_fault false input rest held told.done fault told.follows some is);
-      whole = λ small. divides_all input _ (follows_fault true input rest held told.done fault told.follows some is);
-      answered = replies_fault answers s t told.done told.replies fault told.answered;
-      written = sent_more output out out' told.replies (fault_reply fault) told.written sent;
+      items = report.done ++ faulty fault ∷ [];
+      replies = report.replies ++ fault_reply fault ∷ [];
+      counted = ap reported (counted_more report.done (faulty fault) n report.counted);
+      front = begins_all input _ (follows_fault false input rest held report.done fault report.follows some is);
+      whole = λ small. divides_all input _ (follows_fault true input rest held report.done fault report.follows some is);
+      answered = replies_fault answers s t report.done report.replies fault report.answered;
+      written = sent_more output out out' report.replies (fault_reply fault) report.written sent;
     }
 
     pub refused_in_part : AppendsPrefix out out' (fault_reply fault) → Stops answers input output out' s t Write
     refused_in_part (k, below, sent) = record {
-      items = told.done ++ faulty fault ∷ [];
-      replies = told.replies ++ fault_reply fault ∷ [];
-      bytes = joined told.replies ++ take k (fault_reply fault);
-      front = begins_all input _ (follows_fault false input rest held told.done fault told.follows some is);
-      answered = replies_fault answers s t told.done told.replies fault told.answered;
-      written = (told.replies, fault_reply fault, k, refl, below, refl);
-      appended = Appends-trans output out out' (joined told.replies) (take k (fault_reply fault)) told.written sent;
+      items = report.done ++ faulty fault ∷ [];
+      replies = report.replies ++ fault_reply fault ∷ [];
+      bytes = joined report.replies ++ take k (fault_reply fault);
+      front = begins_all input _ (follows_fault false input rest held report.done fault report.follows some is);
+      answered = replies_fault answers s t report.done report.replies fault report.answered;
+      written = (report.replies, fault_reply fault, k, refl, below, refl);
+      appended = Appends-trans output out out' (joined report.replies) (take k (fault_reply fault)) report.written sent;
     }
 
   -- ---- a message
 
   module _ (rest out : Option (List ℕ)) (held : List ℕ) (t : S) (n : ℕ) (head : Head) (size : ℕ) (h : RequestHead)
-      (told : Reported answers input rest output out held s t n) (is : HoldsMessage held head size h) where
+      (report : Reported answers input rest output out held s t n) (is : HoldsMessage held head size h) where
     answered_broken : (out' : Option (List ℕ)) (new : S) (r : Replied) (e : WireError) (bytes : List ℕ) → answers t h (body_in held head size) r new
-        → IsWritten e (told.replies ++ reply_bytes (closes h) r ∷ []) bytes → Appends output out' bytes → Stops answers input output out' s new e
+        → IsWritten e (report.replies ++ reply_bytes (closes h) r ∷ []) bytes → Appends output out' bytes → Stops answers input output out' s new e
     answered_broken out' new r e bytes answered written appended = record {
-      items = told.done ++ message h (body_in held head size) ∷ [];
-      replies = told.replies ++ reply_bytes (closes h) r ∷ [];
+      items = report.done ++ message h (body_in held head size) ∷ [];
+      replies = report.replies ++ reply_bytes (closes h) r ∷ [];
       bytes = bytes;
-      front = begins_all input _ (follows_item held told.done head size h is input rest told.follows);
-      answered = replies_item answers s t new told.done told.replies h (body_in held head size) r told.answered answered;
+      front = begins_all input _ (follows_item held report.done head size h is input rest report.follows);
+      answered = replies_item answers s t new report.done report.replies h (body_in held head size) r report.answered answered;
       written = written;
       appended = appended;
     }
@@ -167,35 +167,35 @@ module _ {S : Type 0} (answers : S → RequestHead → List ℕ → Replied → 
     pub answered_in_part : (out' : Option (List ℕ)) (new : S) (r : Replied) → answers t h (body_in held head size) r new
         → AppendsPrefix out out' (reply_bytes (closes h) r) → Stops answers input output out' s new Write
     answered_in_part out' new r answered (k, below, sent) =
-        answered_broken out' new r Write (joined told.replies ++ take k (reply_bytes (closes h) r)) answered (told.replies, reply_bytes (closes h) r, k, refl, below, refl)
-        (Appends-trans output out out' (joined told.replies) (take k (reply_bytes (closes h) r)) told.written sent)
+        answered_broken out' new r Write (joined report.replies ++ take k (reply_bytes (closes h) r)) answered (report.replies, reply_bytes (closes h) r, k, refl, below, refl)
+        (Appends-trans output out out' (joined report.replies) (take k (reply_bytes (closes h) r)) report.written sent)
 
     -- nothing of it was
     pub answered_lost : (out' : Option (List ℕ)) (new : S) (r : Replied) → answers t h (body_in held head size) r new → Keeps out out'
         → Stops answers input output out' s new Memory
     answered_lost out' new r answered kept =
-        answered_broken out' new r Memory (joined told.replies) answered (inr (told.replies, reply_bytes (closes h) r, refl, refl))
-        (Appends-kept output out out' (joined told.replies) told.written kept)
+        answered_broken out' new r Memory (joined report.replies) answered (inr (report.replies, reply_bytes (closes h) r, refl, refl))
+        (Appends-kept output out out' (joined report.replies) report.written kept)
 
     pub closed : (out' : Option (List ℕ)) (new : S) (r : Replied) → answers t h (body_in held head size) r new → closes h ≡ true
         → Appends out out' (reply_bytes (closes h) r) → Serves answers input output out' s new (reported (n + 1))
     closed out' new r answered last sent = record {
-      items = told.done ++ message h (body_in held head size) ∷ [];
-      replies = told.replies ++ reply_bytes (closes h) r ∷ [];
-      counted = ap reported (counted_more told.done _ n told.counted);
-      front = begins_all input _ (follows_last held told.done head size h is false input rest told.follows last);
-      whole = λ small. divides_all input _ (follows_last held told.done head size h is true input rest told.follows last);
-      answered = replies_item answers s t new told.done told.replies h (body_in held head size) r told.answered answered;
-      written = sent_more output out out' told.replies (reply_bytes (closes h) r) told.written sent;
+      items = report.done ++ message h (body_in held head size) ∷ [];
+      replies = report.replies ++ reply_bytes (closes h) r ∷ [];
+      counted = ap reported (counted_more report.done _ n report.counted);
+      front = begins_all input _ (follows_last held report.done head size h is false input rest report.follows last);
+      whole = λ small. divides_all input _ (follows_last held report.done head size h is true input rest report.follows last);
+      answered = replies_item answers s t new report.done report.replies h (body_in held head size) r report.answered answered;
+      written = sent_more output out out' report.replies (reply_bytes (closes h) r) report.written sent;
     }
 
     pub goes_on : (out' : Option (List ℕ)) (new : S) (r : Replied) → answers t h (body_in held head size) r new → closes h ≡ false
         → Appends out out' (reply_bytes (closes h) r) → Reported answers input rest output out' (drop (head.spans.len + size) held) s new (n + 1)
     goes_on out' new r answered on sent = record {
-      done = told.done ++ message h (body_in held head size) ∷ [];
-      replies = told.replies ++ reply_bytes (closes h) r ∷ [];
-      counted = counted_more told.done _ n told.counted;
-      follows = follows_more held told.done head size h is input rest told.follows on;
-      answered = replies_item answers s t new told.done told.replies h (body_in held head size) r told.answered answered;
-      written = sent_more output out out' told.replies (reply_bytes (closes h) r) told.written sent;
+      done = report.done ++ message h (body_in held head size) ∷ [];
+      replies = report.replies ++ reply_bytes (closes h) r ∷ [];
+      counted = counted_more report.done _ n report.counted;
+      follows = follows_more held report.done head size h is input rest report.follows on;
+      answered = replies_item answers s t new report.done report.replies h (body_in held head size) r report.answered answered;
+      written = sent_more output out out' report.replies (reply_bytes (closes h) r) report.written sent;
     }

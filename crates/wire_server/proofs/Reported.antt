@@ -66,60 +66,60 @@ follows_start (Some all) = λ whole items d. d
 
 -- one read changes nothing
 pub follows_read : (old mid new : Option (List ℕ)) (held held' bs : List ℕ) (done : List Item) → Follows old mid held done → Consumes mid new bs → held' ≡ held ++ bs → Follows old new held' done
-follows_read None mid new held held' bs done told read kept = tt
-follows_read (Some all) None new held held' bs done told read kept = absurd told
-follows_read (Some all) (Some more) None held held' bs done told read kept = absurd read
-follows_read (Some all) (Some more) (Some left) held held' bs done told read kept =
+follows_read None mid new held held' bs done reported read kept = tt
+follows_read (Some all) None new held held' bs done reported read kept = absurd reported
+follows_read (Some all) (Some more) None held held' bs done reported read kept = absurd read
+follows_read (Some all) (Some more) (Some left) held held' bs done reported read kept =
     let same : held' ++ left ≡ held ++ more = ap (λ t. t ++ left) kept ∙ append_assoc held bs left ∙ ap (λ t. held ++ t) (sym read) in
-    λ whole items d. told whole items (subst (λ t. Parts whole t items) same d)
+    λ whole items d. reported whole items (subst (λ t. Parts whole t items) same d)
 
 pub follows_end : (old new : Option (List ℕ)) (held : List ℕ) (done : List Item) → Follows old new held done → held ≡ [] → IsAtEnd new → PartsAll true old done
-follows_end None new held done told none end = tt
-follows_end (Some all) None held done told none end = absurd told
-follows_end (Some all) (Some more) held done told none end =
-    subst (Parts true all) (append-nil done) (told true [] (ap (λ t. t ++ more) none ∙ end))
+follows_end None new held done reported none end = tt
+follows_end (Some all) None held done reported none end = absurd reported
+follows_end (Some all) (Some more) held done reported none end =
+    subst (Parts true all) (append-nil done) (reported true [] (ap (λ t. t ++ more) none ∙ end))
 
 pub follows_any : (old new : Option (List ℕ)) (held : List ℕ) (done : List Item) → Follows old new held done → PartsAll false old done
-follows_any None new held done told = tt
-follows_any (Some all) None held done told = absurd told
-follows_any (Some all) (Some more) held done told = subst (Parts false all) (append-nil done) (told false [] tt)
+follows_any None new held done reported = tt
+follows_any (Some all) None held done reported = absurd reported
+follows_any (Some all) (Some more) held done reported = subst (Parts false all) (append-nil done) (reported false [] tt)
 
 pub follows_fault : (whole : Bool) (old new : Option (List ℕ)) (held : List ℕ) (done : List Item) (fault : Fault) → Follows old new held done → 0 < length held
     → IfSome new (λ more. IsFault (held ++ more) fault) → PartsAll whole old (done ++ faulty fault ∷ [])
-follows_fault whole None new held done fault told some is = tt
-follows_fault whole (Some all) None held done fault told some is = absurd told
-follows_fault whole (Some all) (Some more) held done fault told some is =
+follows_fault whole None new held done fault reported some is = tt
+follows_fault whole (Some all) None held done fault reported some is = absurd reported
+follows_fault whole (Some all) (Some more) held done fault reported some is =
     let long : 0 < length (held ++ more) = omega (arith, length-append held more) in
-    told whole (faulty fault ∷ []) (long, is, refl)
+    reported whole (faulty fault ∷ []) (long, is, refl)
 
 module _ (held : List ℕ) (done : List Item) (head : Head) (size : ℕ) (h : RequestHead) (is : HoldsMessage held head size h) where
   pub follows_last : (whole : Bool) (old new : Option (List ℕ)) → Follows old new held done → closes h ≡ true → PartsAll whole old (done ++ message h (body_in held head size) ∷ [])
-  follows_last whole None new told last = tt
-  follows_last whole (Some all) None told last = absurd told
-  follows_last whole (Some all) (Some more) told last =
+  follows_last whole None new reported last = tt
+  follows_last whole (Some all) None reported last = absurd reported
+  follows_last whole (Some all) (Some more) reported last =
       let front = message_of_input held more head size h is in
       let none : List Item = [] in
       let ends : cond (closes h) (none ≡ []) (Parts whole (drop (head.spans.len + size) held ++ more) none) =
       subst (λ v. cond v (none ≡ []) (Parts whole (drop (head.spans.len + size) held ++ more) none)) (sym last) refl in
-      told whole (message h (body_in held head size) ∷ []) (_, front, ends)
+      reported whole (message h (body_in held head size) ∷ []) (_, front, ends)
 
   pub follows_more : (old new : Option (List ℕ)) → Follows old new held done → closes h ≡ false
       → Follows old new (drop (head.spans.len + size) held) (done ++ message h (body_in held head size) ∷ [])
-  follows_more None new told on = tt
-  follows_more (Some all) None told on = absurd told
-  follows_more (Some all) (Some more) told on = λ whole items d.
+  follows_more None new reported on = tt
+  follows_more (Some all) None reported on = absurd reported
+  follows_more (Some all) (Some more) reported on = λ whole items d.
       let item = message h (body_in held head size) in
       let front = message_of_input held more head size h is in
       let rest : cond (closes h) (items ≡ []) (Parts whole (drop (head.spans.len + size) held ++ more) items) =
       subst (λ v. cond v (items ≡ []) (Parts whole (drop (head.spans.len + size) held ++ more) items)) (sym on) d in
-      subst (Parts whole all) (sym (append_assoc done (item ∷ []) items)) (told whole (item ∷ items) (_, front, rest))
+      subst (Parts whole all) (sym (append_assoc done (item ∷ []) items)) (reported whole (item ∷ items) (_, front, rest))
 
   pub follows_item : (old new : Option (List ℕ)) → Follows old new held done → PartsAll false old (done ++ message h (body_in held head size) ∷ [])
-  follows_item old new told = by (closes h) refl
+  follows_item old new reported = by (closes h) refl
     where
       by : (v : Bool) → closes h ≡ v → PartsAll false old (done ++ message h (body_in held head size) ∷ [])
-      by true e = follows_last false old new told e
-      by false e = follows_any old new _ _ (follows_more old new told e)
+      by true e = follows_last false old new reported e
+      by false e = follows_any old new _ _ (follows_more old new reported e)
 
 -- what the places of a head say of the connection
 pub closes_at : (held : List ℕ) (head : Head) (h : RequestHead) → Holds held head h

@@ -114,7 +114,7 @@ module _ {S W : Type 0} (answers : S → RequestHead → List ℕ → Replied �
         → Sees old new (λ w'. server.Serves seen waiting waiting' closed closed' err err' w w' sessions)
     sessions_seen sessions served =
         let more = follow_seen old w err err' sessions new shows served.followed in
-        (more.0, more.1, λ good. let after = more.2 good in (after.0, record { taken = served.taken; left = served.left; followed = after.1 }))
+        (more.0, more.1, λ good. let after = more.2 good in (after.0, record { accepted = served.accepted; left = served.left; followed = after.1 }))
 
     pub serves_on_seen : (n : ℕ) (result : Result ℕ Error) → ServesOn answers n waiting waiting' closed closed' err err' old new result
         → Sees old new (λ w'. ServesOn seen n waiting waiting' closed closed' err err' w w' result)

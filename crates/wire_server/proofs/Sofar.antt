@@ -75,7 +75,7 @@ module _ {S : Type 0} (answers : S → RequestHead → List ℕ → Replied → 
   pub sofar_start : (waiting closed : Option (List (List ℕ))) (err : Option (List ℕ)) (s : S) → Sofar waiting waiting closed closed err err s s 0 0
   sofar_start waiting closed err s = record {
     sessions = [];
-    serves = record { taken = takes_none waiting; left = leaves_none closed; followed = (refl, Keeps-refl err) };
+    serves = record { accepted = takes_none waiting; left = leaves_none closed; followed = (refl, Keeps-refl err) };
     counted = refl;
     failing = refl;
   }
@@ -85,8 +85,8 @@ module _ {S : Type 0} (answers : S → RequestHead → List ℕ → Replied → 
     -- no more was taken, left or said
     pub sofar_still : (waiting'' closed'' : Option (List (List ℕ))) → AcceptsPeers waiting' waiting'' [] → ClosesPeers closed' closed'' []
         → Serves answers waiting waiting'' closed closed'' err err' old new (sofar.sessions ++ [])
-    sofar_still waiting'' closed'' taken left = record {
-      taken = subst (AcceptsPeers waiting waiting'') (sym (map-append (λ s. s.input) sofar.sessions [])) (takes_more waiting waiting' waiting'' _ [] sofar.serves.taken taken);
+    sofar_still waiting'' closed'' accepted left = record {
+      accepted = subst (AcceptsPeers waiting waiting'') (sym (map-append (λ s. s.input) sofar.sessions [])) (takes_more waiting waiting' waiting'' _ [] sofar.serves.accepted accepted);
       left = subst (ClosesPeers closed closed'') (sym (map-append (λ s. s.output) sofar.sessions [])) (leaves_more closed closed' closed'' _ [] sofar.serves.left left);
       followed = follow_more old new new err err' err' sofar.sessions [] sofar.serves.followed (refl, Keeps-refl err');
     }
@@ -96,12 +96,12 @@ module _ {S : Type 0} (answers : S → RequestHead → List ℕ → Replied → 
         → AcceptsPeers waiting' waiting'' (input ∷ []) → ClosesPeers closed' closed'' (output ∷ []) → IsFresh before
         → Closes answers input before output new new' close → Reports close err' err''
         → Sofar waiting waiting'' closed closed'' err err'' old new' (n + 1) (count + failed close)
-    sofar_more waiting'' closed'' err'' input before output new' close taken left fresh served says =
+    sofar_more waiting'' closed'' err'' input before output new' close accepted left fresh served says =
         let session : Session = record { input = input; output = output; close = close } in
         record {
           sessions = sofar.sessions ++ session ∷ [];
           serves = record {
-            taken = subst (AcceptsPeers waiting waiting'') (sym (map-append (λ s. s.input) sofar.sessions (session ∷ []))) (takes_more waiting waiting' waiting'' _ (input ∷ []) sofar.serves.taken taken);
+            accepted = subst (AcceptsPeers waiting waiting'') (sym (map-append (λ s. s.input) sofar.sessions (session ∷ []))) (takes_more waiting waiting' waiting'' _ (input ∷ []) sofar.serves.accepted accepted);
             left = subst (ClosesPeers closed closed'') (sym (map-append (λ s. s.output) sofar.sessions (session ∷ []))) (leaves_more closed closed' closed'' _ (output ∷ []) sofar.serves.left left);
             followed = follow_more old new new' err err' err'' sofar.sessions (session ∷ []) sofar.serves.followed (before, new', err'', fresh, served, says, (refl, Keeps-refl err''));
           };

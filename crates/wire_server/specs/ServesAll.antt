@@ -29,7 +29,7 @@ module _ {S : Type 0} (answers : S → RequestHead → List ℕ → Replied → 
 
   -- these connections were taken from a listener, served, and closed
   pub record Serves (waiting waiting' closed closed' : Option (List (List ℕ))) (err err' : Option (List ℕ)) (old new : S) (sessions : List Session) : Type 0 where
-    pub taken : AcceptsPeers waiting waiting' (map (λ session. session.input) sessions)
+    pub accepted : AcceptsPeers waiting waiting' (map (λ session. session.input) sessions)
     pub left : ClosesPeers closed closed' (map (λ session. session.output) sessions)
     pub followed : Follow old err sessions new err'
 

@@ -5,8 +5,8 @@ ghost use Rattle.std.specs.Prelude.{◌≡◌, drop};
 pub(crate) fn drain_prefix(buffer: &mut Vec<u8>, n: usize)
     ensures { buffer.new.items ≡ drop n buffer.old.items }
 {
-    let taken = n.min(buffer.len());
-    let rest = buffer.len() - taken;
-    buffer.copy_within(taken.., 0);
+    let accepted = n.min(buffer.len());
+    let rest = buffer.len() - accepted;
+    buffer.copy_within(accepted.., 0);
     buffer.truncate(rest);
 }

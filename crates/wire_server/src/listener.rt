@@ -21,7 +21,7 @@ pub trait Listener {
 
     /// The connection of the next peer, on which nothing was read or written yet.
     fn accept(&mut self) -> io::Result<(Self::Input, Self::Output)>
-        ensures taken { IfOk result (λ c. AcceptsPeers (waiting self.old) (waiting self.new)
+        ensures accepted { IfOk result (λ c. AcceptsPeers (waiting self.old) (waiting self.new)
             (Self.Input.remaining c.0 ∷ [])) }
         ensures none { OnErr result (AcceptsPeers (waiting self.old) (waiting self.new) []) }
         ensures fresh { IfOk result (λ c. IsFresh (Self.Output.contents c.1)) }
@@ -29,6 +29,6 @@ pub trait Listener {
 
     /// Closes a connection.
     fn close(&mut self, input: Self::Input, output: Self::Output)
-        ensures taken { AcceptsPeers (waiting self.old) (waiting self.new) [] }
+        ensures accepted { AcceptsPeers (waiting self.old) (waiting self.new) [] }
         ensures left { ClosesPeers (closed self.old) (closed self.new) (Self.Output.contents output ∷ []) };
 }

@@ -36,9 +36,9 @@ fn timed(
     let arrived = pushed(rt.alloc(), bytes, size, asked)?;
     let came = start.elapsed(rt)?.as_nanos();
     let facts = arrived.facts();
-    let told = start.elapsed(rt)?.as_nanos();
+    let reported = start.elapsed(rt)?.as_nanos();
     if asked {
-        Ok((told, facts))
+        Ok((reported, facts))
     } else {
         Ok((came, facts))
     }
@@ -57,8 +57,8 @@ pub fn run(
         let digest = Sha256::digest(bytes);
         let alone = start.elapsed(rt)?.as_nanos();
         let (came, facts) = timed(rt, size, false, bytes)?;
-        let (all, told) = timed(rt, size, true, bytes)?;
-        if facts == told && facts.nar_hash == digest {
+        let (all, reported) = timed(rt, size, true, bytes)?;
+        if facts == reported && facts.nar_hash == digest {
             println!(rt; "{alone} {came} {all}")?;
         } else {
             println!(rt; "another digest")?;

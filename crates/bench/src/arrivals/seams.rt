@@ -116,7 +116,7 @@ fn show_pieces(
 ) -> io::Result<()> {
     let len = expected.archive.len();
     let arrived = pushed(rt.alloc(), &expected.archive, size, true)?;
-    let told = if is_as(expected, &arrived)? {
+    let reported = if is_as(expected, &arrived)? {
         "the same"
     } else {
         "something else"

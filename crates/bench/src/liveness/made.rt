@@ -1,7 +1,7 @@
 //! A graph to walk: paths in order, each with ten references.
 
-use live::{Kind, Root, Row};
-use paths::{StorePath, base32};
+use live::{Root, Row};
+use paths::{RootKind, StorePath, base32};
 use std::alloc::{AllocError, Global};
 
 /// How many references each object has.
@@ -80,7 +80,7 @@ pub fn roots(alloc: Global, objects: &[Object], count: usize) -> Result<Vec<Root
     let mut roots = Vec::new(alloc);
     for object in objects.iter().skip(objects.len().saturating_sub(count)) {
         roots.push(Root {
-            kind: Kind::Permanent,
+            kind: RootKind::Permanent,
             target: &object.path,
             label: "gcroots/n",
         })?;

@@ -36,7 +36,7 @@ fn passed(entries: &[usize], held: &[usize], none: usize) -> usize {
 }
 
 /// Prints a word and the nanoseconds since the start.
-fn told(rt: &(impl Print + Clock), word: &str, start: Instant) -> io::Result<()> {
+fn reported(rt: &(impl Print + Clock), word: &str, start: Instant) -> io::Result<()> {
     let took = start.elapsed(rt)?.as_nanos();
     println!(rt; "{word} {took}")
 }
@@ -50,10 +50,10 @@ fn backward(rt: &(impl Print + Clock + AllocGlobal), graph: &Graph, roots: &Root
     }
     let start = Instant::now(rt)?;
     let reaching = roots_of(rt.alloc(), graph, roots, KEEP, 0)?;
-    told(rt, "roots_of", start)?;
+    reported(rt, "roots_of", start)?;
     let start = Instant::now(rt)?;
     let referring = referrers(rt.alloc(), graph, &[0])?;
-    told(rt, "referrers", start)?;
+    reported(rt, "referrers", start)?;
     println!(rt; "found {} {}", reaching.len(), referring.len())
 }
 
@@ -69,15 +69,15 @@ fn round(
 {
     let start = Instant::now(rt)?;
     let graph = Graph::new(rt.alloc(), rows)?;
-    told(rt, "graph", start)?;
+    reported(rt, "graph", start)?;
     let roots = Roots::new(rt.alloc(), rows, given)?;
     let start = Instant::now(rt)?;
     let marks = mark(rt.alloc(), &graph, &roots, KEEP)?;
-    told(rt, "mark", start)?;
+    reported(rt, "mark", start)?;
     let held = vec![in rt.alloc(); 0usize; rows.len()]?;
     let start = Instant::now(rt)?;
     let found = passed(entries, &held, roots.len());
-    told(rt, "pass", start)?;
+    reported(rt, "pass", start)?;
     println!(rt; "steps {} entries {found}", marks.steps())?;
     backward(rt, &graph, &roots)
 }

@@ -34,12 +34,12 @@ pub fn do_rise(rows: &[Row]) -> bool
 /// Whether each root's target is a row's path.
 ///
 /// ```rust
-/// use live::{Kind, Root, Row};
-/// use paths::StorePath;
+/// use live::{Root, Row};
+/// use paths::{RootKind, StorePath};
 ///
 /// let path = StorePath::from_base(alloc, "00000000000000000000000000000000-p")?;
 /// let rows = [Row { path: &path, references: &[], outputs: &[], deriver: None }];
-/// let root = Root { kind: Kind::Runtime, target: &path, label: "/proc/1/exe" };
+/// let root = Root { kind: RootKind::Runtime, target: &path, label: "/proc/1/exe" };
 /// assert!(rt; live::are_valid(&rows, &[root]) && !live::are_valid(&[], &[root]));
 /// ```
 pub fn are_valid(rows: &[Row], roots: &[Root]) -> bool

@@ -44,12 +44,12 @@ impl Roots {
     /// The roots of a graph, in their order. Each target is a row's path.
     ///
     /// ```rust
-    /// use live::{Kind, Root, Roots, Row};
-    /// use paths::StorePath;
+    /// use live::{Root, Roots, Row};
+    /// use paths::{RootKind, StorePath};
     ///
     /// let path = StorePath::from_base(alloc, "00000000000000000000000000000000-p")?;
     /// let rows = [Row { path: &path, references: &[], outputs: &[], deriver: None }];
-    /// let root = Root { kind: Kind::User, target: &path, label: "gcroots/per-user/ann/p" };
+    /// let root = Root { kind: RootKind::User, target: &path, label: "gcroots/per-user/ann/p" };
     /// let roots = Roots::new(alloc, &rows, &[root])?;
     /// assert_eq!(rt; roots.len(), 1);
     /// ```

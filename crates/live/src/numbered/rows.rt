@@ -1,5 +1,5 @@
 //! Objects and roots as a caller passes them.
-use paths::StorePath;
+use paths::{RootKind, StorePath};
 
 /// An object as a caller passes it: its path, and what it points to, lent from whoever holds it.
 #[derive(Clone, Copy)]
@@ -14,21 +14,11 @@ pub struct Row<'a> {
     pub deriver: Option<&'a StorePath>,
 }
 
-/// Which table a root is in, in the order of roots.
-#[derive(Clone, Copy)]
-pub enum Kind {
-    Permanent,
-    User,
-    Profile,
-    Runtime,
-    Temporary,
-}
-
 /// A root as a caller passes it.
 #[derive(Clone, Copy)]
 pub struct Root<'a> {
-    /// The table.
-    pub kind: Kind,
+    /// The kind.
+    pub kind: RootKind,
     /// The path that it keeps.
     pub target: &'a StorePath,
     /// The label.

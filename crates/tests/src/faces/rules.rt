@@ -1,6 +1,6 @@
 //! Callers of `policy` and `live`.
-use live::{Graph, Keep, Kind, Root, Roots, Row, are_valid, do_rise, mark, referrers, roots_of};
-use paths::StorePath;
+use live::{Graph, Keep, Root, Roots, Row, are_valid, do_rise, mark, referrers, roots_of};
+use paths::{RootKind, StorePath};
 use policy::{
     Caller, Class, Config, Op, Rule, class, decide, keep_derivations, keep_outputs, store_dir,
 };
@@ -84,7 +84,7 @@ fn caller_of_marks(rt: HostRuntime) -> Result<(), Fail> {
         row(&third, &[]),
     ];
     let roots = [Root {
-        kind: Kind::User,
+        kind: RootKind::User,
         target: &second,
         label: "ann/r",
     }];

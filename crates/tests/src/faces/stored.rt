@@ -39,17 +39,17 @@ fn ask(alloc: Global) -> Result<(Reply, Vec<u8>), Fail> {
     let reply = store.call(&caller, Request::Nar(missing));
     let replies = store.run(calls);
     drop(store.release().release());
-    let mut told = Vec::new(alloc);
-    tell_all(alloc, replies?, &mut told)?;
-    Ok((reply, told))
+    let mut reported = Vec::new(alloc);
+    tell_all(alloc, replies?, &mut reported)?;
+    Ok((reply, reported))
 }
 
 #[test]
 fn caller_of_a_store(rt: HostRuntime) -> Result<(), Fail> {
-    let (reply, told) = ask(rt.alloc())?;
+    let (reply, reported) = ask(rt.alloc())?;
     assert!(rt; matches!(&reply, Reply::Refused(store::Refusal::NotValid)));
     assert!(rt;
-        told.as_slice() == b"/nix/store/a0d1zlpv81nsfbam8ay3i7snrc0sgsvr-myfile\n".as_slice()
+        reported.as_slice() == b"/nix/store/a0d1zlpv81nsfbam8ay3i7snrc0sgsvr-myfile\n".as_slice()
     );
     Ok(())
 }

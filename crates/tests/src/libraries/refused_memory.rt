@@ -120,9 +120,9 @@ fn refused_while_checking(rt: HostRuntime) {
     // A fault is told, or `Memory`, and either is repeated.
     let mut checker = Checker::new(alloc);
     let _ = checker.feed(&bytes);
-    let told = fault_of(checker.feed(MY_FILE));
-    assert!(rt; told == Some(NarError::Trailing) || told == Some(NarError::Memory));
-    assert_eq!(rt; fault_of(checker.finish()), told);
+    let reported = fault_of(checker.feed(MY_FILE));
+    assert!(rt; reported == Some(NarError::Trailing) || reported == Some(NarError::Memory));
+    assert_eq!(rt; fault_of(checker.finish()), reported);
 }
 
 // What is given are the outputs or the fault, or the answer is `Memory`: run with each allocation refused in turn.

@@ -20,7 +20,7 @@ pub struct Run {
     /// How many of them were answered, and the opening before them.
     pub made: usize,
     /// The replies as text.
-    pub told: Vec<u8>,
+    pub reported: Vec<u8>,
     /// The files, given up.
     pub files: Disks,
 }
@@ -70,7 +70,7 @@ fn make_calls(
     alloc: Global,
     store: &mut Store<DiskStore>,
     steps: &[Step],
-    told: &mut Vec<u8>,
+    reported: &mut Vec<u8>,
 ) -> Result<usize, Fail> {
     let dir = StoreDir::parse(alloc, "/nix/store")?;
     let caller = Caller::new(alloc, "ann", None)?;
@@ -78,7 +78,7 @@ fn make_calls(
         let request = request_of(alloc, &steps[at])?;
         let reply = store.call(&caller, request);
         let is_failed = matches!(&reply, Reply::Failed(_));
-        tell(alloc, &dir, reply, told)?;
+        tell(alloc, &dir, reply, reported)?;
         if is_failed {
             return Ok(at);
         }
@@ -87,9 +87,9 @@ fn make_calls(
 }
 
 /// The line of a failure that stopped an opening.
-fn tell_failure(failure: Option<Failed>, told: &mut Vec<u8>) -> Result<(), Fail> {
+fn tell_failure(failure: Option<Failed>, reported: &mut Vec<u8>) -> Result<(), Fail> {
     match failure {
-        Some(failure) => Ok(told.extend_from_slice(failure_line(failure).as_bytes())?),
+        Some(failure) => Ok(reported.extend_from_slice(failure_line(failure).as_bytes())?),
         None => Err(Fail::new("the files hold no store")),
     }
 }
@@ -97,10 +97,10 @@ fn tell_failure(failure: Option<Failed>, told: &mut Vec<u8>) -> Result<(), Fail>
 /// Opens files and makes calls, up to the first that fails. Files that didn't fail are closed.
 pub fn make_run(alloc: Global, files: Disks, settings: &[u8], steps: &[Step]) -> Result<Run, Fail> {
     let config = Config::from_toml(alloc, settings)?;
-    let mut told = Vec::new(alloc);
+    let mut reported = Vec::new(alloc);
     match open(alloc, files, config) {
         Ok(mut store) => {
-            let made = make_calls(alloc, &mut store, steps, &mut told);
+            let made = make_calls(alloc, &mut store, steps, &mut reported);
             let conn = store.release().release();
             let made = made?;
             let files = if made == steps.len() {
@@ -110,15 +110,15 @@ pub fn make_run(alloc: Global, files: Disks, settings: &[u8], steps: &[Step]) ->
             };
             Ok(Run {
                 made: made.saturating_add(1),
-                told,
+                reported,
                 files,
             })
         }
         Err((files, failure)) => {
-            tell_failure(failure, &mut told)?;
+            tell_failure(failure, &mut reported)?;
             Ok(Run {
                 made: 0,
-                told,
+                reported,
                 files,
             })
         }

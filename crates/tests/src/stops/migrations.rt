@@ -1,7 +1,7 @@
 //! Files of earlier schemas, which an opening brings to the third, stopped at each call of a file.
 use crate::libraries::archives::spelled;
+use crate::stops::cases::{case_of, earlier_of};
 use crate::stops::disks::{Contents, DiskStore, close, connect, files_of, held_in};
-use crate::stops::standing::{case_of, earlier_of};
 use crate::stops::stop_both;
 use crate::stops::texts::{FIRST, SECOND, THIRD};
 use sqlite::{Connection, params};

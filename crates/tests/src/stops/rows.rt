@@ -1,7 +1,7 @@
 //! Imports, roots, collections and generations, each stopped at each call of a file.
+use crate::stops::cases::case_of;
 use crate::stops::disks::Contents;
 use crate::stops::requests::{DERIVATION, EMPTY, Step};
-use crate::stops::standing::case_of;
 use crate::stops::stop_both;
 use crate::stops::texts::TABLES;
 use std::alloc::Global;
@@ -28,7 +28,7 @@ const COLLECTED: &[Step] = &[
     Step::Collect,
 ];
 
-const COLLECTED_TOLD: &str = "/nix/store/00000000000000000000000000000000-d.drv
+const COLLECTED_PRINTED: &str = "/nix/store/00000000000000000000000000000000-d.drv
 /nix/store/11111111111111111111111111111111-o
 /nix/store/00000000000000000000000000000000-d.drv
 /nix/store/11111111111111111111111111111111-o
@@ -47,7 +47,7 @@ const FREED: &[Step] = &[
     Step::Collect,
 ];
 
-const FREED_TOLD: &str = "/nix/store/00000000000000000000000000000000-d.drv
+const FREED_PRINTED: &str = "/nix/store/00000000000000000000000000000000-d.drv
 /nix/store/11111111111111111111111111111111-o
 done
 /nix/store/00000000000000000000000000000000-d.drv
@@ -91,24 +91,24 @@ fn stop(
     alloc: Global,
     settings: &'static [u8],
     steps: &'static [Step],
-    told: &'static str,
+    reported: &'static str,
 ) -> Result<(), Fail> {
     let nothing = Contents {
         log: Vec::new(alloc),
         db: Vec::new(alloc),
     };
-    let case = case_of(alloc, nothing, TABLES, settings, steps, told)?;
+    let case = case_of(alloc, nothing, TABLES, settings, steps, reported)?;
     stop_both(alloc, &case)
 }
 
 #[test]
 fn collections_that_stop(rt: HostRuntime) -> Result<(), Fail> {
-    stop(rt.alloc(), KEEPS_BOTH, COLLECTED, COLLECTED_TOLD)
+    stop(rt.alloc(), KEEPS_BOTH, COLLECTED, COLLECTED_PRINTED)
 }
 
 #[test]
 fn collections_of_derivations_that_stop(rt: HostRuntime) -> Result<(), Fail> {
-    stop(rt.alloc(), KEEPS_OUTPUTS, FREED, FREED_TOLD)
+    stop(rt.alloc(), KEEPS_OUTPUTS, FREED, FREED_PRINTED)
 }
 
 #[test]

@@ -5,8 +5,8 @@ use Rattle.laws.proofs.refusals.refusals_and_denials_have_reasons.Goals as goal
 pub returns-clause-refusals : goal.returns-clause-refusals
 returns-clause-refusals c = refusals_have_reasons
 
-pub returns-clause-told : goal.returns-clause-told
-returns-clause-told c = told_are_valid
+pub returns-clause-reported : goal.returns-clause-reported
+returns-clause-reported c = told_are_valid
 
 pub returns-clause-denials : goal.returns-clause-denials
 returns-clause-denials c = denials_are_for_the_first

@@ -1,4 +1,4 @@
-use Rattle.laws.proofs.NotTold.{dropped_labels_are_not_told}
+use Rattle.laws.proofs.NotListed.{dropped_labels_are_not_told}
 use Rattle.laws.proofs.RelistedSessions.{drops_are_told}
 use Rattle.laws.proofs.roots.roots_that_were_dropped_are_not_listed.Goals as goal
 

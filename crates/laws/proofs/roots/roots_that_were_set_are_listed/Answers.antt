@@ -1,4 +1,4 @@
-use Rattle.laws.proofs.RootsTold.{roots_set_are_told}
+use Rattle.laws.proofs.RootsListed.{roots_set_are_told}
 use Rattle.laws.proofs.roots.roots_that_were_set_are_listed.Goals as goal
 
 pub returns : goal.returns

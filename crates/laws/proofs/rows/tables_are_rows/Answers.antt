@@ -1,4 +1,4 @@
-use Rattle.tables_world.proofs.Told.{tables_rows}
+use Rattle.tables_world.proofs.Reported.{tables_rows}
 use Rattle.laws.proofs.FaultyObjects.{archives_told}
 use Rattle.laws.proofs.rows.tables_are_rows.Goals as goal
 

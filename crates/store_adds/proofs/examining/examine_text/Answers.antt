@@ -17,7 +17,7 @@ returns c w is =
     let contents = c.args.contents.now in
     let bytes : IsBytes contents = λ i. omega (arith, c.type_inv.contents i) in (
       pass _ _ c.in_ok-are_others.ensures
-          ∙ pass _ _ (ap (λ t. if_derivation p (tree_fault dir (Ok t))) (sym c.plain-file.ensures) ∙ c.in_ok-outputs.ensures.0) ∙ pass _ _ (c.in_ok-are_there.ensures w is),
+          ∙ pass _ _ (ap (λ t. if_derivation p (tree_fault dir (Ok t))) (sym c.plain-file.ensures) ∙ c.in_ok-outputs.ensures.0) ∙ pass _ _ (c.in_ok-are_valid.ensures w is),
       c.in_ok-outputs.ensures.1 ∙ ap (λ t. if is_derivation p then tree_outputs {E = NarError} dir (Ok t) else finite.empty) c.plain-file.ensures
           ∙ sym (outputs_of_text dir p contents bytes c.requires),
     )

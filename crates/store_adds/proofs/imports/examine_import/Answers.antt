@@ -11,15 +11,15 @@ use Rattle.store_adds.specs.Delivered.{delivered_view}
 use Rattle.store_steps.proofs.Passing.{pass}
 use Rattle.store_adds.proofs.imports.examine_import.Goals as goal
 
-pub returns-clause-told : goal.returns-clause-told
-returns-clause-told c w is =
+pub returns-clause-reported : goal.returns-clause-reported
+returns-clause-reported c w is =
     let i = delivered_view c.args.import.now in
     let few : unless (nat_le (length i.refs) most_references) TooManyReferences ≡ None =
     ap (λ (r : List (List ℕ)). unless (nat_le (length r) most_references) TooManyReferences) (sym c.deref.ensures.value) ∙ c.in_ok-are_few.ensures in
-    let there : unless (is_complete w i.path i.refs) MissingReference ≡ None =
-    ap (λ (r : List (List ℕ)). unless (is_complete w i.path r) MissingReference) (sym c.deref-2.ensures.value) ∙ c.in_ok-are_there.ensures w is in (
+    let present : unless (is_complete w i.path i.refs) MissingReference ≡ None =
+    ap (λ (r : List (List ℕ)). unless (is_complete w i.path r) MissingReference) (sym c.deref-2.ensures.value) ∙ c.in_ok-are_valid.ensures w is in (
       pass _ _ few ∙ pass _ _ c.in_ok-is_archive.ensures ∙ pass _ _ c.in_ok-has_digest.ensures ∙ pass _ _ c.in_ok-refers_to_others.ensures ∙ pass _ _ c.in_ok-is_verified.ensures
-          ∙ pass _ _ c.in_ok-outputs.ensures.0 ∙ pass _ _ there,
+          ∙ pass _ _ c.in_ok-outputs.ensures.0 ∙ pass _ _ present,
       c.in_ok-outputs.ensures.1,
     )
 

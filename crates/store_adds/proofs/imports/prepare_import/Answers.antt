@@ -9,12 +9,12 @@ use Rattle.store_adds.proofs.imports.prepare_import.Goals as goal
 pub returns-clause-formed : goal.returns-clause-formed
 returns-clause-formed c = subst IsWellFormedImport c.in_ok-import.ensures.same c.in_ok-outputs.ensures.formed
 
-pub returns-clause-told : goal.returns-clause-told
-returns-clause-told c w is =
+pub returns-clause-reported : goal.returns-clause-reported
+returns-clause-reported c w is =
     let dir = c.args.dir.now in
     let d = c.in_ok-import.import in
     let added : Added = record { path = d.path; object = with_archive d.nar.pieces c.in_ok-object.object } in
-    let examined = c.in_ok-outputs.ensures.told w is in
+    let examined = c.in_ok-outputs.ensures.reported w is in
     subst (λ (i : Imported). (first_failing (import_tests dir w i) ≡ None) × (added ≡ added_import dir i)) c.in_ok-import.ensures.same (
       examined.0,
       λ i. record {

@@ -12,14 +12,14 @@ pub add-requires-clause-sound : goal.add-requires-clause-sound
 add-requires-clause-sound g c =
     source_stays_sound g.S.Store c.args.tables.now c.args.config.now c.args.name c.args.refs.items (bytes_in c.args.nar) (added_view c.in-Ok.added) c.requires.dir c.as_str-text.ensures.valid c.in-Ok.ensures.bytes
     (source_given c.args.name c.args.refs.items (bytes_in c.args.nar) c.outline.result.now c.args.tables.now.outline c.store_dir-dir.result.now c.args.config.now.store_dir
-    c.outline.ensures c.store_dir-dir.ensures (added_view c.in-Ok.added) c.in-Ok.ensures.told)
+    c.outline.ensures c.store_dir-dir.ensures (added_view c.in-Ok.added) c.in-Ok.ensures.reported)
 
 pub returns-in-Ok-clause-met : goal.returns-in-Ok-clause-met
 returns-in-Ok-clause-met g c caller =
     met_by_adding g.S.Store c.args.config.now caller (add_source c.args.name c.args.refs.items (bytes_in c.args.nar)) c.add.result c.args.tables.now c.add.new.tables
     (added_view c.in-Ok.added) (added_source c.args.config.now.store_dir c.args.name c.args.refs.items (bytes_in c.args.nar))
     (source_given c.args.name c.args.refs.items (bytes_in c.args.nar) c.outline.result.now c.args.tables.now.outline c.store_dir-dir.result.now c.args.config.now.store_dir
-    c.outline.ensures c.store_dir-dir.ensures (added_view c.in-Ok.added) c.in-Ok.ensures.told)
+    c.outline.ensures c.store_dir-dir.ensures (added_view c.in-Ok.added) c.in-Ok.ensures.reported)
     (λ w. refl) (λ w. refl) refl refl c.add.ensures
 
 pub returns-clause-met : goal.returns-clause-met
@@ -27,4 +27,4 @@ returns-clause-met g c caller =
     met_by_reading g.S.Store c.args.config.now caller (add_source c.args.name c.args.refs.items (bytes_in c.args.nar)) (Err c.in-Err.stop) c.args.tables.now c.args.tables.now.outline refl
     (reads_stopped c.args.config.now caller c.args.tables.now.outline (add_source c.args.name c.args.refs.items (bytes_in c.args.nar)) c.in-Err.stop
     (source_stopped c.args.name c.args.refs.items (bytes_in c.args.nar) c.outline.result.now c.args.tables.now.outline c.store_dir-dir.result.now c.args.config.now.store_dir
-    c.outline.ensures c.store_dir-dir.ensures c.in-Err.stop c.in-Err.ensures.told))
+    c.outline.ensures c.store_dir-dir.ensures c.in-Err.stop c.in-Err.ensures.reported))

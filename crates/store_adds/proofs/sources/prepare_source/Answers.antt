@@ -11,16 +11,16 @@ use Rattle.model.specs.Tests.{first_failing, source_tests}
 use Rattle.store_adds.proofs.sources.prepare_source.Goals as goal
 
 pub returns-clause-bytes : goal.returns-clause-bytes
-returns-clause-bytes c = subst IsBytes c.in_ok-nar.ensures.pieces c.in_ok-nar.ensures.told.bytes
+returns-clause-bytes c = subst IsBytes c.in_ok-nar.ensures.pieces c.in_ok-nar.ensures.reported.bytes
 
-pub returns-clause-told : goal.returns-clause-told
-returns-clause-told c w is =
+pub returns-clause-reported : goal.returns-clause-reported
+returns-clause-reported c w is =
     let dir = c.args.dir.now in
     let name = c.args.name.now in
     let refs = c.args.refs.items in
     let nar = c.in_ok-nar.nar.pieces in
     let added : Added = record { path = c.in_ok-path.path; object = with_archive nar c.in_ok-object.object } in
-    let hash : c.in_ok-nar.nar.nar_hash ≡ sha256 nar = c.in_ok-nar.ensures.told.hash in
+    let hash : c.in_ok-nar.nar.nar_hash ≡ sha256 nar = c.in_ok-nar.ensures.reported.hash in
     let examined = c.in_ok-outputs.ensures w is in
     let path_is : c.in_ok-path.path ≡ source_path dir name refs nar =
     c.in_ok-path.ensures.value nar hash ∙ ap (λ (r : List (List ℕ)). source_path dir name r nar) c.deref.ensures.value in
@@ -40,4 +40,4 @@ returns-clause-told c w is =
     )
 
 pub returns-clause-hash : goal.returns-clause-hash
-returns-clause-hash c = ap (λ (o : Outlined). o.hash) c.in_ok-object.ensures ∙ c.in_ok-nar.ensures.told.hash
+returns-clause-hash c = ap (λ (o : Outlined). o.hash) c.in_ok-object.ensures ∙ c.in_ok-nar.ensures.reported.hash

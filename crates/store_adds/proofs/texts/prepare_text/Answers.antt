@@ -20,8 +20,8 @@ returns-clause-hash c = ap (λ (o : Outlined). o.hash) c.in_ok-object.ensures �
 pub returns-clause-bytes : goal.returns-clause-bytes
 returns-clause-bytes c = λ i. omega (arith, c.type_inv.contents i)
 
-pub returns-clause-told : goal.returns-clause-told
-returns-clause-told c w is =
+pub returns-clause-reported : goal.returns-clause-reported
+returns-clause-reported c w is =
     let dir = c.args.dir.now in
     let contents = c.args.contents.now in
     let refs = c.args.refs.items in
@@ -30,7 +30,7 @@ returns-clause-told c w is =
     c.in_ok-path.ensures.value contents c.in_ok-archive.ensures.contents ∙ ap (λ (r : List (List ℕ)). text_path dir c.args.name.now r contents) c.deref-2.ensures.value in (
       sym (ap (λ (p : List ℕ). first_failing (text_tests dir w p refs contents)) path_is)
           ∙ pass _ _ (ap (λ (r : List (List ℕ)). unless (nat_le (length r) most_references) TooManyReferences) (sym c.deref.ensures.value) ∙ c.in_ok-are_few.ensures)
-          ∙ pass _ _ c.in_ok-has_archive.ensures.told
+          ∙ pass _ _ c.in_ok-has_archive.ensures.reported
           ∙ ap (λ (r : List (List ℕ)). first_failing (drop 2 (text_tests dir w c.in_ok-path.path r contents))) (sym c.deref-3.ensures.value) ∙ examined.0,
       λ i. record {
         path = path_is i;

@@ -10,7 +10,7 @@ use Rattle.live.specs.declared.numbered.rows.Row.{Row as Handed}
 use Rattle.model.specs.World.{roots_of}
 use Rattle.tables_listing.specs.Rooted.{rooted}
 use Rattle.store_removal.specs.Sizes.{size_in}
-use Rattle.tables_listing.specs.View.{root_view}
+use Rattle.paths.specs.RootView.{root_view}
 use Rattle.store_removal.proofs.Limited.{limited_told, sized}
 use Rattle.store_removal.proofs.Marked.{handed_rise, valid_rise, valid_targets}
 use Rattle.store_removal.proofs.Valid.{aims_well}
@@ -62,6 +62,6 @@ returns c =
     (λ i h. sized (size_in o) c.deref-4.result.now i h ∙ ap (λ (ns : List ℕ). slice_index ns i) at_places) in
     let again = c.deref-7.ensures.value ∙ sym c.deref-4.ensures.value in
     IfOk-weaker c.paths_at.result _ _
-    (λ v e w told. e ∙ (λ i. map (path_at (rows_view (again i))) (c.deref-8.ensures.value i)) ∙ c.in_ok-places.ensures.paths (size_in o) each
-    ∙ limited_told c.args.config.now o (keep_view c.keep_of.result) (rows_view c.deref-4.result.now) (roots_view c.deref-5.result.now) c.keep_of.ensures (ap rows_view c.deref-4.ensures.value ∙ c.in_ok-rows.ensures) same w told c.args.limit)
+    (λ v e w reported. e ∙ (λ i. map (path_at (rows_view (again i))) (c.deref-8.ensures.value i)) ∙ c.in_ok-places.ensures.paths (size_in o) each
+    ∙ limited_told c.args.config.now o (keep_view c.keep_of.result) (rows_view c.deref-4.result.now) (roots_view c.deref-5.result.now) c.keep_of.ensures (ap rows_view c.deref-4.ensures.value ∙ c.in_ok-rows.ensures) same w reported c.args.limit)
     c.paths_at.ensures

@@ -12,6 +12,6 @@ pub returns : goal.returns
 returns c =
     let o = c.args.outline.now in
     IfOk-weaker c.referring.result _ _
-    (λ v e w told. e ∙ deleted_told o (rows_view c.deref.result.now) (rows_view c.deref-2.result.now) (ap rows_view c.deref.ensures.value ∙ c.in_ok-rows.ensures) (ap rows_view c.deref-2.ensures.value ∙ c.in_ok-rows.ensures)
-    c.in_ok-places.places.items c.deref-3.result.now c.deref-3.ensures.value c.args.named.now c.in_ok-places.ensures.those w told)
+    (λ v e w reported. e ∙ deleted_told o (rows_view c.deref.result.now) (rows_view c.deref-2.result.now) (ap rows_view c.deref.ensures.value ∙ c.in_ok-rows.ensures) (ap rows_view c.deref-2.ensures.value ∙ c.in_ok-rows.ensures)
+    c.in_ok-places.places.items c.deref-3.result.now c.deref-3.ensures.value c.args.named.now c.in_ok-places.ensures.those w reported)
     c.referring.ensures

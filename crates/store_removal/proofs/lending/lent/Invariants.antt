@@ -1,6 +1,6 @@
 use Rattle.std.proofs.Common.{◌≡◌, map, take}
 use Rattle.live.specs.Arguments.{roots_view}
-use Rattle.tables_listing.specs.View.{root_view}
+use Rattle.paths.specs.RootView.{root_view}
 use Rattle.store_removal.proofs.lending.lent.Given as goal
 
 -- the first roots are lent

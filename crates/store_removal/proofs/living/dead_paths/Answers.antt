@@ -2,7 +2,7 @@ use Rattle.std.proofs.Common.{false, ap, ◌∙◌}
 use Rattle.std.proofs.lemmas.Result.{IfOk-weaker}
 use Rattle.live.specs.Arguments.{rows_view}
 use Rattle.store_removal.proofs.Marked.{chosen_told}
-use Rattle.store_removal.proofs.Told.{dead_told}
+use Rattle.store_removal.proofs.Reported.{dead_told}
 use Rattle.store_removal.proofs.living.dead_paths.Goals as goal
 
 pub returns : goal.returns

@@ -1,7 +1,7 @@
 use Rattle.std.proofs.Common.{true, false, ap, ◌∙◌}
 use Rattle.live.specs.Arguments.{rows_view}
 use Rattle.store_removal.proofs.Marked.{chosen_told}
-use Rattle.store_removal.proofs.Told.{live_told, dead_told}
+use Rattle.store_removal.proofs.Reported.{live_told, dead_told}
 use Rattle.store_removal.proofs.living.live_and_dead.Goals as goal
 
 pub returns-clause-live : goal.returns-clause-live

@@ -2,7 +2,7 @@ use Rattle.std.proofs.Common.{true, ap, ◌∙◌}
 use Rattle.std.proofs.lemmas.Result.{IfOk-weaker}
 use Rattle.live.specs.Arguments.{rows_view}
 use Rattle.store_removal.proofs.Marked.{chosen_told}
-use Rattle.store_removal.proofs.Told.{live_told}
+use Rattle.store_removal.proofs.Reported.{live_told}
 use Rattle.store_removal.proofs.living.live_paths.Goals as goal
 
 pub returns : goal.returns

@@ -6,7 +6,7 @@ use Rattle.live.specs.Arguments.{roots_view, row_view, rows_view}
 use Rattle.live.specs.Keeping.{keep_view}
 use Rattle.model.specs.World.{roots_of}
 use Rattle.tables_listing.specs.Rooted.{rooted}
-use Rattle.tables_listing.specs.View.{root_view}
+use Rattle.paths.specs.RootView.{root_view}
 use Rattle.store_removal.proofs.Marked.{handed_rise, lives_marked, valid_rise, valid_targets}
 use Rattle.store_removal.proofs.Valid.{aims_well}
 use Rattle.store_removal.proofs.living.lives.Goals as goal

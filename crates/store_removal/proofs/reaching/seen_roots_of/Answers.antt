@@ -8,7 +8,7 @@ use Rattle.model.specs.World.{roots_of}
 use Rattle.tables_outline.specs.Maps.{labelled_bytes}
 use Rattle.model.specs.Seen.{seen}
 use Rattle.tables_listing.specs.Rooted.{rooted}
-use Rattle.tables_listing.specs.View.{root_view}
+use Rattle.paths.specs.RootView.{root_view}
 use Rattle.store_removal.proofs.Marked.{handed_rise, valid_targets}
 use Rattle.store_removal.proofs.Places.{keeping_told, none_keeps}
 use Rattle.store_removal.proofs.Valid.{aims_well}

@@ -7,4 +7,4 @@ use Rattle.store_removal.proofs.seen.seen.Given as goal
 
 -- the roots so far are shown, and told
 abbrev pub invariant-loop-root : goal.invariant-loop-root
-invariant-loop-root l = (map labelled_bytes l.shown.items ≡ spec.seen l.class (roots_view (take l.root-index l.roots))) × AreListed l.class l.told.keys l.shown.items
+invariant-loop-root l = (map labelled_bytes l.shown.items ≡ spec.seen l.class (roots_view (take l.root-index l.roots))) × AreListed l.class l.reported.keys l.shown.items

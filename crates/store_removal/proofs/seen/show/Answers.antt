@@ -13,10 +13,10 @@ returns-in_ok-push-clause-shown c = λ before are shown.
     ∙ seen_more c.args.class before (root_view c.args.root) (map labelled_bytes c.args.shown.now.items) (labelled_bytes c.in_ok-pair.pair) shown c.in_ok-pair.ensures
     (ap not (sym c.if-is_first.true) ∙ c.in_ok-is_first.ensures.first c.args.shown.now.items are)
 
-pub returns-else-is_first-clause-told : goal.returns-else-is_first-clause-told
-returns-else-is_first-clause-told c = λ are.
-    subst (λ b. AreListed c.args.class c.note.new.told.keys (if b then c.args.shown.now.items ++ c.in_ok-pair.pair ∷ [] else c.args.shown.now.items)) c.if-is_first.false
-    (c.in_ok-is_first.ensures.told c.args.shown.now.items are)
+pub returns-else-is_first-clause-reported : goal.returns-else-is_first-clause-reported
+returns-else-is_first-clause-reported c = λ are.
+    subst (λ b. AreListed c.args.class c.note.new.reported.keys (if b then c.args.shown.now.items ++ c.in_ok-pair.pair ∷ [] else c.args.shown.now.items)) c.if-is_first.false
+    (c.in_ok-is_first.ensures.reported c.args.shown.now.items are)
 
 pub returns-else-is_first-clause-shown : goal.returns-else-is_first-clause-shown
 returns-else-is_first-clause-shown c = λ before are shown.

@@ -17,10 +17,10 @@ use Rattle.store_roots.proofs.ProfileChanges.{there_as, rolled_as}
 use Rattle.store_steps.proofs.Fits.{no_settings, rollback_fits}
 use Rattle.store_roots.proofs.profiles.rollback.Goals as goal
 
-pub switch_generation-requires-clause-there : goal.switch_generation-requires-clause-there
-switch_generation-requires-clause-there g c =
+pub switch_generation-requires-clause-present : goal.switch_generation-requires-clause-present
+switch_generation-requires-clause-present g c =
     there_as (string_bytes c.args.owned.0) (string_bytes c.args.owned.1) c.as_str.result.now c.as_str-in-Ok.result.now c.as_str.ensures.value c.as_str-in-Ok.ensures.value
-    c.outline.result.now c.args.tables.now.outline c.outline.ensures c.in-Ok.ensures.there
+    c.outline.result.now c.args.tables.now.outline c.outline.ensures c.in-Ok.ensures.present
 
 pub switch_generation-requires-clause-sound : goal.switch_generation-requires-clause-sound
 switch_generation-requires-clause-sound g c =
@@ -28,8 +28,8 @@ switch_generation-requires-clause-sound g c =
     let name = string_bytes c.args.owned.1 in
     let owned : Pair = (c.as_str.result.now, c.as_str-in-Ok.result.now) in
     sound_as g.S.Store c.args.tables.now (λ w. with_profile w owned (switched (profile_at w owned) c.in-Ok.number)) (λ w. with_profile w (owner, name) (rolled_back (profile_at w (owner, name))))
-    (λ w t. rolled_as owner name c.as_str.result.now c.as_str-in-Ok.result.now c.as_str.ensures.value c.as_str-in-Ok.ensures.value c.in-Ok.number w (c.in-Ok.ensures.told no_settings w (t.outline ∙ sym c.outline.ensures)).1)
-    (λ w t. rollback_fits c.args.tables.now.dir w t.sound owner name (c.in-Ok.ensures.told no_settings w (t.outline ∙ sym c.outline.ensures)).0)
+    (λ w t. rolled_as owner name c.as_str.result.now c.as_str-in-Ok.result.now c.as_str.ensures.value c.as_str-in-Ok.ensures.value c.in-Ok.number w (c.in-Ok.ensures.reported no_settings w (t.outline ∙ sym c.outline.ensures)).1)
+    (λ w t. rollback_fits c.args.tables.now.dir w t.sound owner name (c.in-Ok.ensures.reported no_settings w (t.outline ∙ sym c.outline.ensures)).0)
 
 pub returns-in-Ok : goal.returns-in-Ok
 returns-in-Ok g c s caller =
@@ -39,12 +39,12 @@ returns-in-Ok g c s caller =
     let asked = rollback owner name in
     subst (λ (r : Result Answer Stop). IsMet g.S.Store s caller asked r c.args.tables.now c.switch_generation.new.self) (sym c.answered.ensures)
     (met_by_writing g.S.Store s caller asked c.args.tables.now c.switch_generation.new.self (λ w. with_profile w owned (switched (profile_at w owned) c.in-Ok.number)) (Generation c.in-Ok.number)
-    (λ w is. (c.in-Ok.ensures.told s w (is ∙ sym c.outline.ensures)).0)
-    (λ w is. ap (λ (r : Option ℕ). generation (unwrap_or r (profile_at w (owner, name)).current)) (c.in-Ok.ensures.told s w (is ∙ sym c.outline.ensures)).1)
-    (λ w is. rolled_as owner name c.as_str.result.now c.as_str-in-Ok.result.now c.as_str.ensures.value c.as_str-in-Ok.ensures.value c.in-Ok.number w (c.in-Ok.ensures.told s w (is ∙ sym c.outline.ensures)).1)
+    (λ w is. (c.in-Ok.ensures.reported s w (is ∙ sym c.outline.ensures)).0)
+    (λ w is. ap (λ (r : Option ℕ). generation (unwrap_or r (profile_at w (owner, name)).current)) (c.in-Ok.ensures.reported s w (is ∙ sym c.outline.ensures)).1)
+    (λ w is. rolled_as owner name c.as_str.result.now c.as_str-in-Ok.result.now c.as_str.ensures.value c.as_str-in-Ok.ensures.value c.in-Ok.number w (c.in-Ok.ensures.reported s w (is ∙ sym c.outline.ensures)).1)
     c.switch_generation.result c.switch_generation.ensures.frame
     (write_fails g.S.Store asked c.args.tables.now c.switch_generation.new.self refl (ProfileRow owned c.in-Ok.number) (λ t row put. refl) (Generation c.in-Ok.number) c.switch_generation.result c.switch_generation.ensures.cause))
 
 pub returns : goal.returns
 returns g c s caller =
-    met_by_stopping g.S.Store s caller (rollback (string_bytes c.args.owned.0) (string_bytes c.args.owned.1)) c.args.tables.now (Refused c.in-Err.refusal) c.outline.result.now c.outline.ensures (λ w is. c.in-Err.ensures.told s w is)
+    met_by_stopping g.S.Store s caller (rollback (string_bytes c.args.owned.0) (string_bytes c.args.owned.1)) c.args.tables.now (Refused c.in-Err.refusal) c.outline.result.now c.outline.ensures (λ w is. c.in-Err.ensures.reported s w is)

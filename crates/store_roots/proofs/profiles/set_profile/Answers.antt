@@ -31,7 +31,7 @@ set_profile-requires-clause-sound g c =
     let owned : Pair = (c.as_str.result.now, c.as_str-in-Ok.result.now) in
     sound_as g.S.Store c.args.tables.now (λ w. with_profile w owned (set_to (profile_at w owned) c.args.path)) (λ w. with_profile w (owner, name) (set_to (profile_at w (owner, name)) c.args.path))
     (λ w t. changed_as owner name c.as_str.result.now c.as_str-in-Ok.result.now c.as_str.ensures.value c.as_str-in-Ok.ensures.value (λ p. set_to p c.args.path) w)
-    (λ w t. profile_fits c.args.tables.now.dir w t.sound owner name c.args.path (c.in-Ok.ensures.told no_settings w (t.outline ∙ sym c.outline.ensures)).0)
+    (λ w t. profile_fits c.args.tables.now.dir w t.sound owner name c.args.path (c.in-Ok.ensures.reported no_settings w (t.outline ∙ sym c.outline.ensures)).0)
 
 pub returns-in-Ok : goal.returns-in-Ok
 returns-in-Ok g c s caller =
@@ -41,12 +41,12 @@ returns-in-Ok g c s caller =
     let asked = set_profile owner name c.args.path in
     subst (λ (r : Result Answer Stop). IsMet g.S.Store s caller asked r c.args.tables.now c.set_profile.new.self) (sym c.answered.ensures)
     (met_by_writing g.S.Store s caller asked c.args.tables.now c.set_profile.new.self (λ w. with_profile w owned (set_to (profile_at w owned) c.args.path)) (Generation c.in-Ok.number)
-    (λ w is. (c.in-Ok.ensures.told s w (is ∙ sym c.outline.ensures)).0)
-    (λ w is. ap generation (c.in-Ok.ensures.told s w (is ∙ sym c.outline.ensures)).1)
+    (λ w is. (c.in-Ok.ensures.reported s w (is ∙ sym c.outline.ensures)).0)
+    (λ w is. ap generation (c.in-Ok.ensures.reported s w (is ∙ sym c.outline.ensures)).1)
     (λ w is. changed_as owner name c.as_str.result.now c.as_str-in-Ok.result.now c.as_str.ensures.value c.as_str-in-Ok.ensures.value (λ p. set_to p c.args.path) w)
     c.set_profile.result c.set_profile.ensures.frame
     (write_fails g.S.Store asked c.args.tables.now c.set_profile.new.self refl (GenerationRows owned c.in-Ok.number c.args.path c.in-Ok.number) (λ t row put. refl) (Generation c.in-Ok.number) c.set_profile.result c.set_profile.ensures.cause))
 
 pub returns : goal.returns
 returns g c s caller =
-    met_by_stopping g.S.Store s caller (set_profile (string_bytes c.args.owned.0) (string_bytes c.args.owned.1) c.args.path) c.args.tables.now (Refused c.in-Err.refusal) c.outline.result.now c.outline.ensures (λ w is. c.in-Err.ensures.told s w is)
+    met_by_stopping g.S.Store s caller (set_profile (string_bytes c.args.owned.0) (string_bytes c.args.owned.1) c.args.path) c.args.tables.now (Refused c.in-Err.refusal) c.outline.result.now c.outline.ensures (λ w is. c.in-Err.ensures.reported s w is)

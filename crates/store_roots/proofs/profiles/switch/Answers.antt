@@ -16,10 +16,10 @@ use Rattle.store_roots.proofs.ProfileChanges.{there_as, changed_as}
 use Rattle.store_steps.proofs.Fits.{no_settings, switch_fits}
 use Rattle.store_roots.proofs.profiles.switch.Goals as goal
 
-pub switch_generation-requires-clause-there : goal.switch_generation-requires-clause-there
-switch_generation-requires-clause-there g c =
+pub switch_generation-requires-clause-present : goal.switch_generation-requires-clause-present
+switch_generation-requires-clause-present g c =
     there_as (string_bytes c.args.owned.0) (string_bytes c.args.owned.1) c.as_str.result.now c.as_str-in-Ok.result.now c.as_str.ensures.value c.as_str-in-Ok.ensures.value
-    c.outline.result.now c.args.tables.now.outline c.outline.ensures c.in-Ok.ensures.there
+    c.outline.result.now c.args.tables.now.outline c.outline.ensures c.in-Ok.ensures.present
 
 pub switch_generation-requires-clause-sound : goal.switch_generation-requires-clause-sound
 switch_generation-requires-clause-sound g c =
@@ -28,7 +28,7 @@ switch_generation-requires-clause-sound g c =
     let owned : Pair = (c.as_str.result.now, c.as_str-in-Ok.result.now) in
     sound_as g.S.Store c.args.tables.now (λ w. with_profile w owned (switched (profile_at w owned) c.args.number)) (λ w. with_profile w (owner, name) (switched (profile_at w (owner, name)) c.args.number))
     (λ w t. changed_as owner name c.as_str.result.now c.as_str-in-Ok.result.now c.as_str.ensures.value c.as_str-in-Ok.ensures.value (λ p. switched p c.args.number) w)
-    (λ w t. switch_fits c.args.tables.now.dir w t.sound owner name c.args.number (c.in-Ok.ensures.told no_settings w (t.outline ∙ sym c.outline.ensures)))
+    (λ w t. switch_fits c.args.tables.now.dir w t.sound owner name c.args.number (c.in-Ok.ensures.reported no_settings w (t.outline ∙ sym c.outline.ensures)))
 
 pub returns-in-Ok : goal.returns-in-Ok
 returns-in-Ok g c s caller =
@@ -38,7 +38,7 @@ returns-in-Ok g c s caller =
     let asked = switch owner name c.args.number in
     subst (λ (r : Result Answer Stop). IsMet g.S.Store s caller asked r c.args.tables.now c.switch_generation.new.self) (sym c.answered.ensures)
     (met_by_writing g.S.Store s caller asked c.args.tables.now c.switch_generation.new.self (λ w. with_profile w owned (switched (profile_at w owned) c.args.number)) (Generation c.args.number)
-    (λ w is. c.in-Ok.ensures.told s w (is ∙ sym c.outline.ensures))
+    (λ w is. c.in-Ok.ensures.reported s w (is ∙ sym c.outline.ensures))
     (λ w is. refl)
     (λ w is. changed_as owner name c.as_str.result.now c.as_str-in-Ok.result.now c.as_str.ensures.value c.as_str-in-Ok.ensures.value (λ p. switched p c.args.number) w)
     c.switch_generation.result c.switch_generation.ensures.frame
@@ -46,4 +46,4 @@ returns-in-Ok g c s caller =
 
 pub returns : goal.returns
 returns g c s caller =
-    met_by_stopping g.S.Store s caller (switch (string_bytes c.args.owned.0) (string_bytes c.args.owned.1) c.args.number) c.args.tables.now (Refused c.in-Err.refusal) c.outline.result.now c.outline.ensures (λ w is. c.in-Err.ensures.told s w is)
+    met_by_stopping g.S.Store s caller (switch (string_bytes c.args.owned.0) (string_bytes c.args.owned.1) c.args.number) c.args.tables.now (Refused c.in-Err.refusal) c.outline.result.now c.outline.ensures (λ w is. c.in-Err.ensures.reported s w is)

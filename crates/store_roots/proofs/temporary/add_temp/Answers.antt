@@ -20,7 +20,7 @@ add_temp-requires g c =
     let owner = c.as_str-text.result.now in
     record {
       sound = λ w t. subst (λ (n : ℕ). IsSound c.args.tables.now.dir (with_temporary w (record { owner = owner; session = n; path = c.args.path }))) (sym c.in-Ok.ensures.number)
-          (temporary_fits c.args.tables.now.dir w t.sound owner c.args.session c.args.path (c.in-Ok.ensures.told no_settings w (t.outline ∙ sym c.outline.ensures)));
+          (temporary_fits c.args.tables.now.dir w t.sound owner c.args.session c.args.path (c.in-Ok.ensures.reported no_settings w (t.outline ∙ sym c.outline.ensures)));
     }
 
 pub returns-in-Ok : goal.returns-in-Ok
@@ -31,7 +31,7 @@ returns-in-Ok g c s caller =
     subst (λ (r : Result Answer Stop). IsMet g.S.Store s caller (add_temp owner session path) r c.args.tables.now c.add_temp.new.self) (sym c.answered.ensures)
     (met_by_writing g.S.Store s caller (add_temp owner session path) c.args.tables.now c.add_temp.new.self
     (λ w. with_temporary w (record { owner = c.as_str-text.result.now; session = c.in-Ok.number; path = path })) Changed
-    (λ w is. subst (λ (n : List ℕ). refusal s w (add_temp n session path) ≡ None) c.as_str-text.ensures.value (c.in-Ok.ensures.told s w (is ∙ sym c.outline.ensures)))
+    (λ w is. subst (λ (n : List ℕ). refusal s w (add_temp n session path) ≡ None) c.as_str-text.ensures.value (c.in-Ok.ensures.reported s w (is ∙ sym c.outline.ensures)))
     (λ w is. refl)
     (λ w is. ap₂ (λ (o : List ℕ) (n : ℕ). with_temporary w (record { owner = o; session = n; path = path })) c.as_str-text.ensures.value c.in-Ok.ensures.number)
     c.add_temp.result c.add_temp.ensures.frame
@@ -42,4 +42,4 @@ returns g c s caller =
     let session = c.args.session in
     let path = c.args.path in
     subst (λ (n : List ℕ). IsMet g.S.Store s caller (add_temp n session path) (Err (Refused c.in-Err.refusal)) c.args.tables.now c.args.tables.now) c.as_str-text.ensures.value
-    (met_by_stopping g.S.Store s caller (add_temp c.as_str-text.result.now session path) c.args.tables.now (Refused c.in-Err.refusal) c.outline.result.now c.outline.ensures (λ w is. c.in-Err.ensures.told s w is))
+    (met_by_stopping g.S.Store s caller (add_temp c.as_str-text.result.now session path) c.args.tables.now (Refused c.in-Err.refusal) c.outline.result.now c.outline.ensures (λ w is. c.in-Err.ensures.reported s w is))

@@ -25,7 +25,7 @@ returns-in-Ok-end_session g c s caller =
     let same = c.as_str-text.ensures.value in
     let numbered = c.in-Ok.ensures.number in
     met_by_writing g.S.Store s caller (end_session owner session) c.args.tables.now c.end_session.new.self (λ w. without_session w c.as_str-text.result.now c.in-Ok.number) (TemporaryCount c.in-Ok-end_session.count)
-    (λ w is. subst (λ (n : List ℕ). refusal s w (end_session n session) ≡ None) same (c.in-Ok.ensures.told s w))
+    (λ w is. subst (λ (n : List ℕ). refusal s w (end_session n session) ≡ None) same (c.in-Ok.ensures.reported s w))
     (λ w is. ap temporary_count (c.in-Ok-end_session.ensures.count
     ∙ ap (λ (o : OutlineValue). finite.len (finite.retain_keys o.temporary (is_of_session c.as_str-text.result.now c.in-Ok.number))) (sym is)
     ∙ ap₂ (λ (o : List ℕ) (n : ℕ). finite.len (finite.retain_keys w.temporary (is_of_session o n))) same numbered))
@@ -40,7 +40,7 @@ returns-in-Ok g c s caller =
     let numbered = c.in-Ok.ensures.number in
     met_by_writing g.S.Store s caller (end_session owner session) c.args.tables.now c.end_session.new.self (λ w. without_session w c.as_str-text.result.now c.in-Ok.number)
     (TemporaryCount (finite.len (finite.retain_keys c.args.tables.now.outline.temporary (is_of_session owner session))))
-    (λ w is. subst (λ (n : List ℕ). refusal s w (end_session n session) ≡ None) same (c.in-Ok.ensures.told s w))
+    (λ w is. subst (λ (n : List ℕ). refusal s w (end_session n session) ≡ None) same (c.in-Ok.ensures.reported s w))
     (λ w is. ap (λ (o : OutlineValue). temporary_count (finite.len (finite.retain_keys o.temporary (is_of_session owner session)))) (sym is))
     (λ w is. ap₂ (λ (o : List ℕ) (n : ℕ). without_session w o n) same numbered)
     (Err c.in-Err-end_session.failure) (counted_failed g.S.Store c.args.tables.now c.end_session.new.self (λ w. without_session w c.as_str-text.result.now c.in-Ok.number) c.in-Err-end_session.failure c.in-Err-end_session.ensures.frame)
@@ -50,4 +50,4 @@ returns-in-Ok g c s caller =
 pub returns : goal.returns
 returns g c s caller =
     subst (λ (n : List ℕ). IsMet g.S.Store s caller (end_session n c.args.session) (Err (Refused c.in-Err.refusal)) c.args.tables.now c.args.tables.now) c.as_str-text.ensures.value
-    (met_by_stopping g.S.Store s caller (end_session c.as_str-text.result.now c.args.session) c.args.tables.now (Refused c.in-Err.refusal) c.args.tables.now.outline refl (λ w is. c.in-Err.ensures.told s w))
+    (met_by_stopping g.S.Store s caller (end_session c.as_str-text.result.now c.args.session) c.args.tables.now (Refused c.in-Err.refusal) c.args.tables.now.outline refl (λ w is. c.in-Err.ensures.reported s w))

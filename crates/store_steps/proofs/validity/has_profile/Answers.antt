@@ -6,13 +6,13 @@ use Rattle.model.specs.declared.refusal.Refusal.TheVariants.{NoProfile}
 use Rattle.model.specs.Tests.{unless}
 use Rattle.store_steps.proofs.validity.has_profile.Goals as goal
 
-pub returns-then-not-has_profile-clause-told : goal.returns-then-not-has_profile-clause-told
-returns-then-not-has_profile-clause-told c w is =
+pub returns-then-not-has_profile-clause-reported : goal.returns-then-not-has_profile-clause-reported
+returns-then-not-has_profile-clause-reported c w is =
     ap (λ b. unless b NoProfile) (ap (λ (o : OutlineValue). finite.contains_key o.profiles (string_bytes c.args.owned.now.0, string_bytes c.args.owned.now.1)) is ∙ sym c.has_profile.ensures ∙ c.if-not-has_profile.true)
 
-pub returns-clause-told : goal.returns-clause-told
-returns-clause-told c w is =
+pub returns-clause-reported : goal.returns-clause-reported
+returns-clause-reported c w is =
     ap (λ b. unless b NoProfile) (ap (λ (o : OutlineValue). finite.contains_key o.profiles (string_bytes c.args.owned.now.0, string_bytes c.args.owned.now.1)) is ∙ sym c.has_profile.ensures ∙ c.if-not-has_profile.false)
 
-pub returns-clause-there : goal.returns-clause-there
-returns-clause-there c = sym c.has_profile.ensures ∙ c.if-not-has_profile.false
+pub returns-clause-present : goal.returns-clause-present
+returns-clause-present c = sym c.has_profile.ensures ∙ c.if-not-has_profile.false

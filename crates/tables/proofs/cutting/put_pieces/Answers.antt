@@ -61,9 +61,9 @@ pieces-preserved g c =
       survives = survives_both first now next c.pieces.invariant.survives c.insert.ensures.frame.survives;
     }
 
-pub insert-requires-clause-stands : goal.insert-requires-clause-stands
-insert-requires-clause-stands g c clean is_open =
-    pieces_stand (state g.S.Store c.args.tx.now.conn.now) (state g.S.Store c.pieces.tx.conn.now) _ (λ now. (c.pieces.invariant.goes now).changes) c.pieces.invariant.survives (λ early up. c.requires.stands early) clean
+pub insert-requires-clause-exists : goal.insert-requires-clause-exists
+insert-requires-clause-exists g c clean is_open =
+    pieces_stand (state g.S.Store c.args.tx.now.conn.now) (state g.S.Store c.pieces.tx.conn.now) _ (λ now. (c.pieces.invariant.goes now).changes) c.pieces.invariant.survives (λ early up. c.requires.exists early) clean
 
 pub returns-then-place-count-clause-done : goal.returns-then-place-count-clause-done
 returns-then-place-count-clause-done g c clean =

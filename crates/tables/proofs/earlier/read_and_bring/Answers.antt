@@ -13,8 +13,8 @@ returns-in-Ok-clause-brought g c clean =
     let a = state g.S.Store c.args.conn.now in
     let b = state g.S.Store c.read_as.new.conn in
     let d = state g.S.Store c.bring.new.conn in
-    both_migrate c.args.schema c.args.dir.now a b d c.in_ok-taken.ensures.unchanged
-    (λ early. subst (λ (x : List ℕ). IsSoundBy c.args.schema x (contents_of a.now)) c.in_ok-taken.ensures.dir (c.in_ok-taken.ensures.told early).0)
+    both_migrate c.args.schema c.args.dir.now a b d c.in_ok-loaded.ensures.unchanged
+    (λ early. subst (λ (x : List ℕ). IsSoundBy c.args.schema x (contents_of a.now)) c.in_ok-loaded.ensures.dir (c.in_ok-loaded.ensures.reported early).0)
     (clean_before b d _ c.bring.ensures.survives clean) (c.in-Ok.ensures.done clean)
 
 pub returns-in-Ok-clause-survives : goal.returns-in-Ok-clause-survives
@@ -22,8 +22,8 @@ returns-in-Ok-clause-survives g c =
     let a = state g.S.Store c.args.conn.now in
     let b = state g.S.Store c.read_as.new.conn in
     let d = state g.S.Store c.bring.new.conn in
-    both_leave c.args.schema c.args.dir.now a b d c.in_ok-taken.ensures.unchanged
-    (λ early. subst (λ (x : List ℕ). IsSoundBy c.args.schema x (contents_of a.now)) c.in_ok-taken.ensures.dir (c.in_ok-taken.ensures.told early).0)
+    both_leave c.args.schema c.args.dir.now a b d c.in_ok-loaded.ensures.unchanged
+    (λ early. subst (λ (x : List ℕ). IsSoundBy c.args.schema x (contents_of a.now)) c.in_ok-loaded.ensures.dir (c.in_ok-loaded.ensures.reported early).0)
     c.requires.found c.read_as.ensures.survives c.bring.ensures.survives
 
 pub returns-in-Err-clause-survives : goal.returns-in-Err-clause-survives
@@ -31,8 +31,8 @@ returns-in-Err-clause-survives g c =
     let a = state g.S.Store c.args.conn.now in
     let b = state g.S.Store c.read_as.new.conn in
     let d = state g.S.Store c.bring.new.conn in
-    both_leave c.args.schema c.args.dir.now a b d c.in_ok-taken.ensures.unchanged
-    (λ early. subst (λ (x : List ℕ). IsSoundBy c.args.schema x (contents_of a.now)) c.in_ok-taken.ensures.dir (c.in_ok-taken.ensures.told early).0)
+    both_leave c.args.schema c.args.dir.now a b d c.in_ok-loaded.ensures.unchanged
+    (λ early. subst (λ (x : List ℕ). IsSoundBy c.args.schema x (contents_of a.now)) c.in_ok-loaded.ensures.dir (c.in_ok-loaded.ensures.reported early).0)
     c.requires.found c.read_as.ensures.survives c.bring.ensures.survives
 
 pub returns-in-Err-clause-cause : goal.returns-in-Err-clause-cause
@@ -43,4 +43,4 @@ returns-in-Err-clause-cause g c clean =
     let read = clean_before b d _ c.bring.ensures.survives clean in
     let early = clean_before a b _ c.read_as.ensures.survives read in
     migration_cause c.args.dir.now a d c.in-Err.failure c.args.schema (c.requires.found early) c.in-Err.ensures.needed
-    (migrating_before c.args.schema a b d (c.in_ok-taken.ensures.unchanged read) c.read_as.ensures.survives c.in-Err.failure (c.in-Err.ensures.cause clean))
+    (migrating_before c.args.schema a b d (c.in_ok-loaded.ensures.unchanged read) c.read_as.ensures.survives c.in-Err.failure (c.in-Err.ensures.cause clean))

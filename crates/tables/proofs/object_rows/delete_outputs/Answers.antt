@@ -10,7 +10,7 @@ pub returns-then-is_empty-clause-done : goal.returns-then-is_empty-clause-done
 returns-then-is_empty-clause-done g c clean =
     let s = state g.S.Store c.args.tx.now.conn.now in
     changes_nothing s _ (c.requires.under_way clean) (c.requires.is_open clean)
-    (no_outputs (contents_of s.now) c.args.base.now (λ name there. keyless c.args.object.now.outputs (λ e. e.1) c.outputs.result.now c.outputs.ensures c.if-is_empty.ensures name (c.requires.told clean name there)))
+    (no_outputs (contents_of s.now) c.args.base.now (λ name present. keyless c.args.object.now.outputs (λ e. e.1) c.outputs.result.now c.outputs.ensures c.if-is_empty.ensures name (c.requires.reported clean name present)))
 
 pub returns-clause-cause : goal.returns-clause-cause
 returns-clause-cause g c clean = as_reason _ _ (removal_reason _ (state g.S.Store c.args.tx.now.conn.now) (state g.S.Store c.delete_of.new.tx.conn.now)) c.delete_of.result (c.delete_of.ensures.cause clean)

@@ -13,7 +13,7 @@ pub returns-then-size-le-PIECE_SIZE-clause-done : goal.returns-then-size-le-PIEC
 returns-then-size-le-PIECE_SIZE-clause-done g c clean =
     let s = state g.S.Store c.args.tx.now.conn.now in
     changes_nothing s _ (c.requires.under_way clean) (c.requires.is_open clean)
-    (no_pieces (contents_of s.now) c.args.base.now (λ n there. let longer : piece_size < c.args.object.now.size = c.requires.told clean n there in omega (arith, longer, size_is, c.size.ensures, c.if-size-le-PIECE_SIZE.true)))
+    (no_pieces (contents_of s.now) c.args.base.now (λ n present. let longer : piece_size < c.args.object.now.size = c.requires.reported clean n present in omega (arith, longer, size_is, c.size.ensures, c.if-size-le-PIECE_SIZE.true)))
 
 pub returns-clause-cause : goal.returns-clause-cause
 returns-clause-cause g c clean = as_reason _ _ (removal_reason _ (state g.S.Store c.args.tx.now.conn.now) (state g.S.Store c.delete_of.new.tx.conn.now)) c.delete_of.result (c.delete_of.ensures.cause clean)

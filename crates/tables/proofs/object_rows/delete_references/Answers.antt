@@ -10,7 +10,7 @@ pub returns-then-is_empty-clause-done : goal.returns-then-is_empty-clause-done
 returns-then-is_empty-clause-done g c clean =
     let s = state g.S.Store c.args.tx.now.conn.now in
     changes_nothing s _ (c.requires.under_way clean) (c.requires.is_open clean)
-    (no_references (contents_of s.now) c.args.base.now (λ r there. keyless c.args.object.now.references (λ e. e.0) c.references.result.now c.references.ensures c.if-is_empty.ensures r (c.requires.told clean r there)))
+    (no_references (contents_of s.now) c.args.base.now (λ r present. keyless c.args.object.now.references (λ e. e.0) c.references.result.now c.references.ensures c.if-is_empty.ensures r (c.requires.reported clean r present)))
 
 pub returns-clause-cause : goal.returns-clause-cause
 returns-clause-cause g c clean = as_reason _ _ (removal_reason _ (state g.S.Store c.args.tx.now.conn.now) (state g.S.Store c.delete_of.new.tx.conn.now)) c.delete_of.result (c.delete_of.ensures.cause clean)

@@ -15,17 +15,17 @@ use Rattle.tables.proofs.ReadArchives.{none_read, all_read, row_read}
 use Rattle.tables_sql.proofs.TestFailures.{survives_both}
 use Rattle.tables.proofs.reading.read_archive.Goals as goal
 
-pub of-requires-clause-stands : goal.of-requires-clause-stands
-of-requires-clause-stands g c clean is_open =
+pub of-requires-clause-exists : goal.of-requires-clause-exists
+of-requires-clause-exists g c clean is_open =
     let shown = c.get.ensures.frame.same clean in
     let early : HasCleanDisk (state g.S.Store c.args.conn.now) = omega (arith, c.get.ensures.frame.survives.clean, clean) in
-    subst (λ (d : Database). HasFurther d piece) (sym (shown.now is_open)) (c.requires.stands early (shown.was_open is_open))
+    subst (λ (d : Database). HasFurther d piece) (sym (shown.now is_open)) (c.requires.exists early (shown.was_open is_open))
 
 pub returns-in_default-clause-reads : goal.returns-in_default-clause-reads
 returns-in_default-clause-reads g c clean =
-    let there = contents_of (state g.S.Store c.args.conn.now).now in
+    let present = contents_of (state g.S.Store c.args.conn.now).now in
     let read = c.in_ok-found.ensures.reads clean in
-    (read.0, none_read there c.args.base.now (subst (IsStored there.objects c.args.base.now) c.in_default.is read.1))
+    (read.0, none_read present c.args.base.now (subst (IsStored present.objects c.args.base.now) c.in_default.is read.1))
 
 pub returns-clause-reads : goal.returns-clause-reads
 returns-clause-reads g c clean =
@@ -47,13 +47,13 @@ pub returns-then-size-le-PIECE_SIZE-clause-reads : goal.returns-then-size-le-PIE
 returns-then-size-le-PIECE_SIZE-clause-reads g c clean =
     let base = c.args.base.now in
     let s0 = state g.S.Store c.args.conn.now in
-    let there = contents_of s0.now in
+    let present = contents_of s0.now in
     let early : HasCleanDisk s0 = omega (arith, c.get.ensures.frame.survives.clean, clean) in
     let first = c.in_ok-found.ensures.reads clean in
-    let stored = subst (IsStored there.objects base) c.in-Some.is first.1 in
+    let stored = subst (IsStored present.objects base) c.in-Some.is first.1 in
     let object = (stored_of c.in-Some.object).1 in (
       first.0,
-      row_read there base c.in-Some.object c.args.size c.new.result.items c.in_ok-nar.nar stored.1 (c.requires.cut early first.0.0.was_open object stored.1) (c.requires.size early first.0.0.was_open object stored.1) (omega arith)
+      row_read present base c.in-Some.object c.args.size c.new.result.items c.in_ok-nar.nar stored.1 (c.requires.cut early first.0.0.was_open object stored.1) (c.requires.size early first.0.0.was_open object stored.1) (omega arith)
           c.new.ensures.items c.in_ok-nar.ensures,
     )
 

@@ -26,8 +26,8 @@ delete_references-requires-clause-is_open g c clean =
     let b = state g.S.Store c.delete.new.tx.conn.now in
     (c.in_ok-delete.ensures.done clean).is_open
 
-pub delete_references-requires-clause-told : goal.delete_references-requires-clause-told
-delete_references-requires-clause-told g c clean =
+pub delete_references-requires-clause-reported : goal.delete_references-requires-clause-reported
+delete_references-requires-clause-reported g c clean =
     let a = state g.S.Store c.args.tx.now.conn.now in
     let b = state g.S.Store c.delete.new.tx.conn.now in
     let it = c.in_ok-delete.ensures.done clean in
@@ -75,8 +75,8 @@ delete_outputs-requires-clause-is_open g c clean =
     let d = state g.S.Store c.delete_references.new.tx.conn.now in
     ((steps_both a b d _ _ c.in_ok-delete.ensures.done c.delete_references.ensures.survives c.in_ok-delete_references.ensures.done) clean).is_open
 
-pub delete_outputs-requires-clause-told : goal.delete_outputs-requires-clause-told
-delete_outputs-requires-clause-told g c clean =
+pub delete_outputs-requires-clause-reported : goal.delete_outputs-requires-clause-reported
+delete_outputs-requires-clause-reported g c clean =
     let a = state g.S.Store c.args.tx.now.conn.now in
     let b = state g.S.Store c.delete.new.tx.conn.now in
     let d = state g.S.Store c.delete_references.new.tx.conn.now in
@@ -119,16 +119,16 @@ delete_pieces-requires-clause-is_open g c clean =
     let e = state g.S.Store c.delete_outputs.new.tx.conn.now in
     ((steps_both a d e _ _ (steps_both a b d _ _ c.in_ok-delete.ensures.done c.delete_references.ensures.survives c.in_ok-delete_references.ensures.done) c.delete_outputs.ensures.survives c.in_ok-delete_outputs.ensures.done) clean).is_open
 
-pub delete_pieces-requires-clause-stands : goal.delete_pieces-requires-clause-stands
-delete_pieces-requires-clause-stands g c clean =
+pub delete_pieces-requires-clause-exists : goal.delete_pieces-requires-clause-exists
+delete_pieces-requires-clause-exists g c clean =
     let a = state g.S.Store c.args.tx.now.conn.now in
     let b = state g.S.Store c.delete.new.tx.conn.now in
     let d = state g.S.Store c.delete_references.new.tx.conn.now in
     let e = state g.S.Store c.delete_outputs.new.tx.conn.now in
-    pieces_stand a e _ (steps_both a d e _ _ (steps_both a b d _ _ c.in_ok-delete.ensures.done c.delete_references.ensures.survives c.in_ok-delete_references.ensures.done) c.delete_outputs.ensures.survives c.in_ok-delete_outputs.ensures.done) (survives_both a d e (survives_both a b d c.delete.ensures.frame.survives c.delete_references.ensures.survives) c.delete_outputs.ensures.survives) c.requires.stands clean
+    pieces_stand a e _ (steps_both a d e _ _ (steps_both a b d _ _ c.in_ok-delete.ensures.done c.delete_references.ensures.survives c.in_ok-delete_references.ensures.done) c.delete_outputs.ensures.survives c.in_ok-delete_outputs.ensures.done) (survives_both a d e (survives_both a b d c.delete.ensures.frame.survives c.delete_references.ensures.survives) c.delete_outputs.ensures.survives) c.requires.exists clean
 
-pub delete_pieces-requires-clause-told : goal.delete_pieces-requires-clause-told
-delete_pieces-requires-clause-told g c clean =
+pub delete_pieces-requires-clause-reported : goal.delete_pieces-requires-clause-reported
+delete_pieces-requires-clause-reported g c clean =
     let a = state g.S.Store c.args.tx.now.conn.now in
     let b = state g.S.Store c.delete.new.tx.conn.now in
     let d = state g.S.Store c.delete_references.new.tx.conn.now in

@@ -43,11 +43,11 @@ paths-preserved g c =
       survives = survives_both first now next c.paths.invariant.survives c.delete_object.ensures.survives;
     }
 
-pub delete_object-requires-clause-stands : goal.delete_object-requires-clause-stands
-delete_object-requires-clause-stands g c clean is_open =
+pub delete_object-requires-clause-exists : goal.delete_object-requires-clause-exists
+delete_object-requires-clause-exists g c clean is_open =
     let first = state g.S.Store c.args.tx.now.conn.now in
     let now = state g.S.Store c.paths.tx.conn.now in
-    pieces_stand first now _ (λ clean. (c.paths.invariant.goes clean).changes) c.paths.invariant.survives (λ clean is_open. c.requires.stands clean) clean
+    pieces_stand first now _ (λ clean. (c.paths.invariant.goes clean).changes) c.paths.invariant.survives (λ clean is_open. c.requires.exists clean) clean
 
 pub returns-clause-done : goal.returns-clause-done
 returns-clause-done g c = λ clean.

@@ -21,21 +21,21 @@ pub load_objects-requires-clause-empty : goal.load_objects-requires-clause-empty
 load_objects-requires-clause-empty g c = ap (λ (o : OutlineValue). o.objects) c.new-outline.ensures ∙ none_yet
 
 pub load_roots-requires-clause-permanent : goal.load_roots-requires-clause-permanent
-load_roots-requires-clause-permanent g c clean = ap (λ (o : OutlineValue). o.permanent) (c.in_ok-load_objects.ensures.taken clean c.if-not-branch.false) ∙ ap (λ (o : OutlineValue). o.permanent) c.new-outline.ensures
+load_roots-requires-clause-permanent g c clean = ap (λ (o : OutlineValue). o.permanent) (c.in_ok-load_objects.ensures.loaded clean c.if-not-branch.false) ∙ ap (λ (o : OutlineValue). o.permanent) c.new-outline.ensures
 
 pub load_roots-requires-clause-user_roots : goal.load_roots-requires-clause-user_roots
-load_roots-requires-clause-user_roots g c clean = ap (λ (o : OutlineValue). o.user_roots) (c.in_ok-load_objects.ensures.taken clean c.if-not-branch.false) ∙ ap (λ (o : OutlineValue). o.user_roots) c.new-outline.ensures
+load_roots-requires-clause-user_roots g c clean = ap (λ (o : OutlineValue). o.user_roots) (c.in_ok-load_objects.ensures.loaded clean c.if-not-branch.false) ∙ ap (λ (o : OutlineValue). o.user_roots) c.new-outline.ensures
 
 pub load_roots-requires-clause-profiles : goal.load_roots-requires-clause-profiles
-load_roots-requires-clause-profiles g c clean = ap (λ (o : OutlineValue). o.profiles) (c.in_ok-load_objects.ensures.taken clean c.if-not-branch.false) ∙ ap (λ (o : OutlineValue). o.profiles) c.new-outline.ensures
+load_roots-requires-clause-profiles g c clean = ap (λ (o : OutlineValue). o.profiles) (c.in_ok-load_objects.ensures.loaded clean c.if-not-branch.false) ∙ ap (λ (o : OutlineValue). o.profiles) c.new-outline.ensures
 
 pub load_roots-requires-clause-runtime : goal.load_roots-requires-clause-runtime
-load_roots-requires-clause-runtime g c clean = ap (λ (o : OutlineValue). o.runtime) (c.in_ok-load_objects.ensures.taken clean c.if-not-branch.false) ∙ ap (λ (o : OutlineValue). o.runtime) c.new-outline.ensures
+load_roots-requires-clause-runtime g c clean = ap (λ (o : OutlineValue). o.runtime) (c.in_ok-load_objects.ensures.loaded clean c.if-not-branch.false) ∙ ap (λ (o : OutlineValue). o.runtime) c.new-outline.ensures
 
 -- ---- the further tables, as the schema has them
 
-pub load_objects-requires-clause-stands : goal.load_objects-requires-clause-stands
-load_objects-requires-clause-stands g c clean has is_open =
+pub load_objects-requires-clause-exists : goal.load_objects-requires-clause-exists
+load_objects-requires-clause-exists g c clean has is_open =
     let same = (c.in_ok-dir.ensures.unchanged clean).0 in
     subst (λ (x : Database). HasFurther x piece) (sym same.now_is) ((c.requires.further (omega (arith, c.read.ensures.frame.survives.clean)) same.was_open).pieces has)
 
@@ -44,8 +44,8 @@ load_objects-requires-clause-no_table g c clean none is_open =
     let same = (c.in_ok-dir.ensures.unchanged clean).0 in
     ap (λ (x : Database). (contents_of x).pieces) same.now_is ∙ (c.requires.further (omega (arith, c.read.ensures.frame.survives.clean)) same.was_open).no_pieces none
 
-pub load_roots-requires-clause-stands : goal.load_roots-requires-clause-stands
-load_roots-requires-clause-stands g c clean has is_open =
+pub load_roots-requires-clause-exists : goal.load_roots-requires-clause-exists
+load_roots-requires-clause-exists g c clean has is_open =
     let early : HasCleanDisk (state g.S.Store c.read.new.conn) = omega (arith, c.load_objects.ensures.survives.clean) in
     let same = (c.in_ok-dir.ensures.unchanged early).0 in
     let still = (c.in_ok-load_objects.ensures.unchanged clean).0 in
@@ -59,7 +59,7 @@ load_roots-requires-clause-no_table g c clean none is_open =
     ap (λ (x : Database). (contents_of x).temp_roots) (still.now_is ∙ same.now_is) ∙ (c.requires.further (omega (arith, c.read.ensures.frame.survives.clean)) same.was_open).no_temporary none
 
 pub load_roots-requires-clause-temporary : goal.load_roots-requires-clause-temporary
-load_roots-requires-clause-temporary g c clean = ap (λ (o : OutlineValue). o.temporary) (c.in_ok-load_objects.ensures.taken clean c.if-not-branch.false) ∙ ap (λ (o : OutlineValue). o.temporary) c.new-outline.ensures
+load_roots-requires-clause-temporary g c clean = ap (λ (o : OutlineValue). o.temporary) (c.in_ok-load_objects.ensures.loaded clean c.if-not-branch.false) ∙ ap (λ (o : OutlineValue). o.temporary) c.new-outline.ensures
 
 pub returns-in_err-load_objects-clause-same : goal.returns-in_err-load_objects-clause-same
 returns-in_err-load_objects-clause-same g c = both_keep (state g.S.Store c.args.conn.now) (state g.S.Store c.read.new.conn) (state g.S.Store c.load_objects.new.conn) c.read.ensures.frame.same c.load_objects.ensures.same c.load_objects.ensures.survives
@@ -91,19 +91,19 @@ returns-clause-same g c = both_keep (state g.S.Store c.args.conn.now) (state g.S
 pub returns-clause-survives : goal.returns-clause-survives
 returns-clause-survives g c = survives_both (state g.S.Store c.args.conn.now) (state g.S.Store c.load_objects.new.conn) (state g.S.Store c.load_roots.new.conn) (survives_both (state g.S.Store c.args.conn.now) (state g.S.Store c.read.new.conn) (state g.S.Store c.load_objects.new.conn) c.read.ensures.frame.survives c.load_objects.ensures.survives) c.load_roots.ensures.frame.survives
 
-pub returns-then-not-branch-clause-told : goal.returns-then-not-branch-clause-told
-returns-then-not-branch-clause-told g c clean =
+pub returns-then-not-branch-clause-reported : goal.returns-then-not-branch-clause-reported
+returns-then-not-branch-clause-reported g c clean =
     let a = state g.S.Store c.args.conn.now in
     let b = state g.S.Store c.read.new.conn in
     let d = state g.S.Store c.load_objects.new.conn in
     let early : HasCleanDisk b = omega (arith, c.load_objects.ensures.survives.clean) in
     let same : b.now ≡ a.now = (c.in_ok-dir.ensures.unchanged early).0.now_is in
-    let named = named_dir c.args.schema (contents_of a.now) c.in_ok-dir.field-0 c.in-Some.dir c.in-Some.is (c.in_ok-dir.ensures.told early) in
+    let named = named_dir c.args.schema (contents_of a.now) c.in_ok-dir.field-0 c.in-Some.dir c.in-Some.is (c.in_ok-dir.ensures.reported early) in
     without_objects c.args.schema (contents_of a.now) c.in-Some.dir named.1 c.in_ok-load_objects.field-0
-    (subst (λ (x : Database). IsTrue c.in_ok-load_objects.field-0 ↔ AreSoundInPieces c.args.schema c.in-Some.dir (rows_of (contents_of x))) same (c.in_ok-load_objects.ensures.told clean)) c.if-not-branch.true
+    (subst (λ (x : Database). IsTrue c.in_ok-load_objects.field-0 ↔ AreSoundInPieces c.args.schema c.in-Some.dir (rows_of (contents_of x))) same (c.in_ok-load_objects.ensures.reported clean)) c.if-not-branch.true
 
-pub returns-then-not-branch-2-clause-told : goal.returns-then-not-branch-2-clause-told
-returns-then-not-branch-2-clause-told g c clean =
+pub returns-then-not-branch-2-clause-reported : goal.returns-then-not-branch-2-clause-reported
+returns-then-not-branch-2-clause-reported g c clean =
     let a = state g.S.Store c.args.conn.now in
     let b = state g.S.Store c.read.new.conn in
     let d = state g.S.Store c.load_objects.new.conn in
@@ -111,18 +111,18 @@ returns-then-not-branch-2-clause-told g c clean =
     let early : HasCleanDisk b = omega (arith, c.load_objects.ensures.survives.clean) in
     let same : b.now ≡ a.now = (c.in_ok-dir.ensures.unchanged early).0.now_is in
     let still : d.now ≡ a.now = (c.in_ok-load_objects.ensures.unchanged later).0.now_is ∙ same in
-    let named = named_dir c.args.schema (contents_of a.now) c.in_ok-dir.field-0 c.in-Some.dir c.in-Some.is (c.in_ok-dir.ensures.told early) in
+    let named = named_dir c.args.schema (contents_of a.now) c.in_ok-dir.field-0 c.in-Some.dir c.in-Some.is (c.in_ok-dir.ensures.reported early) in
     let objects : AreSoundInPieces c.args.schema c.in-Some.dir (rows_of (contents_of a.now)) =
-    (subst (λ (x : Database). IsTrue c.in_ok-load_objects.field-0 ↔ AreSoundInPieces c.args.schema c.in-Some.dir (rows_of (contents_of x))) same (c.in_ok-load_objects.ensures.told later)).0 c.if-not-branch.false in
-    let outline : c.load_objects.new.outline ≡ record c.new-outline.result { objects = (outline_of (world_in (contents_of b.now))).objects } = c.in_ok-load_objects.ensures.taken later c.if-not-branch.false in
+    (subst (λ (x : Database). IsTrue c.in_ok-load_objects.field-0 ↔ AreSoundInPieces c.args.schema c.in-Some.dir (rows_of (contents_of x))) same (c.in_ok-load_objects.ensures.reported later)).0 c.if-not-branch.false in
+    let outline : c.load_objects.new.outline ≡ record c.new-outline.result { objects = (outline_of (world_in (contents_of b.now))).objects } = c.in_ok-load_objects.ensures.loaded later c.if-not-branch.false in
     let are : AreObjects c.load_objects.new.outline.objects (contents_of a.now) = are_objects c.args.schema c.in-Some.dir (contents_of a.now) c.load_objects.new.outline.objects
     (ap (λ (o : OutlineValue). o.objects) outline ∙ ap (λ (x : Database). (outline_of (world_in (contents_of x))).objects) same) objects in
     let roots : IsTrue c.in_ok-load_roots.field-0 ↔ AreAllSound (rows_of (contents_of a.now)) =
-    subst (λ (x : Database). AreObjects c.load_objects.new.outline.objects (contents_of x) → (IsTrue c.in_ok-load_roots.field-0 ↔ AreAllSound (rows_of (contents_of x)))) still (c.in_ok-load_roots.ensures.told clean) are in
+    subst (λ (x : Database). AreObjects c.load_objects.new.outline.objects (contents_of x) → (IsTrue c.in_ok-load_roots.field-0 ↔ AreAllSound (rows_of (contents_of x)))) still (c.in_ok-load_roots.ensures.reported clean) are in
     without_roots c.args.schema (contents_of a.now) c.in-Some.dir named.1 c.in_ok-load_roots.field-0 roots c.if-not-branch-2.true
 
-pub returns-clause-told : goal.returns-clause-told
-returns-clause-told g c clean =
+pub returns-clause-reported : goal.returns-clause-reported
+returns-clause-reported g c clean =
     let a = state g.S.Store c.args.conn.now in
     let b = state g.S.Store c.read.new.conn in
     let d = state g.S.Store c.load_objects.new.conn in
@@ -131,15 +131,15 @@ returns-clause-told g c clean =
     let further = c.requires.further (omega (arith, c.read.ensures.frame.survives.clean)) (c.in_ok-dir.ensures.unchanged early).0.was_open in
     let same : b.now ≡ a.now = (c.in_ok-dir.ensures.unchanged early).0.now_is in
     let still : d.now ≡ a.now = (c.in_ok-load_objects.ensures.unchanged later).0.now_is ∙ same in
-    let named = named_dir c.args.schema (contents_of a.now) c.in_ok-dir.field-0 c.in-Some.dir c.in-Some.is (c.in_ok-dir.ensures.told early) in
+    let named = named_dir c.args.schema (contents_of a.now) c.in_ok-dir.field-0 c.in-Some.dir c.in-Some.is (c.in_ok-dir.ensures.reported early) in
     let objects : AreSoundInPieces c.args.schema c.in-Some.dir (rows_of (contents_of a.now)) =
-    (subst (λ (x : Database). IsTrue c.in_ok-load_objects.field-0 ↔ AreSoundInPieces c.args.schema c.in-Some.dir (rows_of (contents_of x))) same (c.in_ok-load_objects.ensures.told later)).0 c.if-not-branch.false in
-    let outline : c.load_objects.new.outline ≡ record c.new-outline.result { objects = (outline_of (world_in (contents_of b.now))).objects } = c.in_ok-load_objects.ensures.taken later c.if-not-branch.false in
+    (subst (λ (x : Database). IsTrue c.in_ok-load_objects.field-0 ↔ AreSoundInPieces c.args.schema c.in-Some.dir (rows_of (contents_of x))) same (c.in_ok-load_objects.ensures.reported later)).0 c.if-not-branch.false in
+    let outline : c.load_objects.new.outline ≡ record c.new-outline.result { objects = (outline_of (world_in (contents_of b.now))).objects } = c.in_ok-load_objects.ensures.loaded later c.if-not-branch.false in
     let are : AreObjects c.load_objects.new.outline.objects (contents_of a.now) = are_objects c.args.schema c.in-Some.dir (contents_of a.now) c.load_objects.new.outline.objects
     (ap (λ (o : OutlineValue). o.objects) outline ∙ ap (λ (x : Database). (outline_of (world_in (contents_of x))).objects) same) objects in
     let roots : IsTrue c.in_ok-load_roots.field-0 ↔ AreAllSound (rows_of (contents_of a.now)) =
-    subst (λ (x : Database). AreObjects c.load_objects.new.outline.objects (contents_of x) → (IsTrue c.in_ok-load_roots.field-0 ↔ AreAllSound (rows_of (contents_of x)))) still (c.in_ok-load_roots.ensures.told clean) are in
-    let filled = c.in_ok-load_roots.ensures.taken clean c.if-not-branch-2.false in (
+    subst (λ (x : Database). AreObjects c.load_objects.new.outline.objects (contents_of x) → (IsTrue c.in_ok-load_roots.field-0 ↔ AreAllSound (rows_of (contents_of x)))) still (c.in_ok-load_roots.ensures.reported clean) are in
+    let filled = c.in_ok-load_roots.ensures.loaded clean c.if-not-branch-2.false in (
       sound_from c.args.schema c.in-Some.dir (contents_of a.now) named.0 named.1 further.no_pieces further.no_temporary objects (roots.0 c.if-not-branch-2.false),
       sym (filled ∙ ap (λ (x : Database). with_roots c.load_objects.new.outline (contents_of x)) still
           ∙ whole_outline (contents_of a.now) c.load_objects.new.outline (outline ∙ (λ i. record (c.new-outline.ensures i) { objects = (outline_of (world_in (contents_of (same i)))).objects }))),

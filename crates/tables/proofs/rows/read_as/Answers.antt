@@ -10,7 +10,7 @@ pub returns-in-Ok-None-clause-cause : goal.returns-in-Ok-None-clause-cause
 returns-in-Ok-None-clause-cause g c clean =
     let a = state g.S.Store c.args.conn.now in
     let b = state g.S.Store c.read.new.conn in
-    no_store_cause c.args.dir.now a.now (unsound c.args.schema a.now (c.requires.found (clean_before a b _ c.read.ensures.survives clean)) (none_told _ _ c.in-Ok-None.field-0 c.in-Ok-None.field-0-is (c.in-Ok-None.ensures.told clean)))
+    no_store_cause c.args.dir.now a.now (unsound c.args.schema a.now (c.requires.found (clean_before a b _ c.read.ensures.survives clean)) (none_told _ _ c.in-Ok-None.field-0 c.in-Ok-None.field-0-is (c.in-Ok-None.ensures.reported clean)))
 
 pub returns-in-Err-clause-cause : goal.returns-in-Err-clause-cause
 returns-in-Err-clause-cause g c clean = read_cause c.args.dir.now (state g.S.Store c.args.conn.now) (state g.S.Store c.read.new.conn) c.in-Err.failure (c.in-Err.ensures.cause clean)

@@ -3,7 +3,7 @@ use Rattle.std.specs.FinMap as finite
 use Rattle.paths.specs.Root.{root_cmp, in_order}
 use Rattle.live.proofs.Order.{root_total, root_antisymmetric}
 use Rattle.tables_outline.proofs.SetTrees.{set_keys}
-use Rattle.tables_listing.specs.View.{root_view}
+use Rattle.paths.specs.RootView.{root_view}
 use Rattle.tables_listing.proofs.Loops.{ended}
 use Rattle.tables_listing.proofs.RootOrder.{sorted_by}
 use Rattle.tables_listing.proofs.listing.root_list.Goals as goal

@@ -1,5 +1,5 @@
 use Rattle.std.proofs.Common.{◌≡◌, map, ◌++◌}
-use Rattle.tables_listing.specs.View.{root_view}
+use Rattle.paths.specs.RootView.{root_view}
 use Rattle.tables_listing.proofs.listing.root_list.Given as goal
 
 -- what is listed, and what is left

@@ -3,7 +3,8 @@ use Rattle.paths.specs.Root.{root_cmp}
 use Rattle.paths.specs.Root as roots
 use Rattle.live.proofs.Order.{root_total}
 use Rattle.tables_listing.specs.Gaining.{Gains}
-use Rattle.tables_listing.specs.View.{root_view, root_set, kind_view}
+use Rattle.paths.specs.RootView.{root_view, kind_view}
+use Rattle.tables_listing.specs.View.{root_set}
 use Rattle.tables_listing.proofs.Sets.{gains_key}
 use Rattle.tables_listing.proofs.root.add.Goals as goal
 

@@ -26,18 +26,18 @@ cut_found-requires-clause-under_way g c clean =
 pub cut_found-requires-clause-is_open : goal.cut_found-requires-clause-is_open
 cut_found-requires-clause-is_open g c clean = (c.in_ok-found.ensures.reads clean).0.0.is_open
 
-pub cut_found-requires-clause-stands : goal.cut_found-requires-clause-stands
-cut_found-requires-clause-stands g c clean =
+pub cut_found-requires-clause-exists : goal.cut_found-requires-clause-exists
+cut_found-requires-clause-exists g c clean =
     let a = state g.S.Store c.args.tx.now.conn.now in
     let b = state g.S.Store c.get_within.new.tx.conn.now in
     let same = (c.in_ok-found.ensures.reads clean).0.0 in
-    subst (λ (x : Database). HasFurther x piece) (sym same.now_is) (c.requires.stands (clean_before a b _ c.get_within.ensures.frame.survives clean) same.was_open)
+    subst (λ (x : Database). HasFurther x piece) (sym same.now_is) (c.requires.exists (clean_before a b _ c.get_within.ensures.frame.survives clean) same.was_open)
 
-pub cut_found-requires-clause-there : goal.cut_found-requires-clause-there
-cut_found-requires-clause-there g c clean =
+pub cut_found-requires-clause-present : goal.cut_found-requires-clause-present
+cut_found-requires-clause-present g c clean =
     let reads = c.in_ok-found.ensures.reads clean in
-    let there = found_is (contents_of (state g.S.Store c.args.tx.now.conn.now).now).objects c.args.base.now c.in_ok-found.found c.in-Some.object c.in-Some.is reads.1 in
-    ap (λ (x : Database). finite.get (contents_of x).objects (stored_of c.in-Some.object).0) reads.0.0.now_is ∙ ap (finite.get (contents_of (state g.S.Store c.args.tx.now.conn.now).now).objects) there.0 ∙ there.1
+    let present = found_is (contents_of (state g.S.Store c.args.tx.now.conn.now).now).objects c.args.base.now c.in_ok-found.found c.in-Some.object c.in-Some.is reads.1 in
+    ap (λ (x : Database). finite.get (contents_of x).objects (stored_of c.in-Some.object).0) reads.0.0.now_is ∙ ap (finite.get (contents_of (state g.S.Store c.args.tx.now.conn.now).now).objects) present.0 ∙ present.1
 
 pub returns-in-Some-clause-done : goal.returns-in-Some-clause-done
 returns-in-Some-clause-done g c clean =
@@ -45,10 +45,10 @@ returns-in-Some-clause-done g c clean =
     let b = state g.S.Store c.get_within.new.tx.conn.now in
     let d = state g.S.Store c.cut_found.new.tx.conn.now in
     let early : HasCleanDisk b = clean_before b d _ c.cut_found.ensures.survives clean in
-    let there = found_is (contents_of a.now).objects c.args.base.now c.in_ok-found.found c.in-Some.object c.in-Some.is (c.in_ok-found.ensures.reads early).1 in
+    let present = found_is (contents_of a.now).objects c.args.base.now c.in_ok-found.found c.in-Some.object c.in-Some.is (c.in_ok-found.ensures.reads early).1 in
     done_both a b d (λ x. x) (cut_object (stored_of c.in-Some.object).0)
     (λ now. changes_nothing a b (c.requires.under_way (clean_before a b _ c.get_within.ensures.frame.survives now)) (c.in_ok-found.ensures.reads now).0) c.cut_found.ensures.survives
-    c.cut_found.result (cut_object c.args.base.now) (λ (x : Contents). ap (λ p. cut_object p x) there.0) c.cut_found.ensures.done clean
+    c.cut_found.result (cut_object c.args.base.now) (λ (x : Contents). ap (λ p. cut_object p x) present.0) c.cut_found.ensures.done clean
 
 pub returns-in-Some-clause-failed : goal.returns-in-Some-clause-failed
 returns-in-Some-clause-failed g c =
@@ -77,10 +77,10 @@ cut_found-requires-clause-free g c clean long n =
     let a = state g.S.Store c.args.tx.now.conn.now in
     let b = state g.S.Store c.get_within.new.tx.conn.now in
     let reads = c.in_ok-found.ensures.reads clean in
-    let there = found_is (contents_of a.now).objects c.args.base.now c.in_ok-found.found c.in-Some.object c.in-Some.is reads.1 in
+    let present = found_is (contents_of a.now).objects c.args.base.now c.in_ok-found.found c.in-Some.object c.in-Some.is reads.1 in
     let uncut = c.requires.uncut (clean_before a b _ c.get_within.ensures.frame.survives clean) reads.0.0.was_open in
     ap (λ (x : Database). finite.get (contents_of x).pieces ((stored_of c.in-Some.object).0, n)) reads.0.0.now_is
-    ∙ uncut (stored_of c.in-Some.object).0 (stored_of c.in-Some.object).1 (ap (finite.get (contents_of a.now).objects) there.0 ∙ there.1) long n
+    ∙ uncut (stored_of c.in-Some.object).0 (stored_of c.in-Some.object).1 (ap (finite.get (contents_of a.now).objects) present.0 ∙ present.1) long n
 
 pub returns-in_err-found-clause-cause : goal.returns-in_err-found-clause-cause
 returns-in_err-found-clause-cause g c clean =
@@ -94,7 +94,7 @@ returns-in-Some-clause-cause g c clean =
     let it = stored_of c.in-Some.object in
     let early : HasCleanDisk b = clean_before b d _ c.cut_found.ensures.survives clean in
     let reads = c.in_ok-found.ensures.reads early in
-    let there = found_is (contents_of a.now).objects c.args.base.now c.in_ok-found.found c.in-Some.object c.in-Some.is reads.1 in
+    let present = found_is (contents_of a.now).objects c.args.base.now c.in_ok-found.found c.in-Some.object c.in-Some.is reads.1 in
     let nothing = changes_nothing a b (c.requires.under_way (clean_before a b _ c.get_within.ensures.frame.survives early)) reads.0 in
     as_reason _ _ (λ f h. next_reason _ a b d _ nothing c.get_within.ensures.frame.survives f
-    (more_reason (LongRows it.0 it.1) (AllCutRows (contents_of a.now)) (λ t values put. (it.0, it.1, ap (finite.get (contents_of a.now).objects) there.0 ∙ there.1, put)) b d f h)) c.cut_found.result (c.cut_found.ensures.cause clean)
+    (more_reason (LongRows it.0 it.1) (AllCutRows (contents_of a.now)) (λ t values put. (it.0, it.1, ap (finite.get (contents_of a.now).objects) present.0 ∙ present.1, put)) b d f h)) c.cut_found.result (c.cut_found.ensures.cause clean)

@@ -20,7 +20,7 @@ bases-init g c =
     record {
       same_reference = refl;
       goes = λ clean. goes_first cut_objects (map string_bytes c.args.bases.now) first (c.requires.under_way clean) (c.requires.is_open clean);
-      stands = c.requires.stands;
+      exists = c.requires.exists;
       uncut = c.requires.uncut;
       among = λ clean t values h. h;
       survives = survives_none first;
@@ -42,7 +42,7 @@ bases-preserved g c =
     record {
       same_reference = c.in_ok-cut.ensures.same_reference ∙ c.bases.invariant.same_reference;
       goes = λ clean. goes_next cut_objects (map string_bytes all) first now next left rest _ (c.bases.invariant.goes (clean_before now next _ c.cut.ensures.survives clean)) (c.in_ok-cut.ensures.done clean) same;
-      stands = λ clean. piece_after now next _ (c.in_ok-cut.ensures.done clean) (c.bases.invariant.stands (clean_before now next _ c.cut.ensures.survives clean));
+      exists = λ clean. piece_after now next _ (c.in_ok-cut.ensures.done clean) (c.bases.invariant.exists (clean_before now next _ c.cut.ensures.survives clean));
       uncut = λ clean. subst IsUncut (sym (c.in_ok-cut.ensures.done clean).contents) (uncut_next c.as_str.result.now was (c.bases.invariant.uncut (clean_before now next _ c.cut.ensures.survives clean)));
       among = λ clean t values h. c.bases.invariant.among (clean_before now next _ c.cut.ensures.survives clean) t values
           (rows_before c.as_str.result.now was t values (subst (λ (x : Contents). AllCutRows x t values) (c.in_ok-cut.ensures.done clean).contents h));

@@ -16,7 +16,7 @@ abbrev pub invariant-bases : goal.invariant-bases
 invariant-bases g l = record {
   same_reference : l.tx.conn.ghost_name ≡ l.fn.tx.conn.ghost_name;
   goes : HasCleanDisk (state g.S.Store l.tx.conn.now) → Goes cut_objects (map string_bytes l.bases) (state g.S.Store l.fn.tx.conn.now) (state g.S.Store l.tx.conn.now) (map string_bytes (drop l.base-index l.bases));
-  stands : HasCleanDisk (state g.S.Store l.tx.conn.now) → HasFurther (state g.S.Store l.tx.conn.now).now piece;
+  exists : HasCleanDisk (state g.S.Store l.tx.conn.now) → HasFurther (state g.S.Store l.tx.conn.now).now piece;
   uncut : HasCleanDisk (state g.S.Store l.tx.conn.now) → IsUncut (contents_of (state g.S.Store l.tx.conn.now).now);
   among : HasCleanDisk (state g.S.Store l.tx.conn.now) → (t : Table) (values : Row) → AllCutRows (contents_of (state g.S.Store l.tx.conn.now).now) t values → AllCutRows (contents_of (state g.S.Store l.fn.tx.conn.now).now) t values;
   survives : Survives (state g.S.Store l.fn.tx.conn.now) (state g.S.Store l.tx.conn.now) (λ _. ⊥);

@@ -50,13 +50,13 @@ put_pieces-requires-clause-under_way g c clean =
 pub put_pieces-requires-clause-is_open : goal.put_pieces-requires-clause-is_open
 put_pieces-requires-clause-is_open g c clean = (c.in_ok-insert.ensures.done clean).is_open
 
-pub put_pieces-requires-clause-stands : goal.put_pieces-requires-clause-stands
-put_pieces-requires-clause-stands g c clean =
+pub put_pieces-requires-clause-exists : goal.put_pieces-requires-clause-exists
+put_pieces-requires-clause-exists g c clean =
     let a = state g.S.Store c.args.tx.now.conn.now in
     let b = state g.S.Store c.delete.new.tx.conn.now in
     let d = state g.S.Store c.insert.new.tx.conn.now in
     let early : HasCleanDisk b = clean_before b d _ c.insert.ensures.frame.survives clean in
-    piece_after b d _ (c.in_ok-insert.ensures.done clean) (piece_after a b _ (c.in_ok-delete.ensures.done early) (c.requires.stands (clean_before a b _ c.delete.ensures.frame.survives early)))
+    piece_after b d _ (c.in_ok-insert.ensures.done clean) (piece_after a b _ (c.in_ok-delete.ensures.done early) (c.requires.exists (clean_before a b _ c.delete.ensures.frame.survives early)))
 
 pub returns-clause-same_reference : goal.returns-clause-same_reference
 returns-clause-same_reference g c = c.put_pieces.ensures.same_reference ∙ c.insert.ensures.frame.same_reference ∙ c.delete.ensures.frame.same_reference

@@ -28,7 +28,7 @@ pieces-init g c =
     record {
       same_reference = refl;
       goes = λ clean. goes_first (λ es (x : Contents). record x { pieces = put_pieces c.args.base.now es x.pieces }) (pieces_by c.args.bytes.now 1 c.args.bytes.now) first (c.requires.under_way clean) (c.requires.is_open clean);
-      stands = c.requires.stands;
+      exists = c.requires.exists;
       free = λ clean k more. c.requires.free clean (pos k);
       among = λ t values h. h;
       survives = survives_none first;
@@ -55,7 +55,7 @@ pieces-preserved g c =
       same_reference = c.in_ok-insert.ensures.frame.same_reference ∙ c.pieces.invariant.same_reference;
       goes = λ clean. goes_next change (pieces_by c.args.bytes.now 1 c.args.bytes.now) first now next (pieces_by bytes n bytes) (pieces_by after (n + 1) after) _
           (c.pieces.invariant.goes (clean_before now next _ c.insert.ensures.frame.survives clean)) (c.in_ok-insert.ensures.done clean) (ap (λ es. change es was) split);
-      stands = λ clean. piece_after now next _ (c.in_ok-insert.ensures.done clean) (c.pieces.invariant.stands (clean_before now next _ c.insert.ensures.frame.survives clean));
+      exists = λ clean. piece_after now next _ (c.in_ok-insert.ensures.done clean) (c.pieces.invariant.exists (clean_before now next _ c.insert.ensures.frame.survives clean));
       free = λ clean k more.
           let early = clean_before now next _ c.insert.ensures.frame.survives clean in
           ap (λ (x : Contents). finite.get x.pieces (base, pos k)) (c.in_ok-insert.ensures.done clean).contents

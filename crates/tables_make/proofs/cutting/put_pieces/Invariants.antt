@@ -20,7 +20,7 @@ abbrev pub invariant-pieces : goal.invariant-pieces
 invariant-pieces g l = record {
   same_reference : l.tx.conn.ghost_name ≡ l.fn.tx.conn.ghost_name;
   goes : HasCleanDisk (state g.S.Store l.tx.conn.now) → Goes (λ es (c : Contents). record c { pieces = put_pieces l.base es c.pieces }) (pieces_by l.bytes 1 l.bytes) (state g.S.Store l.fn.tx.conn.now) (state g.S.Store l.tx.conn.now) (pieces_by l.rest l.number l.rest);
-  stands : HasCleanDisk (state g.S.Store l.tx.conn.now) → HasFurther (state g.S.Store l.tx.conn.now).now piece;
+  exists : HasCleanDisk (state g.S.Store l.tx.conn.now) → HasFurther (state g.S.Store l.tx.conn.now).now piece;
   free : HasCleanDisk (state g.S.Store l.tx.conn.now) → (k : ℕ) → l.number ≤ k → finite.get (contents_of (state g.S.Store l.tx.conn.now).now).pieces (l.base, pos k) ≡ None;
   among : (t : Table) (values : Row) → RowsOf (PieceRow l.base) (pieces_by l.rest l.number l.rest) t values → RowsOf (PieceRow l.base) (pieces_by l.bytes 1 l.bytes) t values;
   survives : Survives (state g.S.Store l.fn.tx.conn.now) (state g.S.Store l.tx.conn.now) (λ _. ⊥);

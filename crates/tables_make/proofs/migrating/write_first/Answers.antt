@@ -16,8 +16,8 @@ rewrite-requires-clause-under_way g c clean = makes_under _ (state g.S.Store c.a
 pub rewrite-requires-clause-is_open : goal.rewrite-requires-clause-is_open
 rewrite-requires-clause-is_open g c clean = (c.in_ok-make_both.ensures.done clean).is_open
 
-pub rewrite-requires-clause-stands : goal.rewrite-requires-clause-stands
-rewrite-requires-clause-stands g c clean = (c.in_ok-make_both.ensures.done clean).stand.0
+pub rewrite-requires-clause-exists : goal.rewrite-requires-clause-exists
+rewrite-requires-clause-exists g c clean = (c.in_ok-make_both.ensures.done clean).stand.0
 
 pub returns-clause-done : goal.returns-clause-done
 returns-clause-done g c clean =

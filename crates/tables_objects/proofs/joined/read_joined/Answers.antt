@@ -13,14 +13,14 @@ use Rattle.tables_objects.proofs.joined.read_joined.Goals as goal
 pub keys_of-requires-clause-opened : goal.keys_of-requires-clause-opened
 keys_of-requires-clause-opened g c clean = (c.in_ok-outputs.ensures.reads clean).0.0.is_open
 
-pub keys_of-requires-clause-stands : goal.keys_of-requires-clause-stands
-keys_of-requires-clause-stands g c clean has is_open =
+pub keys_of-requires-clause-exists : goal.keys_of-requires-clause-exists
+keys_of-requires-clause-exists g c clean has is_open =
     let s0 = state g.S.Store c.args.conn.now in
     let s1 = state g.S.Store c.all.new.conn in
     let s2 = state g.S.Store c.all-2.new.conn in
     further_after s0 s2 (λ d. HasFurther d piece)
     (unchanged_both s0 s1 s2 (λ early. (c.in_ok-references.ensures.reads early).0) (λ late. (c.in_ok-outputs.ensures.reads late).0) c.all-2.ensures.frame.survives)
-    (survives_both s0 s1 s2 c.all.ensures.frame.survives c.all-2.ensures.frame.survives) (λ was up. c.requires.stands was has up) clean
+    (survives_both s0 s1 s2 c.all.ensures.frame.survives c.all-2.ensures.frame.survives) (λ was up. c.requires.exists was has up) clean
 
 pub keys_of-requires-clause-no_table : goal.keys_of-requires-clause-no_table
 keys_of-requires-clause-no_table g c clean has is_open =

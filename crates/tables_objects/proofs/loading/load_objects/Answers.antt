@@ -18,11 +18,11 @@ use Rattle.tables_objects.proofs.AllObjects.{put_all_objects}
 use Rattle.tables_objects.proofs.AllTests.{rows_of_all, cut_of_all, all_of_rows, to_objects, of_objects}
 use Rattle.tables_objects.proofs.loading.load_objects.Goals as goal
 
-pub load_all-requires-clause-stands : goal.load_all-requires-clause-stands
-load_all-requires-clause-stands g c clean has is_open =
+pub load_all-requires-clause-exists : goal.load_all-requires-clause-exists
+load_all-requires-clause-exists g c clean has is_open =
     let s0 = state g.S.Store c.args.conn.now in
     let s1 = state g.S.Store c.read_joined.new.conn in
-    further_after s0 s1 (λ d. HasFurther d piece) (λ clean. (c.in_ok-joined.ensures.reads clean).0) c.read_joined.ensures.survives (λ early up. c.requires.stands early has up) clean
+    further_after s0 s1 (λ d. HasFurther d piece) (λ clean. (c.in_ok-joined.ensures.reads clean).0) c.read_joined.ensures.survives (λ early up. c.requires.exists early has up) clean
 
 pub load_all-requires-clause-no_table : goal.load_all-requires-clause-no_table
 load_all-requires-clause-no_table g c clean has is_open =
@@ -44,8 +44,8 @@ returns-in_err-load_all-clause-same g c clean =
 pub returns-in_err-load_all-clause-survives : goal.returns-in_err-load_all-clause-survives
 returns-in_err-load_all-clause-survives g c = survives_both _ _ _ c.read_joined.ensures.survives c.load_all.ensures.survives
 
-pub returns-then-not-branch-clause-told : goal.returns-then-not-branch-clause-told
-returns-then-not-branch-clause-told g c clean =
+pub returns-then-not-branch-clause-reported : goal.returns-then-not-branch-clause-reported
+returns-then-not-branch-clause-reported g c clean =
     let s0 = state g.S.Store c.args.conn.now in
     let s1 = state g.S.Store c.read_joined.new.conn in
     let s2 = state g.S.Store c.load_all.new.conn in
@@ -56,7 +56,7 @@ returns-then-not-branch-clause-told g c clean =
     let same : contents_of s1.now ≡ x = ap contents_of (c.in_ok-joined.ensures.reads was).0.0.now_is in
     let Every : Contents → Type 0 = λ y. AllByRecursion (IsSoundOne schema dir y) (finite.keys y.objects) in (
       λ h. absurd (false≢true h),
-      λ sound. absurd (false≢true (sym c.if-not-branch.true ∙ (c.in_ok-load_all.ensures.told clean).1 (subst Every (sym same) (all_of_rows x schema dir sound.objects.objects sound.cut)))),
+      λ sound. absurd (false≢true (sym c.if-not-branch.true ∙ (c.in_ok-load_all.ensures.reported clean).1 (subst Every (sym same) (all_of_rows x schema dir sound.objects.objects sound.cut)))),
     )
 
 pub returns-then-not-branch-clause-unchanged : goal.returns-then-not-branch-clause-unchanged
@@ -79,8 +79,8 @@ returns-in_err-are_joined-clause-same g c clean =
 pub returns-in_err-are_joined-clause-survives : goal.returns-in_err-are_joined-clause-survives
 returns-in_err-are_joined-clause-survives g c = survives_both _ _ _ c.read_joined.ensures.survives c.load_all.ensures.survives
 
-pub returns-clause-told : goal.returns-clause-told
-returns-clause-told g c clean =
+pub returns-clause-reported : goal.returns-clause-reported
+returns-clause-reported g c clean =
     let s0 = state g.S.Store c.args.conn.now in
     let s1 = state g.S.Store c.read_joined.new.conn in
     let s2 = state g.S.Store c.load_all.new.conn in
@@ -94,11 +94,11 @@ returns-clause-told g c clean =
     let now : contents_of s1.now ≡ x = ap contents_of read.0.0.now_is in
     let m : Objects = c.load_all.new.outline.objects in
     let Every : Contents → Type 0 = λ y. AllByRecursion (IsSoundOne schema dir y) (finite.keys y.objects) in
-    let every = subst Every now ((c.in_ok-load_all.ensures.told clean).0 c.if-not-branch.false) in
+    let every = subst Every now ((c.in_ok-load_all.ensures.reported clean).0 c.if-not-branch.false) in
     let rows = rows_of_all x schema dir every in
     let cut = cut_of_all x schema dir every in
     let is : m ≡ (outline_of (world_in x)).objects =
-    ap (λ (o : OutlineValue). o.objects) (c.in_ok-load_all.ensures.taken clean c.if-not-branch.false)
+    ap (λ (o : OutlineValue). o.objects) (c.in_ok-load_all.ensures.loaded clean c.if-not-branch.false)
     ∙ ap (λ (y : Contents). with_objects y (finite.keys y.objects) c.args.outline.now.objects) now ∙ ap (with_objects x (finite.keys x.objects)) c.requires.empty ∙ put_all_objects x in
     let same : ((list_all (is_reference m) (map reference_of j.references.items) && list_all (is_output m) (map output_of j.outputs.items)) && list_all (is_owned m) (map numbered_in j.pieces.items))
     ≡ ((list_all (is_reference m) (finite.entries x.refs) && list_all (is_output m) (finite.entries x.outs)) && list_all (is_owned m) (finite.keys x.pieces)) =
@@ -106,8 +106,8 @@ returns-clause-told g c clean =
     let ok = c.in_ok-are_joined.ensures in
     (λ t. to_objects x schema dir rows cut m is (sym same ∙ sym ok ∙ t), λ a. ok ∙ same ∙ of_objects x schema dir rows cut m is a)
 
-pub returns-clause-taken : goal.returns-clause-taken
-returns-clause-taken g c clean t =
+pub returns-clause-loaded : goal.returns-clause-loaded
+returns-clause-loaded g c clean t =
     let s0 = state g.S.Store c.args.conn.now in
     let s1 = state g.S.Store c.read_joined.new.conn in
     let s2 = state g.S.Store c.load_all.new.conn in
@@ -115,7 +115,7 @@ returns-clause-taken g c clean t =
     let x = contents_of s0.now in
     let now : contents_of s1.now ≡ x = ap contents_of (c.in_ok-joined.ensures.reads was).0.0.now_is in
     let old : OutlineValue = c.args.outline.now in
-    c.in_ok-load_all.ensures.taken clean c.if-not-branch.false
+    c.in_ok-load_all.ensures.loaded clean c.if-not-branch.false
     ∙ ap (λ (m : Objects). record old { objects = m }) (ap (λ (y : Contents). with_objects y (finite.keys y.objects) old.objects) now ∙ ap (with_objects x (finite.keys x.objects)) c.requires.empty ∙ put_all_objects x)
 
 pub returns-clause-unchanged : goal.returns-clause-unchanged

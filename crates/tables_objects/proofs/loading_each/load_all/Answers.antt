@@ -24,23 +24,23 @@ load_each-requires g c =
       alone = c.keys.ensures.frame.alone;
       ready = c.keys.ensures.frame.ready;
       opened = λ clean. (c.in_ok-bases.ensures.reads clean).0.0.is_open;
-      stands = λ clean has is_open. further_after s0 s1 (λ d. HasFurther d piece) (λ late. (c.in_ok-bases.ensures.reads late).0) c.keys.ensures.frame.survives (λ was up. c.requires.stands was has up) clean;
+      exists = λ clean has is_open. further_after s0 s1 (λ d. HasFurther d piece) (λ late. (c.in_ok-bases.ensures.reads late).0) c.keys.ensures.frame.survives (λ was up. c.requires.exists was has up) clean;
       no_table = λ clean has is_open. further_after s0 s1 (λ d. (contents_of d).pieces ≡ finite.empty) (λ late. (c.in_ok-bases.ensures.reads late).0) c.keys.ensures.frame.survives (λ was up. c.requires.no_table was has up) clean;
       joined = λ clean. joined_still s0 s1 c.args.joined.now (c.in_ok-bases.ensures.reads clean).0.0.now_is (c.requires.joined (clean_before s0 s1 (λ _. ⊥) c.keys.ensures.frame.survives clean));
     }
 
-pub returns-clause-told : goal.returns-clause-told
-returns-clause-told g c clean =
+pub returns-clause-reported : goal.returns-clause-reported
+returns-clause-reported g c clean =
     let s0 = state g.S.Store c.args.conn.now in
     let s1 = state g.S.Store c.keys.new.conn in
     let s2 = state g.S.Store c.load_each.new.conn in
     let read = c.in_ok-bases.ensures.reads (clean_before s1 s2 (λ _. ⊥) c.load_each.ensures.survives clean) in
-    let Told : Contents → List Path → Bool → Type 0 = λ x ps ok. IsTrue ok ↔ AllByRecursion (IsSoundOne c.args.schema c.args.dir.now x) ps in
-    if_ok c.load_each.result (Told (contents_of s1.now) (map string_bytes c.deref.result.now)) (Told (contents_of s0.now) (finite.keys (contents_of s0.now).objects))
-    (λ ok h. subst (λ ps. Told (contents_of s0.now) ps ok) (ap (map string_bytes) c.deref.ensures.value ∙ read.1) (subst (λ x. Told x (map string_bytes c.deref.result.now) ok) (ap contents_of read.0.0.now_is) h)) (c.load_each.ensures.told clean)
+    let Reported : Contents → List Path → Bool → Type 0 = λ x ps ok. IsTrue ok ↔ AllByRecursion (IsSoundOne c.args.schema c.args.dir.now x) ps in
+    if_ok c.load_each.result (Reported (contents_of s1.now) (map string_bytes c.deref.result.now)) (Reported (contents_of s0.now) (finite.keys (contents_of s0.now).objects))
+    (λ ok h. subst (λ ps. Reported (contents_of s0.now) ps ok) (ap (map string_bytes) c.deref.ensures.value ∙ read.1) (subst (λ x. Reported x (map string_bytes c.deref.result.now) ok) (ap contents_of read.0.0.now_is) h)) (c.load_each.ensures.reported clean)
 
-pub returns-clause-taken : goal.returns-clause-taken
-returns-clause-taken g c clean =
+pub returns-clause-loaded : goal.returns-clause-loaded
+returns-clause-loaded g c clean =
     let s0 = state g.S.Store c.args.conn.now in
     let s1 = state g.S.Store c.keys.new.conn in
     let s2 = state g.S.Store c.load_each.new.conn in
@@ -49,7 +49,7 @@ returns-clause-taken g c clean =
     let new : OutlineValue = c.load_each.new.outline in
     let Taken : Contents → List Path → Bool → Type 0 = λ x ps ok. IsTrue ok → new ≡ record old { objects = with_objects x ps old.objects } in
     if_ok c.load_each.result (Taken (contents_of s1.now) (map string_bytes c.deref.result.now)) (Taken (contents_of s0.now) (finite.keys (contents_of s0.now).objects))
-    (λ ok h. subst (λ ps. Taken (contents_of s0.now) ps ok) (ap (map string_bytes) c.deref.ensures.value ∙ read.1) (subst (λ x. Taken x (map string_bytes c.deref.result.now) ok) (ap contents_of read.0.0.now_is) h)) (c.load_each.ensures.taken clean)
+    (λ ok h. subst (λ ps. Taken (contents_of s0.now) ps ok) (ap (map string_bytes) c.deref.ensures.value ∙ read.1) (subst (λ x. Taken x (map string_bytes c.deref.result.now) ok) (ap contents_of read.0.0.now_is) h)) (c.load_each.ensures.loaded clean)
 
 pub returns-clause-unchanged : goal.returns-clause-unchanged
 returns-clause-unchanged g c clean =

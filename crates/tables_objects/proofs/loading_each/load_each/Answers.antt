@@ -29,12 +29,12 @@ bases-init g c =
       makes = λ clean. refl;
     }
 
-pub load_object-requires-clause-stands : goal.load_object-requires-clause-stands
-load_object-requires-clause-stands g c clean has is_open =
+pub load_object-requires-clause-exists : goal.load_object-requires-clause-exists
+load_object-requires-clause-exists g c clean has is_open =
     let first = state g.S.Store c.args.conn.now in
     let now = state g.S.Store c.bases.conn in
     let same = (c.bases.invariant.unchanged clean).0 in
-    further_still first now (λ d. HasFurther d piece) same.now_is (c.requires.stands (clean_before first now (λ _. ⊥) c.bases.invariant.survives clean) has same.was_open)
+    further_still first now (λ d. HasFurther d piece) same.now_is (c.requires.exists (clean_before first now (λ _. ⊥) c.bases.invariant.survives clean) has same.was_open)
 
 pub load_object-requires-clause-no_table : goal.load_object-requires-clause-no_table
 load_object-requires-clause-no_table g c clean has is_open =
@@ -70,14 +70,14 @@ bases-preserved g c =
           let same : contents_of now.now ≡ contents_of first.now = ap contents_of (inv.unchanged was).0.now_is in
           let one : IsSoundOne c.args.schema c.args.dir.now (contents_of first.now) (string_bytes item) =
           subst (λ (x : Contents). IsSoundOne c.args.schema c.args.dir.now x (string_bytes item)) same
-          (subst (IsSoundOne c.args.schema c.args.dir.now (contents_of now.now)) c.as_str.ensures.value ((c.in_ok-load_object.ensures.told clean).0 c.if-not-branch.false)) in
+          (subst (IsSoundOne c.args.schema c.args.dir.now (contents_of now.now)) c.as_str.ensures.value ((c.in_ok-load_object.ensures.reported clean).0 c.if-not-branch.false)) in
           decides_next c.args.schema c.args.dir.now (contents_of first.now) (map string_bytes c.args.bases.now) left rest item split one (inv.decides was);
       makes = λ clean.
           let was = clean_before now next (λ _. ⊥) c.load_object.ensures.survives clean in
           let same : contents_of now.now ≡ contents_of first.now = ap contents_of (inv.unchanged was).0.now_is in
           let outline : OutlineValue = c.bases.outline in
           makes_next (contents_of first.now) c.args.outline.now (map string_bytes c.args.bases.now) left rest item outline c.load_object.new.outline split
-          (c.in_ok-load_object.ensures.taken clean c.if-not-branch.false
+          (c.in_ok-load_object.ensures.loaded clean c.if-not-branch.false
           ∙ ap₂ (λ (x : Contents) (p : List ℕ). record outline { objects = with_object x p outline.objects }) same c.as_str.ensures.value)
           (inv.makes was);
     }
@@ -117,8 +117,8 @@ returns-then-not-branch-clause-survives g c =
     let next = state g.S.Store c.load_object.new.conn in
     survives_both first now next c.bases.invariant.survives c.load_object.ensures.survives
 
-pub returns-then-not-branch-clause-told : goal.returns-then-not-branch-clause-told
-returns-then-not-branch-clause-told g c clean =
+pub returns-then-not-branch-clause-reported : goal.returns-then-not-branch-clause-reported
+returns-then-not-branch-clause-reported g c clean =
     let first = state g.S.Store c.args.conn.now in
     let now = state g.S.Store c.bases.conn in
     let next = state g.S.Store c.load_object.new.conn in
@@ -130,16 +130,16 @@ returns-then-not-branch-clause-told g c clean =
       λ h. absurd (false≢true h),
       λ every.
           let one = decides_one c.args.schema c.args.dir.now (contents_of first.now) (map string_bytes c.args.bases.now) (drop c.bases.base-index c.args.bases.now) (drop (c.bases.base-index + 1) c.args.bases.now) item split (inv.decides was) every in
-          absurd (false≢true (sym c.if-not-branch.true ∙ (c.in_ok-load_object.ensures.told clean).1
+          absurd (false≢true (sym c.if-not-branch.true ∙ (c.in_ok-load_object.ensures.reported clean).1
           (subst (IsSoundOne c.args.schema c.args.dir.now (contents_of now.now)) (sym c.as_str.ensures.value) (subst (λ (x : Contents). IsSoundOne c.args.schema c.args.dir.now x (string_bytes item)) (sym same) one)))),
     )
 
-pub returns-clause-told : goal.returns-clause-told
-returns-clause-told g c clean =
+pub returns-clause-reported : goal.returns-clause-reported
+returns-clause-reported g c clean =
     let first = state g.S.Store c.args.conn.now in
     (λ _. decides_all c.args.schema c.args.dir.now (contents_of first.now) (map string_bytes c.args.bases.now) (drop c.bases.base-index c.args.bases.now) (drop_of_length-le c.args.bases.now c.bases-test.false) (c.bases.invariant.decides clean), λ _. refl)
 
-pub returns-clause-taken : goal.returns-clause-taken
-returns-clause-taken g c clean ok =
+pub returns-clause-loaded : goal.returns-clause-loaded
+returns-clause-loaded g c clean ok =
     let first = state g.S.Store c.args.conn.now in
     makes_all (contents_of first.now) c.args.outline.now (map string_bytes c.args.bases.now) (drop c.bases.base-index c.args.bases.now) c.bases.outline (drop_of_length-le c.args.bases.now c.bases-test.false) (c.bases.invariant.makes clean)

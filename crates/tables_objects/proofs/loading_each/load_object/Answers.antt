@@ -19,8 +19,8 @@ use Rattle.tables_objects.proofs.loading_each.load_object.Goals as goal
 pub rows_at-requires-clause-listed : goal.rows_at-requires-clause-listed
 rows_at-requires-clause-listed g c clean = ap (map numbered_in) c.deref.ensures.value ∙ (c.requires.joined clean).pieces
 
-pub returns-clause-told : goal.returns-clause-told
-returns-clause-told g c clean =
+pub returns-clause-reported : goal.returns-clause-reported
+returns-clause-reported g c clean =
     let s0 = state g.S.Store c.args.conn.now in
     let s1 = state g.S.Store c.rows_at.new.conn in
     let x = contents_of s0.now in
@@ -33,10 +33,10 @@ returns-clause-told g c clean =
     (subst (λ (l : List Reference). Rises (map (λ (r : Reference). string_bytes r.base) l) → refs ≡ filter (λ (r : Reference). eq_by_cmp bytes_cmp p (string_bytes r.base)) l) c.deref-2.ensures.value c.group-references.ensures) in
     let outs_are = named_taken x p c.args.joined.now.outputs.items outs all.outputs
     (subst (λ (l : List Output). Rises (map (λ (r : Output). string_bytes r.base) l) → outs ≡ filter (λ (r : Output). eq_by_cmp bytes_cmp p (string_bytes r.base)) l) c.deref-3.ensures.value c.group-outputs.ensures) in
-    told_one c.args.schema c.args.dir.now x p c.in-Some.rows rows refs outs refs_are outs_are c.in_ok-load_rows.field-0 c.in_ok-load_rows.ensures.told
+    told_one c.args.schema c.args.dir.now x p c.in-Some.rows rows refs outs refs_are outs_are c.in_ok-load_rows.field-0 c.in_ok-load_rows.ensures.reported
 
-pub returns-clause-taken : goal.returns-clause-taken
-returns-clause-taken g c clean ok =
+pub returns-clause-loaded : goal.returns-clause-loaded
+returns-clause-loaded g c clean ok =
     let s0 = state g.S.Store c.args.conn.now in
     let s1 = state g.S.Store c.rows_at.new.conn in
     let x = contents_of s0.now in
@@ -50,4 +50,4 @@ returns-clause-taken g c clean ok =
     let outs_are = named_taken x p c.args.joined.now.outputs.items outs all.outputs
     (subst (λ (l : List Output). Rises (map (λ (r : Output). string_bytes r.base) l) → outs ≡ filter (λ (r : Output). eq_by_cmp bytes_cmp p (string_bytes r.base)) l) c.deref-3.ensures.value c.group-outputs.ensures) in
     let old : OutlineValue = c.args.outline.now in
-    c.in_ok-load_rows.ensures.taken ok ∙ ap (λ (m : Objects). record old { objects = m }) (put_is c.args.schema c.args.dir.now x p c.in-Some.rows rows refs outs refs_are outs_are old.objects (c.in_ok-load_rows.ensures.told.0 ok))
+    c.in_ok-load_rows.ensures.loaded ok ∙ ap (λ (m : Objects). record old { objects = m }) (put_is c.args.schema c.args.dir.now x p c.in-Some.rows rows refs outs refs_are outs_are old.objects (c.in_ok-load_rows.ensures.reported.0 ok))

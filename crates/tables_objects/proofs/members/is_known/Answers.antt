@@ -9,8 +9,8 @@ use Rattle.tables_objects.proofs.members.is_known.Goals as goal
 pub returns-in-Some : goal.returns-in-Some
 returns-in-Some c =
     let text = c.args.text.now in
-    let told = c.in-Some.ensures c.requires in
-    sym (and_so (is_base_name text) _ (ap is_base_name told.1 ∙ c.as_str-base.ensures.valid) (any_lent (λ q. eq_by_cmp bytes_cmp text q) c.args.paths.now ∙ told.0))
+    let reported = c.in-Some.ensures c.requires in
+    sym (and_so (is_base_name text) _ (ap is_base_name reported.1 ∙ c.as_str-base.ensures.valid) (any_lent (λ q. eq_by_cmp bytes_cmp text q) c.args.paths.now ∙ reported.0))
 
 pub returns-in-None : goal.returns-in-None
 returns-in-None c =

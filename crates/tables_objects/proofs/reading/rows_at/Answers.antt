@@ -13,12 +13,12 @@ use Rattle.tables_objects.proofs.reading.rows_at.Goals as goal
 pub pieces_of-requires-clause-opened : goal.pieces_of-requires-clause-opened
 pieces_of-requires-clause-opened g c clean = (c.in_ok-object.ensures.reads clean).0.0.is_open
 
-pub pieces_of-requires-clause-stands : goal.pieces_of-requires-clause-stands
-pieces_of-requires-clause-stands g c clean has is_open =
+pub pieces_of-requires-clause-exists : goal.pieces_of-requires-clause-exists
+pieces_of-requires-clause-exists g c clean has is_open =
     let s0 = state g.S.Store c.args.conn.now in
     let s1 = state g.S.Store c.get.new.conn in
     let one = (c.in_ok-object.ensures.reads clean).0.0 in
-    further_still s0 s1 (λ d. HasFurther d piece) one.now_is (c.requires.stands (clean_before s0 s1 (λ _. ⊥) c.get.ensures.frame.survives clean) has one.was_open)
+    further_still s0 s1 (λ d. HasFurther d piece) one.now_is (c.requires.exists (clean_before s0 s1 (λ _. ⊥) c.get.ensures.frame.survives clean) has one.was_open)
 
 pub pieces_of-requires-clause-no_table : goal.pieces_of-requires-clause-no_table
 pieces_of-requires-clause-no_table g c clean has is_open =

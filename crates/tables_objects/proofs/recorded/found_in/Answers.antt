@@ -3,6 +3,6 @@ use Rattle.tables_objects.proofs.recorded.found_in.Goals as goal
 
 pub returns-then-is_derivation : goal.returns-then-is_derivation
 returns-then-is_derivation c = λ t is.
-    let told = c.derivation_outputs.ensures t is in
+    let reported = c.derivation_outputs.ensures t is in
     let drv = c.if-is_derivation.true in
     search rules

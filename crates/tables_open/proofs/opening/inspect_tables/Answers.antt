@@ -17,11 +17,11 @@ all-requires-clause-stand g c clean up = let schema = c.args.conn.now.schema in 
 pub returns-then-branch-clause-found : goal.returns-then-branch-clause-found
 returns-then-branch-clause-found g c clean =
     let early = clean_before _ _ _ c.all.ensures.survives clean in
-    let told = subst (λ ts. Tested ts (state g.S.Store c.args.conn.now) (state g.S.Store c.all.new.conn) c.in_ok-all.field-0) c.schema_tables.ensures (c.in_ok-all.ensures.told clean) in
-    (found_by _ _ _ (c.requires.sound early told.0.0.was_open) (c.requires.settled early told.0.0.was_open) c.args.schema c.requires.recognised told).0 c.if-branch.true
+    let reported = subst (λ ts. Tested ts (state g.S.Store c.args.conn.now) (state g.S.Store c.all.new.conn) c.in_ok-all.field-0) c.schema_tables.ensures (c.in_ok-all.ensures.reported clean) in
+    (found_by _ _ _ (c.requires.sound early reported.0.0.was_open) (c.requires.settled early reported.0.0.was_open) c.args.schema c.requires.recognised reported).0 c.if-branch.true
 
 pub returns-else-branch-clause-found : goal.returns-else-branch-clause-found
 returns-else-branch-clause-found g c clean =
     let early = clean_before _ _ _ c.all.ensures.survives clean in
-    let told = subst (λ ts. Tested ts (state g.S.Store c.args.conn.now) (state g.S.Store c.all.new.conn) c.in_ok-all.field-0) c.schema_tables.ensures (c.in_ok-all.ensures.told clean) in
-    (found_by _ _ _ (c.requires.sound early told.0.0.was_open) (c.requires.settled early told.0.0.was_open) c.args.schema c.requires.recognised told).1 c.if-branch.false
+    let reported = subst (λ ts. Tested ts (state g.S.Store c.args.conn.now) (state g.S.Store c.all.new.conn) c.in_ok-all.field-0) c.schema_tables.ensures (c.in_ok-all.ensures.reported clean) in
+    (found_by _ _ _ (c.requires.sound early reported.0.0.was_open) (c.requires.settled early reported.0.0.was_open) c.args.schema c.requires.recognised reported).1 c.if-branch.false

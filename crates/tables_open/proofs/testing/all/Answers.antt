@@ -15,7 +15,7 @@ tables-preserved g c =
       alone = c.one.ensures.alone;
       tested = λ clean.
           let before = c.tables.invariant.tested (clean_before _ _ _ c.one.ensures.survives clean) in
-          next_tested HasOwnRowids HasReadableTexts tables _ at _ _ c.tables.readable (get_or tables at Meta) (one_left tables at Meta c.tables-test.true) before c.in_ok-readable.field-0 (c.in_ok-readable.ensures.told clean);
+          next_tested HasOwnRowids HasReadableTexts tables _ at _ _ c.tables.readable (get_or tables at Meta) (one_left tables at Meta c.tables-test.true) before c.in_ok-readable.field-0 (c.in_ok-readable.ensures.reported clean);
       survives = survives_both _ _ _ c.tables.invariant.survives c.one.ensures.survives;
     }
 

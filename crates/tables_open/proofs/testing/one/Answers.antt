@@ -21,21 +21,21 @@ check-requires-2 g c = subst IsSelect (sym c.texts.ensures) (tests_of c.args.tab
 
 pub returns-in_err-check-clause-cause : goal.returns-in_err-check-clause-cause
 returns-in_err-check-clause-cause g c clean =
-    let stands = c.requires.stands (clean_before _ _ _ c.check.ensures.survives clean) in
-    passed_on c.from_residual.result _ _ c.from_residual.ensures.1 ((tests_of c.args.table).unkeyed _ _ stands c.in_err-check.field-0.0 (rw c.rowids.ensures at (c.in_err-check.ensures.cause clean)))
+    let exists = c.requires.exists (clean_before _ _ _ c.check.ensures.survives clean) in
+    passed_on c.from_residual.result _ _ c.from_residual.ensures.1 ((tests_of c.args.table).unkeyed _ _ exists c.in_err-check.field-0.0 (rw c.rowids.ensures at (c.in_err-check.ensures.cause clean)))
 
-pub returns-clause-told : goal.returns-clause-told
-returns-clause-told g c clean =
+pub returns-clause-reported : goal.returns-clause-reported
+returns-clause-reported g c clean =
     let table = c.args.table in
     let second = clean_before _ _ _ c.check-2.ensures.survives clean in
     let first = clean_before _ _ _ c.check.ensures.survives second in
     let shown = rw c.rowids.ensures at (c.in_ok-check.ensures.shown second) in
     let up = shown.1.1.1.0.was_open in
-    let stands = c.requires.stands first up in
-    let keyed = (tests_of table).keyed _ _ stands shown in
+    let exists = c.requires.exists first up in
+    let keyed = (tests_of table).keyed _ _ exists shown in
     then_told (λ d. HasOwnRowids d table) (λ d. HasReadableTexts d table) _ _ (state g.S.Store c.check-2.new.conn) c.check-2.result keyed
     (if_ok c.check-2.result _ _
-    (λ b h. (tests_of table).told _ _ (subst IsDatabase (sym keyed.0.0.now_is) (c.requires.sound first up)) (subst (λ (d : Database). IsIntact d.schema (form table)) (sym keyed.0.0.now_is) stands) b (rw c.texts.ensures at h))
+    (λ b h. (tests_of table).reported _ _ (subst IsDatabase (sym keyed.0.0.now_is) (c.requires.sound first up)) (subst (λ (d : Database). IsIntact d.schema (form table)) (sym keyed.0.0.now_is) exists) b (rw c.texts.ensures at h))
     (c.check-2.ensures.shown clean))
 
 pub returns-clause-cause : goal.returns-clause-cause
@@ -43,7 +43,7 @@ returns-clause-cause g c clean =
     let table = c.args.table in
     let second = clean_before _ _ _ c.check-2.ensures.survives clean in
     let same = (c.in_ok-check.ensures.shown second).1.1.1 in
-    let stands = subst (λ (d : Database). IsIntact d.schema (form table)) (sym same.0.now_is) (c.requires.stands (clean_before _ _ _ c.check.ensures.survives second) same.0.was_open) in
+    let exists = subst (λ (d : Database). IsIntact d.schema (form table)) (sym same.0.now_is) (c.requires.exists (clean_before _ _ _ c.check.ensures.survives second) same.0.was_open) in
     err_with c.check-2.result _ _
-    (λ f h. fails_after _ _ _ ⊥ _ (λ clean. same, c.check.ensures.survives) c.check-2.ensures.survives clean (λ same no. absurd no) f ((tests_of table).untold _ _ (λ up. stands) f (rw c.texts.ensures at h)))
+    (λ f h. fails_after _ _ _ ⊥ _ (λ clean. same, c.check.ensures.survives) c.check-2.ensures.survives clean (λ same no. absurd no) f ((tests_of table).untold _ _ (λ up. exists) f (rw c.texts.ensures at h)))
     (c.check-2.ensures.cause clean)

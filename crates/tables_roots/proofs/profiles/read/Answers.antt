@@ -17,21 +17,21 @@ use Rattle.tables_roots.proofs.profiles.read.Goals as goal
 pub load_table-requires-2-clause-fits : goal.load_table-requires-2-clause-fits
 load_table-requires-2-clause-fits g c clean =
     let same = (c.in_ok-load_table.ensures.unchanged clean).0.now_is in
-    ap (λ (o : OutlineValue). o.profiles) (c.in_ok-load_table.ensures.taken clean c.if-not-branch.false) ∙ ap (λ (d : Database). bare_profiles (contents_of d).profiles) (sym same)
+    ap (λ (o : OutlineValue). o.profiles) (c.in_ok-load_table.ensures.loaded clean c.if-not-branch.false) ∙ ap (λ (d : Database). bare_profiles (contents_of d).profiles) (sym same)
 
-pub returns-then-not-branch-clause-told : goal.returns-then-not-branch-clause-told
-returns-then-not-branch-clause-told g c clean = first_failed (list_all is_profile (finite.entries (contents_of (state g.S.Store c.args.conn.now).now).profiles)) _ (sym (c.in_ok-load_table.ensures.told clean) ∙ c.if-not-branch.true)
+pub returns-then-not-branch-clause-reported : goal.returns-then-not-branch-clause-reported
+returns-then-not-branch-clause-reported g c clean = first_failed (list_all is_profile (finite.entries (contents_of (state g.S.Store c.args.conn.now).now).profiles)) _ (sym (c.in_ok-load_table.ensures.reported clean) ∙ c.if-not-branch.true)
 
 pub returns-in_err-load_table-2-clause-frame : goal.returns-in_err-load_table-2-clause-frame
 returns-in_err-load_table-2-clause-frame g c = left_then _ _ _ c.load_table.ensures.frame c.load_table-2.ensures.frame
 
-pub returns-then-not-branch-2-clause-told : goal.returns-then-not-branch-2-clause-told
-returns-then-not-branch-2-clause-told g c clean =
+pub returns-then-not-branch-2-clause-reported : goal.returns-then-not-branch-2-clause-reported
+returns-then-not-branch-2-clause-reported g c clean =
     let middle : HasCleanDisk (state g.S.Store c.load_table.new.conn) = omega (arith, c.load_table-2.ensures.frame.survives.clean) in
     let same = (c.in_ok-load_table.ensures.unchanged middle).0.now_is in
-    let outline = c.in_ok-load_table.ensures.taken middle c.if-not-branch.false in
-    second_failed (list_all is_profile (finite.entries (contents_of (state g.S.Store c.args.conn.now).now).profiles)) _ _ (sym (c.in_ok-load_table.ensures.told middle) ∙ c.if-not-branch.false)
-    (sym (λ i. list_all (is_generation (outline i).objects (contents_of (same i)).profiles) (finite.entries (contents_of (same i)).generations)) ∙ sym (c.in_ok-load_table-2.ensures.told clean) ∙ c.if-not-branch-2.true)
+    let outline = c.in_ok-load_table.ensures.loaded middle c.if-not-branch.false in
+    second_failed (list_all is_profile (finite.entries (contents_of (state g.S.Store c.args.conn.now).now).profiles)) _ _ (sym (c.in_ok-load_table.ensures.reported middle) ∙ c.if-not-branch.false)
+    (sym (λ i. list_all (is_generation (outline i).objects (contents_of (same i)).profiles) (finite.entries (contents_of (same i)).generations)) ∙ sym (c.in_ok-load_table-2.ensures.reported clean) ∙ c.if-not-branch-2.true)
 
 pub returns-then-not-branch-2-clause-unchanged : goal.returns-then-not-branch-2-clause-unchanged
 returns-then-not-branch-2-clause-unchanged g c clean = unchanged_then _ _ _ (c.in_ok-load_table.ensures.unchanged (omega (arith, clean, c.load_table-2.ensures.frame.survives.clean))) (c.in_ok-load_table-2.ensures.unchanged clean)
@@ -39,21 +39,21 @@ returns-then-not-branch-2-clause-unchanged g c clean = unchanged_then _ _ _ (c.i
 pub returns-then-not-branch-2-clause-frame : goal.returns-then-not-branch-2-clause-frame
 returns-then-not-branch-2-clause-frame g c = left_then _ _ _ c.load_table.ensures.frame c.load_table-2.ensures.frame
 
-pub returns-clause-told : goal.returns-clause-told
-returns-clause-told g c clean =
+pub returns-clause-reported : goal.returns-clause-reported
+returns-clause-reported g c clean =
     let middle : HasCleanDisk (state g.S.Store c.load_table.new.conn) = omega (arith, c.load_table-2.ensures.frame.survives.clean) in
     let same = (c.in_ok-load_table.ensures.unchanged middle).0.now_is in
-    let outline = c.in_ok-load_table.ensures.taken middle c.if-not-branch.false in
-    third_decides (list_all is_profile (finite.entries (contents_of (state g.S.Store c.args.conn.now).now).profiles)) _ _ _ (sym (c.in_ok-load_table.ensures.told middle) ∙ c.if-not-branch.false)
-    (sym (λ i. list_all (is_generation (outline i).objects (contents_of (same i)).profiles) (finite.entries (contents_of (same i)).generations)) ∙ sym (c.in_ok-load_table-2.ensures.told clean) ∙ c.if-not-branch-2.false)
-    (c.has_currents.ensures ∙ ap (λ (o : OutlineValue). has_currents o.profiles) (c.in_ok-load_table-2.ensures.taken clean c.if-not-branch-2.false) ∙ ap (λ (d : Database). has_currents (world_in (contents_of d)).profiles) same)
+    let outline = c.in_ok-load_table.ensures.loaded middle c.if-not-branch.false in
+    third_decides (list_all is_profile (finite.entries (contents_of (state g.S.Store c.args.conn.now).now).profiles)) _ _ _ (sym (c.in_ok-load_table.ensures.reported middle) ∙ c.if-not-branch.false)
+    (sym (λ i. list_all (is_generation (outline i).objects (contents_of (same i)).profiles) (finite.entries (contents_of (same i)).generations)) ∙ sym (c.in_ok-load_table-2.ensures.reported clean) ∙ c.if-not-branch-2.false)
+    (c.has_currents.ensures ∙ ap (λ (o : OutlineValue). has_currents o.profiles) (c.in_ok-load_table-2.ensures.loaded clean c.if-not-branch-2.false) ∙ ap (λ (d : Database). has_currents (world_in (contents_of d)).profiles) same)
 
-pub returns-clause-taken : goal.returns-clause-taken
-returns-clause-taken g c clean ok =
+pub returns-clause-loaded : goal.returns-clause-loaded
+returns-clause-loaded g c clean ok =
     let middle : HasCleanDisk (state g.S.Store c.load_table.new.conn) = omega (arith, c.load_table-2.ensures.frame.survives.clean) in
     let same = (c.in_ok-load_table.ensures.unchanged middle).0.now_is in
-    let outline = c.in_ok-load_table.ensures.taken middle c.if-not-branch.false in
-    c.in_ok-load_table-2.ensures.taken clean c.if-not-branch-2.false ∙ (λ i. record (outline i) { profiles = (world_in (contents_of (same i))).profiles })
+    let outline = c.in_ok-load_table.ensures.loaded middle c.if-not-branch.false in
+    c.in_ok-load_table-2.ensures.loaded clean c.if-not-branch-2.false ∙ (λ i. record (outline i) { profiles = (world_in (contents_of (same i))).profiles })
 
 pub returns-clause-unchanged : goal.returns-clause-unchanged
 returns-clause-unchanged g c clean = unchanged_then _ _ _ (c.in_ok-load_table.ensures.unchanged (omega (arith, clean, c.load_table-2.ensures.frame.survives.clean))) (c.in_ok-load_table-2.ensures.unchanged clean)

@@ -12,36 +12,36 @@ use Rattle.tables_roots.proofs.roots.load_explicit.Goals as goal
 pub load_moving-requires-clause-profiles : goal.load_moving-requires-clause-profiles
 load_moving-requires-clause-profiles g c clean =
     let early : HasCleanDisk (state g.S.Store c.args.conn.now) = omega (arith, c.load_fixed.ensures.frame.survives.clean) in
-    ap (λ (o : OutlineValue). o.profiles) (c.in_ok-load_fixed.ensures.taken clean c.if-not-branch.false) ∙ c.requires.profiles early
+    ap (λ (o : OutlineValue). o.profiles) (c.in_ok-load_fixed.ensures.loaded clean c.if-not-branch.false) ∙ c.requires.profiles early
 
 pub load_moving-requires-clause-runtime : goal.load_moving-requires-clause-runtime
 load_moving-requires-clause-runtime g c clean =
     let early : HasCleanDisk (state g.S.Store c.args.conn.now) = omega (arith, c.load_fixed.ensures.frame.survives.clean) in
-    ap (λ (o : OutlineValue). o.runtime) (c.in_ok-load_fixed.ensures.taken clean c.if-not-branch.false) ∙ c.requires.runtime early
+    ap (λ (o : OutlineValue). o.runtime) (c.in_ok-load_fixed.ensures.loaded clean c.if-not-branch.false) ∙ c.requires.runtime early
 
-pub returns-then-not-branch-clause-told : goal.returns-then-not-branch-clause-told
-returns-then-not-branch-clause-told g c clean =
-    roots_unsound c.args.outline.now.objects (contents_of (state g.S.Store c.args.conn.now).now) (sym (c.in_ok-load_fixed.ensures.told clean) ∙ c.if-not-branch.true)
+pub returns-then-not-branch-clause-reported : goal.returns-then-not-branch-clause-reported
+returns-then-not-branch-clause-reported g c clean =
+    roots_unsound c.args.outline.now.objects (contents_of (state g.S.Store c.args.conn.now).now) (sym (c.in_ok-load_fixed.ensures.reported clean) ∙ c.if-not-branch.true)
 
-pub returns-clause-told : goal.returns-clause-told
-returns-clause-told g c clean =
+pub returns-clause-reported : goal.returns-clause-reported
+returns-clause-reported g c clean =
     let a = state g.S.Store c.args.conn.now in
     let b = state g.S.Store c.load_fixed.new.conn in
     let middle : HasCleanDisk b = omega (arith, c.load_moving.ensures.frame.survives.clean) in
     let same = (c.in_ok-load_fixed.ensures.unchanged middle).0.now_is in
-    let outline = c.in_ok-load_fixed.ensures.taken middle c.if-not-branch.false in
-    roots_told_next c.args.outline.now.objects (contents_of a.now) c.load_moving.result (sym (c.in_ok-load_fixed.ensures.told middle) ∙ c.if-not-branch.false) _
-    (λ i. are_moving (outline i).objects (contents_of (same i))) (c.load_moving.ensures.told clean)
+    let outline = c.in_ok-load_fixed.ensures.loaded middle c.if-not-branch.false in
+    roots_told_next c.args.outline.now.objects (contents_of a.now) c.load_moving.result (sym (c.in_ok-load_fixed.ensures.reported middle) ∙ c.if-not-branch.false) _
+    (λ i. are_moving (outline i).objects (contents_of (same i))) (c.load_moving.ensures.reported clean)
 
-pub returns-clause-taken : goal.returns-clause-taken
-returns-clause-taken g c clean =
+pub returns-clause-loaded : goal.returns-clause-loaded
+returns-clause-loaded g c clean =
     let a = state g.S.Store c.args.conn.now in
     let b = state g.S.Store c.load_fixed.new.conn in
     let middle : HasCleanDisk b = omega (arith, c.load_moving.ensures.frame.survives.clean) in
     let same = (c.in_ok-load_fixed.ensures.unchanged middle).0.now_is in
-    let outline = c.in_ok-load_fixed.ensures.taken middle c.if-not-branch.false in
+    let outline = c.in_ok-load_fixed.ensures.loaded middle c.if-not-branch.false in
     taken_next c.load_moving.result c.load_moving.new.outline _ _
-    (λ i. record (outline i) { profiles = (world_in (contents_of (same i))).profiles; runtime = (contents_of (same i)).runtime }) (c.load_moving.ensures.taken clean)
+    (λ i. record (outline i) { profiles = (world_in (contents_of (same i))).profiles; runtime = (contents_of (same i)).runtime }) (c.load_moving.ensures.loaded clean)
 
 pub returns-clause-unchanged : goal.returns-clause-unchanged
 returns-clause-unchanged g c clean =

@@ -13,26 +13,26 @@ use Rattle.tables_roots.proofs.roots.load_fixed.Goals as goal
 pub load_table-requires-2-clause-fits : goal.load_table-requires-2-clause-fits
 load_table-requires-2-clause-fits g c clean =
     let early : HasCleanDisk (state g.S.Store c.args.conn.now) = omega (arith, c.load_table.ensures.frame.survives.clean) in
-    ap (λ (o : OutlineValue). o.user_roots) (c.in_ok-load_table.ensures.taken clean c.if-not-branch.false) ∙ c.requires.user_roots early
+    ap (λ (o : OutlineValue). o.user_roots) (c.in_ok-load_table.ensures.loaded clean c.if-not-branch.false) ∙ c.requires.user_roots early
 
-pub returns-clause-told : goal.returns-clause-told
-returns-clause-told g c clean =
+pub returns-clause-reported : goal.returns-clause-reported
+returns-clause-reported g c clean =
     let a = state g.S.Store c.args.conn.now in
     let b = state g.S.Store c.load_table.new.conn in
     let middle : HasCleanDisk b = omega (arith, c.load_table-2.ensures.frame.survives.clean) in
     let same = (c.in_ok-load_table.ensures.unchanged middle).0.now_is in
-    let outline = c.in_ok-load_table.ensures.taken middle c.if-not-branch.false in
-    told_next c.load_table-2.result (list_all (is_permanent_root c.args.outline.now.objects) (finite.entries (contents_of a.now).permanent)) _ _ (sym (c.in_ok-load_table.ensures.told middle) ∙ c.if-not-branch.false)
-    (λ i. list_all (is_user_root (outline i).objects) (finite.entries (contents_of (same i)).user_roots)) (c.load_table-2.ensures.told clean)
+    let outline = c.in_ok-load_table.ensures.loaded middle c.if-not-branch.false in
+    told_next c.load_table-2.result (list_all (is_permanent_root c.args.outline.now.objects) (finite.entries (contents_of a.now).permanent)) _ _ (sym (c.in_ok-load_table.ensures.reported middle) ∙ c.if-not-branch.false)
+    (λ i. list_all (is_user_root (outline i).objects) (finite.entries (contents_of (same i)).user_roots)) (c.load_table-2.ensures.reported clean)
 
-pub returns-clause-taken : goal.returns-clause-taken
-returns-clause-taken g c clean =
+pub returns-clause-loaded : goal.returns-clause-loaded
+returns-clause-loaded g c clean =
     let a = state g.S.Store c.args.conn.now in
     let b = state g.S.Store c.load_table.new.conn in
     let middle : HasCleanDisk b = omega (arith, c.load_table-2.ensures.frame.survives.clean) in
     let same = (c.in_ok-load_table.ensures.unchanged middle).0.now_is in
-    let outline = c.in_ok-load_table.ensures.taken middle c.if-not-branch.false in
-    taken_next c.load_table-2.result c.load_table-2.new.outline _ _ (λ i. record (outline i) { user_roots = (contents_of (same i)).user_roots }) (c.load_table-2.ensures.taken clean)
+    let outline = c.in_ok-load_table.ensures.loaded middle c.if-not-branch.false in
+    taken_next c.load_table-2.result c.load_table-2.new.outline _ _ (λ i. record (outline i) { user_roots = (contents_of (same i)).user_roots }) (c.load_table-2.ensures.loaded clean)
 
 pub returns-clause-unchanged : goal.returns-clause-unchanged
 returns-clause-unchanged g c clean =

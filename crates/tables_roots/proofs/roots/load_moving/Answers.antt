@@ -13,26 +13,26 @@ use Rattle.tables_roots.proofs.roots.load_moving.Goals as goal
 pub load_table-requires-clause-fits : goal.load_table-requires-clause-fits
 load_table-requires-clause-fits g c clean =
     let early : HasCleanDisk (state g.S.Store c.args.conn.now) = omega (arith, c.read.ensures.frame.survives.clean) in
-    ap (λ (o : OutlineValue). o.runtime) (c.in_ok-read.ensures.taken clean c.if-not-branch.false) ∙ c.requires.runtime early
+    ap (λ (o : OutlineValue). o.runtime) (c.in_ok-read.ensures.loaded clean c.if-not-branch.false) ∙ c.requires.runtime early
 
-pub returns-clause-told : goal.returns-clause-told
-returns-clause-told g c clean =
+pub returns-clause-reported : goal.returns-clause-reported
+returns-clause-reported g c clean =
     let a = state g.S.Store c.args.conn.now in
     let b = state g.S.Store c.read.new.conn in
     let middle : HasCleanDisk b = omega (arith, c.load_table.ensures.frame.survives.clean) in
     let same = (c.in_ok-read.ensures.unchanged middle).0.now_is in
-    let outline = c.in_ok-read.ensures.taken middle c.if-not-branch.false in
-    told_next c.load_table.result (are_profiles c.args.outline.now.objects (contents_of a.now)) _ _ (sym (c.in_ok-read.ensures.told middle) ∙ c.if-not-branch.false)
-    (λ i. list_all (is_runtime_root (outline i).objects) (finite.entries (contents_of (same i)).runtime)) (c.load_table.ensures.told clean)
+    let outline = c.in_ok-read.ensures.loaded middle c.if-not-branch.false in
+    told_next c.load_table.result (are_profiles c.args.outline.now.objects (contents_of a.now)) _ _ (sym (c.in_ok-read.ensures.reported middle) ∙ c.if-not-branch.false)
+    (λ i. list_all (is_runtime_root (outline i).objects) (finite.entries (contents_of (same i)).runtime)) (c.load_table.ensures.reported clean)
 
-pub returns-clause-taken : goal.returns-clause-taken
-returns-clause-taken g c clean =
+pub returns-clause-loaded : goal.returns-clause-loaded
+returns-clause-loaded g c clean =
     let a = state g.S.Store c.args.conn.now in
     let b = state g.S.Store c.read.new.conn in
     let middle : HasCleanDisk b = omega (arith, c.load_table.ensures.frame.survives.clean) in
     let same = (c.in_ok-read.ensures.unchanged middle).0.now_is in
-    let outline = c.in_ok-read.ensures.taken middle c.if-not-branch.false in
-    taken_next c.load_table.result c.load_table.new.outline _ _ (λ i. record (outline i) { runtime = (contents_of (same i)).runtime }) (c.load_table.ensures.taken clean)
+    let outline = c.in_ok-read.ensures.loaded middle c.if-not-branch.false in
+    taken_next c.load_table.result c.load_table.new.outline _ _ (λ i. record (outline i) { runtime = (contents_of (same i)).runtime }) (c.load_table.ensures.loaded clean)
 
 pub returns-clause-unchanged : goal.returns-clause-unchanged
 returns-clause-unchanged g c clean =

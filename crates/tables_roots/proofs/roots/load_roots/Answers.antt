@@ -14,54 +14,54 @@ use Rattle.tables_roots.proofs.Sessions.{none_kept}
 use Rattle.tables_roots.proofs.AllReads.{all_unsound, all_lasting, sessions_told}
 use Rattle.tables_roots.proofs.roots.load_roots.Goals as goal
 
-pub load_table-requires-clause-stands : goal.load_table-requires-clause-stands
-load_table-requires-clause-stands g c clean is_open =
+pub load_table-requires-clause-exists : goal.load_table-requires-clause-exists
+load_table-requires-clause-exists g c clean is_open =
     let early : HasCleanDisk (state g.S.Store c.args.conn.now) = omega (arith, c.load_explicit.ensures.frame.survives.clean) in
     let lasting = (c.in_ok-load_explicit.ensures.unchanged clean).0 in
-    subst (λ (d : Database). HasFurther d temp_root) (sym lasting.now_is) (c.requires.stands early (sym c.has_temporary.ensures ∙ c.if-not-has_temporary.false) lasting.was_open)
+    subst (λ (d : Database). HasFurther d temp_root) (sym lasting.now_is) (c.requires.exists early (sym c.has_temporary.ensures ∙ c.if-not-has_temporary.false) lasting.was_open)
 
 pub load_table-requires-clause-fits : goal.load_table-requires-clause-fits
 load_table-requires-clause-fits g c clean =
     let early : HasCleanDisk (state g.S.Store c.args.conn.now) = omega (arith, c.load_explicit.ensures.frame.survives.clean) in
-    ap (λ (o : OutlineValue). o.temporary) (c.in_ok-load_explicit.ensures.taken clean c.if-not-branch.false) ∙ c.requires.temporary early
+    ap (λ (o : OutlineValue). o.temporary) (c.in_ok-load_explicit.ensures.loaded clean c.if-not-branch.false) ∙ c.requires.temporary early
 
-pub returns-then-not-branch-clause-told : goal.returns-then-not-branch-clause-told
-returns-then-not-branch-clause-told g c clean =
-    all_unsound c.args.outline.now.objects (contents_of (state g.S.Store c.args.conn.now).now) c.in_ok-load_explicit.field-0 c.if-not-branch.true (c.in_ok-load_explicit.ensures.told clean)
+pub returns-then-not-branch-clause-reported : goal.returns-then-not-branch-clause-reported
+returns-then-not-branch-clause-reported g c clean =
+    all_unsound c.args.outline.now.objects (contents_of (state g.S.Store c.args.conn.now).now) c.in_ok-load_explicit.field-0 c.if-not-branch.true (c.in_ok-load_explicit.ensures.reported clean)
 
-pub returns-then-not-has_temporary-clause-told : goal.returns-then-not-has_temporary-clause-told
-returns-then-not-has_temporary-clause-told g c clean =
+pub returns-then-not-has_temporary-clause-reported : goal.returns-then-not-has_temporary-clause-reported
+returns-then-not-has_temporary-clause-reported g c clean =
     let early : HasCleanDisk (state g.S.Store c.args.conn.now) = omega (arith, c.load_explicit.ensures.frame.survives.clean) in
     let none = c.requires.no_table early (sym c.has_temporary.ensures ∙ c.if-not-has_temporary.true) (c.in_ok-load_explicit.ensures.unchanged clean).0.was_open in
-    all_lasting c.args.outline.now.objects (contents_of (state g.S.Store c.args.conn.now).now) c.in_ok-load_explicit.field-0 c.if-not-branch.false none (c.in_ok-load_explicit.ensures.told clean)
+    all_lasting c.args.outline.now.objects (contents_of (state g.S.Store c.args.conn.now).now) c.in_ok-load_explicit.field-0 c.if-not-branch.false none (c.in_ok-load_explicit.ensures.reported clean)
 
-pub returns-then-not-has_temporary-clause-taken : goal.returns-then-not-has_temporary-clause-taken
-returns-then-not-has_temporary-clause-taken g c clean ok =
+pub returns-then-not-has_temporary-clause-loaded : goal.returns-then-not-has_temporary-clause-loaded
+returns-then-not-has_temporary-clause-loaded g c clean ok =
     let early : HasCleanDisk (state g.S.Store c.args.conn.now) = omega (arith, c.load_explicit.ensures.frame.survives.clean) in
     let x = contents_of (state g.S.Store c.args.conn.now).now in
     let old : OutlineValue = c.args.outline.now in
     let none = c.requires.no_table early (sym c.has_temporary.ensures ∙ c.if-not-has_temporary.true) (c.in_ok-load_explicit.ensures.unchanged clean).0.was_open in
-    c.in_ok-load_explicit.ensures.taken clean c.if-not-branch.false
+    c.in_ok-load_explicit.ensures.loaded clean c.if-not-branch.false
     ∙ ap (λ t. record (with_explicit old x) { temporary = t }) (c.requires.temporary early ∙ sym (none_kept x none))
 
-pub returns-clause-told : goal.returns-clause-told
-returns-clause-told g c clean =
+pub returns-clause-reported : goal.returns-clause-reported
+returns-clause-reported g c clean =
     let a = state g.S.Store c.args.conn.now in
     let b = state g.S.Store c.load_explicit.new.conn in
     let middle : HasCleanDisk b = omega (arith, c.load_table.ensures.frame.survives.clean) in
     let same = (c.in_ok-load_explicit.ensures.unchanged middle).0.now_is in
-    let outline = c.in_ok-load_explicit.ensures.taken middle c.if-not-branch.false in
-    sessions_told c.args.outline.now.objects (contents_of a.now) c.load_table.result c.in_ok-load_explicit.field-0 c.if-not-branch.false (c.in_ok-load_explicit.ensures.told middle) _
-    (λ i. are_temporary (outline i).objects (contents_of (same i))) (c.load_table.ensures.told clean)
+    let outline = c.in_ok-load_explicit.ensures.loaded middle c.if-not-branch.false in
+    sessions_told c.args.outline.now.objects (contents_of a.now) c.load_table.result c.in_ok-load_explicit.field-0 c.if-not-branch.false (c.in_ok-load_explicit.ensures.reported middle) _
+    (λ i. are_temporary (outline i).objects (contents_of (same i))) (c.load_table.ensures.reported clean)
 
-pub returns-clause-taken : goal.returns-clause-taken
-returns-clause-taken g c clean =
+pub returns-clause-loaded : goal.returns-clause-loaded
+returns-clause-loaded g c clean =
     let a = state g.S.Store c.args.conn.now in
     let b = state g.S.Store c.load_explicit.new.conn in
     let middle : HasCleanDisk b = omega (arith, c.load_table.ensures.frame.survives.clean) in
     let same = (c.in_ok-load_explicit.ensures.unchanged middle).0.now_is in
-    let outline = c.in_ok-load_explicit.ensures.taken middle c.if-not-branch.false in
-    taken_next c.load_table.result c.load_table.new.outline _ _ (λ i. record (outline i) { temporary = (world_in (contents_of (same i))).temporary }) (c.load_table.ensures.taken clean)
+    let outline = c.in_ok-load_explicit.ensures.loaded middle c.if-not-branch.false in
+    taken_next c.load_table.result c.load_table.new.outline _ _ (λ i. record (outline i) { temporary = (world_in (contents_of (same i))).temporary }) (c.load_table.ensures.loaded clean)
 
 pub returns-clause-unchanged : goal.returns-clause-unchanged
 returns-clause-unchanged g c clean =

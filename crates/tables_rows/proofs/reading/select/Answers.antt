@@ -10,4 +10,4 @@ returns-clause-frame g c = record {
 }
 
 pub returns-clause-further : goal.returns-clause-further
-returns-clause-further g c t stands clean = still_stands c.select.ensures.survives c.requires.frame.ready c.select.ensures.same clean t stands
+returns-clause-further g c t exists clean = still_stands c.select.ensures.survives c.requires.frame.ready c.select.ensures.same clean t exists

@@ -4,7 +4,7 @@ use Rattle.tables_rows.proofs.Clauses.{reads, fails_to_read}
 use Rattle.tables_rows.proofs.temp_roots.of.Goals as goal
 
 pub returns-clause-reads : goal.returns-clause-reads
-returns-clause-reads g c clean = reads (of c.args.owner.now (pos c.args.session)) c.select.ensures.frame.survives c.requires.frame.ready c.requires.stands clean c.select.result (rw (c.params-to_sql.ensures, c.params-to_sql-2.ensures) at (c.select.ensures.shown clean)) (c.select.ensures.rises clean)
+returns-clause-reads g c clean = reads (of c.args.owner.now (pos c.args.session)) c.select.ensures.frame.survives c.requires.frame.ready c.requires.exists clean c.select.result (rw (c.params-to_sql.ensures, c.params-to_sql-2.ensures) at (c.select.ensures.shown clean)) (c.select.ensures.rises clean)
 
 pub returns-clause-cause : goal.returns-clause-cause
-returns-clause-cause g c clean = fails_to_read (of c.args.owner.now (pos c.args.session)) c.select.ensures.frame.survives c.requires.frame.ready c.requires.stands clean c.select.result (rw (c.params-to_sql.ensures, c.params-to_sql-2.ensures) at (c.select.ensures.cause clean))
+returns-clause-cause g c clean = fails_to_read (of c.args.owner.now (pos c.args.session)) c.select.ensures.frame.survives c.requires.frame.ready c.requires.exists clean c.select.result (rw (c.params-to_sql.ensures, c.params-to_sql-2.ensures) at (c.select.ensures.cause clean))

@@ -19,5 +19,5 @@ returns-in-Err-clause-does g c = λ d is.
     inr (
       c.in-Err.unopened,
       subst (λ (dir : List ℕ). IsUnopened (image_at g.F.Start) dir c.in-Err.unopened) c.store_dir.ensures c.in-Err.ensures.cause,
-      subst (λ cause. AnswersCause c.args.config.store_dir cause w) c.cause_of.ensures c.refuse_file.ensures,
+      subst (λ cause. AnswersCause c.args.config.store_dir cause w) c.cause.ensures c.refuse_file.ensures,
     )

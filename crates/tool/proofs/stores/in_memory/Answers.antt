@@ -9,7 +9,7 @@ use Rattle.tool.proofs.stores.in_memory.Goals as goal
 
 pub returns-in-Ok-clause-does : goal.returns-in-Ok-clause-does
 returns-in-Ok-clause-does g c = λ d is.
-    inl (c.work_over.ensures.worlds (λ h. memory_is_clean h) no_world c.in-Ok.ensures.told d is, (c.in-Ok.tables, c.in-Ok.ensures.told, c.work_over.ensures.over d is))
+    inl (c.work_over.ensures.worlds (λ h. memory_is_clean h) no_world c.in-Ok.ensures.reported d is, (c.in-Ok.tables, c.in-Ok.ensures.reported, c.work_over.ensures.over d is))
 
 -- what ran out was memory
 lacking : (dir other : List ℕ) → dir ≡ other → (f : Failure) → f ≡ memory → (w : Written) → IsPrinted dir (failed f) w → IsPrinted other (failed memory) w

@@ -21,7 +21,7 @@ returns-in-Call-clause-over g c = λ d is.
     (sym (ap work_view c.in-Call.is) ∙ is)
 
 pub returns-in-Call-clause-worlds : goal.returns-in-Call-clause-worlds
-returns-in-Call-clause-worlds g c = λ clean world told d is.
+returns-in-Call-clause-worlds g c = λ clean world reported d is.
     let console : Console = record {
       input = change_of g.R.Read.remaining c.args.input.now c.call_over.new.input;
       written = record {
@@ -32,7 +32,7 @@ returns-in-Call-clause-worlds g c = λ clean world told d is.
     } in
     let caller = c.in-Call.caller.now in
     called caller (asks (asked_view c.in-Call.task.now)) (λ x. DoesIn c.args.config world x console)
-    (λ ask also. asked_in g.S.Store clean c.args.config c.args.tables world told ask caller console.input console.written (c.call_over.ensures.answer ask also)) d
+    (λ ask also. asked_in g.S.Store clean c.args.config c.args.tables world reported ask caller console.input console.written (c.call_over.ensures.answer ask also)) d
     (sym (ap work_view c.in-Call.is) ∙ is)
 
 pub returns-in-Serve-clause-over : goal.returns-in-Serve-clause-over
@@ -48,7 +48,7 @@ returns-in-Serve-clause-over g c = λ d is.
     only (serves c.in-Serve.arguments) d (λ x. DoesOver g.S.Store c.args.config c.args.tables x console) (sym (ap work_view c.in-Serve.is) ∙ is) c.serve_over.ensures.served
 
 pub returns-in-Serve-clause-worlds : goal.returns-in-Serve-clause-worlds
-returns-in-Serve-clause-worlds g c = λ clean world told d is.
+returns-in-Serve-clause-worlds g c = λ clean world reported d is.
     let console : Console = record {
       input = change_of g.R.Read.remaining c.args.input.now c.serve_over.new.input;
       written = record {
@@ -57,4 +57,4 @@ returns-in-Serve-clause-worlds g c = λ clean world told d is.
         status = c.serve_over.result;
       };
     } in
-    only (serves c.in-Serve.arguments) d (λ x. DoesIn c.args.config world x console) (sym (ap work_view c.in-Serve.is) ∙ is) (c.serve_over.ensures.worlds clean world told)
+    only (serves c.in-Serve.arguments) d (λ x. DoesIn c.args.config world x console) (sym (ap work_view c.in-Serve.is) ∙ is) (c.serve_over.ensures.worlds clean world reported)

@@ -16,4 +16,4 @@ pub returns-in-Err-clause-served : goal.returns-in-Err-clause-served
 returns-in-Err-clause-served g c = inr (c.from.ensures, refl, Keeps-refl _)
 
 pub returns-in-Err-clause-worlds : goal.returns-in-Err-clause-worlds
-returns-in-Err-clause-worlds g c = λ w told. (w, told, λ clean. inr (c.from.ensures, refl, Keeps-refl _))
+returns-in-Err-clause-worlds g c = λ w reported. (w, reported, λ clean. inr (c.from.ensures, refl, Keeps-refl _))

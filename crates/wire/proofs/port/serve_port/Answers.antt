@@ -2,7 +2,7 @@ use Rattle.wire.proofs.Seen.{port_from, port_some, port_steps}
 use Rattle.wire.proofs.port.serve_port.Goals as goal
 
 pub returns-clause-worlds : goal.returns-clause-worlds
-returns-clause-worlds g c = λ clean w told. port_from g.S.Store (record { tables = c.args.tables; settings = c.args.config }) c.args.connections _ _ _ c.serve.ensures clean w told
+returns-clause-worlds g c = λ clean w reported. port_from g.S.Store (record { tables = c.args.tables; settings = c.args.config }) c.args.connections _ _ _ c.serve.ensures clean w reported
 
 pub returns-clause-steps : goal.returns-clause-steps
 returns-clause-steps g c = port_steps g.S.Store (record { tables = c.args.tables; settings = c.args.config }) c.args.connections _ _ _ c.serve.ensures

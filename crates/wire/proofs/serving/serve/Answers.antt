@@ -17,7 +17,7 @@ pub returns-in-Err-clause-served : goal.returns-in-Err-clause-served
 returns-in-Err-clause-served g c = unserved (Answers g.S.Store) _ _ c.args.store.now
 
 pub returns-in-Err-clause-worlds : goal.returns-in-Err-clause-worlds
-returns-in-Err-clause-worlds g c = λ w told. (w, told, λ clean. unserved (AnswersFrom c.args.store.now.settings) _ _ w)
+returns-in-Err-clause-worlds g c = λ w reported. (w, reported, λ clean. unserved (AnswersFrom c.args.store.now.settings) _ _ w)
 
 pub returns-in-Err-clause-replies : goal.returns-in-Err-clause-replies
 returns-in-Err-clause-replies g c = unserved (AnswersSome c.args.store.now.settings) _ _ tt

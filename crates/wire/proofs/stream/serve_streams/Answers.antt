@@ -2,7 +2,7 @@ use Rattle.wire.proofs.Seen.{streams_from, streams_some, streams_steps}
 use Rattle.wire.proofs.stream.serve_streams.Goals as goal
 
 pub returns-clause-worlds : goal.returns-clause-worlds
-returns-clause-worlds g c = λ clean w told. streams_from g.S.Store (record { tables = c.args.tables; settings = c.args.config }) _ _ _ _ _ _ c.serve.ensures clean w told
+returns-clause-worlds g c = λ clean w reported. streams_from g.S.Store (record { tables = c.args.tables; settings = c.args.config }) _ _ _ _ _ _ c.serve.ensures clean w reported
 
 pub returns-clause-steps : goal.returns-clause-steps
 returns-clause-steps g c = streams_steps g.S.Store (record { tables = c.args.tables; settings = c.args.config }) _ _ _ _ _ _ c.serve.ensures

@@ -7,7 +7,7 @@ use Rattle.wire_messages.proofs.receive.find_head.Goals as goal
 -- src/receive.rt:70:5
 pub head-init : goal.head-init
 head-init g c = record {
-  took = record { bytes = _; taken = Consumes-nil _; kept = sym (append-nil _) };
+  took = record { bytes = _; consumed = Consumes-nil _; kept = sym (append-nil _) };
   none = none_in_nothing;
   begun = refl;
   within = omega arith;
@@ -19,4 +19,4 @@ head-init g c = record {
 pub returns-in-Err : goal.returns-in-Err
 returns-in-Err g c =
     let took = c.head.invariant.took in
-    ((_, Consumes-trans _ _ _ _ _ took.taken c.read_more.ensures.taken.1, tt), tt, λ e. let same : c.within.result ≡ Silent = cc in absurd (c.within.ensures same))
+    ((_, Consumes-trans _ _ _ _ _ took.consumed c.read_more.ensures.consumed.1, tt), tt, λ e. let same : c.within.result ≡ Silent = cc in absurd (c.within.ensures same))

@@ -6,8 +6,8 @@ use Rattle.wire_requests.proofs.adds.add_source.Goals as goal
 
 pub returns-in-Err-BadBodyHead : goal.returns-in-Err-BadBodyHead
 returns-in-Err-BadBodyHead c = λ target.
-    let told : c.named_prefix.result ≡ Err BadBodyHead = c.in-Err-BadBodyHead.is ∙ ap (λ e. Err e) c.in-Err-BadBodyHead.field-0-is in
-    (refl, λ q is. c.named_prefix.ensures.bad told is.0 is.1 (subst (λ body. IsNamedBody c.args.dir.now body is.0 is.1) (sym c.in-Ok.ensures) is.2))
+    let reported : c.named_prefix.result ≡ Err BadBodyHead = c.in-Err-BadBodyHead.is ∙ ap (λ e. Err e) c.in-Err-BadBodyHead.field-0-is in
+    (refl, λ q is. c.named_prefix.ensures.bad reported is.0 is.1 (subst (λ body. IsNamedBody c.args.dir.now body is.0 is.1) (sym c.in-Ok.ensures) is.2))
 
 pub returns-in-Ok-named_prefix : goal.returns-in-Ok-named_prefix
 returns-in-Ok-named_prefix c = λ target.

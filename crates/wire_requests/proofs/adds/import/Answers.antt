@@ -4,8 +4,8 @@ use Rattle.wire_requests.proofs.adds.import.Goals as goal
 
 pub returns-in-Err-BadBodyHead : goal.returns-in-Err-BadBodyHead
 returns-in-Err-BadBodyHead c = λ target.
-    let told : c.read_import.result ≡ Err BadBodyHead = c.in-Err-BadBodyHead.is ∙ ap (λ e. Err e) c.in-Err-BadBodyHead.field-0-is in
-    (refl, λ q is. c.read_import.ensures.bad told is.0 is.1 is.2)
+    let reported : c.read_import.result ≡ Err BadBodyHead = c.in-Err-BadBodyHead.is ∙ ap (λ e. Err e) c.in-Err-BadBodyHead.field-0-is in
+    (refl, λ q is. c.read_import.ensures.bad reported is.0 is.1 is.2)
 
 pub returns-in-Ok : goal.returns-in-Ok
 returns-in-Ok c = λ target. c.in-Ok.ensures.ok

@@ -12,6 +12,6 @@ returns-in-Ok-clause-ok c =
 
 pub returns-in-Err-BadBodyHead-clause-bad : goal.returns-in-Err-BadBodyHead-clause-bad
 returns-in-Err-BadBodyHead-clause-bad c = λ same head nar is.
-    let told : c.import_body.result ≡ Err BadBodyHead = c.in-Err-BadBodyHead.is ∙ ap (λ e. Err e) c.in-Err-BadBodyHead.field-0-is in
+    let reported : c.import_body.result ≡ Err BadBodyHead = c.in-Err-BadBodyHead.is ∙ ap (λ e. Err e) c.in-Err-BadBodyHead.field-0-is in
     let front = subst (λ front. IsImportBody c.args.dir.now front head []) (sym c.front.ensures) (import_prefix c.args.dir.now c.args.body.now head nar is) in
-    c.import_body.ensures.bad told head [] front
+    c.import_body.ensures.bad reported head [] front

@@ -13,5 +13,5 @@ returns-in-Ok-import_prefix-clause-ok c =
 
 pub returns-in-Err-BadBodyHead-clause-bad : goal.returns-in-Err-BadBodyHead-clause-bad
 returns-in-Err-BadBodyHead-clause-bad c = λ same head nar is.
-    let told : c.import_prefix.result ≡ Err BadBodyHead = c.in-Err-BadBodyHead.is ∙ ap (λ e. Err e) c.in-Err-BadBodyHead.field-0-is in
-    c.import_prefix.ensures.bad told head nar (subst (λ body. IsImportBody c.args.dir.now body head nar) (sym c.in-Ok.ensures) is)
+    let reported : c.import_prefix.result ≡ Err BadBodyHead = c.in-Err-BadBodyHead.is ∙ ap (λ e. Err e) c.in-Err-BadBodyHead.field-0-is in
+    c.import_prefix.ensures.bad reported head nar (subst (λ body. IsImportBody c.args.dir.now body head nar) (sym c.in-Ok.ensures) is)

@@ -15,6 +15,6 @@ pub returns-in-Err-BadBodyHead-clause-bad : goal.returns-in-Err-BadBodyHead-clau
 returns-in-Err-BadBodyHead-clause-bad c = λ same all left head nar is.
     let some : 0 < length c.lines-lines.result.now = search rules in
     let lines = read_of_left c.lines-lines.result.now c.args.body.now all c.lines-lines.ensures some left in
-    let told : c.import_body.result ≡ Err BadBodyHead = c.in-Err-BadBodyHead.is ∙ ap (λ e. Err e) c.in-Err-BadBodyHead.field-0-is in
+    let reported : c.import_body.result ≡ Err BadBodyHead = c.in-Err-BadBodyHead.is ∙ ap (λ e. Err e) c.in-Err-BadBodyHead.field-0-is in
     let front = subst (λ front. IsImportBody c.args.dir.now front head []) (sym lines) (import_prefix c.args.dir.now all head nar is) in
-    c.import_body.ensures.bad told head [] front
+    c.import_body.ensures.bad reported head [] front

@@ -4,5 +4,5 @@ use Rattle.wire_requests.proofs.sweeps.replace_runtime.Goals as goal
 
 pub returns-in-Err-BadBodyHead : goal.returns-in-Err-BadBodyHead
 returns-in-Err-BadBodyHead c = λ target.
-    let told : c.runtime_body.result ≡ Err BadBodyHead = c.in-Err-BadBodyHead.is ∙ ap (λ e. Err e) c.in-Err-BadBodyHead.field-0-is in
-    (refl, λ q is. c.runtime_body.ensures.bad told is.0 is.1)
+    let reported : c.runtime_body.result ≡ Err BadBodyHead = c.in-Err-BadBodyHead.is ∙ ap (λ e. Err e) c.in-Err-BadBodyHead.field-0-is in
+    (refl, λ q is. c.runtime_body.ensures.bad reported is.0 is.1)

@@ -32,8 +32,8 @@ returns-in-Err g c =
 -- src/connections.rt:27:5
 pub connections-preserved : goal.connections-preserved
 connections-preserved g c =
-    let taken = takes_more _ _ _ (g.L.Input.Read.remaining c.in-Ok.input ∷ []) [] c.in-Ok.ensures.taken c.close.ensures.taken in
+    let accepted = takes_more _ _ _ (g.L.Input.Read.remaining c.in-Ok.input ∷ []) [] c.in-Ok.ensures.accepted c.close.ensures.accepted in
     let left = leaves_more _ _ _ [] (g.L.Output.Write.contents c.serve_peer-close.new.output ∷ []) c.in-Ok.ensures.left c.close.ensures.left in
-    let more = sofar_more g.A.Responder.answers _ _ _ _ _ _ _ _ _ _ c.connections.invariant _ _ _ _ _ _ _ c.serve_peer-close.result taken left c.in-Ok.ensures.fresh
+    let more = sofar_more g.A.Responder.answers _ _ _ _ _ _ _ _ _ _ c.connections.invariant _ _ _ _ _ _ _ c.serve_peer-close.result accepted left c.in-Ok.ensures.fresh
     c.serve_peer-close.ensures.served c.serve_peer-close.ensures.said in
     rw c.failures-failed.ensures more

@@ -10,10 +10,10 @@ returns-in-Ok-Kept-clause-came g c =
     let is = c.requires.head in
     let begun = (rw c.in-Accepted.is at c.requires.begun) is.0 is.1 in
     let got = c.in-Ok-Kept.ensures.came in
-    let told = ap Ok c.in-Ok-Kept.field-0-is in
-    let whole = got.came.whole (ap has_come told) in
+    let reported = ap Ok c.in-Ok-Kept.field-0-is in
+    let whole = got.came.whole (ap has_come reported) in
     let body = kept_all (g.A.Body.Keeper.kept c.in-Accepted.body) (g.A.Body.Keeper.kept c.receive_body.new.body) (body_in (c.args.held.now ++ got.came.read) c.args.head c.args.size)
-    begun.1 (got.kept_all told) in (
+    begun.1 (got.kept_all reported) in (
       got.came.read,
       got.came.consumed,
       whole_arrives c.args.held.now got.came.read c.args.head c.args.size is g.A.Responder.answers g.A.Responder.decides g.A.Body.Keeper.kept g.A.Body.Keeper.may_be c.args.state.now
@@ -25,10 +25,10 @@ returns-in-Ok-Lost-clause-came g c =
     let is = c.requires.head in
     let begun = (rw c.in-Accepted.is at c.requires.begun) is.0 is.1 in
     let got = c.in-Ok-Lost.ensures.came in
-    let told = ap Ok c.in-Ok-Lost.field-0-is in
-    let whole = got.came.whole (ap has_come told) in
+    let reported = ap Ok c.in-Ok-Lost.field-0-is in
+    let whole = got.came.whole (ap has_come reported) in
     let body = of_nothing (g.A.Body.Keeper.may_be c.receive_body.new.body) (g.A.Body.Keeper.kept c.in-Accepted.body) (body_in (c.args.held.now ++ got.came.read) c.args.head c.args.size)
-    begun.1 (got.lost told) in (
+    begun.1 (got.lost reported) in (
       got.came.read,
       got.came.consumed,
       whole_arrives c.args.held.now got.came.read c.args.head c.args.size is g.A.Responder.answers g.A.Responder.decides g.A.Body.Keeper.kept g.A.Body.Keeper.may_be c.args.state.now

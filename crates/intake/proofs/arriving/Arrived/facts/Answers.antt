@@ -2,4 +2,4 @@ use Rattle.intake.proofs.Plain.{facts_are}
 use Rattle.intake.proofs.arriving.Arrived.facts.Goals as goal
 
 pub returns : goal.returns
-returns c = λ told. facts_are c.args.self.now.pieces _ _ _ told.hash c.len.ensures (c.plain_hash.ensures told.bytes told.fault told.contents)
+returns c = λ reported. facts_are c.args.self.now.pieces _ _ _ reported.hash c.len.ensures (c.plain_hash.ensures reported.bytes reported.fault reported.contents)

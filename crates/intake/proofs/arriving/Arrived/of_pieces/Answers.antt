@@ -15,8 +15,8 @@ held-preserved c =
       hashed = subst (Holds256 c.update.new.self) next (c.update.ensures before c.held.invariant.hashed);
     }
 
-pub returns-clause-told : goal.returns-clause-told
-returns-clause-told c =
+pub returns-clause-reported : goal.returns-clause-reported
+returns-clause-reported c =
     let bytes = c.args.pieces in
     let last : c.held.i ≡ c.count-i-end.result = omega arith in
     let all : take (65536 * c.held.i) bytes ≡ bytes = ap (λ n. take (65536 * n) bytes) (last ∙ c.count-i-end.ensures) ∙ all_pieces bytes in

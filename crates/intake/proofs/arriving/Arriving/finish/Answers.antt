@@ -5,8 +5,8 @@ use Rattle.intake.specs.Contents.{contents_so_far}
 use Rattle.intake.proofs.Hashing.{of_all}
 use Rattle.intake.proofs.arriving.Arriving.finish.Goals as goal
 
-pub returns-clause-told : goal.returns-clause-told
-returns-clause-told c =
+pub returns-clause-reported : goal.returns-clause-reported
+returns-clause-reported c =
     let bytes = c.self.inside.pieces in
     let has = c.self.invariant in
     let before = subst (λ n. Holds256 c.self.inside.hasher (take (65536 * (n / 65536)) bytes)) (sym c.len-whole.ensures) has.hashed in

@@ -5,7 +5,7 @@ use Rattle.nar.proofs.checking.Checker.take.Given as goal
 
 abbrev pub invariant-pieces : goal.invariant-pieces
 invariant-pieces l = record {
-  stands : (all : List ℕ) → IsBytes all → HasReadBefore l.fn.self.progress l.fn.piece all → HasReadBefore l.self.progress l.rest all;
+  has_read : (all : List ℕ) → IsBytes all → HasReadBefore l.fn.self.progress l.fn.piece all → HasReadBefore l.self.progress l.rest all;
   failed : l.self.failed ≡ l.fn.self.failed;
 }
 

@@ -12,20 +12,20 @@ use Rattle.store.proofs.Spent.{is_no_deletion, same_view, spent_denied, spent_fa
 use Rattle.store.proofs.calling.Store.call.Goals as goal
 
 pub act-requires : goal.act-requires
-act-requires g c w t = (c.in-None.ensures.told w t).1
+act-requires g c w t = (c.in-None.ensures.reported w t).1
 
 pub returns-in-Some-clause-step : goal.returns-in-Some-clause-step
 returns-in-Some-clause-step g c =
-    step_forbidden g.S.Store c.args.self.now.settings c.args.caller.now (request_view c.args.request) (reply_view c.in-Some.forbidden) c.args.self.now.tables c.in-Some.ensures.told
+    step_forbidden g.S.Store c.args.self.now.settings c.args.caller.now (request_view c.args.request) (reply_view c.in-Some.forbidden) c.args.self.now.tables c.in-Some.ensures.reported
 
 pub returns-in-None-clause-step : goal.returns-in-None-clause-step
 returns-in-None-clause-step g c =
     step_met g.S.Store c.args.self.now.settings c.args.caller.now (request_view c.args.request) c.act.result (reply_view c.reply.result) c.args.self.now.tables c.act.new.self.tables
-    c.in-None.ensures.told c.reply.ensures c.act.ensures.met
+    c.in-None.ensures.reported c.reply.ensures c.act.ensures.met
 
 pub returns-in-Some-clause-cause : goal.returns-in-Some-clause-cause
 returns-in-Some-clause-cause g c w t =
-    cause_forbidden g.S.Store c.args.self.now.settings c.args.caller.now (request_view c.args.request) c.args.self.now.tables (reply_view c.in-Some.forbidden) w (c.in-Some.ensures.told w t)
+    cause_forbidden g.S.Store c.args.self.now.settings c.args.caller.now (request_view c.args.request) c.args.self.now.tables (reply_view c.in-Some.forbidden) w (c.in-Some.ensures.reported w t)
 
 pub returns-in-None-clause-cause : goal.returns-in-None-clause-cause
 returns-in-None-clause-cause g c w t =
@@ -46,7 +46,7 @@ returns-in-None-clause-spent g c lost =
 
 pub returns-in-None-clause-survives : goal.returns-in-None-clause-survives
 returns-in-None-clause-survives g c =
-    survives_met g.S.Store c.args.self.now.settings c.args.caller.now (request_view c.args.request) c.act.result c.args.self.now.tables c.act.new.self.tables c.in-None.ensures.told c.act.ensures.met
+    survives_met g.S.Store c.args.self.now.settings c.args.caller.now (request_view c.args.request) c.act.result c.args.self.now.tables c.act.new.self.tables c.in-None.ensures.reported c.act.ensures.met
 
 pub returns-in-Some-clause-others : goal.returns-in-Some-clause-others
 returns-in-Some-clause-others g c = others_still g.S.Store c.args.self.now.tables

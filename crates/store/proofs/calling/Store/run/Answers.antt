@@ -32,7 +32,7 @@ pub loop-asked-preserved : goal.loop-asked-preserved
 loop-asked-preserved g c =
     let first = c.in-Some.ensures.steps.0 in
     let s = c.args.self.now.settings in
-    let told = map reply_view c.loop-asked.replies.items in
+    let reported = map reply_view c.loop-asked.replies.items in
     let reply = reply_view c.call-reply.result in record {
       settings = c.call-reply.ensures.settings ∙ c.loop-asked.invariant.settings;
       room = omega (arith, c.loop-asked.invariant.room, ap length first, c.push_reserved.ensures.len, c.push_reserved.ensures.capacity);
@@ -43,10 +43,10 @@ loop-asked-preserved g c =
           let is = HasCleanDisk (state g.S.Store c.call-reply.new.self.tables.connection) in
           let clean : is → was = λ h. clean_before _ _ _ (c.call-reply.ensures.survives m.0 m.2) h in
           let step = subst (λ (x : Settings). StepOver is x m.0 c.in-Some.asked.0 (request_view c.in-Some.asked.1) reply n.0) c.loop-asked.invariant.settings n.1 in
-          let grown : map reply_view c.push_reserved.new.self.items ≡ told ++ reply ∷ [] = ap (map reply_view) c.push_reserved.ensures.items ∙ map_push reply_view c.loop-asked.replies.items c.call-reply.result in (
+          let grown : map reply_view c.push_reserved.new.self.items ≡ reported ++ reply ∷ [] = ap (map reply_view) c.push_reserved.ensures.items ∙ map_push reply_view c.loop-asked.replies.items c.call-reply.result in (
             n.0,
             subst (λ (rs : List Reply). HasRun is s (map call_view c.args.calls.items) (map call_view c.next.new.self.rest.items) rs w n.0) (sym grown)
-                (one_more s (map call_view c.args.calls.items) was is clean w m.0 n.0 (map call_view c.loop-asked.asked-iterator.rest.items) (map call_view c.next.new.self.rest.items) (call_view c.in-Some.asked) told reply
+                (one_more s (map call_view c.args.calls.items) was is clean w m.0 n.0 (map call_view c.loop-asked.asked-iterator.rest.items) (map call_view c.next.new.self.rest.items) (call_view c.in-Some.asked) reported reply
                 (ap (map call_view) first) m.1 step),
             n.2,
           );
@@ -54,9 +54,9 @@ loop-asked-preserved g c =
           let m = c.loop-asked.invariant.so_far w t in
           others_both g.S.Store c.args.self.now.tables c.loop-asked.self.tables c.call-reply.new.self.tables _ (c.loop-asked.invariant.others w t) (c.call-reply.ensures.survives m.0 m.2) c.call-reply.ensures.others;
       spent =
-          let grown : map reply_view c.push_reserved.new.self.items ≡ told ++ reply ∷ [] = ap (map reply_view) c.push_reserved.ensures.items ∙ map_push reply_view c.loop-asked.replies.items c.call-reply.result in
+          let grown : map reply_view c.push_reserved.new.self.items ≡ reported ++ reply ∷ [] = ap (map reply_view) c.push_reserved.ensures.items ∙ map_push reply_view c.loop-asked.replies.items c.call-reply.result in
           subst (λ (rs : List Reply). SpentSoFar s c.args.calls.items c.next.new.self.rest.items rs) (sym grown)
-          (one_so_far s c.args.calls.items c.loop-asked.asked-iterator.rest.items c.next.new.self.rest.items c.in-Some.asked told reply first c.loop-asked.invariant.spent
+          (one_so_far s c.args.calls.items c.loop-asked.asked-iterator.rest.items c.next.new.self.rest.items c.in-Some.asked reported reply first c.loop-asked.invariant.spent
           (λ lost. subst (λ (x : Settings). reply ≡ spent_reply x c.in-Some.asked.0 (request_view c.in-Some.asked.1)) c.loop-asked.invariant.settings (c.call-reply.ensures.spent lost).0));
     }
 
@@ -64,7 +64,7 @@ pub loop-asked-preserved-in-Some : goal.loop-asked-preserved-in-Some
 loop-asked-preserved-in-Some g c =
     let first = c.in-Some.ensures.steps.0 in
     let s = c.args.self.now.settings in
-    let told = map reply_view c.loop-asked.replies.items in
+    let reported = map reply_view c.loop-asked.replies.items in
     let reply = reply_view c.call-reply.result in record {
       settings = c.call-reply.ensures.settings ∙ c.loop-asked.invariant.settings;
       room = omega (arith, c.loop-asked.invariant.room, ap length first, c.push_reserved.ensures.len, c.push_reserved.ensures.capacity);
@@ -75,10 +75,10 @@ loop-asked-preserved-in-Some g c =
           let is = HasCleanDisk (state g.S.Store c.call-reply.new.self.tables.connection) in
           let clean : is → was = λ h. clean_before _ _ _ (c.call-reply.ensures.survives m.0 m.2) h in
           let step = subst (λ (x : Settings). StepOver is x m.0 c.in-Some.asked.0 (request_view c.in-Some.asked.1) reply n.0) c.loop-asked.invariant.settings n.1 in
-          let grown : map reply_view c.push_reserved.new.self.items ≡ told ++ reply ∷ [] = ap (map reply_view) c.push_reserved.ensures.items ∙ map_push reply_view c.loop-asked.replies.items c.call-reply.result in (
+          let grown : map reply_view c.push_reserved.new.self.items ≡ reported ++ reply ∷ [] = ap (map reply_view) c.push_reserved.ensures.items ∙ map_push reply_view c.loop-asked.replies.items c.call-reply.result in (
             n.0,
             subst (λ (rs : List Reply). HasRun is s (map call_view c.args.calls.items) (map call_view c.next.new.self.rest.items) rs w n.0) (sym grown)
-                (one_more s (map call_view c.args.calls.items) was is clean w m.0 n.0 (map call_view c.loop-asked.asked-iterator.rest.items) (map call_view c.next.new.self.rest.items) (call_view c.in-Some.asked) told reply
+                (one_more s (map call_view c.args.calls.items) was is clean w m.0 n.0 (map call_view c.loop-asked.asked-iterator.rest.items) (map call_view c.next.new.self.rest.items) (call_view c.in-Some.asked) reported reply
                 (ap (map call_view) first) m.1 step),
             n.2,
           );
@@ -86,9 +86,9 @@ loop-asked-preserved-in-Some g c =
           let m = c.loop-asked.invariant.so_far w t in
           others_both g.S.Store c.args.self.now.tables c.loop-asked.self.tables c.call-reply.new.self.tables _ (c.loop-asked.invariant.others w t) (c.call-reply.ensures.survives m.0 m.2) c.call-reply.ensures.others;
       spent =
-          let grown : map reply_view c.push_reserved.new.self.items ≡ told ++ reply ∷ [] = ap (map reply_view) c.push_reserved.ensures.items ∙ map_push reply_view c.loop-asked.replies.items c.call-reply.result in
+          let grown : map reply_view c.push_reserved.new.self.items ≡ reported ++ reply ∷ [] = ap (map reply_view) c.push_reserved.ensures.items ∙ map_push reply_view c.loop-asked.replies.items c.call-reply.result in
           subst (λ (rs : List Reply). SpentSoFar s c.args.calls.items c.next.new.self.rest.items rs) (sym grown)
-          (one_so_far s c.args.calls.items c.loop-asked.asked-iterator.rest.items c.next.new.self.rest.items c.in-Some.asked told reply first c.loop-asked.invariant.spent
+          (one_so_far s c.args.calls.items c.loop-asked.asked-iterator.rest.items c.next.new.self.rest.items c.in-Some.asked reported reply first c.loop-asked.invariant.spent
           (λ lost. subst (λ (x : Settings). reply ≡ spent_reply x c.in-Some.asked.0 (request_view c.in-Some.asked.1)) c.loop-asked.invariant.settings (c.call-reply.ensures.spent lost).0));
     }
 

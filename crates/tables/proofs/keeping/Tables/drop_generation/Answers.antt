@@ -17,28 +17,28 @@ pub invariant_of-self : goal.invariant_of-self
 invariant_of-self g c =
     let owned : Pair = (c.args.owner.now, c.args.name.now) in
     write_agrees g.S.Store (profile_write owned (λ p. without_generation p c.args.number) (λ (x : Contents). record x { generations = finite.retain_keys x.generations (λ k. not (eq_by_cmp bytes_cmp k.0 owned.0 && (eq_by_cmp bytes_cmp k.1 owned.1 && eq_by_cmp int_cmp k.2 (pos c.args.number)))) }) g.S.Store _ c.args.self.now c.self.view_is c.self.invariant c.requires.sound
-    (λ clean is_open. drop_follows _ _ (c.self.invariant.rows clean is_open).sound owned c.args.number (ap (λ (o : OutlineValue). finite.contains_key o.profiles owned) (c.self.invariant.rows clean is_open).same ∙ ap (λ (n : Kept _). finite.contains_key n.outline.profiles owned) c.self.view_is ∙ c.requires.there))) c.commit.new.conn c.drop_generation.new.self _ (c.in-Ok.ensures.frame)
+    (λ clean is_open. drop_follows _ _ (c.self.invariant.rows clean is_open).sound owned c.args.number (ap (λ (o : OutlineValue). finite.contains_key o.profiles owned) (c.self.invariant.rows clean is_open).same ∙ ap (λ (n : Kept _). finite.contains_key n.outline.profiles owned) c.self.view_is ∙ c.requires.present))) c.commit.new.conn c.drop_generation.new.self _ (c.in-Ok.ensures.frame)
     (c.drop_generation.ensures ∙ ap (λ (k : Pair). with_profile c.self.inside.outline k (without_generation (profile_of c.self.inside.outline k) c.args.number)) c.in_ok-key.ensures)
 
 pub invariant_of-self-in-Err : goal.invariant_of-self-in-Err
 invariant_of-self-in-Err g c =
     let owned : Pair = (c.args.owner.now, c.args.name.now) in
     failure_agrees g.S.Store (profile_write owned (λ p. without_generation p c.args.number) (λ (x : Contents). record x { generations = finite.retain_keys x.generations (λ k. not (eq_by_cmp bytes_cmp k.0 owned.0 && (eq_by_cmp bytes_cmp k.1 owned.1 && eq_by_cmp int_cmp k.2 (pos c.args.number)))) }) g.S.Store _ c.args.self.now c.self.view_is c.self.invariant c.requires.sound
-    (λ clean is_open. drop_follows _ _ (c.self.invariant.rows clean is_open).sound owned c.args.number (ap (λ (o : OutlineValue). finite.contains_key o.profiles owned) (c.self.invariant.rows clean is_open).same ∙ ap (λ (n : Kept _). finite.contains_key n.outline.profiles owned) c.self.view_is ∙ c.requires.there))) c.commit.new.conn c.self.inside.outline _ (c.in-Err.ensures.frame)
+    (λ clean is_open. drop_follows _ _ (c.self.invariant.rows clean is_open).sound owned c.args.number (ap (λ (o : OutlineValue). finite.contains_key o.profiles owned) (c.self.invariant.rows clean is_open).same ∙ ap (λ (n : Kept _). finite.contains_key n.outline.profiles owned) c.self.view_is ∙ c.requires.present))) c.commit.new.conn c.self.inside.outline _ (c.in-Err.ensures.frame)
     (refl)
 
 pub returns-in-Ok-clause-frame : goal.returns-in-Ok-clause-frame
 returns-in-Ok-clause-frame g c =
     let owned : Pair = (c.args.owner.now, c.args.name.now) in
     write_commits g.S.Store (profile_write owned (λ p. without_generation p c.args.number) (λ (x : Contents). record x { generations = finite.retain_keys x.generations (λ k. not (eq_by_cmp bytes_cmp k.0 owned.0 && (eq_by_cmp bytes_cmp k.1 owned.1 && eq_by_cmp int_cmp k.2 (pos c.args.number)))) }) g.S.Store _ c.args.self.now c.self.view_is c.self.invariant c.requires.sound
-    (λ clean is_open. drop_follows _ _ (c.self.invariant.rows clean is_open).sound owned c.args.number (ap (λ (o : OutlineValue). finite.contains_key o.profiles owned) (c.self.invariant.rows clean is_open).same ∙ ap (λ (n : Kept _). finite.contains_key n.outline.profiles owned) c.self.view_is ∙ c.requires.there))) c.commit.new.conn c.drop_generation.new.self _ (c.in-Ok.ensures.frame)
+    (λ clean is_open. drop_follows _ _ (c.self.invariant.rows clean is_open).sound owned c.args.number (ap (λ (o : OutlineValue). finite.contains_key o.profiles owned) (c.self.invariant.rows clean is_open).same ∙ ap (λ (n : Kept _). finite.contains_key n.outline.profiles owned) c.self.view_is ∙ c.requires.present))) c.commit.new.conn c.drop_generation.new.self _ (c.in-Ok.ensures.frame)
     (c.drop_generation.ensures ∙ ap (λ (k : Pair). with_profile c.self.inside.outline k (without_generation (profile_of c.self.inside.outline k) c.args.number)) c.in_ok-key.ensures) _
 
 pub returns-clause-frame : goal.returns-clause-frame
 returns-clause-frame g c =
     let owned : Pair = (c.args.owner.now, c.args.name.now) in
     write_fails g.S.Store (profile_write owned (λ p. without_generation p c.args.number) (λ (x : Contents). record x { generations = finite.retain_keys x.generations (λ k. not (eq_by_cmp bytes_cmp k.0 owned.0 && (eq_by_cmp bytes_cmp k.1 owned.1 && eq_by_cmp int_cmp k.2 (pos c.args.number)))) }) g.S.Store _ c.args.self.now c.self.view_is c.self.invariant c.requires.sound
-    (λ clean is_open. drop_follows _ _ (c.self.invariant.rows clean is_open).sound owned c.args.number (ap (λ (o : OutlineValue). finite.contains_key o.profiles owned) (c.self.invariant.rows clean is_open).same ∙ ap (λ (n : Kept _). finite.contains_key n.outline.profiles owned) c.self.view_is ∙ c.requires.there))) c.commit.new.conn c.self.inside.outline _ (c.in-Err.ensures.frame)
+    (λ clean is_open. drop_follows _ _ (c.self.invariant.rows clean is_open).sound owned c.args.number (ap (λ (o : OutlineValue). finite.contains_key o.profiles owned) (c.self.invariant.rows clean is_open).same ∙ ap (λ (n : Kept _). finite.contains_key n.outline.profiles owned) c.self.view_is ∙ c.requires.present))) c.commit.new.conn c.self.inside.outline _ (c.in-Err.ensures.frame)
     (refl) _
 
 pub returns-clause-cause : goal.returns-clause-cause
@@ -47,4 +47,4 @@ returns-clause-cause g c =
 
 pub drop_generation-requires : goal.drop_generation-requires
 drop_generation-requires g c =
-    ap (λ (k : Pair). finite.contains_key c.self.inside.outline.profiles k) c.in_ok-key.ensures ∙ ap (λ (n : Kept _). finite.contains_key n.outline.profiles (c.args.owner.now, c.args.name.now)) c.self.view_is ∙ c.requires.there
+    ap (λ (k : Pair). finite.contains_key c.self.inside.outline.profiles k) c.in_ok-key.ensures ∙ ap (λ (n : Kept _). finite.contains_key n.outline.profiles (c.args.owner.now, c.args.name.now)) c.self.view_is ∙ c.requires.present

@@ -7,10 +7,10 @@ use Rattle.tables.specs.Frames.{CommitsChange, StaysSound, FailsToChange}
 use Rattle.tables.specs.RowsPut.{NumberedRows}
 use Rattle.tables.proofs.keeping.Tables.put_profile.Goals as goal
 
-pub switch_generation-requires-clause-there : goal.switch_generation-requires-clause-there
-switch_generation-requires-clause-there g c =
+pub switch_generation-requires-clause-present : goal.switch_generation-requires-clause-present
+switch_generation-requires-clause-present g c =
     let owned : Pair = (c.args.owner.now, c.args.name.now) in
-    subst (λ o. IfNone o (IsTrue (finite.contains_key c.args.self.now.outline.profiles owned))) c.in-None.is c.requires.there
+    subst (λ o. IfNone o (IsTrue (finite.contains_key c.args.self.now.outline.profiles owned))) c.in-None.is c.requires.present
 
 pub put_number-requires : goal.put_number-requires
 put_number-requires g c =

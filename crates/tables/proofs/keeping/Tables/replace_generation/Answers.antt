@@ -49,7 +49,7 @@ returns-clause-cause g c =
 
 pub replace_generation-requires : goal.replace_generation-requires
 replace_generation-requires g c =
-    ap₂ (λ (n : Kept _) (k : Pair). has_generation (profile_of n.outline k) c.args.number) c.self.view_is c.in_ok-key.ensures ∙ c.requires.there
+    ap₂ (λ (n : Kept _) (k : Pair). has_generation (profile_of n.outline k) c.args.number) c.self.view_is c.in_ok-key.ensures ∙ c.requires.present
 
 pub switch_generation-requires : goal.switch_generation-requires
 switch_generation-requires g c =

@@ -11,8 +11,8 @@ use Rattle.tables_make.proofs.Reasons.{as_reason, more_reason}
 use Rattle.tables.proofs.SetProfiles.{set_sound, set_commits}
 use Rattle.tables.proofs.keeping.Tables.set_profile.Goals as goal
 
-pub switch_generation-requires-clause-there : goal.switch_generation-requires-clause-there
-switch_generation-requires-clause-there g c =
+pub switch_generation-requires-clause-present : goal.switch_generation-requires-clause-present
+switch_generation-requires-clause-present g c =
     let owned : Pair = (c.args.owner.now, c.args.name.now) in
     there_of (finite.get c.args.self.now.outline.profiles owned) c.args.number (sym (ap₂ (λ (n : Kept _) (k : Pair). has_generation (profile_of n.outline k) c.args.number) c.self.view_is c.in_ok-key.ensures) ∙ sym c.has_generation.ensures ∙ c.if-has_generation.true)
 

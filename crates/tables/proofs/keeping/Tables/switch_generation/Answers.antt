@@ -45,4 +45,4 @@ returns-clause-cause g c =
 
 pub switch_generation-requires : goal.switch_generation-requires
 switch_generation-requires g c =
-    ap (λ (k : Pair). finite.contains_key c.self.inside.outline.profiles k) c.in_ok-key.ensures ∙ ap (λ (n : Kept _). finite.contains_key n.outline.profiles (c.args.owner.now, c.args.name.now)) c.self.view_is ∙ c.requires.there
+    ap (λ (k : Pair). finite.contains_key c.self.inside.outline.profiles k) c.in_ok-key.ensures ∙ ap (λ (n : Kept _). finite.contains_key n.outline.profiles (c.args.owner.now, c.args.name.now)) c.self.view_is ∙ c.requires.present

@@ -96,8 +96,8 @@ put_pieces-requires-clause-is_open g c clean =
     let e = state g.S.Store c.put_outputs.new.tx.conn.now in
     (steps_both a d e _ _ (steps_both a b d _ _ c.in_ok-insert.ensures.done c.put_references.ensures.survives c.in_ok-put_references.ensures.done) c.put_outputs.ensures.survives c.in_ok-put_outputs.ensures.done clean).is_open
 
-pub put_pieces-requires-clause-stands : goal.put_pieces-requires-clause-stands
-put_pieces-requires-clause-stands g c clean =
+pub put_pieces-requires-clause-exists : goal.put_pieces-requires-clause-exists
+put_pieces-requires-clause-exists g c clean =
     let a = state g.S.Store c.args.tx.now.conn.now in
     let b = state g.S.Store c.insert.new.tx.conn.now in
     let d = state g.S.Store c.put_references.new.tx.conn.now in

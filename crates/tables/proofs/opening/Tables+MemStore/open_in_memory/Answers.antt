@@ -19,8 +19,8 @@ invariant_of-result c =
     let made : HasCleanDisk new → IsMade c.in_ok-kept.kept old new = λ clean. subst (λ (d : List ℕ). IsMade d old new) same (c.in_ok-make.ensures.done clean) in
     made_agrees over_memory c.make.new.conn old c.in_ok-kept.kept c.new-outline.result valid c.new-outline.ensures made c.make.ensures.alone
 
-pub returns-clause-told : goal.returns-clause-told
-returns-clause-told c =
+pub returns-clause-reported : goal.returns-clause-reported
+returns-clause-reported c =
     let new = state over_memory c.make.new.conn in
     let old = state over_memory c.in_ok-connection.connection in
     let same : c.as_str.result.now ≡ c.in_ok-kept.kept = c.as_str.ensures.value ∙ sym c.in_ok-kept.ensures.cases in

@@ -11,8 +11,8 @@ use Rattle.tables.proofs.Transactions.{pieces_stand}
 use Rattle.tables_make.proofs.Reasons.{as_reason, next_reason}
 use Rattle.tables.proofs.removal.RemoveObjectsChange.write.Goals as goal
 
-pub delete_object-requires-clause-stands : goal.delete_object-requires-clause-stands
-delete_object-requires-clause-stands g c clean is_open = (c.requires.whole clean is_open).pieces
+pub delete_object-requires-clause-exists : goal.delete_object-requires-clause-exists
+delete_object-requires-clause-exists g c clean is_open = (c.requires.whole clean is_open).pieces
 
 pub delete_objects-requires-clause-under_way : goal.delete_objects-requires-clause-under_way
 delete_objects-requires-clause-under_way g c clean =
@@ -30,8 +30,8 @@ delete_objects-requires-clause-covers g c clean =
     let early : HasCleanDisk (state g.S.Store c.args.tx.now.conn.now) = omega (arith, c.delete_object.ensures.survives.clean, clean) in
     subst (Covers c.args.self.now.outline.now) (sym it.contents) (covers_less c.args.self.now.outline.now c.args.self.now.first.now _ (c.requires.fits early it.was_open))
 
-pub delete_objects-requires-clause-stands : goal.delete_objects-requires-clause-stands
-delete_objects-requires-clause-stands g c clean =
+pub delete_objects-requires-clause-exists : goal.delete_objects-requires-clause-exists
+delete_objects-requires-clause-exists g c clean =
     pieces_stand (state g.S.Store c.args.tx.now.conn.now) (state g.S.Store c.delete_object.new.tx.conn.now) _ c.in_ok-delete_object.ensures.done c.delete_object.ensures.survives (λ early is_open. (c.requires.whole early is_open).pieces) clean
 
 pub returns-clause-same_reference : goal.returns-clause-same_reference

@@ -14,11 +14,11 @@ use Rattle.tables_make.proofs.Reasons.{as_reason, is_none, next_reason, put_reas
 use Rattle.tables.proofs.Transactions.{temp_roots_stand}
 use Rattle.tables.proofs.temporary.PutTemporaryChange.write.Goals as goal
 
-pub delete-requires-clause-stands : goal.delete-requires-clause-stands
-delete-requires-clause-stands g c clean is_open = (c.requires.whole clean is_open).temp_roots
+pub delete-requires-clause-exists : goal.delete-requires-clause-exists
+delete-requires-clause-exists g c clean is_open = (c.requires.whole clean is_open).temp_roots
 
-pub insert-requires-clause-stands : goal.insert-requires-clause-stands
-insert-requires-clause-stands g c clean is_open =
+pub insert-requires-clause-exists : goal.insert-requires-clause-exists
+insert-requires-clause-exists g c clean is_open =
     temp_roots_stand (state g.S.Store c.args.tx.now.conn.now) (state g.S.Store c.delete.new.tx.conn.now) _ c.in_ok-delete.ensures.done c.delete.ensures.frame.survives (λ early up. (c.requires.whole early up).temp_roots) clean
 
 pub insert-requires-clause-under : goal.insert-requires-clause-under

@@ -13,8 +13,8 @@ use Rattle.tables_outline.proofs.Generations.{profile_there, generation_put}
 use Rattle.tables_outline.proofs.outline.Outline.add_generation.Goals as goal
 use Rattle.tables_outline.proofs.outline.Outline.add_generation.Goals.{in-Some+in_ok-put-in-Some, in-None}
 
-pub returns-clause-there : goal.returns-clause-there
-returns-clause-there c =
+pub returns-clause-present : goal.returns-clause-present
+returns-clause-present c =
     let es = c.self.inside.profiles.entries in
     let owned = pair_bytes c.args.owned.now in
     let seen : (b : Bool) → finite.contains_key (seen_map pair_cmp pair_bytes profile_view es) owned ≡ b → b ≡ finite.contains_key c.args.self.now.profiles owned =

@@ -21,15 +21,15 @@ returns-then-not-is_below-clause-refused g c =
       ),
     )
 
-pub returns-clause-taken : goal.returns-clause-taken
-returns-clause-taken g c rows h =
+pub returns-clause-loaded : goal.returns-clause-loaded
+returns-clause-loaded g c rows h =
     let all = c.args.self.now.items in
     let entry = c.in_ok-entry.entry in
     let last : (x : _) → slice_get all (length all - 1) ≡ Some x → true ≡ g.T.Entry.is_below x entry = λ x is. elim c.match-last.branch [
       | in-Some+else-not-is_below w ↦
-          let there = rw (w.in-Some.is, c.deref.ensures.value) at c.last.ensures.value in
-          let same : w.in-Some.last.now ≡ x = let e = there ∙ is in cc in
+          let present = rw (w.in-Some.is, c.deref.ensures.value) at c.last.ensures.value in
+          let same : w.in-Some.last.now ≡ x = let e = present ∙ is in cc in
           subst (λ z. true ≡ g.T.Entry.is_below z entry) same w.if-not-is_below.ensures
-      | in_default w ↦ let there = rw (w.in_default.is, c.deref.ensures.value) at c.last.ensures.value in absurd (let no = there ∙ is in cc)
+      | in_default w ↦ let present = rw (w.in_default.is, c.deref.ensures.value) at c.last.ensures.value in absurd (let no = present ∙ is in cc)
     ] in
     rw c.in_ok-push.ensures.items (zip_push g.T.Entry.is_shown rows all c.args.row.now entry h.0 c.in_ok-entry.ensures.shown, more_adjacent (λ x y. true ≡ g.T.Entry.is_below x y) all entry h.1 last)

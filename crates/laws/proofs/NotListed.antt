@@ -86,14 +86,14 @@ module _ (s : Settings) (w : World) (c : Caller) (label : List ℕ) (free : IsFr
       by false is e = absurd (to_others r m r.kind refl (ap (λ (x : Pair). x.0) e))
 
   among : (p : Path) (a : Answer) (rs : List Root) → a ≡ roots (seen (class_of s c) rs) → ((r : Root) → Contains rs r → Contains (roots_of w) r) → Shows a (label, p) → Allows s w c label p
-  among p a rs told stand h =
-      let x = seen_of (class_of s c) rs (label, p) (subst (λ y. Shows y (label, p)) told h) in
+  among p a rs reported stand h =
+      let x = seen_of (class_of s c) rs (label, p) (subst (λ y. Shows y (label, p)) reported h) in
       one p x.0 (stand x.0 x.1) x.2
 
   pub no_more : ListsNoMore s w c label
   no_more = record {
-    all = λ a new h p k. let x = (root_listings_tell s w c).all a new h in among p a x.shown x.told (λ r d. (x.exactly r).0 d) k;
-    of = λ q a new h p k. let x = (root_listings_tell s w c).of q a new h in among p a x.shown x.told (λ r d. ((x.exactly r).0 d).0) k;
+    all = λ a new h p k. let x = (root_listings_tell s w c).all a new h in among p a x.shown x.reported (λ r d. (x.exactly r).0 d) k;
+    of = λ q a new h p k. let x = (root_listings_tell s w c).of q a new h in among p a x.shown x.reported (λ r d. ((x.exactly r).0 d).0) k;
   }
 
 -- ---- labels of one kind are those of no other

@@ -34,9 +34,9 @@ fn served(
     let mut store = Store::new(alloc, config, tables);
     let replies = store.run(calls);
     let conn = store.release().release();
-    let mut told = Vec::new(alloc);
-    tell_all(alloc, replies?, &mut told)?;
-    Ok((conn, told))
+    let mut reported = Vec::new(alloc);
+    tell_all(alloc, replies?, &mut reported)?;
+    Ok((conn, reported))
 }
 
 /// Why the connection isn't opened as the store of a directory; it is returned.
@@ -78,19 +78,19 @@ fn taken_up_again(rt: HostRuntime) -> Result<(), Fail> {
     let alloc = rt.alloc();
     let mut calls = Vec::new(alloc);
     push_list(alloc, &mut calls)?;
-    let (conn, told) = served(alloc, Connection::open_in_memory(alloc)?, calls)?;
-    assert!(rt; told.is_empty());
+    let (conn, reported) = served(alloc, Connection::open_in_memory(alloc)?, calls)?;
+    assert!(rt; reported.is_empty());
     let mut calls = Vec::new(alloc);
     push_text(alloc, &mut calls)?;
     push_list(alloc, &mut calls)?;
-    let (conn, told) = served(alloc, conn, calls)?;
-    assert!(rt; told.as_slice() == ADDED.as_bytes());
+    let (conn, reported) = served(alloc, conn, calls)?;
+    assert!(rt; reported.as_slice() == ADDED.as_bytes());
     let (conn, cause) = refused(alloc, conn, "/other/store")?;
     assert_eq!(rt; cause, Cause::OtherStoreDir);
     let mut calls = Vec::new(alloc);
     push_list(alloc, &mut calls)?;
-    let (_conn, told) = served(alloc, conn, calls)?;
-    assert!(rt; told.as_slice() == TEXT_PATH.as_bytes());
+    let (_conn, reported) = served(alloc, conn, calls)?;
+    assert!(rt; reported.as_slice() == TEXT_PATH.as_bytes());
     Ok(())
 }
 
@@ -106,7 +106,7 @@ fn refused_for_a_table(rt: HostRuntime) -> Result<(), Fail> {
     }
     let mut calls = Vec::new(alloc);
     push_list(alloc, &mut calls)?;
-    let (_conn, told) = served(alloc, conn, calls)?;
-    assert!(rt; told.is_empty());
+    let (_conn, reported) = served(alloc, conn, calls)?;
+    assert!(rt; reported.is_empty());
     Ok(())
 }

@@ -47,31 +47,31 @@ is_seen class rs r c = by (is_trusted class)
 
 -- ---- a root that stands is told
 
-module _ (s : Settings) (w : World) (c : Caller) (r : Root) (stands : Contains (roots_of w) r) where
+module _ (s : Settings) (w : World) (c : Caller) (r : Root) (exists : Contains (roots_of w) r) where
   reaches_itself : IsTrue (has w r.target) → IsTrue (reaches (keep_of s) (graph_of w) r.target r.target)
   reaches_itself v = (decided (keep_of s) (graph_of w) r.target r.target).1 (record { valid = valid_is w r.target ∙ v; behind = []; leads = refl })
 
   of_path : IsTrue (has w r.target) → Contains (roots_that_keep s w r.target) r
-  of_path v = in_filtered (λ (x : Root). reaches (keep_of s) (graph_of w) x.target r.target) (roots_of w) r stands (reaches_itself v)
+  of_path v = in_filtered (λ (x : Root). reaches (keep_of s) (graph_of w) x.target r.target) (roots_of w) r exists (reaches_itself v)
 
   -- as the caller sees it
-  told : (pair : Pair) → seen_root (class_of s c) r ≡ pair → pair.1 ≡ r.target → ListsRoot s w c pair
-  told pair is target = record {
-    all = λ a new h. subst (λ x. Shows x pair) (sym h.2) (subst (Contains (seen (class_of s c) (roots_of w))) is (is_seen (class_of s c) (roots_of w) r stands));
+  reported : (pair : Pair) → seen_root (class_of s c) r ≡ pair → pair.1 ≡ r.target → ListsRoot s w c pair
+  reported pair is target = record {
+    all = λ a new h. subst (λ x. Shows x pair) (sym h.2) (subst (Contains (seen (class_of s c) (roots_of w))) is (is_seen (class_of s c) (roots_of w) r exists));
     of = λ a new h. subst (λ x. Shows x pair) (sym h.2) (subst (λ p. Contains (seen (class_of s c) (roots_that_keep s w p)) pair) (sym target)
         (subst (Contains (seen (class_of s c) (roots_that_keep s w r.target))) is
         (is_seen (class_of s c) (roots_that_keep s w r.target) r (of_path (ap (has w) (sym target) ∙ met (has w pair.1) _ (passed _ [] h.1).0)))));
   }
 
   by_trusted : IsTrue (is_trusted (class_of s c)) → ListsRoot s w c (r.label, r.target)
-  by_trusted h = told (r.label, r.target) (ap (λ b. plain (if b then r else censored r)) h) refl
+  by_trusted h = reported (r.label, r.target) (ap (λ b. plain (if b then r else censored r)) h) refl
 
   by_others : IsFalse (is_trusted (class_of s c)) → ListsRoot s w c (plain (censored r))
-  by_others h = told (plain (censored r)) (ap (λ b. plain (if b then r else censored r)) h) refl
+  by_others h = reported (plain (censored r)) (ap (λ b. plain (if b then r else censored r)) h) refl
 
   -- a label that nobody hides is told to each caller
   by_all : plain (censored r) ≡ (r.label, r.target) → ListsRoot s w c (r.label, r.target)
-  by_all open_ = told (r.label, r.target) (by (is_trusted (class_of s c))) refl
+  by_all open_ = reported (r.label, r.target) (by (is_trusted (class_of s c))) refl
     where
       by : (b : Bool) → plain (if b then r else censored r) ≡ (r.label, r.target)
       by true = refl
@@ -95,9 +95,9 @@ roots_set_are_told s w c mid next = record {
   user = λ owner name p a h. by_all s mid next (user_root ((owner, name), p)) ((each_root mid).user (owner, name) p (sets_user_roots s w c owner name p a mid h).1) refl;
   profile = λ owner name p n h.
       let x = sets s w c owner name p (generation n) mid h in
-      by_all s mid next (generation_root (owner, name) (n, p)) ((each_root mid).generation (owner, name) x.now n p x.change.stands (ap (finite.get x.now.generations) (ap number_in x.told) ∙ x.target)) refl;
+      by_all s mid next (generation_root (owner, name) (n, p)) ((each_root mid).generation (owner, name) x.now n p x.change.exists (ap (finite.get x.now.generations) (ap number_in x.reported) ∙ x.target)) refl;
   runtime = λ pairs a h pair listed valid. hidden s mid next (runtime_root pair) ((each_root mid).runtime pair (((replaces s w c pairs a mid h).roots pair).1 (listed, valid))) refl;
   temporary = λ owner session p a h.
       let t : Temporary = record { owner = owner; session = session; path = p } in
-      hidden s mid next (temporary_root t) ((each_root mid).temporary t (adds_for_sessions s w c owner session p a mid h).1.there) refl;
+      hidden s mid next (temporary_root t) ((each_root mid).temporary t (adds_for_sessions s w c owner session p a mid h).1.present) refl;
 }

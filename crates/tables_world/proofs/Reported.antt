@@ -42,12 +42,12 @@ get-piece c p n = piece_at (rows_of c) p n
 pub whole : (c : Contents) (p : Path) (x : Stored) → c.pieces ≡ finite.empty → archive_in (rows_of c) p x ≡ x.nar
 whole c p x none = ap (λ (es : List (ℤ × List ℕ)). x.nar ++ joined es) nothing ∙ append-nil x.nar
   where
-    taken : finite.FinMap piece_cmp (List ℕ) → List (ℤ × List ℕ)
-    taken m = finite.entries (finite.from_entries {R = int_cmp} (map (λ (e : Piece × List ℕ). let d : ℤ × List ℕ = (e.0.1, e.1) in d) (filter (λ (e : Piece × List ℕ). eq_by_cmp bytes_cmp p e.0.0) (finite.entries m))))
+    loaded : finite.FinMap piece_cmp (List ℕ) → List (ℤ × List ℕ)
+    loaded m = finite.entries (finite.from_entries {R = int_cmp} (map (λ (e : Piece × List ℕ). let d : ℤ × List ℕ = (e.0.1, e.1) in d) (filter (λ (e : Piece × List ℕ). eq_by_cmp bytes_cmp p e.0.0) (finite.entries m))))
 
     nothing : finite.entries (pieces_in (rows_of c) p) ≡ []
     nothing =
-        ap taken none
+        ap loaded none
         ∙ ap (λ (es : List (Piece × List ℕ)). finite.entries (finite.from_entries {R = int_cmp} (map (λ (e : Piece × List ℕ). let d : ℤ × List ℕ = (e.0.1, e.1) in d) (filter (λ (e : Piece × List ℕ). eq_by_cmp bytes_cmp p e.0.0) es)))) (no_entries (List ℕ) piece_cmp)
         ∙ no_entries (List ℕ) int_cmp
 

@@ -20,7 +20,7 @@ pub struct Case {
     pub settings: &'static [u8],
     pub steps: &'static [Step],
     /// The replies as text.
-    pub told: &'static str,
+    pub reported: &'static str,
     /// All rows before the opening, as an opening leaves them; after it; and after each call.
     pub worlds: Vec<Vec<u8>>,
 }
@@ -75,7 +75,7 @@ pub fn case_of(
     queries: &'static [&'static str],
     settings: &'static [u8],
     steps: &'static [Step],
-    told: &'static str,
+    reported: &'static str,
 ) -> Result<Case, Fail> {
     let earlier = earlier_of(alloc, &start, queries)?;
     let worlds = worlds_of(alloc, &start, settings, steps)?;
@@ -85,7 +85,7 @@ pub fn case_of(
         earlier,
         settings,
         steps,
-        told,
+        reported,
         worlds,
     })
 }
@@ -100,12 +100,13 @@ fn is_world(case: &Case, place: usize, rows: &[u8]) -> bool {
 
 /// Whether the replies before the stop are those without one, and the last says that the disk failed.
 fn is_told(case: &Case, run: &Run) -> bool {
-    let told = run.told.as_slice();
-    let all = case.told.as_bytes();
+    let reported = run.reported.as_slice();
+    let all = case.reported.as_bytes();
     if run.made > case.steps.len() {
-        return told == all;
+        return reported == all;
     }
-    told.ends_with(FAILED) && all.starts_with(front(told, told.len().saturating_sub(FAILED.len())))
+    reported.ends_with(FAILED)
+        && all.starts_with(front(reported, reported.len().saturating_sub(FAILED.len())))
 }
 
 /// Files in which a stop fell into the opening hold what they held, or what the opening leaves.
@@ -138,7 +139,7 @@ fn held_of(alloc: Global, log: &[u8], db: &[u8]) -> Result<Contents, Fail> {
 }
 
 /// What was answered before a stop is in the files, whether or not each of them loses what it hadn't synced.
-pub fn stands(alloc: Global, case: &Case, mut run: Run) -> Result<(), Fail> {
+pub fn survives(alloc: Global, case: &Case, mut run: Run) -> Result<(), Fail> {
     if !is_told(case, &run) {
         return Err(Fail::new("another answer before a stop"));
     }
