@@ -98,7 +98,7 @@ pub record Records (dir text : List ℕ) (found : List (List ℕ × List ℕ)) :
 abbrev pub IsBad : List ℕ → List ℕ → Type 0
 IsBad dir text = (outputs : List (List ℕ × Option (List ℕ))) → ¬ (HasOutputs dir text outputs)
 
--- it is, and two of the outputs share a name
+-- a derivation of which two outputs share a name
 pub record SharesName (dir text : List ℕ) : Type 0 where
   pub outputs : List (List ℕ × Option (List ℕ))
   pub of : HasOutputs dir text outputs

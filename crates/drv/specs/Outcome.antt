@@ -8,7 +8,7 @@ use Rattle.drv.specs.declared.error.DrvError.TheVariants.{BadDerivation, DoubleO
 use Rattle.drv.specs.Derivation.{recorded, Records, IsBad, SharesName}
 use Rattle.drv.specs.Reading.{listed}
 
--- this is wrong with the text: running out of memory never is
+-- a fault that the text has: running out of memory is none
 abbrev pub IsFault : List ℕ → List ℕ → DrvError → Type 0
 IsFault dir text BadDerivation = IsBad dir text
 IsFault dir text DoubleOutput = SharesName dir text

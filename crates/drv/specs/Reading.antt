@@ -74,7 +74,7 @@ unfoldable pub list_at : {A : Type 0} → (List ℕ → Option (A × List ℕ)) 
 list_at item text =
     after 91 text >>= λ t. closed_or (after 93 t) (item t >>= λ x. with_item x.0 (more_at item (length x.1) x.1))
 
--- the same where the items aren't asked for
+-- what was read, without its items
 abbrev pub bare : Option (List ℕ) → Option (Unit {0} × List ℕ)
 bare (Some rest) = Some (tt, rest)
 bare None = None

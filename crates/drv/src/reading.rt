@@ -38,7 +38,9 @@ fn more_outputs<'a>(
     text: &'a [u8],
     dir: &StoreDir,
 ) -> Result<(Vec<Output>, &'a [u8]), DrvError>
-    ensures { Gives (λ x. (views x.0.items, x.1.now)) result (with_items (views before.items) (more_at (output_at dir.now) (length text.now) text.now)) }
+    ensures { Gives
+        (λ x. (views x.0.items, x.1.now)) result
+        (with_items (views before.items) (more_at (output_at dir.now) (length text.now) text.now)) }
 {
     let mut outputs = before;
     let mut rest = text;

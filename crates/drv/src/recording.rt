@@ -29,7 +29,8 @@ fn recorded(alloc: Global, outputs: Vec<Output>) -> Result<Vec<(String, StorePat
 }
 
 fn outcome(alloc: Global, text: &[u8], dir: &StoreDir) -> Result<Vec<(String, StorePath)>, DrvError>
-    ensures { MatchResult result (λ v. outputs_of dir.now text.now ≡ Ok (pairs v.items)) (λ e. e ≢ memory → outputs_of dir.now text.now ≡ Err e) }
+    ensures { MatchResult result (λ v. outputs_of dir.now text.now ≡ Ok (pairs v.items))
+        (λ e. e ≢ memory → outputs_of dir.now text.now ≡ Err e) }
 {
     let outputs = read(alloc, text, dir)?;
     if !have_own_names(alloc, &outputs)? {
@@ -72,11 +73,14 @@ pub fn outputs(
     // A fault that is told is the text's.
     ensures fault { IfErr result (λ e. e ≢ memory → IsFault dir.now text.now e) }
     // Recorded outputs are given, unless memory is refused.
-    ensures each_found { (xs : List (List ℕ × List ℕ)) → Records dir.now text.now xs → MatchResult result (λ v. pairs v.items ≡ xs) (λ e. e ≡ memory) }
+    ensures each_found { (xs : List (List ℕ × List ℕ)) → Records dir.now text.now xs
+        → MatchResult result (λ v. pairs v.items ≡ xs) (λ e. e ≡ memory) }
     // The text's fault is told, unless memory is refused.
-    ensures each_fault { (f : Fault) → IsFault dir.now text.now f → MatchResult result (λ _. ⊥) (λ e. e ≢ memory → e ≡ f) }
+    ensures each_fault { (f : Fault) → IsFault dir.now text.now f
+        → MatchResult result (λ _. ⊥) (λ e. e ≢ memory → e ≡ f) }
     // So it answers the function in specs/.
-    ensures outcome { MatchResult result (λ v. outputs_of dir.now text.now ≡ Ok (pairs v.items)) (λ e. e ≢ memory → outputs_of dir.now text.now ≡ Err e) }
+    ensures outcome { MatchResult result (λ v. outputs_of dir.now text.now ≡ Ok (pairs v.items))
+        (λ e. e ≢ memory → outputs_of dir.now text.now ≡ Err e) }
 {
     outcome(alloc, text, dir)
 }

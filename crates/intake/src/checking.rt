@@ -23,7 +23,8 @@ pub(crate) fn feed(checker: &mut Checker, piece: &[u8]) -> Result<(), AllocError
 
 /// What is wrong with all bytes as an archive, if anything is.
 pub(crate) fn fault_at_end(checker: Checker) -> Option<NarError>
-    ensures { (all : List ℕ) → HasBeenFed checker all → ¬ HasFailed checker memory → result ≡ fault_of (outcome_of all) }
+    ensures { (all : List ℕ) → HasBeenFed checker all → ¬ HasFailed checker memory
+        → result ≡ fault_of (outcome_of all) }
 {
     match checker.finish() {
         Ok(()) => None,

@@ -25,7 +25,8 @@ pub fn hash_pieces(hasher: &mut Sha256, pieces: &Pieces, from: usize, to: usize)
     requires order { from ≤ to }
     requires within { to ≤ count_of pieces.now }
     requires small { length pieces.now < 2 ^ 64 }
-    ensures { Holds256 hasher.old (take (65536 * from) pieces.now) → Holds256 hasher.new (take (65536 * to) pieces.now) }
+    ensures { Holds256 hasher.old (take (65536 * from) pieces.now)
+        → Holds256 hasher.new (take (65536 * to) pieces.now) }
 {
     'pieces: for i in from..to {
         hasher.update(pieces.piece(i));
@@ -47,7 +48,8 @@ fn hash_contents(hasher: &mut Sha256, pieces: &Pieces, from: usize, to: usize)
     requires order { from ≤ to }
     requires within { to ≤ count_of pieces.now }
     requires small { length pieces.now < 2 ^ 64 }
-    ensures { Holds256 hasher.old (contents_so_far (take (65536 * from) pieces.now)) → Holds256 hasher.new (contents_so_far (take (65536 * to) pieces.now)) }
+    ensures { Holds256 hasher.old (contents_so_far (take (65536 * from) pieces.now))
+        → Holds256 hasher.new (contents_so_far (take (65536 * to) pieces.now)) }
 {
     'parts: for i in from..to {
         hasher.update(contents_in(pieces.piece(0), SIZE * i, pieces.piece(i)));
@@ -59,7 +61,8 @@ pub fn hash_asked(contents: &mut Option<Sha256>, pieces: &Pieces, from: usize, t
     requires order { from ≤ to }
     requires within { to ≤ count_of pieces.now }
     requires small { length pieces.now < 2 ^ 64 }
-    ensures { MayHold contents.old (contents_so_far (take (65536 * from) pieces.now)) → MayHold contents.new (contents_so_far (take (65536 * to) pieces.now)) }
+    ensures { MayHold contents.old (contents_so_far (take (65536 * from) pieces.now))
+        → MayHold contents.new (contents_so_far (take (65536 * to) pieces.now)) }
 {
     if let Some(hasher) = contents {
         hash_contents(hasher, pieces, from, to);
@@ -90,7 +93,8 @@ pub fn finalized(contents: Option<Sha256>) -> Option<[u8; 32]>
 /// The digest of the contents, which may be known.
 fn contents_hash(known: Option<[u8; 32]>, pieces: &Pieces) -> [u8; 32]
     requires small { length pieces.now < 2 ^ 64 }
-    ensures { IfSome known (λ h. h ≡ sha256 (contents_so_far pieces.now)) → result ≡ sha256 (contents_so_far pieces.now) }
+    ensures { IfSome known (λ h. h ≡ sha256 (contents_so_far pieces.now))
+        → result ≡ sha256 (contents_so_far pieces.now) }
 {
     match known {
         Some(hash) => hash,
@@ -117,7 +121,9 @@ pub fn plain_hash(
     pieces: &Pieces,
 ) -> Option<[u8; 32]>
     requires small { length pieces.now < 2 ^ 64 }
-    ensures { IsBytes pieces.now → fault ≡ fault_of (outcome_of pieces.now) → IfSome known (λ h. h ≡ sha256 (contents_so_far pieces.now)) → result ≡ hash_of (plain_contents (outcome_of pieces.now)) }
+    ensures { IsBytes pieces.now → fault ≡ fault_of (outcome_of pieces.now)
+        → IfSome known (λ h. h ≡ sha256 (contents_so_far pieces.now))
+        → result ≡ hash_of (plain_contents (outcome_of pieces.now)) }
 {
     match fault {
         Some(_) => None,

@@ -19,8 +19,10 @@ use streams::Pieces;
 ///
 /// The fault of bytes that are no archive, and `Memory`. The text stays as it was.
 pub fn list(alloc: Global, pieces: &Pieces, out: &mut String) -> Result<(), NarError>
-    ensures ok { OnOk result ((t : Tree) × (outcome_of pieces.now ≡ Ok t) × (string_bytes out.new ≡ string_bytes out.old ++ listing (codes ".") t)) }
-    ensures err { IfErr result (λ e. (string_bytes out.new ≡ string_bytes out.old) × IfFault e (λ f. outcome_of pieces.now ≡ Err f)) }
+    ensures ok { OnOk result ((t : Tree) × (outcome_of pieces.now ≡ Ok t)
+        × (string_bytes out.new ≡ string_bytes out.old ++ listing (codes ".") t)) }
+    ensures err { IfErr result
+        (λ e. (string_bytes out.new ≡ string_bytes out.old) × IfFault e (λ f. outcome_of pieces.now ≡ Err f)) }
 {
     let archive = pieces.joined()?;
     let node = nar::read(alloc, &archive)?;

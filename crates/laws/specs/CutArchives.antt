@@ -7,7 +7,7 @@ use Rattle.model.specs.World.{Path, Object}
 use Rattle.tables_schema.specs.declared.schema.Schema.{Schema}
 use Rattle.tables_world.specs.Worlds.{world_in, IsSoundBy}
 
--- these are the further pieces of a path from a number on: one row after another, until there is none
+-- the further pieces of a path from a number on: one row after another, until a number has none
 abbrev pub FollowFrom : Contents → Path → ℕ → List (List ℕ) → Type 0
 FollowFrom c p n [] = finite.get c.pieces (p, pos n) ≡ None
 FollowFrom c p n (piece ∷ pieces) = (finite.get c.pieces (p, pos n) ≡ Some piece) × FollowFrom c p (n + 1) pieces

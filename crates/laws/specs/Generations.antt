@@ -85,7 +85,7 @@ SwitchesAsSpecified = (s : Settings) (w : World) (c : Caller) (owner name : List
 
 -- ---- a generation is deleted
 
--- it was there and wasn't the current one; it is gone, and the current number and every other generation are as they were
+-- a profile loses a generation that wasn't the current one: the current number and every other generation are as they were
 pub record LosesGeneration (w : World) (owned : Pair) (n : ℕ) (new : World) : Type 0 where
   pub was : Profile
   pub stood : finite.get w.profiles owned ≡ Some was

@@ -20,7 +20,8 @@ pub fn collection_is_exact()
 
 /// What a collection or a deletion answers is exactly what was deleted.
 pub fn the_freed_are_reported()
-    ensures collection { (s : Settings) (ignores : Bool) (limit : Option ℕ) → FreesAsReported s (collect ignores limit) }
+    ensures collection { (s : Settings) (ignores : Bool) (limit : Option ℕ)
+        → FreesAsReported s (collect ignores limit) }
     ensures deletion { (s : Settings) (named : List Path) (ignores : Bool) → FreesAsReported s (delete named ignores) }
 {}
 

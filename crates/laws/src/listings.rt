@@ -29,7 +29,8 @@ pub fn the_living_are_listed()
 
 /// Live and dead paths, and their bytes, add up to all.
 pub fn usage_adds_up()
-    ensures { (s : Settings) (w : World) → UsageAddsUp (usage_of w (live_paths s w)) (usage_of w (dead_paths s w)) (usage_of w (all_paths w)) }
+    ensures { (s : Settings) (w : World)
+        → UsageAddsUp (usage_of w (live_paths s w)) (usage_of w (dead_paths s w)) (usage_of w (all_paths w)) }
 {}
 
 /// A request that only asks changes nothing: for a record, an archive, a listing or the report.

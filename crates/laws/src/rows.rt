@@ -17,7 +17,8 @@ pub fn the_new_world_is_sound()
 
 /// The rows of a database that was just made are sound by their schema, and their world is the new one.
 pub fn new_rows_are_sound()
-    ensures sound { (schema : Schema) (dir : List ℕ) → IsTrue (is_store_dir dir) → IsSoundRows schema dir (new_rows schema dir) }
+    ensures sound { (schema : Schema) (dir : List ℕ) → IsTrue (is_store_dir dir)
+        → IsSoundRows schema dir (new_rows schema dir) }
     ensures world { (schema : Schema) (dir : List ℕ) → world_of (new_rows schema dir) ≡ no_world }
 {}
 

@@ -21,7 +21,10 @@ impl Remaining {
         requires places { length self.now.left ≡ length graph.now }
         ensures inside { IfOk result (λ v. All (λ t. t < length graph.now) v.items) }
         ensures reaching { IfOk result (λ v. (rows : List Row) → Rise (paths_of rows) → graph.now ≡ numbered rows →
-            v.items ≡ filter (λ i. is_in self.now.left i && reaches references_alone (graph_of rows) (path_at rows i) (path_at rows place)) (range_with_len 0 (length self.now.left))) }
+            v.items ≡ filter
+            (λ i. is_in self.now.left i
+            && reaches references_alone (graph_of rows) (path_at rows i) (path_at rows place))
+            (range_with_len 0 (length self.now.left))) }
     {
         let references_alone = Keep {
             outputs: false,
@@ -46,8 +49,11 @@ impl Remaining {
         ensures left { OnOk result (self.new.left ≡ self.old.left) }
         ensures remaining { OnOk result (IsRemaining graph.now nothing_owed self.new) }
         ensures inside { IfOk result (λ o. IfSome o (λ v. All (λ t. t < length graph.now) v.items)) }
-        ensures group { IfOk result (λ o. (sizes : List ℕ) (rows : List Row) (is_dead : Path → Bool) (size : Path → ℕ) → Represents graph.now self.old.dead sizes rows is_dead size →
-            option_map (group_at rows) o ≡ next_group (graph_of rows) is_dead (map (path_at rows) (places_left self.old.left))) }
+        ensures group { IfOk result
+            (λ o. (sizes : List ℕ) (rows : List Row) (is_dead : Path → Bool) (size : Path → ℕ)
+            → Represents graph.now self.old.dead sizes rows is_dead size →
+            option_map (group_at rows) o
+            ≡ next_group (graph_of rows) is_dead (map (path_at rows) (places_left self.old.left))) }
     {
         if let Some(place) = self.next_alone(graph) {
             return Ok(Some(vec![in alloc; place]?));
@@ -70,7 +76,8 @@ impl Remaining {
         requires group { All (λ t. t < length graph.now) group.now }
         requires sizes { length sizes.now ≡ length graph.now }
         ensures dead { OnOk result (self.new.dead ≡ self.old.dead) }
-        ensures left { OnOk result ((i : ℕ) → i < length graph.now → is_in self.new.left i ≡ (is_in self.old.left i && not (list_any (λ j. j == i) group.now))) }
+        ensures left { OnOk result ((i : ℕ) → i < length graph.now
+            → is_in self.new.left i ≡ (is_in self.old.left i && not (list_any (λ j. j == i) group.now))) }
         ensures remaining { OnOk result (IsRemaining graph.now nothing_owed self.new) }
         ensures wanted { IfOk result (λ w. w ≡ wanted - sum_by (slice_index sizes.now) group.now) }
     {
@@ -94,8 +101,12 @@ impl Remaining {
         requires sizes { length sizes.now ≡ length graph.now }
         ensures dead { OnOk result (self.new.dead ≡ self.old.dead) }
         ensures remaining { OnOk result (IsRemaining graph.now nothing_owed self.new) }
-        ensures turn { IfOk result (λ w. (rows : List Row) (is_dead : Path → Bool) (size : Path → ℕ) → Represents graph.now self.old.dead sizes.now rows is_dead size → (turn : Path) (turns : List Path) →
-            left_after (graph_of rows) is_dead size turns (map (path_at rows) (places_left self.new.left)) w ≡ left_after (graph_of rows) is_dead size (turn ∷ turns) (map (path_at rows) (places_left self.old.left)) wanted) }
+        ensures turn { IfOk result
+            (λ w. (rows : List Row) (is_dead : Path → Bool) (size : Path → ℕ)
+            → Represents graph.now self.old.dead sizes.now rows is_dead size → (turn : Path) (turns : List Path) →
+            left_after (graph_of rows) is_dead size turns (map (path_at rows) (places_left self.new.left)) w
+            ≡ left_after (graph_of rows) is_dead size (turn ∷ turns) (map (path_at rows) (places_left self.old.left))
+            wanted) }
     {
         if wanted == 0 {
             return Ok(0);
@@ -111,7 +122,8 @@ impl Remaining {
 
     /// The places that were deleted, rising.
     pub(crate) fn gone(&self, alloc: Global) -> Result<Vec<usize>, AllocError>
-        ensures { IfOk result (λ v. v.items ≡ filter (λ i. not (is_in self.now.left i)) (range_with_len 0 (length self.now.left))) }
+        ensures { IfOk result
+            (λ v. v.items ≡ filter (λ i. not (is_in self.now.left i)) (range_with_len 0 (length self.now.left))) }
     {
         let mut gone = Vec::new(alloc);
         for place in 0..self.left.len() {

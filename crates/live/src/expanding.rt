@@ -27,8 +27,10 @@ impl Walk {
         requires from { from ≤ to }
         requires to { to ≤ length (held (entries_at graph.now place)) }
         ensures places { OnOk result (length self.new.first ≡ length graph.now) }
-        ensures reached { OnOk result (self.new ≡ all_reached none root self.old (slice_range (held (entries_at graph.now place)) from to)) }
-        ensures counted { OnOk result (reported walker.new ≡ reported (walker.old + length (slice_range (held (entries_at graph.now place)) from to))) }
+        ensures reached { OnOk result (self.new
+            ≡ all_reached none root self.old (slice_range (held (entries_at graph.now place)) from to)) }
+        ensures counted { OnOk result (reported walker.new
+            ≡ reported (walker.old + length (slice_range (held (entries_at graph.now place)) from to))) }
     {
         for entry in from..to {
             let target = walker.entry(graph, place, entry);
@@ -54,8 +56,12 @@ impl Walk {
         requires from { from ≤ to }
         requires to { to ≤ length (held (entries_at graph.now place)) }
         ensures places { OnOk result (length self.new.first ≡ length graph.now) }
-        ensures reached { OnOk result (self.new ≡ all_reached none root self.old (if counts then slice_range (held (entries_at graph.now place)) from to else [])) }
-        ensures counted { OnOk result (reported walker.new ≡ reported (walker.old + length (if counts then slice_range (held (entries_at graph.now place)) from to else []))) }
+        ensures reached { OnOk result (self.new
+            ≡ all_reached none root self.old
+            (if counts then slice_range (held (entries_at graph.now place)) from to else [])) }
+        ensures counted { OnOk result (reported walker.new
+            ≡ reported (walker.old + length
+            (if counts then slice_range (held (entries_at graph.now place)) from to else []))) }
     {
         if counts {
             return self.look(walker, graph, none, root, place, from, to);
@@ -75,8 +81,10 @@ impl Walk {
     ) -> Result<(), AllocError>
         requires place { place < length graph.now }
         requires places { length self.old.first ≡ length graph.now }
-        ensures reached { OnOk result (self.new ≡ all_reached none root self.old (edges_at (keep_view keep) graph.now place)) }
-        ensures counted { OnOk result (reported walker.new ≡ reported (walker.old + (1 + length (edges_at (keep_view keep) graph.now place)))) }
+        ensures reached { OnOk result (self.new
+            ≡ all_reached none root self.old (edges_at (keep_view keep) graph.now place)) }
+        ensures counted { OnOk result (reported walker.new
+            ≡ reported (walker.old + (1 + length (edges_at (keep_view keep) graph.now place)))) }
     {
         let has = walker.object(graph, place);
         self.look(walker, graph, none, root, place, 0, has.references)?;

@@ -26,18 +26,23 @@ pub fn limits_remove_dead_paths()
 
 /// No reference of a path that a collection up to a limit leaves points at one that it removes.
 pub fn what_stays_refers_to_nothing_deleted()
-    ensures { (g : Graph) (dead : Path → Bool) (size : Path → ℕ) (limit : ℕ) (q p : Path) → IsTrue (is_valid g q) → (Contains (limited_paths g dead size limit) q → ⊥) →
+    ensures { (g : Graph) (dead : Path → Bool) (size : Path → ℕ) (limit : ℕ) (q p : Path) → IsTrue (is_valid g q)
+        → (Contains (limited_paths g dead size limit) q → ⊥) →
         IsTrue (is_edge references_alone g q p) → Contains (limited_paths g dead size limit) p → ⊥ }
 {}
 
 /// What refers to a member of a group goes with that group or with one before: without cycles, before it.
 pub fn referrers_go_with_it_or_before()
-    ensures { (g : Graph) (dead : Path → Bool) (size : Path → ℕ) (limit k : ℕ) (q p : Path) → IsTrue (is_valid g q) → IsTrue (refers g q p) →
-        IsTrue (holds (slice_index_or (limited_groups g dead size limit) k []) p) → IsTrue (is_taken (take (suc k) (limited_groups g dead size limit)) q) }
+    ensures { (g : Graph) (dead : Path → Bool) (size : Path → ℕ) (limit k : ℕ) (q p : Path) → IsTrue (is_valid g q)
+        → IsTrue (refers g q p) →
+        IsTrue (holds (slice_index_or (limited_groups g dead size limit) k []) p)
+        → IsTrue (is_taken (take (suc k) (limited_groups g dead size limit)) q) }
 {}
 
 /// A limit beyond the bytes of all dead paths removes what no limit removes.
 pub fn a_limit_beyond_all_removes_all()
-    ensures { (keep : Keep) (g : Graph) (roots : List Root) (size : Path → ℕ) (limit : ℕ) → sum_by size (filter (λ x. not (is_live keep g roots x)) (finite.keys g)) < limit →
-        limited_paths g (λ x. not (is_live keep g roots x)) size limit ≡ filter (λ x. not (is_live keep g roots x)) (finite.keys g) }
+    ensures { (keep : Keep) (g : Graph) (roots : List Root) (size : Path → ℕ) (limit : ℕ)
+        → sum_by size (filter (λ x. not (is_live keep g roots x)) (finite.keys g)) < limit →
+        limited_paths g (λ x. not (is_live keep g roots x)) size limit ≡ filter
+        (λ x. not (is_live keep g roots x)) (finite.keys g) }
 {}

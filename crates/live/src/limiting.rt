@@ -38,10 +38,19 @@ pub fn limited(
 ) -> Result<Vec<usize>, AllocError>
     requires marks { length marks.now.first ≡ length graph.now }
     requires sizes { length sizes.now ≡ length graph.now }
-    ensures places { IfOk result (λ v. (keep : Keeps) (rows : List Row) (given : List Root) (size : Path → ℕ) → Rise (paths_of rows) → graph.now ≡ numbered rows → IsExact keep rows given marks.now → ((i : ℕ) → i < length rows → size (path_at rows i) ≡ slice_index sizes.now i) →
-        v.items ≡ filter (λ i. is_taken (limited_groups (graph_of rows) (λ p. not (is_live keep (graph_of rows) given p)) size limit) (path_at rows i)) (range_with_len 0 (length rows))) }
-    ensures paths { IfOk result (λ v. (keep : Keeps) (rows : List Row) (given : List Root) (size : Path → ℕ) → Rise (paths_of rows) → graph.now ≡ numbered rows → IsExact keep rows given marks.now → ((i : ℕ) → i < length rows → size (path_at rows i) ≡ slice_index sizes.now i) →
-        map (path_at rows) v.items ≡ limited_paths (graph_of rows) (λ p. not (is_live keep (graph_of rows) given p)) size limit) }
+    ensures places { IfOk result
+        (λ v. (keep : Keeps) (rows : List Row) (given : List Root) (size : Path → ℕ) → Rise (paths_of rows)
+        → graph.now ≡ numbered rows → IsExact keep rows given marks.now
+        → ((i : ℕ) → i < length rows → size (path_at rows i) ≡ slice_index sizes.now i) →
+        v.items ≡ filter
+        (λ i. is_taken (limited_groups (graph_of rows) (λ p. not (is_live keep (graph_of rows) given p)) size limit)
+        (path_at rows i)) (range_with_len 0 (length rows))) }
+    ensures paths { IfOk result
+        (λ v. (keep : Keeps) (rows : List Row) (given : List Root) (size : Path → ℕ) → Rise (paths_of rows)
+        → graph.now ≡ numbered rows → IsExact keep rows given marks.now
+        → ((i : ℕ) → i < length rows → size (path_at rows i) ≡ slice_index sizes.now i) →
+        map (path_at rows) v.items ≡ limited_paths (graph_of rows)
+        (λ p. not (is_live keep (graph_of rows) given p)) size limit) }
 {
     let mut leaving = Remaining::new(alloc, graph, marks)?;
     let mut wanted = limit;

@@ -80,7 +80,9 @@ impl Marks {
 pub fn mark(alloc: Global, graph: &Graph, roots: &Roots, keep: Keep) -> Result<Marks, AllocError>
     requires { All (λ t. t < length graph.now) roots.now }
     ensures places { IfOk result (IsMarking (keep_view keep) graph.now roots.now) }
-    ensures paths { IfOk result (λ m. (rows : List Row) (given : List Root) → Rise (paths_of rows) → RootsRise given → graph.now ≡ numbered rows → IsAimed rows given roots.now → IsExact (keep_view keep) rows given m) }
+    ensures paths { IfOk result
+        (λ m. (rows : List Row) (given : List Root) → Rise (paths_of rows) → RootsRise given → graph.now ≡ numbered rows
+        → IsAimed rows given roots.now → IsExact (keep_view keep) rows given m) }
 {
     let none = roots.len();
     let mut walk = Walk::new(alloc, none, graph.len())?;

@@ -16,7 +16,8 @@ fn count(
     requires place { place < length graph.now }
     requires places { length referrers.old.items ≡ length graph.now }
     ensures places { OnOk result (length referrers.new.items ≡ length graph.now) }
-    ensures counted { OnOk result ((t : ℕ) → t < length graph.now → slice_index referrers.new.items t ≡ slice_index referrers.old.items t + times graph.now place t) }
+    ensures counted { OnOk result ((t : ℕ) → t < length graph.now
+        → slice_index referrers.new.items t ≡ slice_index referrers.old.items t + times graph.now place t) }
 {
     let has = walker.object(graph, place);
     for entry in 0..has.references {
@@ -32,7 +33,9 @@ fn count(
 /// The number of references from others to each path; an entry that is listed twice counts twice.
 pub(crate) fn referrers_of(alloc: Global, graph: &Graph) -> Result<Vec<usize>, AllocError>
     ensures places { IfOk result (λ v. length v.items ≡ length graph.now) }
-    ensures counted { IfOk result (λ v. (t : ℕ) → t < length graph.now → slice_index v.items t ≡ sum_by (λ q. times graph.now q t) (range_with_len 0 (length graph.now))) }
+    ensures counted { IfOk result
+        (λ v. (t : ℕ) → t < length graph.now
+        → slice_index v.items t ≡ sum_by (λ q. times graph.now q t) (range_with_len 0 (length graph.now))) }
 {
     let count_of_places = graph.len();
     let mut referrers = vec![in alloc; 0; count_of_places]?;

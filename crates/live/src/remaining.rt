@@ -37,7 +37,8 @@ impl Remaining {
         requires { length marks.now.first ≡ length graph.now }
         ensures remaining { IfOk result (IsRemaining graph.now nothing_owed) }
         ensures left { IfOk result (λ s. (i : ℕ) → i < length graph.now → IsTrue (is_in s.left i)) }
-        ensures dead { IfOk result (λ s. (i : ℕ) → i < length graph.now → is_in s.dead i ≡ is_none (first_of marks.now i)) }
+        ensures dead { IfOk result
+            (λ s. (i : ℕ) → i < length graph.now → is_in s.dead i ≡ is_none (first_of marks.now i)) }
     {
         let count = graph.len();
         let referrers = referrers_of(alloc, graph)?;
@@ -64,8 +65,10 @@ impl Remaining {
         requires some { 0 < slice_index self.old.referrers target }
         ensures dead { OnOk result (self.new.dead ≡ self.old.dead) }
         ensures left { OnOk result (self.new.left ≡ self.old.left) }
-        ensures referrers { OnOk result (self.new.referrers ≡ slice_set self.old.referrers target (slice_index self.old.referrers target - 1)) }
-        ensures ready { OnOk result (IsPermutation (if slice_index self.old.referrers target == 1 then at target ∷ self.old.ready else self.old.ready) self.new.ready) }
+        ensures referrers { OnOk result (self.new.referrers
+            ≡ slice_set self.old.referrers target (slice_index self.old.referrers target - 1)) }
+        ensures ready { OnOk result (IsPermutation (if slice_index self.old.referrers target == 1 then at target
+            ∷ self.old.ready else self.old.ready) self.new.ready) }
         ensures ordered { OnOk result (IsHeap least_first self.old.ready → IsHeap least_first self.new.ready) }
     {
         self.referrers[target] -= 1;
@@ -99,7 +102,8 @@ impl Remaining {
         requires place { place < length graph.now }
         requires remaining { IsRemaining graph.now nothing_owed self.old }
         ensures dead { OnOk result (self.new.dead ≡ self.old.dead) }
-        ensures left { OnOk result ((i : ℕ) → i < length graph.now → is_in self.new.left i ≡ (is_in self.old.left i && not (place == i))) }
+        ensures left { OnOk result ((i : ℕ) → i < length graph.now
+            → is_in self.new.left i ≡ (is_in self.old.left i && not (place == i))) }
         ensures remaining { OnOk result (IsRemaining graph.now nothing_owed self.new) }
     {
         if self.left[place] {

@@ -78,7 +78,8 @@ impl Waiting {
         requires { IsListed self.old }
         ensures blocks { self.new.blocks.items ≡ self.old.blocks.items }
         ensures some { IfSome result (IsDequeued self.old.waiting.items self.new.waiting.items) }
-        ensures none { IfNone result ((self.new.waiting.items ≡ self.old.waiting.items) × (self.new.end ≤ self.new.at)) }
+        ensures none { IfNone result ((self.new.waiting.items ≡ self.old.waiting.items)
+            × (self.new.end ≤ self.new.at)) }
         ensures listed { IsListed self.new }
     {
         let (at, end) = (self.at, self.end);
@@ -116,7 +117,8 @@ impl Waiting {
     pub(crate) fn next(&mut self) -> Option<usize>
         requires { IsListed self.old }
         ensures some { IfSome result (IsDequeued self.old.waiting.items self.new.waiting.items) }
-        ensures none { IfNone result ((self.new.waiting.items ≡ self.old.waiting.items) × NoneWaits self.new.waiting.items) }
+        ensures none { IfNone result ((self.new.waiting.items ≡ self.old.waiting.items)
+            × NoneWaits self.new.waiting.items) }
         ensures listed { IsListed self.new }
     {
         if let Some(place) = self.in_block() {

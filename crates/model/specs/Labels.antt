@@ -25,7 +25,7 @@ pub record DifferInLabels (w v : World) : Type 0 where
   pub present : TargetsAreIn w.runtime v.runtime
   pub back : TargetsAreIn v.runtime w.runtime
 
--- the same failure, or none in either
+-- both replies are the same failure, or neither is one
 abbrev pub FailAlike : Reply → Reply → Type 0
 FailAlike (failed f) (failed g) = f ≡ g
 FailAlike (failed f) _ = ⊥
@@ -48,7 +48,7 @@ AllLookAlike s [] [] [] = Unit {0}
 AllLookAlike s (call ∷ calls) (a ∷ more) (b ∷ others) = LookAlike s call.0 a b × AllLookAlike s calls more others
 AllLookAlike s _ _ _ = ⊥
 
--- the same of runs
+-- runs from worlds that differ in runtime labels alone
 abbrev pub MirrorsRuns : Type 0
 MirrorsRuns = (s : Settings) (w v new : World) (calls : List (Caller × Request)) (replies : List Reply) → DifferInLabels w v → Run s w calls replies new
     → (others : List Reply) × (next : World) × Run s v calls others next × AllLookAlike s calls replies others × DifferInLabels new next

@@ -24,7 +24,7 @@ abbrev pub Step : Settings → World → Caller → Request → Reply → World 
 Step s w c q (denied rule root) new = (verdict s w c q ≡ Some rule) × (root ≡ shown s w c q rule) × (new ≡ w)
 -- every rule allows it, and this is the first test that fails; the world stays
 Step s w c q (refused r) new = (verdict s w c q ≡ None) × (refusal s w q ≡ Some r) × (new ≡ w)
--- it failed, where no rule but `Live` denies it; the world stays
+-- the call failed: no rule but `Live` denies it, and the world stays
 Step s w c q (failed f) new = IsNoneOrLive (verdict s w c q) × (new ≡ w)
 -- every rule allows it and no test fails: the one answer, and the one effect
 Step s w c q (done a) new = (verdict s w c q ≡ None) × (refusal s w q ≡ None) × (a ≡ answer s w c q) × (new ≡ effect s w q)

@@ -27,7 +27,7 @@ Refuses parts s BadTag = (NameMayFollow parts → ⊥) × ((p : Part) → spelle
 Refuses parts s BadName = NameMayFollow parts × (IsTrue (is_name s) → ⊥)
 -- a name may follow, but not this one
 Refuses parts s NotSorted = NameMayFollow parts × IsTrue (is_name s) × (Begins (parts ++ name s ∷ []) → ⊥)
--- it is the word before a node that would be the 257th
+-- `TooDeep` is for the word before a node that would be the 257th
 Refuses parts s TooDeep = (depth : ℕ) × (256 < depth) × (s ≡ codes "node") × Begins (parts ++ node depth ∷ [])
 Refuses parts s Truncated = ⊥
 Refuses parts s BadPadding = ⊥

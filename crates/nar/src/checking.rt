@@ -58,11 +58,14 @@ impl Checker {
     pub fn feed(&mut self, piece: &[u8]) -> Result<(), NarError>
         ensures fed { (all : List ℕ) → HasBeenFed self.old all → HasBeenFed self.new (all ++ piece.now) }
         // A fault of the pieces so far is told, unless it is the want of more.
-        ensures good { OnOk result ((all : List ℕ) (f : Fault) → HasBeenFed self.old all → IsFault (all ++ piece.now) f → f ≡ Truncated) }
+        ensures good { OnOk result ((all : List ℕ) (f : Fault) → HasBeenFed self.old all → IsFault (all ++ piece.now) f
+            → f ≡ Truncated) }
         // A fault that is told is one of the pieces so far.
-        ensures fault { IfErr result (λ e. IfFault e (λ f. (all : List ℕ) → HasBeenFed self.old all → IsFault (all ++ piece.now) f × (f ≢ Truncated))) }
+        ensures fault { IfErr result
+            (λ e. IfFault e
+            (λ f. (all : List ℕ) → HasBeenFed self.old all → IsFault (all ++ piece.now) f × (f ≢ Truncated))) }
         ensures failed { IfErr result (HasFailed self.new) }
-        // It has failed only where it told an error.
+        // A checker has failed only where it reported an error.
         ensures sound { OnOk result ((e : Fault) → ¬ HasFailed self.new e) }
         ensures repeats { (e : Fault) → HasFailed self.old e → (result ≡ Err e) × HasFailed self.new e }
     {
@@ -79,8 +82,12 @@ impl Checker {
     }
 
     fn take(&mut self, piece: &[u8]) -> Result<(), NarError>
-        ensures ok { OnOk result ((all : List ℕ) → IsBytes all → HasReadBefore self.old.progress piece.now all → HasReadBefore self.new.progress [] all) }
-        ensures err { IfErr result (λ e. IfFault e (λ f. (all : List ℕ) → IsBytes all → HasReadBefore self.old.progress piece.now all → IsFault all f × (f ≢ Truncated))) }
+        ensures ok { OnOk result ((all : List ℕ) → IsBytes all → HasReadBefore self.old.progress piece.now all
+            → HasReadBefore self.new.progress [] all) }
+        ensures err { IfErr result
+            (λ e. IfFault e
+            (λ f. (all : List ℕ) → IsBytes all → HasReadBefore self.old.progress piece.now all
+            → IsFault all f × (f ≢ Truncated))) }
         ensures failed { self.new.failed ≡ self.old.failed }
     {
         let mut rest = piece;

@@ -30,7 +30,8 @@ impl Count {
     /// Counts the next bytes, which are no more than are still to come.
     pub fn take(&mut self, bytes: &[u8])
         requires { length bytes.now ≤ self.old.size - self.old.got }
-        ensures counts { (room : ℕ) (rest : List ℕ) → Counts self.old room rest → Counts self.new room (rest ++ bytes.now) }
+        ensures counts { (room : ℕ) (rest : List ℕ) → Counts self.old room rest
+            → Counts self.new room (rest ++ bytes.now) }
         ensures got { self.new.got ≡ self.old.got + length bytes.now }
         ensures text { self.new.text ≡ self.old.text }
         ensures size { self.new.size ≡ self.old.size }

@@ -11,7 +11,8 @@ ghost use Rattle.nar.specs.Outcome.{outcome_of};
 
 /// Each input is the archive of one tree, or has one fault, and never both.
 pub fn each_input_is_an_archive_or_has_one_fault()
-    ensures either { (input : List ℕ) → IsBytes input → ((t : Tree) × IsArchive t input) ⊎ ((e : Fault) × IsFault input e) }
+    ensures either { (input : List ℕ) → IsBytes input
+        → ((t : Tree) × IsArchive t input) ⊎ ((e : Fault) × IsFault input e) }
     ensures not_both { (input : List ℕ) (t : Tree) (e : Fault) → IsBytes input → IsArchive t input → ¬ IsFault input e }
     ensures one_fault { (input : List ℕ) (e f : Fault) → IsBytes input → IsFault input e → IsFault input f → e ≡ f }
     // Want of memory says nothing of the input.
@@ -33,10 +34,12 @@ pub fn the_outcome_is_exact()
 /// The archive of a regular file that isn't executable has 112 bytes besides its padded contents. It is read as
 /// that file, and is too large exactly where these pass the limit.
 pub fn the_archive_of_a_file()
-    ensures size { (contents : List ℕ) → length (spelling (archive (regular false contents))) ≡ 112 + padded (length contents) }
+    ensures size { (contents : List ℕ)
+        → length (spelling (archive (regular false contents))) ≡ 112 + padded (length contents) }
     ensures is_read { (contents : List ℕ) → IsBytes contents → 112 + padded (length contents) ≤ limit
         → outcome_of (spelling (archive (regular false contents))) ≡ Ok (regular false contents) }
-    ensures is_too_large { (contents : List ℕ) → IsBytes contents → length contents < 2 ^ 64 → limit < 112 + padded (length contents)
+    ensures is_too_large { (contents : List ℕ) → IsBytes contents → length contents < 2 ^ 64
+        → limit < 112 + padded (length contents)
         → outcome_of (spelling (archive (regular false contents))) ≡ Err too_large }
 {}
 

@@ -47,7 +47,8 @@ fn list_regular(
     executable: bool,
     contents: &[u8],
 ) -> Result<(), AllocError>
-    ensures { OnOk result (string_bytes out.new ≡ string_bytes out.old ++ listing path.now (regular executable contents.now)) }
+    ensures { OnOk result (string_bytes out.new ≡ string_bytes out.old
+        ++ listing path.now (regular executable contents.now)) }
 {
     let size = contents.len();
     if executable {
@@ -75,7 +76,8 @@ fn list_entries(
     path: &str,
     entries: &[Entry<'_>],
 ) -> Result<(), AllocError>
-    ensures { OnOk result (string_bytes out.new ≡ string_bytes out.old ++ listing path.now (directory (trees_of entries.now))) }
+    ensures { OnOk result (string_bytes out.new ≡ string_bytes out.old
+        ++ listing path.now (directory (trees_of entries.now))) }
 {
     out.push_str("d ")?;
     out.push_str(path)?;
@@ -93,7 +95,8 @@ fn list_entry(
     path: &str,
     entry: &Entry<'_>,
 ) -> Result<(), AllocError>
-    ensures { OnOk result (string_bytes out.new ≡ string_bytes out.old ++ listing (path.now ++ codes "/" ++ escaped (pair_of entry.now).0) (pair_of entry.now).1) }
+    ensures { OnOk result (string_bytes out.new ≡ string_bytes out.old
+        ++ listing (path.now ++ codes "/" ++ escaped (pair_of entry.now).0) (pair_of entry.now).1) }
 {
     let mut inner = String::from_str(alloc, path)?;
     inner.push_str("/")?;

@@ -47,7 +47,10 @@ fn word_phase(text: &[u8], word: &[u8], then: Phase) -> Result<Phase, NarError>
 }
 
 fn kind_phase(text: &[u8]) -> Result<Phase, NarError>
-    ensures { result ≡ cond (bytes_eq text.now (codes "regular")) (Ok phases.File) (cond (bytes_eq text.now (codes "symlink")) (Ok phases.Target) (cond (bytes_eq text.now (codes "directory")) (Ok phases.Entries) (Err BadTag))) }
+    ensures { result
+        ≡ cond (bytes_eq text.now (codes "regular")) (Ok phases.File)
+        (cond (bytes_eq text.now (codes "symlink")) (Ok phases.Target)
+        (cond (bytes_eq text.now (codes "directory")) (Ok phases.Entries) (Err BadTag))) }
 {
     if text == REGULAR {
         return Ok(Phase::File);
@@ -62,7 +65,9 @@ fn kind_phase(text: &[u8]) -> Result<Phase, NarError>
 }
 
 fn file_phase(text: &[u8]) -> Result<Phase, NarError>
-    ensures { result ≡ cond (bytes_eq text.now (codes "executable")) (Ok phases.Empty) (cond (bytes_eq text.now (codes "contents")) (Ok phases.Data) (Err BadTag)) }
+    ensures { result
+        ≡ cond (bytes_eq text.now (codes "executable")) (Ok phases.Empty)
+        (cond (bytes_eq text.now (codes "contents")) (Ok phases.Data) (Err BadTag)) }
 {
     if text == EXECUTABLE {
         return Ok(Phase::Empty);
@@ -74,7 +79,8 @@ fn file_phase(text: &[u8]) -> Result<Phase, NarError>
 }
 
 fn entries_phase(text: &[u8]) -> Result<Phase, NarError>
-    ensures { result ≡ cond (bytes_eq text.now (codes ")")) (Ok phases.Under) (cond (bytes_eq text.now (codes "entry")) (Ok phases.EntryOpen) (Err BadTag)) }
+    ensures { result ≡ cond (bytes_eq text.now (codes ")")) (Ok phases.Under)
+        (cond (bytes_eq text.now (codes "entry")) (Ok phases.EntryOpen) (Err BadTag)) }
 {
     if text == CLOSE {
         return Ok(Phase::Under);
@@ -86,7 +92,9 @@ fn entries_phase(text: &[u8]) -> Result<Phase, NarError>
 }
 
 fn node_phase(text: &[u8], depth: usize) -> Result<Phase, NarError>
-    ensures { result ≡ cond (bytes_eq text.now (codes "node")) (cond (nat_lt 256 depth) (Err TooDeep) (Ok phases.Open)) (Err BadTag) }
+    ensures { result
+        ≡ cond (bytes_eq text.now (codes "node")) (cond (nat_lt 256 depth) (Err TooDeep) (Ok phases.Open))
+        (Err BadTag) }
 {
     if text != NODE {
         return Err(NarError::BadTag);
@@ -100,7 +108,8 @@ fn node_phase(text: &[u8], depth: usize) -> Result<Phase, NarError>
 /// What comes after the string, where neither a name is entered nor left.
 fn next_phase(phase: Phase, depth: usize, text: &[u8]) -> Result<Phase, NarError>
     requires { AwaitsKeyword phase }
-    ensures { (last : Option (List ℕ)) (names : List (List ℕ)) → length names + 1 ≡ depth → Continues (next (symbols phase last names) text.now) result last names }
+    ensures { (last : Option (List ℕ)) (names : List (List ℕ)) → length names + 1 ≡ depth
+        → Continues (next (symbols phase last names) text.now) result last names }
 {
     match phase {
         Phase::Magic => word_phase(text, MAGIC, Phase::Open),
@@ -203,8 +212,11 @@ impl Nest {
 
     /// Takes a string of this length whose bytes were counted and not held.
     pub fn skip(&mut self, len: usize) -> Result<(), NarError>
-        ensures ok { OnOk result ((s : List ℕ) → length s ≡ len → IsTrue (counts_at self.old len) → next (symbols_of self.old) s ≡ Ok (symbols_of self.new)) }
-        ensures err { IfErr result (λ e. (s : List ℕ) → length s ≡ len → IsTrue (counts_at self.old len) → symbols_of self.old ≢ [] → next (symbols_of self.old) s ≡ Err e) }
+        ensures ok { OnOk result ((s : List ℕ) → length s ≡ len → IsTrue (counts_at self.old len)
+            → next (symbols_of self.old) s ≡ Ok (symbols_of self.new)) }
+        ensures err { IfErr result
+            (λ e. (s : List ℕ) → length s ≡ len → IsTrue (counts_at self.old len) → symbols_of self.old ≢ []
+            → next (symbols_of self.old) s ≡ Err e) }
     {
         match self.phase {
             Phase::Data => {

@@ -37,7 +37,9 @@ fn strings_of<'a>(
     ensures ok { IfOk result (λ x. (all : List ℕ) → Fed (symbols_of nest.old) room bytes.now all
         → Fed (symbols_of nest.new) x.room x.rest.now all × Waits (symbols_of nest.new) x.room x.rest.now) }
     ensures behind { IfOk result (λ x. EndsIn bytes.now x.rest.now) }
-    ensures err { IfErr result (λ e. IfFault e (λ f. (all : List ℕ) → Fed (symbols_of nest.old) room bytes.now all → IsFault all f × (f ≢ Truncated))) }
+    ensures err { IfErr result
+        (λ e. IfFault e
+        (λ f. (all : List ℕ) → Fed (symbols_of nest.old) room bytes.now all → IsFault all f × (f ≢ Truncated))) }
 {
     let mut at = Place { rest: bytes, room };
     'strings: loop {
@@ -144,7 +146,10 @@ impl Progress {
             → IsReachedBy self.new.count self.new.nest self.new.room rest.now all) }
         ensures behind { IfOk result (λ rest. EndsIn bytes.now rest.now) }
         ensures held { self.new.held ≡ self.old.held }
-        ensures err { IfErr result (λ e. IfFault e (λ f. (all : List ℕ) → Fed (symbols_of self.old.nest) self.old.room bytes.now all → IsFault all f × (f ≢ Truncated))) }
+        ensures err { IfErr result
+            (λ e. IfFault e
+            (λ f. (all : List ℕ) → Fed (symbols_of self.old.nest) self.old.room bytes.now all
+            → IsFault all f × (f ≢ Truncated))) }
     {
         let place = strings_of(self.alloc, &mut self.nest, bytes, self.room)?;
         self.room = place.room;
@@ -163,8 +168,12 @@ impl Progress {
     /// Takes strings from a piece where none has begun.
     fn read_on(&mut self, piece: &[u8]) -> Result<(), NarError>
         requires { self.old.held.items ≡ [] }
-        ensures ok { OnOk result ((all : List ℕ) → Fed (symbols_of self.old.nest) self.old.room piece.now all → HasRead self.new all) }
-        ensures err { IfErr result (λ e. IfFault e (λ f. (all : List ℕ) → Fed (symbols_of self.old.nest) self.old.room piece.now all → IsFault all f × (f ≢ Truncated))) }
+        ensures ok { OnOk result ((all : List ℕ) → Fed (symbols_of self.old.nest) self.old.room piece.now all
+            → HasRead self.new all) }
+        ensures err { IfErr result
+            (λ e. IfFault e
+            (λ f. (all : List ℕ) → Fed (symbols_of self.old.nest) self.old.room piece.now all
+            → IsFault all f × (f ≢ Truncated))) }
     {
         let rest = self.look(piece)?;
         self.held.extend_from_slice(rest)?;
@@ -173,8 +182,13 @@ impl Progress {
 
     /// Takes bytes that go on with the string whose bytes are held.
     fn fill(&mut self, front: &[u8]) -> Result<(), NarError>
-        ensures ok { OnOk result ((all : List ℕ) → Fed (symbols_of self.old.nest) self.old.room (self.old.held.items ++ front.now) all → HasRead self.new all) }
-        ensures err { IfErr result (λ e. IfFault e (λ f. (all : List ℕ) → Fed (symbols_of self.old.nest) self.old.room (self.old.held.items ++ front.now) all → IsFault all f × (f ≢ Truncated))) }
+        ensures ok { OnOk result ((all : List ℕ)
+            → Fed (symbols_of self.old.nest) self.old.room (self.old.held.items ++ front.now) all
+            → HasRead self.new all) }
+        ensures err { IfErr result
+            (λ e. IfFault e
+            (λ f. (all : List ℕ) → Fed (symbols_of self.old.nest) self.old.room (self.old.held.items ++ front.now) all
+            → IsFault all f × (f ≢ Truncated))) }
     {
         let mut held = mem::replace(&mut self.held, Vec::new(self.alloc));
         held.extend_from_slice(front)?;
@@ -194,9 +208,14 @@ impl Progress {
     /// Counts bytes of the string whose bytes are counted, and takes it at its end.
     fn count_on(&mut self, count: Count, front: &[u8]) -> Result<(), NarError>
         requires { length front.now ≤ count.size - count.got }
-        ensures ok { OnOk result ((all : List ℕ) → IsBytes (all ++ front.now) → (self.old.held.items ≡ []) × IsCounting count self.old.nest self.old.room all → HasRead self.new (all ++ front.now)) }
+        ensures ok { OnOk result ((all : List ℕ) → IsBytes (all ++ front.now)
+            → (self.old.held.items ≡ []) × IsCounting count self.old.nest self.old.room all
+            → HasRead self.new (all ++ front.now)) }
         ensures done { OnOk result (count.size - count.got ≤ length front.now → self.new.count ≡ None) }
-        ensures err { IfErr result (λ e. IfFault e (λ f. (all : List ℕ) → IsBytes (all ++ front.now) → IsCounting count self.old.nest self.old.room all → IsFault (all ++ front.now) f × (f ≢ Truncated))) }
+        ensures err { IfErr result
+            (λ e. IfFault e
+            (λ f. (all : List ℕ) → IsBytes (all ++ front.now) → IsCounting count self.old.nest self.old.room all
+            → IsFault (all ++ front.now) f × (f ≢ Truncated))) }
     {
         let mut count = count;
         count.take(front);
@@ -216,9 +235,15 @@ impl Progress {
     /// Takes bytes from the beginning of a piece, one at least, and returns the rest of it.
     pub fn step<'a>(&mut self, piece: &'a [u8]) -> Result<&'a [u8], NarError>
         requires { 0 < length piece.now }
-        ensures ok { IfOk result (λ rest. (all : List ℕ) → IsBytes all → HasReadBefore self.old piece.now all → HasReadBefore self.new rest.now all) }
-        ensures nearer { IfOk result (λ rest. 2 * length rest.now + turns self.new < 2 * length piece.now + turns self.old) }
-        ensures err { IfErr result (λ e. IfFault e (λ f. (all : List ℕ) → IsBytes all → HasReadBefore self.old piece.now all → IsFault all f × (f ≢ Truncated))) }
+        ensures ok { IfOk result
+            (λ rest. (all : List ℕ) → IsBytes all → HasReadBefore self.old piece.now all
+            → HasReadBefore self.new rest.now all) }
+        ensures nearer { IfOk result
+            (λ rest. 2 * length rest.now + turns self.new < 2 * length piece.now + turns self.old) }
+        ensures err { IfErr result
+            (λ e. IfFault e
+            (λ f. (all : List ℕ) → IsBytes all → HasReadBefore self.old piece.now all
+            → IsFault all f × (f ≢ Truncated))) }
     {
         match self.count {
             Some(count) => {

@@ -26,7 +26,8 @@ use std::alloc::Global;
 
 /// A string, and the bracket that closes its node.
 fn text_of(at: Place<'_>) -> Result<(&[u8], Place<'_>), NarError>
-    ensures ok { IfOk result (λ x. Reads at.entry.room at.entry.rest.now (other x.0.now ∷ other (codes ")") ∷ []) x.1.room x.1.rest.now) }
+    ensures ok { IfOk result
+        (λ x. Reads at.entry.room at.entry.rest.now (other x.0.now ∷ other (codes ")") ∷ []) x.1.room x.1.rest.now) }
     ensures err { IfErr result (FaultOf (any ∷ fixed (codes ")") ∷ []) at.entry.room at.entry.rest.now) }
 {
     let (text, at) = string_of(at)?;
@@ -36,7 +37,9 @@ fn text_of(at: Place<'_>) -> Result<(&[u8], Place<'_>), NarError>
 
 /// What follows the word `regular`.
 fn regular_of(at: Place<'_>) -> Result<(Node<'_>, Place<'_>), NarError>
-    ensures ok { IfOk result (λ x. (depth : ℕ) → ReadsKind (codes "regular") depth at.entry.room at.entry.rest.now (tree_of x.0) x.1.room x.1.rest.now) }
+    ensures ok { IfOk result
+        (λ x. (depth : ℕ)
+        → ReadsKind (codes "regular") depth at.entry.room at.entry.rest.now (tree_of x.0) x.1.room x.1.rest.now) }
     ensures err { IfErr result (FaultOf (file ∷ []) at.entry.room at.entry.rest.now) }
 {
     let (word, after) = string_of(at)?;
@@ -63,8 +66,11 @@ fn regular_of(at: Place<'_>) -> Result<(Node<'_>, Place<'_>), NarError>
 
 /// What follows the word `symlink`.
 fn symlink_of(at: Place<'_>) -> Result<(Node<'_>, Place<'_>), NarError>
-    ensures ok { IfOk result (λ x. (depth : ℕ) → ReadsKind (codes "symlink") depth at.entry.room at.entry.rest.now (tree_of x.0) x.1.room x.1.rest.now) }
-    ensures err { IfErr result (FaultOf (fixed (codes "target") ∷ any ∷ fixed (codes ")") ∷ []) at.entry.room at.entry.rest.now) }
+    ensures ok { IfOk result
+        (λ x. (depth : ℕ)
+        → ReadsKind (codes "symlink") depth at.entry.room at.entry.rest.now (tree_of x.0) x.1.room x.1.rest.now) }
+    ensures err { IfErr result (FaultOf (fixed (codes "target") ∷ any ∷ fixed (codes ")") ∷ []) at.entry.room
+        at.entry.rest.now) }
 {
     let after = word_of(at, TARGET)?;
     let (target, end) = text_of(after)?;
@@ -73,8 +79,11 @@ fn symlink_of(at: Place<'_>) -> Result<(Node<'_>, Place<'_>), NarError>
 
 /// A name that a directory may have after the last one.
 fn name_of<'a>(at: Place<'a>, last: Option<&[u8]>) -> Result<(&'a [u8], Place<'a>), NarError>
-    ensures ok { IfOk result (λ x. ReadsName (option_copied last.entry) at.entry.room at.entry.rest.now x.0.now x.1.room x.1.rest.now) }
-    ensures err { IfErr result (λ e. (depth : ℕ) → FaultOf (entry_name depth (option_copied last.entry) ∷ []) at.entry.room at.entry.rest.now e) }
+    ensures ok { IfOk result
+        (λ x. ReadsName (option_copied last.entry) at.entry.room at.entry.rest.now x.0.now x.1.room x.1.rest.now) }
+    ensures err { IfErr result
+        (λ e. (depth : ℕ)
+        → FaultOf (entry_name depth (option_copied last.entry) ∷ []) at.entry.room at.entry.rest.now e) }
 {
     let (name, after) = string_of(at)?;
     if !is_name(name) {
@@ -88,7 +97,8 @@ fn name_of<'a>(at: Place<'a>, last: Option<&[u8]>) -> Result<(&'a [u8], Place<'a
 
 /// The word `node` before a node that is the given one inside one another.
 fn node_word_of(at: Place<'_>, depth: usize) -> Result<Place<'_>, NarError>
-    ensures ok { IfOk result (λ x. (depth ≤ 256) × Reads at.entry.room at.entry.rest.now (node depth ∷ []) x.room x.rest.now) }
+    ensures ok { IfOk result
+        (λ x. (depth ≤ 256) × Reads at.entry.room at.entry.rest.now (node depth ∷ []) x.room x.rest.now) }
     ensures err { IfErr result (FaultOf (node_word depth ∷ []) at.entry.room at.entry.rest.now) }
 {
     let (word, after) = string_of(at)?;
@@ -110,8 +120,11 @@ fn entry_of<'a>(
     last: Option<&[u8]>,
 ) -> Result<(Entry<'a>, Place<'a>), NarError>
     requires { depth ≤ 256 }
-    ensures ok { IfOk result (λ x. ReadsEntry (option_copied last.entry) depth at.entry.room at.entry.rest.now (pair_of x.0) x.1.room x.1.rest.now) }
-    ensures err { IfErr result (FaultOf (fixed (codes "(") ∷ fixed (codes "name") ∷ entry_name depth (option_copied last.entry) ∷ []) at.entry.room at.entry.rest.now) }
+    ensures ok { IfOk result
+        (λ x. ReadsEntry (option_copied last.entry) depth at.entry.room at.entry.rest.now (pair_of x.0) x.1.room
+        x.1.rest.now) }
+    ensures err { IfErr result (FaultOf (fixed (codes "(") ∷ fixed (codes "name")
+        ∷ entry_name depth (option_copied last.entry) ∷ []) at.entry.room at.entry.rest.now) }
 {
     let opened = word_of(at, OPEN)?;
     let worded = word_of(opened, NAME)?;
@@ -130,7 +143,8 @@ fn directory_of(
     depth: usize,
 ) -> Result<(Node<'_>, Place<'_>), NarError>
     requires { depth ≤ 256 }
-    ensures ok { IfOk result (λ x. ReadsKind (codes "directory") depth at.entry.room at.entry.rest.now (tree_of x.0) x.1.room x.1.rest.now) }
+    ensures ok { IfOk result
+        (λ x. ReadsKind (codes "directory") depth at.entry.room at.entry.rest.now (tree_of x.0) x.1.room x.1.rest.now) }
     ensures err { IfErr result (FaultOf (entries depth None ∷ []) at.entry.room at.entry.rest.now) }
 {
     let mut list: Vec<Entry<'_>> = Vec::new(alloc);
@@ -155,8 +169,10 @@ fn directory_of(
 #[cycle(reader)]
 fn node_of(alloc: Global, at: Place<'_>, depth: usize) -> Result<(Node<'_>, Place<'_>), NarError>
     requires { depth ≤ 256 }
-    ensures ok { IfOk result (λ x. ReadsNode depth at.entry.room at.entry.rest.now (tree_of x.0) x.1.room x.1.rest.now) }
-    ensures err { IfErr result (FaultOf (fixed (codes "(") ∷ fixed (codes "type") ∷ kind depth ∷ []) at.entry.room at.entry.rest.now) }
+    ensures ok { IfOk result
+        (λ x. ReadsNode depth at.entry.room at.entry.rest.now (tree_of x.0) x.1.room x.1.rest.now) }
+    ensures err { IfErr result (FaultOf (fixed (codes "(") ∷ fixed (codes "type") ∷ kind depth
+        ∷ []) at.entry.room at.entry.rest.now) }
 {
     let opened = word_of(at, OPEN)?;
     let typed = word_of(opened, TYPE)?;
@@ -195,9 +211,11 @@ pub fn read(alloc: Global, input: &[u8]) -> Result<Node<'_>, NarError>
     // A fault that is told is the input's.
     ensures fault { IfErr result (λ e. IfFault e (IsFault input.now)) }
     // So it is the outcome of the input, unless memory is refused.
-    ensures outcome { MatchResult result (λ node. outcome_of input.now ≡ Ok (tree_of node)) (λ e. IfFault e (λ f. outcome_of input.now ≡ Err f)) }
+    ensures outcome { MatchResult result (λ node. outcome_of input.now ≡ Ok (tree_of node))
+        (λ e. IfFault e (λ f. outcome_of input.now ≡ Err f)) }
     // An archive is read, unless memory runs out.
-    ensures each_archive { (t : Tree) → IsArchive t input.now → MatchResult result (λ node. tree_of node ≡ t) (λ e. e ≡ memory) }
+    ensures each_archive { (t : Tree) → IsArchive t input.now
+        → MatchResult result (λ node. tree_of node ≡ t) (λ e. e ≡ memory) }
     // The input's fault is told, unless memory runs out.
     ensures each_fault { (f : Cause) → IsFault input.now f → MatchResult result (λ _. ⊥) (λ e. IfFault e (λ g. g ≡ f)) }
 {

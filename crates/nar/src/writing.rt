@@ -38,7 +38,9 @@ fn put_strings(out: &mut Vec<u8>, texts: &[&[u8]]) -> Result<(), AllocError>
 }
 
 fn put_file(out: &mut Vec<u8>, executable: bool, contents: &[u8]) -> Result<(), AllocError>
-    ensures ok { (depth : ℕ) → OnOk result (Writes out.old.items out.new.items (bracketed (kind_parts depth (regular executable contents.now)))) }
+    ensures ok { (depth : ℕ)
+        → OnOk result
+        (Writes out.old.items out.new.items (bracketed (kind_parts depth (regular executable contents.now)))) }
     ensures err { OnErr result (Extends out.old.items out.new.items) }
 {
     if executable {
@@ -54,7 +56,8 @@ fn put_file(out: &mut Vec<u8>, executable: bool, contents: &[u8]) -> Result<(), 
 }
 
 fn put_symlink(out: &mut Vec<u8>, target: &[u8]) -> Result<(), AllocError>
-    ensures ok { (depth : ℕ) → OnOk result (Writes out.old.items out.new.items (bracketed (kind_parts depth (symlink target.now)))) }
+    ensures ok { (depth : ℕ)
+        → OnOk result (Writes out.old.items out.new.items (bracketed (kind_parts depth (symlink target.now)))) }
     ensures err { OnErr result (Extends out.old.items out.new.items) }
 {
     put_strings(out, &[OPEN, TYPE, SYMLINK, TARGET, target, CLOSE])
@@ -62,7 +65,8 @@ fn put_symlink(out: &mut Vec<u8>, target: &[u8]) -> Result<(), AllocError>
 
 #[cycle(writer)]
 fn put_entries(out: &mut Vec<u8>, entries: &[Entry<'_>]) -> Result<(), AllocError>
-    ensures ok { (depth : ℕ) → OnOk result (Writes out.old.items out.new.items (entries_parts depth (trees_of entries.now))) }
+    ensures ok { (depth : ℕ)
+        → OnOk result (Writes out.old.items out.new.items (entries_parts depth (trees_of entries.now))) }
     ensures err { OnErr result (Extends out.old.items out.new.items) }
 {
     for entry in entries {
@@ -73,7 +77,9 @@ fn put_entries(out: &mut Vec<u8>, entries: &[Entry<'_>]) -> Result<(), AllocErro
 
 #[cycle(writer)]
 fn put_entry(out: &mut Vec<u8>, entry: &Entry<'_>) -> Result<(), AllocError>
-    ensures ok { (depth : ℕ) → OnOk result (Writes out.old.items out.new.items (other (codes "entry") ∷ entry_rest depth (pair_of entry.now))) }
+    ensures ok { (depth : ℕ)
+        → OnOk result (Writes out.old.items out.new.items (other (codes "entry")
+        ∷ entry_rest depth (pair_of entry.now))) }
     ensures err { OnErr result (Extends out.old.items out.new.items) }
 {
     put_strings(out, &[ENTRY, OPEN, NAME, entry.name, NODE])?;
@@ -83,7 +89,9 @@ fn put_entry(out: &mut Vec<u8>, entry: &Entry<'_>) -> Result<(), AllocError>
 
 #[cycle(writer)]
 fn put_directory(out: &mut Vec<u8>, entries: &[Entry<'_>]) -> Result<(), AllocError>
-    ensures ok { (depth : ℕ) → OnOk result (Writes out.old.items out.new.items (bracketed (other (codes "directory") ∷ entries_parts depth (trees_of entries.now)))) }
+    ensures ok { (depth : ℕ)
+        → OnOk result (Writes out.old.items out.new.items (bracketed (other (codes "directory")
+        ∷ entries_parts depth (trees_of entries.now)))) }
     ensures err { OnErr result (Extends out.old.items out.new.items) }
 {
     put_strings(out, &[OPEN, TYPE, DIRECTORY])?;
@@ -93,7 +101,8 @@ fn put_directory(out: &mut Vec<u8>, entries: &[Entry<'_>]) -> Result<(), AllocEr
 
 #[cycle(writer)]
 fn put_node(out: &mut Vec<u8>, node: &Node<'_>) -> Result<(), AllocError>
-    ensures ok { (depth : ℕ) → OnOk result (Writes out.old.items out.new.items (bracketed (kind_parts depth (tree_of node.now)))) }
+    ensures ok { (depth : ℕ)
+        → OnOk result (Writes out.old.items out.new.items (bracketed (kind_parts depth (tree_of node.now)))) }
     ensures err { OnErr result (Extends out.old.items out.new.items) }
 {
     match node {

@@ -31,7 +31,8 @@ pub(crate) fn in_path_order<'a>(
 }
 
 fn push_references(text: &mut String, dir: &StoreDir, bases: &[&str]) -> Result<(), AllocError>
-    ensures { OnOk result (string_bytes text.new ≡ string_bytes text.old ++ flat_map (reference_part dir.now) (map (λ s. s.now) bases.now)) }
+    ensures { OnOk result (string_bytes text.new ≡ string_bytes text.old
+        ++ flat_map (reference_part dir.now) (map (λ s. s.now) bases.now)) }
 {
     for base in bases {
         text.push_str(":")?;
@@ -50,7 +51,8 @@ pub(crate) fn fingerprint(
     bases: &[&str],
     inner: &[u8; 32],
 ) -> Result<String, AllocError>
-    ensures { IfOk result (λ text. string_bytes text ≡ fingerprint_of kind.now dir.now (map (λ s. s.now) bases.now) inner.now name.now) }
+    ensures { IfOk result
+        (λ text. string_bytes text ≡ fingerprint_of kind.now dir.now (map (λ s. s.now) bases.now) inner.now name.now) }
 {
     let mut text = String::from_str(alloc, kind)?;
     push_references(&mut text, dir, bases)?;
@@ -135,8 +137,9 @@ pub fn text_path_of(
     hash: &[u8; 32],
 ) -> Result<StorePath, AllocError>
     ensures fits { IfOk result (λ p. IsPathOf (codes "text") dir.now name.now refs.now hash.now p) }
-    // It is the path of the contents that have this digest.
-    ensures value { (contents : List ℕ) → hash.now ≡ sha256 contents → IfOk result (λ p. p ≡ spec.text_path dir.now name.now refs.now contents) }
+    // The result is the path of the contents that have this digest.
+    ensures value { (contents : List ℕ) → hash.now ≡ sha256 contents
+        → IfOk result (λ p. p ≡ spec.text_path dir.now name.now refs.now contents) }
 {
     path_of(alloc, "text", dir, name.as_str(), refs, hash)
 }
@@ -194,8 +197,9 @@ pub fn source_path_of(
     nar_hash: &[u8; 32],
 ) -> Result<StorePath, AllocError>
     ensures fits { IfOk result (λ p. IsPathOf (codes "source") dir.now name.now refs.now nar_hash.now p) }
-    // It is the path of the archive that has this digest.
-    ensures value { (nar : List ℕ) → nar_hash.now ≡ sha256 nar → IfOk result (λ p. p ≡ spec.source_path dir.now name.now refs.now nar) }
+    // The result is the path of the archive that has this digest.
+    ensures value { (nar : List ℕ) → nar_hash.now ≡ sha256 nar
+        → IfOk result (λ p. p ≡ spec.source_path dir.now name.now refs.now nar) }
 {
     path_of(alloc, "source", dir, name.as_str(), refs, nar_hash)
 }

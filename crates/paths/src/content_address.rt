@@ -106,7 +106,9 @@ impl Ca {
 
     fn with_digits(alloc: Global, method: Method, digits: &str) -> Result<Ca, CaError>
         ensures ok { IfOk result (λ ca. with_method method (spec.unbase32 digits.now 32) ≡ Some ca) }
-        ensures bad { IfErr result (λ e. (e ≡ CaError.Memory) ⊎ ((e ≡ CaError.BadCa) × (with_method method (spec.unbase32 digits.now 32) ≡ None))) }
+        ensures bad { IfErr result
+            (λ e. (e ≡ CaError.Memory)
+            ⊎ ((e ≡ CaError.BadCa) × (with_method method (spec.unbase32 digits.now 32) ≡ None))) }
     {
         match unbase32(alloc, digits, 32) {
             Ok(bytes) => {
@@ -238,7 +240,9 @@ impl Ca {
         nar: &[u8],
     ) -> Result<(), VerifyError>
         ensures ok { OnOk result (verifies self.now dir.now path.now refs.now nar.now ≡ true) }
-        ensures bad { IfErr result (λ e. (e ≡ VerifyError.Memory) ⊎ ((e ≡ VerifyError.CaMismatch) × (verifies self.now dir.now path.now refs.now nar.now ≡ false))) }
+        ensures bad { IfErr result
+            (λ e. (e ≡ VerifyError.Memory)
+            ⊎ ((e ≡ VerifyError.CaMismatch) × (verifies self.now dir.now path.now refs.now nar.now ≡ false))) }
     {
         match self.method {
             Method::Text => verify_text(alloc, &self.digest, dir, path, refs, nar),
@@ -275,11 +279,17 @@ impl Ca {
         facts: &Facts,
     ) -> Result<(), VerifyError>
         ensures ok { OnOk result (verifies_by self.now dir.now path.now refs.now facts.now ≡ true) }
-        ensures bad { IfErr result (λ e. (e ≡ VerifyError.Memory) ⊎ ((e ≡ VerifyError.CaMismatch) × (verifies_by self.now dir.now path.now refs.now facts.now ≡ false))) }
-        // It is the test of the archive of which this is told.
-        ensures same { (nar : List ℕ) → facts.now ≡ facts_of nar → verifies_by self.now dir.now path.now refs.now facts.now ≡ verifies self.now dir.now path.now refs.now nar }
-        // The same where no more is told than an address of this method asks for.
-        ensures enough { (nar : List ℕ) → HasFactsFor self.now.method nar facts.now → verifies_by self.now dir.now path.now refs.now facts.now ≡ verifies self.now dir.now path.now refs.now nar }
+        ensures bad { IfErr result
+            (λ e. (e ≡ VerifyError.Memory)
+            ⊎ ((e ≡ VerifyError.CaMismatch) × (verifies_by self.now dir.now path.now refs.now facts.now ≡ false))) }
+        // For the facts of an archive, this is the test of that archive.
+        ensures same { (nar : List ℕ) → facts.now ≡ facts_of nar
+            → verifies_by self.now dir.now path.now refs.now facts.now
+            ≡ verifies self.now dir.now path.now refs.now nar }
+        // For the facts that an address of this method needs, too.
+        ensures enough { (nar : List ℕ) → HasFactsFor self.now.method nar facts.now
+            → verifies_by self.now dir.now path.now refs.now facts.now
+            ≡ verifies self.now dir.now path.now refs.now nar }
     {
         match self.method {
             Method::Text => {
@@ -338,7 +348,10 @@ fn verify_text(
     nar: &[u8],
 ) -> Result<(), VerifyError>
     ensures ok { OnOk result (method_verifies Method.Text stated.now dir.now path.now refs.now nar.now ≡ true) }
-    ensures bad { IfErr result (λ e. (e ≡ VerifyError.Memory) ⊎ ((e ≡ VerifyError.CaMismatch) × (method_verifies Method.Text stated.now dir.now path.now refs.now nar.now ≡ false))) }
+    ensures bad { IfErr result
+        (λ e. (e ≡ VerifyError.Memory)
+        ⊎ ((e ≡ VerifyError.CaMismatch)
+        × (method_verifies Method.Text stated.now dir.now path.now refs.now nar.now ≡ false))) }
 {
     let found = match contents_in(alloc, nar) {
         Ok(found) => found,
@@ -368,7 +381,10 @@ fn verify_made(
     refs: &[StorePath],
 ) -> Result<(), VerifyError>
     ensures ok { OnOk result (is_made_of kind.now stated.now inner.now dir.now path.now refs.now ≡ true) }
-    ensures bad { IfErr result (λ e. (e ≡ VerifyError.Memory) ⊎ ((e ≡ VerifyError.CaMismatch) × (is_made_of kind.now stated.now inner.now dir.now path.now refs.now ≡ false))) }
+    ensures bad { IfErr result
+        (λ e. (e ≡ VerifyError.Memory)
+        ⊎ ((e ≡ VerifyError.CaMismatch)
+        × (is_made_of kind.now stated.now inner.now dir.now path.now refs.now ≡ false))) }
 {
     if !same_bytes(stated.as_slice(), inner.as_slice()) {
         return Err(VerifyError::CaMismatch);

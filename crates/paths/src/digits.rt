@@ -139,7 +139,8 @@ pub fn unbase32(alloc: Global, text: &str, count: usize) -> Result<Vec<u8>, Base
     ensures err { IfErr result (λ e. (e ≡ Base32Error.Memory) ⊎ (spec.unbase32 text.now count ≡ Err e)) }
     // The first two faults are told before memory is taken.
     ensures digit { all_digits text.now ≡ false → result ≡ Err Base32Error.BadDigit }
-    ensures count { all_digits text.now ≡ true → length text.now ≢ digit_count count → result ≡ Err Base32Error.BadLength }
+    ensures count { all_digits text.now ≡ true → length text.now ≢ digit_count count
+        → result ≡ Err Base32Error.BadLength }
     ensures spells { IfOk result (λ bytes. Spells text.now bytes.items × (vec_len bytes ≡ count)) }
     ensures back { IfOk result (λ bytes. spec.base32 bytes.items ≡ text.now) }
 {

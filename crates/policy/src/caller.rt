@@ -34,8 +34,10 @@ impl Caller {
     /// assert_eq!(rt; Caller::new(alloc, "-ann", None).err(), Some(CallerError::BadCaller));
     /// ```
     pub fn new(alloc: Global, name: &str, group: Option<&str>) -> Result<Caller, CallerError>
-        ensures ok { IfOk result (λ c. (c ≡ caller_of name.now (option_map (λ g. g.now) group.entry)) × (is_caller c ≡ true)) }
-        ensures bad { (result ≡ Err CallerError.BadCaller) ↔ (is_caller (caller_of name.now (option_map (λ g. g.now) group.entry)) ≡ false) }
+        ensures ok { IfOk result
+            (λ c. (c ≡ caller_of name.now (option_map (λ g. g.now) group.entry)) × (is_caller c ≡ true)) }
+        ensures bad { (result ≡ Err CallerError.BadCaller)
+            ↔ (is_caller (caller_of name.now (option_map (λ g. g.now) group.entry)) ≡ false) }
     {
         if !is_plain_name(name) {
             return Err(CallerError::BadCaller);

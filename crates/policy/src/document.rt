@@ -13,7 +13,8 @@ pub const MAX_CONFIG_BYTES: usize = 1_048_576;
 /// The table of a document: `Bad(KeyWord::Syntax)` where the bytes are too many or no TOML document.
 pub fn read_document(alloc: Global, bytes: &[u8]) -> Result<Table, ConfigError>
     ensures ok { IfOk result (λ t. document_of bytes.now ≡ Some (table_view t)) }
-    ensures err { IfErr result (λ e. (e ≡ ConfigError.Memory) ⊎ ((e ≡ ConfigError.Bad KeyWord.Syntax) × (document_of bytes.now ≡ None))) }
+    ensures err { IfErr result
+        (λ e. (e ≡ ConfigError.Memory) ⊎ ((e ≡ ConfigError.Bad KeyWord.Syntax) × (document_of bytes.now ≡ None))) }
 {
     if bytes.len() > MAX_CONFIG_BYTES {
         return Err(ConfigError::Bad(KeyWord::Syntax));

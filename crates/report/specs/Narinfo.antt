@@ -10,7 +10,7 @@ use Rattle.model.specs.Reply.{Info}
 abbrev pub line : List ℕ → List ℕ → List ℕ
 line word value = word ++ codes ": " ++ value ++ codes "\n"
 
--- the same where there is a value
+-- a line for a value, if there is one
 abbrev pub line_if : List ℕ → Option (List ℕ) → List ℕ
 line_if word None = []
 line_if word (Some value) = line word value

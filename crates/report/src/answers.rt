@@ -29,7 +29,8 @@ fn record_text(alloc: Global, dir: &StoreDir, info: &Info) -> Result<String, All
 
 /// The usage report.
 fn usage_text(alloc: Global, live: Usage, dead: Usage, total: Usage) -> Result<String, AllocError>
-    ensures { IfOk result (λ text. string_bytes text ≡ usages.usage_text (usage_view live) (usage_view dead) (usage_view total)) }
+    ensures { IfOk result
+        (λ text. string_bytes text ≡ usages.usage_text (usage_view live) (usage_view dead) (usage_view total)) }
 {
     let live = (live.paths, live.bytes);
     let dead = (dead.paths, dead.bytes);

@@ -14,7 +14,8 @@ fn push_shown(
     dir: &StoreDir,
     root: &Option<(String, StorePath)>,
 ) -> Result<(), AllocError>
-    ensures { OnOk result (string_bytes text.new ≡ string_bytes text.old ++ shown_text dir.now (option_map labelled_bytes root.now)) }
+    ensures { OnOk result (string_bytes text.new ≡ string_bytes text.old
+        ++ shown_text dir.now (option_map labelled_bytes root.now)) }
 {
     match root {
         Some((label, target)) => {

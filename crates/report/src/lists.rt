@@ -54,7 +54,8 @@ pub(crate) fn push_root_line(
     label: &str,
     target: &StorePath,
 ) -> Result<(), AllocError>
-    ensures { OnOk result (string_bytes text.new ≡ string_bytes text.old ++ spec.root_line dir.now (label.now, target.now)) }
+    ensures { OnOk result (string_bytes text.new ≡ string_bytes text.old
+        ++ spec.root_line dir.now (label.now, target.now)) }
 {
     push_root(text, dir, label, target)?;
     text.push_str("\n")

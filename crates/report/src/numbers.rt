@@ -92,7 +92,8 @@ fn known_line(number: usize) -> &'static str
 /// Memory was refused. Nothing is appended.
 pub fn refusal_text(number: usize, text: &mut Vec<u8>) -> Result<(), AllocError>
     requires { (1 ≤ number) × (number ≤ 42) }
-    ensures ok { OnOk result ((r : TheRefusal) → number_of r ≡ number → text.new.items ≡ text.old.items ++ known_text r) }
+    ensures ok { OnOk result ((r : TheRefusal) → number_of r ≡ number
+        → text.new.items ≡ text.old.items ++ known_text r) }
     ensures err { OnErr result (text.new.items ≡ text.old.items) }
 {
     text.extend_from_slice(known_line(number).as_bytes())

@@ -45,7 +45,8 @@ fn push_path_of(
     dir: &StoreDir,
     path: &StorePath,
 ) -> Result<(), AllocError>
-    ensures { OnOk result (string_bytes text.new ≡ string_bytes text.old ++ line word.now (full_path dir.now path.now)) }
+    ensures { OnOk result (string_bytes text.new ≡ string_bytes text.old
+        ++ line word.now (full_path dir.now path.now)) }
 {
     text.push_str(word)?;
     text.push_str(": ")?;
@@ -115,7 +116,8 @@ fn push_references(
     word: &str,
     references: &[StorePath],
 ) -> Result<(), AllocError>
-    ensures { OnOk result (string_bytes text.new ≡ string_bytes text.old ++ line word.now (join_with_byte 32 references.now)) }
+    ensures { OnOk result (string_bytes text.new ≡ string_bytes text.old
+        ++ line word.now (join_with_byte 32 references.now)) }
 {
     text.push_str(word)?;
     text.push_str(": ")?;
@@ -124,7 +126,8 @@ fn push_references(
 }
 
 fn push_deriver(text: &mut String, deriver: Option<&StorePath>) -> Result<(), AllocError>
-    ensures { OnOk result (string_bytes text.new ≡ string_bytes text.old ++ line_if (codes "Deriver") (option_map (λ p. p.now) deriver.entry)) }
+    ensures { OnOk result (string_bytes text.new ≡ string_bytes text.old
+        ++ line_if (codes "Deriver") (option_map (λ p. p.now) deriver.entry)) }
 {
     match deriver {
         Some(path) => push_line(text, "Deriver", path.as_str()),
@@ -133,7 +136,8 @@ fn push_deriver(text: &mut String, deriver: Option<&StorePath>) -> Result<(), Al
 }
 
 fn push_ca(alloc: Global, text: &mut String, ca: Option<Ca>) -> Result<(), AllocError>
-    ensures { OnOk result (string_bytes text.new ≡ string_bytes text.old ++ line_if (codes "CA") (option_map address_text ca)) }
+    ensures { OnOk result (string_bytes text.new ≡ string_bytes text.old
+        ++ line_if (codes "CA") (option_map address_text ca)) }
 {
     match ca {
         Some(ca) => {

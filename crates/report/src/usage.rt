@@ -79,7 +79,8 @@ pub fn usage_text(
     dead: (usize, u128),
     total: (usize, u128),
 ) -> Result<String, AllocError>
-    ensures { IfOk result (λ text. string_bytes text ≡ spec.usage_text (usage_of live) (usage_of dead) (usage_of total)) }
+    ensures { IfOk result
+        (λ text. string_bytes text ≡ spec.usage_text (usage_of live) (usage_of dead) (usage_of total)) }
 {
     let mut text = String::new(alloc);
     push_columns(&mut text, "class", "paths", "bytes")?;

@@ -22,7 +22,7 @@ module _ {S : Type 0} (g : Ghosts S) where
   AreSteps = (h : Held S) (s : Settings) (w : World) (c : Caller) (q : Request) (reply : Reply) (next : World)
       → (IsTrue (reads_disk q) → HasCleanDisk (state g h)) → StepOver (HasCleanDisk (state g h)) s w c q reply next → Step s w c q reply next
 
-  -- the same of a run, where none of the answers is from the disk
+  -- what a run promises where none of the answers is from the disk
   abbrev pub AreRuns : Type 0
   AreRuns = (h : Held S) (s : Settings) (w : World) (calls : List (Caller × Request)) (replies : List Reply) (next : World)
       → (IsTrue (read_disk calls) → HasCleanDisk (state g h)) → RunOver (HasCleanDisk (state g h)) s w calls replies next → Run s w calls replies next

@@ -184,7 +184,8 @@ impl<S: Alter> Store<S> {
             × HasWorld S.Store self.new.tables next }
         // A request whose archive was lost to memory is denied by a rule, or fails for memory ahead of its tests.
         ensures spent { IsTrue (is_spent request)
-            → (reply_view result ≡ spent_reply self.old.settings caller.now (request_view request)) × (self.new ≡ self.old) }
+            → (reply_view result ≡ spent_reply self.old.settings caller.now (request_view request))
+            × (self.new ≡ self.old) }
         // A failure is out of memory; or the request touches the disk, and over a clean one there is a reason.
         ensures cause { (w : World) → HasWorld S.Store self.old.tables w
             → HasCause S.Store (request_view request) (reply_view result) self.old.tables self.new.tables }

@@ -31,7 +31,8 @@ use tables_sql::failure::Failure;
 
 /// Tests a path whose archive is to be read.
 pub(crate) fn may_read(outline: &Outline, path: &StorePath) -> Result<(), Refusal>
-    ensures { (s : Settings) (w : World) → outline_of w ≡ outline.now → Tested result (refusal s w (asked.nar path.now)) }
+    ensures { (s : Settings) (w : World) → outline_of w ≡ outline.now
+        → Tested result (refusal s w (asked.nar path.now)) }
 {
     is_valid(outline, path)?;
     Ok(())
@@ -85,7 +86,8 @@ fn read_listing<S: Alter>(
 ) -> Result<String, Failure>
     ensures reads { OnlyReads S.Store tables.old tables.new }
     ensures listing { HasCleanDisk (state S.Store tables.new.connection) → IfOk result (λ text. (w : World)
-        → HasWorld S.Store tables.old w → string_bytes text ≡ listing_at (outcome_of (archive_at (finite.get w.objects path.now)))) }
+        → HasWorld S.Store tables.old w
+        → string_bytes text ≡ listing_at (outcome_of (archive_at (finite.get w.objects path.now)))) }
     // In a sound world it is an archive.
     ensures cause { (w : World) → HasWorld S.Store tables.old w → IsTrue (has w path.now)
         → FailsToAsk S.Store tables.old tables.new result }

@@ -25,7 +25,8 @@ use tables::Tables;
 pub fn add<S: Alter>(tables: &mut Tables<S>, added: Added) -> Result<Answer, Stop>
     requires size { added.object.size ≡ length added.nar }
     requires hash { added.object.hash ≡ sha256 added.nar }
-    requires sound { (w : World) → HasWorld S.Store tables.old w → IsSound tables.old.dir (with_object w (added_view added)) }
+    requires sound { (w : World) → HasWorld S.Store tables.old w
+        → IsSound tables.old.dir (with_object w (added_view added)) }
     ensures { IsAdded S.Store (added_view added) result tables.old tables.new }
 {
     let Added { path, nar, object } = added;
@@ -48,9 +49,10 @@ pub fn add_text<S: Alter>(
     contents: Vec<u8>,
 ) -> Result<Answer, Stop>
     requires dir { tables.old.dir ≡ config.now.store_dir }
-    ensures { (c : Caller) → IsMet S.Store config.now c (asked.add_text name refs.items contents.items) result tables.old tables.new }
+    ensures { (c : Caller)
+        → IsMet S.Store config.now c (asked.add_text name refs.items contents.items) result tables.old tables.new }
 {
-    // It is a store name.
+    // A store name is a text.
     let _text = name.as_str();
     let dir = store_dir(config);
     match prepare_text(alloc, dir, tables.outline(), &name, refs, &contents) {

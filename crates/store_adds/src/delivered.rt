@@ -85,7 +85,9 @@ impl Delivered {
     /// Tests that the archive has the given digest.
     pub(crate) fn has_digest(&self) -> Result<(), Refusal>
         requires { DescribesBytes self.now.nar }
-        ensures { Tested result (unless (same (sha256 (delivered_view self.now).nar) (delivered_view self.now).nar_hash) Refusal.NarHashMismatch) }
+        ensures { Tested result
+            (unless (same (sha256 (delivered_view self.now).nar) (delivered_view self.now).nar_hash)
+            Refusal.NarHashMismatch) }
     {
         if !is_same(&self.nar.nar_hash, &self.nar_hash) {
             return Err(Refusal::NarHashMismatch);
@@ -95,7 +97,8 @@ impl Delivered {
 
     /// Tests that it doesn't refer to itself, if it has a content address.
     pub(crate) fn refers_to_others(&self) -> Result<(), Refusal>
-        ensures { Tested result (unless (is_none (delivered_view self.now).ca || not (is_held (delivered_view self.now).refs (delivered_view self.now).path)) Refusal.SelfReference) }
+        ensures { Tested result (unless (is_none (delivered_view self.now).ca
+            || not (is_held (delivered_view self.now).refs (delivered_view self.now).path)) Refusal.SelfReference) }
     {
         if self.ca.is_none() {
             return Ok(());
@@ -136,7 +139,10 @@ impl Delivered {
     /// Whether an address is that of the object.
     fn fits(&self, alloc: Global, dir: &StoreDir, ca: &Ca) -> Result<bool, Stop>
         requires { DescribesBytes self.now.nar }
-        ensures fits { IfOk result (λ fits. fits ≡ verifies ca.now dir.now (delivered_view self.now).path (delivered_view self.now).refs (delivered_view self.now).nar) }
+        ensures fits { IfOk result
+            (λ fits. fits
+            ≡ verifies ca.now dir.now (delivered_view self.now).path (delivered_view self.now).refs
+            (delivered_view self.now).nar) }
         ensures failed { IfErr result (λ stop. stop ≡ failed memory) }
     {
         let facts = self.facts(ca.method());

@@ -42,7 +42,9 @@ fn outputs_of(
     dir: &StoreDir,
     text: &[u8],
 ) -> Result<BTreeMap<String, StorePath>, Stop>
-    ensures { Gives (λ map. outputs_view map.entries) result (outputs_fault (outcome.outputs_of dir.now text.now)) (objects.outputs_if_sound (outcome.outputs_of dir.now text.now)) }
+    ensures { Gives
+        (λ map. outputs_view map.entries) result (outputs_fault (outcome.outputs_of dir.now text.now))
+        (objects.outputs_if_sound (outcome.outputs_of dir.now text.now)) }
 {
     match drv::outputs(alloc, text, dir) {
         Ok(found) => Ok(by_name(alloc, found)?),
@@ -56,7 +58,9 @@ fn outputs_in(
     dir: &StoreDir,
     node: &Node<'_>,
 ) -> Result<BTreeMap<String, StorePath>, Stop>
-    ensures { Gives (λ map. outputs_view map.entries) result (tree_fault dir.now (Ok (tree_of node.now))) (objects.tree_outputs {E = Fault} dir.now (Ok (tree_of node.now))) }
+    ensures { Gives
+        (λ map. outputs_view map.entries) result (tree_fault dir.now (Ok (tree_of node.now)))
+        (objects.tree_outputs {E = Fault} dir.now (Ok (tree_of node.now))) }
 {
     match node {
         Node::Regular { contents, .. } => outputs_of(alloc, dir, contents),
@@ -70,7 +74,9 @@ fn outputs_from(
     dir: &StoreDir,
     nar: &[u8],
 ) -> Result<BTreeMap<String, StorePath>, Stop>
-    ensures { Gives (λ map. outputs_view map.entries) result (tree_fault dir.now (outcome_of nar.now)) (objects.tree_outputs dir.now (outcome_of nar.now)) }
+    ensures { Gives
+        (λ map. outputs_view map.entries) result (tree_fault dir.now (outcome_of nar.now))
+        (objects.tree_outputs dir.now (outcome_of nar.now)) }
 {
     match file_contents(alloc, nar) {
         Ok(Some(text)) => outputs_of(alloc, dir, text),
@@ -85,7 +91,9 @@ fn outputs_joined(
     dir: &StoreDir,
     nar: &Pieces,
 ) -> Result<BTreeMap<String, StorePath>, Stop>
-    ensures { Gives (λ map. outputs_view map.entries) result (tree_fault dir.now (outcome_of nar.now)) (objects.tree_outputs dir.now (outcome_of nar.now)) }
+    ensures { Gives
+        (λ map. outputs_view map.entries) result (tree_fault dir.now (outcome_of nar.now))
+        (objects.tree_outputs dir.now (outcome_of nar.now)) }
 {
     match nar.joined() {
         Ok(nar) => outputs_from(alloc, dir, nar.as_slice()),
@@ -100,7 +108,9 @@ pub(crate) fn outputs_by(
     path: &StorePath,
     nar: &Pieces,
 ) -> Result<BTreeMap<String, StorePath>, Stop>
-    ensures { Gives (λ map. outputs_view map.entries) result (if_derivation path.now (tree_fault dir.now (outcome_of nar.now))) (objects.outputs_at dir.now path.now nar.now) }
+    ensures { Gives
+        (λ map. outputs_view map.entries) result (if_derivation path.now (tree_fault dir.now (outcome_of nar.now)))
+        (objects.outputs_at dir.now path.now nar.now) }
 {
     if path.is_derivation() {
         outputs_joined(alloc, dir, nar)
@@ -116,7 +126,10 @@ pub(crate) fn outputs_at(
     path: &StorePath,
     node: &Node<'_>,
 ) -> Result<BTreeMap<String, StorePath>, Stop>
-    ensures { Gives (λ map. outputs_view map.entries) result (if_derivation path.now (tree_fault dir.now (Ok (tree_of node.now)))) (if is_derivation path.now then objects.tree_outputs {E = Fault} dir.now (Ok (tree_of node.now)) else finite.empty) }
+    ensures { Gives
+        (λ map. outputs_view map.entries) result (if_derivation path.now (tree_fault dir.now (Ok (tree_of node.now))))
+        (if is_derivation path.now then objects.tree_outputs {E = Fault} dir.now (Ok (tree_of node.now)) else
+        finite.empty) }
 {
     if path.is_derivation() {
         outputs_in(alloc, dir, node)

@@ -31,7 +31,8 @@ pub(crate) fn examine_text(
     requires { text_archive_size contents.now ≤ limit }
     // Of all tests of a text, the first two are over.
     ensures { (w : World) → outline_of w ≡ outline.now → Gives (λ map. outputs_view map.entries) result
-        (first_failing (drop 2 (text_tests dir.now w path.now refs.now contents.now))) (objects.outputs_at dir.now path.now (text_archive contents.now)) }
+        (first_failing (drop 2 (text_tests dir.now w path.now refs.now contents.now)))
+        (objects.outputs_at dir.now path.now (text_archive contents.now)) }
 {
     are_others(refs, path)?;
     let file = plain(contents);

@@ -44,7 +44,8 @@ fn examine_import(
 ) -> Result<BTreeMap<String, StorePath>, Stop>
     requires { DescribesBytes import.now.nar }
     ensures reported { (w : World) → outline_of w ≡ outline.now → Gives (λ map. outputs_view map.entries) result
-        (first_failing (import_tests dir.now w (delivered_view import.now))) (objects.outputs_at dir.now (delivered_view import.now).path (delivered_view import.now).nar) }
+        (first_failing (import_tests dir.now w (delivered_view import.now)))
+        (objects.outputs_at dir.now (delivered_view import.now).path (delivered_view import.now).nar) }
     ensures formed { OnOk result (IsWellFormedImport (delivered_view import.now)) }
     ensures hash { OnOk result ((delivered_view import.now).nar_hash ≡ sha256 (delivered_view import.now).nar) }
 {

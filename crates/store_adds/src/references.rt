@@ -72,7 +72,8 @@ pub(crate) fn are_valid(
     path: &StorePath,
     refs: &[StorePath],
 ) -> Result<(), Refusal>
-    ensures { (w : World) → outline_of w ≡ outline.now → Tested result (unless (tests.is_complete w path.now refs.now) Refusal.MissingReference) }
+    ensures { (w : World) → outline_of w ≡ outline.now
+        → Tested result (unless (tests.is_complete w path.now refs.now) Refusal.MissingReference) }
 {
     if !is_complete(outline, path, refs) {
         return Err(Refusal::MissingReference);

@@ -45,7 +45,8 @@ fn examine_source(
 ) -> Result<BTreeMap<String, StorePath>, Stop>
     requires { DescribesBytes nar.now }
     ensures { (w : World) → outline_of w ≡ outline.now → Gives (λ map. outputs_view map.entries) result
-        (first_failing (source_tests dir.now w path.now refs.now nar.now.pieces)) (objects.outputs_at dir.now path.now nar.now.pieces) }
+        (first_failing (source_tests dir.now w path.now refs.now nar.now.pieces))
+        (objects.outputs_at dir.now path.now nar.now.pieces) }
 {
     are_few(refs)?;
     is_archive(nar)?;
@@ -65,7 +66,9 @@ pub fn prepare_source(
     nar: Intake,
 ) -> Result<Added, Stop>
     ensures reported { (w : World) → outline_of w ≡ outline.now → Gives added_view result
-        (first_failing (source_tests dir.now w (paths.source_path dir.now name.now refs.items (bytes_in nar)) refs.items (bytes_in nar))) (added_source dir.now name.now refs.items (bytes_in nar)) }
+        (first_failing
+        (source_tests dir.now w (paths.source_path dir.now name.now refs.items (bytes_in nar)) refs.items
+        (bytes_in nar))) (added_source dir.now name.now refs.items (bytes_in nar)) }
     ensures bytes { OnOk result (IsBytes (bytes_in nar)) }
     ensures size { IfOk result (λ a. a.object.size ≡ length a.nar) }
     ensures hash { IfOk result (λ a. a.object.hash ≡ sha256 a.nar) }
@@ -103,7 +106,7 @@ pub fn add_source<S: Alter>(
     // An archive that was lost to memory is ahead of all tests.
     ensures spent { nar ≡ None → (result ≡ Err (failed memory)) × (tables.new ≡ tables.old) }
 {
-    // It is a store name.
+    // A store name is a text.
     let _text = name.as_str();
     let dir = store_dir(config);
     match prepare_source(alloc, dir, tables.outline(), &name, refs, nar) {

@@ -32,7 +32,9 @@ fn parted(
 ) -> Result<(Vec<String>, Vec<StorePath>), AllocError>
     ensures names { IfOk result (λ p. IsTrue (rise (map string_bytes p.0.items))) }
     ensures paths { IfOk result (λ p. length p.1.items ≡ length p.0.items) }
-    ensures value { IfOk result (λ p. finite.from_entries {R = bytes_cmp} (zip (map string_bytes p.0.items) p.1.items) ≡ outputs_view outputs.entries) }
+    ensures value { IfOk result
+        (λ p. finite.from_entries {R = bytes_cmp} (zip (map string_bytes p.0.items) p.1.items)
+        ≡ outputs_view outputs.entries) }
 {
     // Names rise.
     let _count = outputs.len();
@@ -55,7 +57,16 @@ pub(crate) fn summary(
     ca: Option<Ca>,
     outputs: BTreeMap<String, StorePath>,
 ) -> Result<Summary, AllocError>
-    ensures { IfOk result (λ o. o ≡ record { size = size; hash = hash; references = set_of bytes_cmp refs.items; deriver = deriver; ca = ca; outputs = outputs_view outputs.entries }) }
+    ensures { IfOk result
+        (λ o. o ≡ record {
+          size = size;
+          hash = hash;
+          references = set_of bytes_cmp refs.items;
+          deriver = deriver;
+          ca = ca;
+          outputs =
+              outputs_view outputs.entries;
+        }) }
 {
     let (names, paths) = parted(alloc, outputs)?;
     Ok(Summary::new(size, hash, in_order(refs), deriver, ca, names, paths))

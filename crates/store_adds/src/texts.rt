@@ -31,7 +31,9 @@ pub fn prepare_text(
     contents: &[u8],
 ) -> Result<Added, Stop>
     ensures reported { (w : World) → outline_of w ≡ outline.now → Gives added_view result
-        (first_failing (tests.text_tests dir.now w (paths.text_path dir.now name.now refs.items contents.now) refs.items contents.now)) (added_text dir.now name.now refs.items contents.now) }
+        (first_failing
+        (tests.text_tests dir.now w (paths.text_path dir.now name.now refs.items contents.now) refs.items contents.now))
+        (added_text dir.now name.now refs.items contents.now) }
     ensures bytes { OnOk result (IsBytes contents.now) }
     ensures size { IfOk result (λ a. a.object.size ≡ length a.nar) }
     ensures hash { IfOk result (λ a. a.object.hash ≡ sha256 a.nar) }

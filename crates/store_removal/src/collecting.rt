@@ -56,9 +56,16 @@ fn places(
     requires roots { RootsRise (roots_view roots.now) }
     requires targets { AllValid (rows_view rows.now) (roots_view roots.now) }
     requires sizes { length sizes.now ≡ length rows.now }
-    ensures inside { IfOk result (λ v. (size : Path → ℕ) → ((i : ℕ) → i < length (rows_view rows.now) → size (path_at (rows_view rows.now) i) ≡ slice_index sizes.now i) → All (λ k. k < length rows.now) v.items) }
-    ensures paths { IfOk result (λ v. (size : Path → ℕ) → ((i : ℕ) → i < length (rows_view rows.now) → size (path_at (rows_view rows.now) i) ≡ slice_index sizes.now i) →
-        map (path_at (rows_view rows.now)) v.items ≡ limits.limited_paths (graph_of (rows_view rows.now)) (λ p. not (is_live (keep_view keep) (graph_of (rows_view rows.now)) (roots_view roots.now) p)) size limit) }
+    ensures inside { IfOk result
+        (λ v. (size : Path → ℕ)
+        → ((i : ℕ) → i < length (rows_view rows.now) → size (path_at (rows_view rows.now) i) ≡ slice_index sizes.now i)
+        → All (λ k. k < length rows.now) v.items) }
+    ensures paths { IfOk result
+        (λ v. (size : Path → ℕ)
+        → ((i : ℕ) → i < length (rows_view rows.now)
+        → size (path_at (rows_view rows.now) i) ≡ slice_index sizes.now i) →
+        map (path_at (rows_view rows.now)) v.items ≡ limits.limited_paths (graph_of (rows_view rows.now))
+        (λ p. not (is_live (keep_view keep) (graph_of (rows_view rows.now)) (roots_view roots.now) p)) size limit) }
 {
     let graph = Graph::new(alloc, rows)?;
     let aims = Roots::new(alloc, rows, roots)?;
@@ -74,7 +81,8 @@ fn limited_paths(
     outline: &Outline,
     limit: u64,
 ) -> Result<Vec<StorePath>, AllocError>
-    ensures { IfOk result (λ v. (w : World) → outline_of w ≡ outline.now → v.items ≡ spec.collected_paths config.now w (Some limit)) }
+    ensures { IfOk result
+        (λ v. (w : World) → outline_of w ≡ outline.now → v.items ≡ spec.collected_paths config.now w (Some limit)) }
 {
     let rows = rows(alloc, outline)?;
     let roots = root_list(alloc, outline)?;
@@ -93,7 +101,8 @@ pub fn collected_paths(
     outline: &Outline,
     limit: Option<u64>,
 ) -> Result<Vec<StorePath>, AllocError>
-    ensures { IfOk result (λ v. (w : World) → outline_of w ≡ outline.now → v.items ≡ spec.collected_paths config.now w limit) }
+    ensures { IfOk result
+        (λ v. (w : World) → outline_of w ≡ outline.now → v.items ≡ spec.collected_paths config.now w limit) }
 {
     match limit {
         Some(most) => limited_paths(alloc, config, outline, most),
@@ -108,8 +117,11 @@ pub fn find_collected(
     outline: &Outline,
     limit: Option<u64>,
 ) -> Result<Found, AllocError>
-    ensures paths { IfOk result (λ f. (w : World) → outline_of w ≡ outline.now → f.paths.items ≡ spec.collected_paths config.now w limit) }
-    ensures bytes { IfOk result (λ f. (w : World) → outline_of w ≡ outline.now → f.bytes ≡ spec.bytes_in w (spec.collected_paths config.now w limit)) }
+    ensures paths { IfOk result
+        (λ f. (w : World) → outline_of w ≡ outline.now → f.paths.items ≡ spec.collected_paths config.now w limit) }
+    ensures bytes { IfOk result
+        (λ f. (w : World) → outline_of w ≡ outline.now
+        → f.bytes ≡ spec.bytes_in w (spec.collected_paths config.now w limit)) }
 {
     let paths = collected_paths(alloc, config, outline, limit)?;
     let bytes = bytes_in(outline, &paths);

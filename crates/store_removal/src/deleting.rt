@@ -41,7 +41,9 @@ use tables_outline::Outline;
 fn places(alloc: Global, rows: &[Row], named: &[StorePath]) -> Result<Vec<usize>, AllocError>
     ensures inside { IfOk result (λ v. All (λ k. k < length rows.now) v.items) }
     // A test that none but a row's path passes, passes for one of them if it does for one of the paths.
-    ensures those { IfOk result (λ v. (test : Path → Bool) → ((p : Path) → filter (same p) (paths_of (rows_view rows.now)) ≡ [] → test p ≡ false)
+    ensures those { IfOk result
+        (λ v. (test : Path → Bool)
+        → ((p : Path) → filter (same p) (paths_of (rows_view rows.now)) ≡ [] → test p ≡ false)
         → list_any test (map (path_at (rows_view rows.now)) v.items) ≡ list_any test named.now) }
 {
     let mut places = Vec::new(alloc);
@@ -69,7 +71,10 @@ pub fn paths_at(alloc: Global, rows: &[Row], places: &[usize]) -> Result<Vec<Sto
 fn referring(alloc: Global, rows: &[Row], places: &[usize]) -> Result<Vec<StorePath>, AllocError>
     requires rise { Rise (paths_of (rows_view rows.now)) }
     requires inside { All (λ k. k < length rows.now) places.now }
-    ensures { IfOk result (λ v. v.items ≡ filter (refers_to_any (graph_of (rows_view rows.now)) (map (path_at (rows_view rows.now)) places.now)) (paths_of (rows_view rows.now))) }
+    ensures { IfOk result
+        (λ v. v.items
+        ≡ filter (refers_to_any (graph_of (rows_view rows.now)) (map (path_at (rows_view rows.now)) places.now))
+        (paths_of (rows_view rows.now))) }
 {
     let graph = Graph::new(alloc, rows)?;
     let going = referrers(alloc, &graph, places)?;
@@ -115,7 +120,8 @@ pub fn denial(
 /// The named paths and all that reach them by references, if the named are valid.
 pub fn find_deleted(alloc: Global, outline: &Outline, named: &[StorePath]) -> Result<Found, Stop>
     ensures { (w : World) → outline_of w ≡ outline.now → Gives found_view result
-        (unless (list_all (has w) named.now) NotValid) (spec.deleted_paths w named.now, spec.bytes_in w (spec.deleted_paths w named.now)) }
+        (unless (list_all (has w) named.now) NotValid)
+        (spec.deleted_paths w named.now, spec.bytes_in w (spec.deleted_paths w named.now)) }
 {
     are_valid(outline, named)?;
     let paths = deleted_paths(alloc, outline, named)?;
@@ -130,8 +136,10 @@ pub fn delete<S: Alter>(
     named: Vec<StorePath>,
     ignores: bool,
 ) -> Result<Answer, Stop>
-    requires { (w : World) → HasWorld S.Store tables.old w → IsSound tables.old.dir (keeping w (λ p. not (spec.is_deleted_with w named.items p))) }
-    ensures { (s : Settings) (c : callers.Caller) → IsMet S.Store s c (asked.delete named.items ignores) result tables.old tables.new }
+    requires { (w : World) → HasWorld S.Store tables.old w
+        → IsSound tables.old.dir (keeping w (λ p. not (spec.is_deleted_with w named.items p))) }
+    ensures { (s : Settings) (c : callers.Caller)
+        → IsMet S.Store s c (asked.delete named.items ignores) result tables.old tables.new }
 {
     match find_deleted(alloc, tables.outline(), &named) {
         Ok(gone) => remove(tables, gone),

@@ -28,7 +28,8 @@ use tables_outline::Outline;
 fn mark_of(rows: &[Row], marks: &Marks, path: &StorePath) -> Option<usize>
     requires { length marks.now.first ≡ length rows.now }
     ensures inside { IfSome result (λ k. k < marks.now.none) }
-    ensures root { (root : ℕ → TheRoot) (root_of : Path → Option TheRoot) → AreMarked (rows_view rows.now) marks.now root root_of → option_map root result ≡ root_of path.now }
+    ensures root { (root : ℕ → TheRoot) (root_of : Path → Option TheRoot)
+        → AreMarked (rows_view rows.now) marks.now root root_of → option_map root result ≡ root_of path.now }
 {
     match place_of(rows, path) {
         Some(place) => marks.first_root(place),
@@ -40,7 +41,9 @@ fn mark_of(rows: &[Row], marks: &Marks, path: &StorePath) -> Option<usize>
 fn first_mark(rows: &[Row], marks: &Marks, named: &[StorePath]) -> Option<usize>
     requires { length marks.now.first ≡ length rows.now }
     ensures inside { IfSome result (λ k. k < marks.now.none) }
-    ensures root { (root : ℕ → TheRoot) (root_of : Path → Option TheRoot) → AreMarked (rows_view rows.now) marks.now root root_of → option_map root result ≡ first_value root_of named.now }
+    ensures root { (root : ℕ → TheRoot) (root_of : Path → Option TheRoot)
+        → AreMarked (rows_view rows.now) marks.now root root_of
+        → option_map root result ≡ first_value root_of named.now }
 {
     for path in named {
         if let Some(root) = mark_of(rows, marks, path) {
@@ -59,8 +62,12 @@ pub fn first_kept(
     outline: &Outline,
     named: &[StorePath],
 ) -> Result<Option<(String, StorePath)>, AllocError>
-    ensures root { IfOk result (λ r. (w : World) → outline_of w ≡ outline.now → option_map labelled_bytes r ≡ option_map (sights.seen_root class) (root_of_first config.now w (find (spec.lives config.now w) named.now))) }
-    ensures lives { IfOk result (λ r. (w : World) → outline_of w ≡ outline.now → is_some r ≡ list_any (spec.lives config.now w) named.now) }
+    ensures root { IfOk result
+        (λ r. (w : World) → outline_of w ≡ outline.now
+        → option_map labelled_bytes r
+        ≡ option_map (sights.seen_root class) (root_of_first config.now w (find (spec.lives config.now w) named.now))) }
+    ensures lives { IfOk result
+        (λ r. (w : World) → outline_of w ≡ outline.now → is_some r ≡ list_any (spec.lives config.now w) named.now) }
 {
     let rows = rows(alloc, outline)?;
     let roots = root_list(alloc, outline)?;

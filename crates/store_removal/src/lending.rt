@@ -30,7 +30,9 @@ pub(crate) fn of_valid<'a>(
     outline: &Outline,
     roots: &[live::Root<'a>],
 ) -> Result<Vec<live::Root<'a>>, AllocError>
-    ensures { IfOk result (λ v. roots_view v.items ≡ filter (λ r. finite.contains_key outline.now.objects r.target) (roots_view roots.now)) }
+    ensures { IfOk result
+        (λ v. roots_view v.items ≡ filter
+        (λ r. finite.contains_key outline.now.objects r.target) (roots_view roots.now)) }
 {
     let mut valid = Vec::new(alloc);
     for root in roots {

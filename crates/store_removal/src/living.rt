@@ -93,7 +93,9 @@ fn chosen(
     wanted: bool,
 ) -> Result<Vec<StorePath>, AllocError>
     requires { length lives.now ≡ length rows.now }
-    ensures { IfOk result (λ v. (test : Path → Bool) → lives.now ≡ map test (paths_of (rows_view rows.now)) → v.items ≡ filter (λ p. is_wanted wanted (test p)) (paths_of (rows_view rows.now))) }
+    ensures { IfOk result
+        (λ v. (test : Path → Bool) → lives.now ≡ map test (paths_of (rows_view rows.now))
+        → v.items ≡ filter (λ p. is_wanted wanted (test p)) (paths_of (rows_view rows.now))) }
 {
     let mut chosen = Vec::new(alloc);
     for place in 0..rows.len() {
@@ -110,8 +112,10 @@ pub fn live_and_dead(
     config: &Config,
     outline: &Outline,
 ) -> Result<(Vec<StorePath>, Vec<StorePath>), AllocError>
-    ensures live { IfOk result (λ p. (w : World) → outline_of w ≡ outline.now → p.0.items ≡ spec.live_paths config.now w) }
-    ensures dead { IfOk result (λ p. (w : World) → outline_of w ≡ outline.now → p.1.items ≡ spec.dead_paths config.now w) }
+    ensures live { IfOk result
+        (λ p. (w : World) → outline_of w ≡ outline.now → p.0.items ≡ spec.live_paths config.now w) }
+    ensures dead { IfOk result
+        (λ p. (w : World) → outline_of w ≡ outline.now → p.1.items ≡ spec.dead_paths config.now w) }
 {
     let rows = rows(alloc, outline)?;
     let lives = lives(alloc, config, outline, &rows)?;

@@ -63,7 +63,10 @@ fn reaching<'a>(
     requires rows { Rise (paths_of (rows_view rows.now)) }
     requires targets { AllValid (rows_view rows.now) (roots_view roots.now) }
     requires place { place < length rows.now }
-    ensures { IfOk result (λ v. roots_view v.items ≡ roots_that_reach (keep_view keep) (graph_of (rows_view rows.now)) (roots_view roots.now) (path_at (rows_view rows.now) place)) }
+    ensures { IfOk result
+        (λ v. roots_view v.items
+        ≡ roots_that_reach (keep_view keep) (graph_of (rows_view rows.now)) (roots_view roots.now)
+        (path_at (rows_view rows.now) place)) }
 {
     let graph = Graph::new(alloc, rows)?;
     let aims = Roots::new(alloc, rows, roots)?;
@@ -80,7 +83,9 @@ pub fn seen_roots_of(
     outline: &Outline,
     path: &StorePath,
 ) -> Result<Vec<(String, StorePath)>, AllocError>
-    ensures { IfOk result (λ v. (w : World) → outline_of w ≡ outline.now → map labelled_bytes v.items ≡ seen_by class (roots_that_keep config.now w path.now)) }
+    ensures { IfOk result
+        (λ v. (w : World) → outline_of w ≡ outline.now
+        → map labelled_bytes v.items ≡ seen_by class (roots_that_keep config.now w path.now)) }
 {
     let rows = rows(alloc, outline)?;
     let Some(place) = place_of(&rows, path) else {

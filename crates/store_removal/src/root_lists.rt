@@ -20,7 +20,8 @@ pub fn seen_roots(
     class: Class,
     outline: &Outline,
 ) -> Result<Vec<(String, StorePath)>, AllocError>
-    ensures { IfOk result (λ v. (w : World) → outline_of w ≡ outline.now → map labelled_bytes v.items ≡ seen_by class (roots_of w)) }
+    ensures { IfOk result
+        (λ v. (w : World) → outline_of w ≡ outline.now → map labelled_bytes v.items ≡ seen_by class (roots_of w)) }
 {
     let roots = root_list(alloc, outline)?;
     let given = lent(alloc, &roots)?;

@@ -60,8 +60,13 @@ fn note(
     reported: &mut BTreeSet<(String, StorePath)>,
     pair: &(String, StorePath),
 ) -> Result<bool, AllocError>
-    ensures first { IfOk result (λ b. (shown : List (String Global × List ℕ)) → AreListed class reported.old.keys shown → not b ≡ (not (rules.is_trusted class) && list_any (λ q. spec.same_pair q (labelled_bytes pair.now)) (map labelled_bytes shown))) }
-    ensures reported { IfOk result (λ b. (shown : List (String Global × List ℕ)) → AreListed class reported.old.keys shown → AreListed class reported.new.keys (if b then shown ++ pair.now ∷ [] else shown)) }
+    ensures first { IfOk result
+        (λ b. (shown : List (String Global × List ℕ)) → AreListed class reported.old.keys shown
+        → not b ≡ (not (rules.is_trusted class) && list_any
+        (λ q. spec.same_pair q (labelled_bytes pair.now)) (map labelled_bytes shown))) }
+    ensures reported { IfOk result
+        (λ b. (shown : List (String Global × List ℕ)) → AreListed class reported.old.keys shown
+        → AreListed class reported.new.keys (if b then shown ++ pair.now ∷ [] else shown)) }
 {
     if is_trusted(class) {
         return Ok(true);
@@ -79,8 +84,11 @@ fn show(
     shown: &mut Vec<(String, StorePath)>,
     root: Root,
 ) -> Result<(), AllocError>
-    ensures reported { OnOk result (AreListed class reported.old.keys shown.old.items → AreListed class reported.new.keys shown.new.items) }
-    ensures shown { OnOk result ((before : List TheRoot) → AreListed class reported.old.keys shown.old.items → map labelled_bytes shown.old.items ≡ spec.seen class before → map labelled_bytes shown.new.items ≡ spec.seen class (before ++ root_view root.entry ∷ [])) }
+    ensures reported { OnOk result (AreListed class reported.old.keys shown.old.items
+        → AreListed class reported.new.keys shown.new.items) }
+    ensures shown { OnOk result ((before : List TheRoot) → AreListed class reported.old.keys shown.old.items
+        → map labelled_bytes shown.old.items ≡ spec.seen class before
+        → map labelled_bytes shown.new.items ≡ spec.seen class (before ++ root_view root.entry ∷ [])) }
 {
     let pair = seen_root(alloc, class, root)?;
     let is_first = note(class, reported, &pair)?;

@@ -15,7 +15,8 @@ use tables_outline::Outline;
 /// Tests that a profile has a generation below the current one; gives the greatest number of one.
 pub(crate) fn has_older(outline: &Outline, owned: &(String, String)) -> Result<u32, Refusal>
     ensures { (w : World) → outline_of w ≡ outline.now → Finds (λ n. Some n) result
-        (unless (is_some (previous (profile_at w (string_bytes owned.now.0, string_bytes owned.now.1)))) Refusal.NoOlderGeneration) (previous (profile_at w (string_bytes owned.now.0, string_bytes owned.now.1))) }
+        (unless (is_some (previous (profile_at w (string_bytes owned.now.0, string_bytes owned.now.1))))
+        Refusal.NoOlderGeneration) (previous (profile_at w (string_bytes owned.now.0, string_bytes owned.now.1))) }
 {
     match outline.previous_generation(owned) {
         Some(older) => Ok(older),
@@ -29,7 +30,10 @@ pub(crate) fn has_generation(
     owned: &(String, String),
     number: u32,
 ) -> Result<(), Refusal>
-    ensures { (w : World) → outline_of w ≡ outline.now → Tested result (unless (profiles.has_generation (profile_at w (string_bytes owned.now.0, string_bytes owned.now.1)) number) Refusal.NoGeneration) }
+    ensures { (w : World) → outline_of w ≡ outline.now
+        → Tested result
+        (unless (profiles.has_generation (profile_at w (string_bytes owned.now.0, string_bytes owned.now.1)) number)
+        Refusal.NoGeneration) }
 {
     if !outline.has_generation(owned, number) {
         return Err(Refusal::NoGeneration);
@@ -39,7 +43,8 @@ pub(crate) fn has_generation(
 
 /// Whether this is the number of the current generation of a profile.
 fn is_current(outline: &Outline, owned: &(String, String), number: u32) -> bool
-    ensures { result ≡ ((profile_of outline.now (string_bytes owned.now.0, string_bytes owned.now.1)).current == number) }
+    ensures { result
+        ≡ ((profile_of outline.now (string_bytes owned.now.0, string_bytes owned.now.1)).current == number) }
 {
     outline.current_generation(owned) == number
 }
@@ -50,7 +55,10 @@ pub(crate) fn is_not_current(
     owned: &(String, String),
     number: u32,
 ) -> Result<(), Refusal>
-    ensures { (w : World) → outline_of w ≡ outline.now → Tested result (unless (not ((profile_at w (string_bytes owned.now.0, string_bytes owned.now.1)).current == number)) Refusal.CurrentGeneration) }
+    ensures { (w : World) → outline_of w ≡ outline.now
+        → Tested result
+        (unless (not ((profile_at w (string_bytes owned.now.0, string_bytes owned.now.1)).current == number))
+        Refusal.CurrentGeneration) }
 {
     if is_current(outline, owned, number) {
         return Err(Refusal::CurrentGeneration);
@@ -65,8 +73,11 @@ pub(crate) fn has_number_left(
     path: &StorePath,
 ) -> Result<u32, Refusal>
     ensures reported { (w : World) → outline_of w ≡ outline.now → Finds (λ n. n) result
-        (unless (nat_le (number_for (profile_at w (string_bytes owned.now.0, string_bytes owned.now.1)) path.now) last_number) Refusal.GenerationLimit) (number_for (profile_at w (string_bytes owned.now.0, string_bytes owned.now.1)) path.now) }
-    ensures number { IfOk result (λ n. n ≡ number_for (profile_of outline.now (string_bytes owned.now.0, string_bytes owned.now.1)) path.now) }
+        (unless (nat_le (number_for (profile_at w (string_bytes owned.now.0, string_bytes owned.now.1)) path.now)
+        last_number) Refusal.GenerationLimit)
+        (number_for (profile_at w (string_bytes owned.now.0, string_bytes owned.now.1)) path.now) }
+    ensures number { IfOk result
+        (λ n. n ≡ number_for (profile_of outline.now (string_bytes owned.now.0, string_bytes owned.now.1)) path.now) }
 {
     match outline.number_left(owned, path) {
         Some(number) => Ok(number),

@@ -27,7 +27,8 @@ fn are_plain(owner: &str, name: &str) -> bool
 
 /// Tests that the name of a user and that of what it owns are plain names.
 pub(crate) fn are_named(owned: &(String, String)) -> Result<(), Refusal>
-    ensures { Tested result (unless (is_plain_name (string_bytes owned.now.0) && is_plain_name (string_bytes owned.now.1)) Refusal.BadRootName) }
+    ensures { Tested result (unless (is_plain_name (string_bytes owned.now.0)
+        && is_plain_name (string_bytes owned.now.1)) Refusal.BadRootName) }
 {
     if !are_plain(owned.0.as_str(), owned.1.as_str()) {
         return Err(Refusal::BadRootName);

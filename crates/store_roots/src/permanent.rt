@@ -21,7 +21,8 @@ use tables_outline::Outline;
 
 /// Tests a permanent root that is to be set.
 pub fn may_set(outline: &Outline, name: &str, path: &StorePath) -> Result<(), Refusal>
-    ensures { (s : Settings) (w : World) → outline_of w ≡ outline.now → Tested result (refusal s w (asked.set_permanent name.now path.now)) }
+    ensures { (s : Settings) (w : World) → outline_of w ≡ outline.now
+        → Tested result (refusal s w (asked.set_permanent name.now path.now)) }
 {
     is_named(name)?;
     is_valid(outline, path)?;
@@ -30,7 +31,8 @@ pub fn may_set(outline: &Outline, name: &str, path: &StorePath) -> Result<(), Re
 
 /// Tests a permanent root that is to be dropped.
 pub fn may_drop(outline: &Outline, name: &str) -> Result<(), Refusal>
-    ensures { (s : Settings) (w : World) → outline_of w ≡ outline.now → Tested result (refusal s w (asked.drop_permanent name.now)) }
+    ensures { (s : Settings) (w : World) → outline_of w ≡ outline.now
+        → Tested result (refusal s w (asked.drop_permanent name.now)) }
 {
     is_named(name)?;
     has_permanent(outline, name)?;
@@ -43,7 +45,8 @@ pub fn set_permanent<S: Alter>(
     name: String,
     path: StorePath,
 ) -> Result<Answer, Stop>
-    ensures { (s : Settings) (c : Caller) → IsMet S.Store s c (asked.set_permanent (string_bytes name) path) result tables.old tables.new }
+    ensures { (s : Settings) (c : Caller)
+        → IsMet S.Store s c (asked.set_permanent (string_bytes name) path) result tables.old tables.new }
 {
     let text = name.as_str();
     match may_set(tables.outline(), text, &path) {
@@ -54,7 +57,8 @@ pub fn set_permanent<S: Alter>(
 
 /// A permanent root is dropped.
 pub fn drop_permanent<S: Alter>(tables: &mut Tables<S>, name: String) -> Result<Answer, Stop>
-    ensures { (s : Settings) (c : Caller) → IsMet S.Store s c (asked.drop_permanent (string_bytes name)) result tables.old tables.new }
+    ensures { (s : Settings) (c : Caller)
+        → IsMet S.Store s c (asked.drop_permanent (string_bytes name)) result tables.old tables.new }
 {
     let text = name.as_str();
     match may_drop(tables.outline(), text) {

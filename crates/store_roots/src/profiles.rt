@@ -29,8 +29,10 @@ pub fn next_number(
     path: &StorePath,
 ) -> Result<u32, Refusal>
     ensures reported { (s : Settings) (w : World) → outline_of w ≡ outline.now → Finds (λ n. n) result
-        (refusal s w (asked.set_profile (string_bytes owned.now.0) (string_bytes owned.now.1) path.now)) (number_for (profile_at w (string_bytes owned.now.0, string_bytes owned.now.1)) path.now) }
-    ensures number { IfOk result (λ n. n ≡ number_for (profile_of outline.now (string_bytes owned.now.0, string_bytes owned.now.1)) path.now) }
+        (refusal s w (asked.set_profile (string_bytes owned.now.0) (string_bytes owned.now.1) path.now))
+        (number_for (profile_at w (string_bytes owned.now.0, string_bytes owned.now.1)) path.now) }
+    ensures number { IfOk result
+        (λ n. n ≡ number_for (profile_of outline.now (string_bytes owned.now.0, string_bytes owned.now.1)) path.now) }
 {
     are_named(owned)?;
     is_valid(outline, path)?;
@@ -41,8 +43,10 @@ pub fn next_number(
 /// Tests a profile that is to be rolled back; gives the number that becomes current.
 pub fn older(outline: &Outline, owned: &(String, String)) -> Result<u32, Refusal>
     ensures reported { (s : Settings) (w : World) → outline_of w ≡ outline.now → Finds (λ n. Some n) result
-        (refusal s w (asked.rollback (string_bytes owned.now.0) (string_bytes owned.now.1))) (previous (profile_at w (string_bytes owned.now.0, string_bytes owned.now.1))) }
-    ensures present { OnOk result (IsTrue (finite.contains_key outline.now.profiles (string_bytes owned.now.0, string_bytes owned.now.1))) }
+        (refusal s w (asked.rollback (string_bytes owned.now.0) (string_bytes owned.now.1)))
+        (previous (profile_at w (string_bytes owned.now.0, string_bytes owned.now.1))) }
+    ensures present { OnOk result
+        (IsTrue (finite.contains_key outline.now.profiles (string_bytes owned.now.0, string_bytes owned.now.1))) }
 {
     are_named(owned)?;
     has_profile(outline, owned)?;
@@ -52,8 +56,10 @@ pub fn older(outline: &Outline, owned: &(String, String)) -> Result<u32, Refusal
 
 /// Tests a generation that is to become current.
 pub fn may_switch(outline: &Outline, owned: &(String, String), number: u32) -> Result<(), Refusal>
-    ensures reported { (s : Settings) (w : World) → outline_of w ≡ outline.now → Tested result (refusal s w (asked.switch (string_bytes owned.now.0) (string_bytes owned.now.1) number)) }
-    ensures present { OnOk result (IsTrue (finite.contains_key outline.now.profiles (string_bytes owned.now.0, string_bytes owned.now.1))) }
+    ensures reported { (s : Settings) (w : World) → outline_of w ≡ outline.now
+        → Tested result (refusal s w (asked.switch (string_bytes owned.now.0) (string_bytes owned.now.1) number)) }
+    ensures present { OnOk result
+        (IsTrue (finite.contains_key outline.now.profiles (string_bytes owned.now.0, string_bytes owned.now.1))) }
 {
     are_named(owned)?;
     has_profile(outline, owned)?;
@@ -63,8 +69,11 @@ pub fn may_switch(outline: &Outline, owned: &(String, String), number: u32) -> R
 
 /// Tests a generation that is to be deleted.
 pub fn may_delete(outline: &Outline, owned: &(String, String), number: u32) -> Result<(), Refusal>
-    ensures reported { (s : Settings) (w : World) → outline_of w ≡ outline.now → Tested result (refusal s w (asked.delete_generation (string_bytes owned.now.0) (string_bytes owned.now.1) number)) }
-    ensures present { OnOk result (IsTrue (finite.contains_key outline.now.profiles (string_bytes owned.now.0, string_bytes owned.now.1))) }
+    ensures reported { (s : Settings) (w : World) → outline_of w ≡ outline.now
+        → Tested result
+        (refusal s w (asked.delete_generation (string_bytes owned.now.0) (string_bytes owned.now.1) number)) }
+    ensures present { OnOk result
+        (IsTrue (finite.contains_key outline.now.profiles (string_bytes owned.now.0, string_bytes owned.now.1))) }
 {
     are_named(owned)?;
     has_profile(outline, owned)?;
@@ -79,7 +88,9 @@ pub fn set_profile<S: Alter>(
     owned: (String, String),
     path: StorePath,
 ) -> Result<Answer, Stop>
-    ensures { (s : Settings) (c : Caller) → IsMet S.Store s c (asked.set_profile (string_bytes owned.0) (string_bytes owned.1) path) result tables.old tables.new }
+    ensures { (s : Settings) (c : Caller)
+        → IsMet S.Store s c (asked.set_profile (string_bytes owned.0) (string_bytes owned.1) path) result tables.old
+        tables.new }
 {
     match next_number(tables.outline(), &owned, &path) {
         Ok(number) => answered(
@@ -92,7 +103,9 @@ pub fn set_profile<S: Alter>(
 
 /// The generation below the current one becomes current.
 pub fn rollback<S: Alter>(tables: &mut Tables<S>, owned: (String, String)) -> Result<Answer, Stop>
-    ensures { (s : Settings) (c : Caller) → IsMet S.Store s c (asked.rollback (string_bytes owned.0) (string_bytes owned.1)) result tables.old tables.new }
+    ensures { (s : Settings) (c : Caller)
+        → IsMet S.Store s c (asked.rollback (string_bytes owned.0) (string_bytes owned.1)) result tables.old
+        tables.new }
 {
     match older(tables.outline(), &owned) {
         Ok(number) => {
@@ -111,7 +124,9 @@ pub fn switch<S: Alter>(
     owned: (String, String),
     number: u32,
 ) -> Result<Answer, Stop>
-    ensures { (s : Settings) (c : Caller) → IsMet S.Store s c (asked.switch (string_bytes owned.0) (string_bytes owned.1) number) result tables.old tables.new }
+    ensures { (s : Settings) (c : Caller)
+        → IsMet S.Store s c (asked.switch (string_bytes owned.0) (string_bytes owned.1) number) result tables.old
+        tables.new }
 {
     match may_switch(tables.outline(), &owned, number) {
         Ok(()) => {
@@ -130,7 +145,9 @@ pub fn delete_generation<S: Alter>(
     owned: (String, String),
     number: u32,
 ) -> Result<Answer, Stop>
-    ensures { (s : Settings) (c : Caller) → IsMet S.Store s c (asked.delete_generation (string_bytes owned.0) (string_bytes owned.1) number) result tables.old tables.new }
+    ensures { (s : Settings) (c : Caller)
+        → IsMet S.Store s c (asked.delete_generation (string_bytes owned.0) (string_bytes owned.1) number) result
+        tables.old tables.new }
 {
     match may_delete(tables.outline(), &owned, number) {
         Ok(()) => {

@@ -31,7 +31,10 @@ fn put_valid(
     valid: &mut BTreeSet<(String, StorePath)>,
     pair: (String, StorePath),
 ) -> Result<(), AllocError>
-    ensures { OnOk result (seen_set pair_cmp labelled_bytes valid.new.keys ≡ (if finite.contains_key outline.now.objects pair.1 then finite.insert (seen_set pair_cmp labelled_bytes valid.old.keys) (labelled_bytes pair) tt else seen_set pair_cmp labelled_bytes valid.old.keys)) }
+    ensures { OnOk result (seen_set pair_cmp labelled_bytes valid.new.keys
+        ≡ (if finite.contains_key outline.now.objects pair.1 then finite.insert
+        (seen_set pair_cmp labelled_bytes valid.old.keys) (labelled_bytes pair) tt else seen_set pair_cmp labelled_bytes
+        valid.old.keys)) }
 {
     if !outline.has(&pair.1) {
         return Ok(());
@@ -46,7 +49,10 @@ fn valid_pairs(
     outline: &Outline,
     pairs: Vec<(String, StorePath)>,
 ) -> Result<BTreeSet<(String, StorePath)>, AllocError>
-    ensures { IfOk result (λ s. seen_set pair_cmp labelled_bytes s.keys ≡ set_of pair_cmp (filter (λ p. finite.contains_key outline.now.objects p.1) (map labelled_bytes pairs.items))) }
+    ensures { IfOk result
+        (λ s. seen_set pair_cmp labelled_bytes s.keys
+        ≡ set_of pair_cmp (filter
+        (λ p. finite.contains_key outline.now.objects p.1) (map labelled_bytes pairs.items))) }
 {
     let mut left = pairs;
     let mut valid = BTreeSet::new(alloc);
@@ -62,8 +68,10 @@ pub fn prepare_runtime(
     outline: &Outline,
     pairs: Vec<(String, StorePath)>,
 ) -> Result<BTreeSet<(String, StorePath)>, Stop>
-    ensures { (s : Settings) (w : World) → outline_of w ≡ outline.now → Gives (λ v. seen_set pair_cmp labelled_bytes v.keys) result
-        (refusal s w (asked.replace_runtime (map labelled_bytes pairs.items))) (valid_pairs_of w (map labelled_bytes pairs.items)) }
+    ensures { (s : Settings) (w : World) → outline_of w ≡ outline.now
+        → Gives (λ v. seen_set pair_cmp labelled_bytes v.keys) result
+        (refusal s w (asked.replace_runtime (map labelled_bytes pairs.items)))
+        (valid_pairs_of w (map labelled_bytes pairs.items)) }
 {
     if !are_runtime_labels(&pairs) {
         return Err(Stop::Refused(Refusal::BadLabel));
@@ -85,7 +93,8 @@ pub fn replace_runtime<S: Alter>(
     tables: &mut Tables<S>,
     pairs: Vec<(String, StorePath)>,
 ) -> Result<Answer, Stop>
-    ensures { (s : Settings) (c : Caller) → IsMet S.Store s c (asked.replace_runtime (map labelled_bytes pairs.items)) result tables.old tables.new }
+    ensures { (s : Settings) (c : Caller)
+        → IsMet S.Store s c (asked.replace_runtime (map labelled_bytes pairs.items)) result tables.old tables.new }
 {
     match prepare_runtime(alloc, tables.outline(), pairs) {
         Ok(valid) => {

@@ -48,7 +48,8 @@ pub fn may_keep(
     number: u64,
     path: &StorePath,
 ) -> Result<u32, Refusal>
-    ensures reported { (s : Settings) (w : World) → outline_of w ≡ outline.now → Tested result (refusal s w (asked.add_temp owner.now number path.now)) }
+    ensures reported { (s : Settings) (w : World) → outline_of w ≡ outline.now
+        → Tested result (refusal s w (asked.add_temp owner.now number path.now)) }
     ensures number { IfOk result (λ n. n ≡ number) }
 {
     is_named(owner)?;
@@ -74,7 +75,8 @@ pub fn add_temp<S: Alter>(
     session: u64,
     path: StorePath,
 ) -> Result<Answer, Stop>
-    ensures { (s : Settings) (c : Caller) → IsMet S.Store s c (asked.add_temp (string_bytes owner) session path) result tables.old tables.new }
+    ensures { (s : Settings) (c : Caller)
+        → IsMet S.Store s c (asked.add_temp (string_bytes owner) session path) result tables.old tables.new }
 {
     let text = owner.as_str();
     match may_keep(tables.outline(), text, session, &path) {
@@ -89,7 +91,8 @@ pub fn end_session<S: Alter>(
     owner: String,
     session: u64,
 ) -> Result<Answer, Stop>
-    ensures { (s : Settings) (c : Caller) → IsMet S.Store s c (asked.end_session (string_bytes owner) session) result tables.old tables.new }
+    ensures { (s : Settings) (c : Caller)
+        → IsMet S.Store s c (asked.end_session (string_bytes owner) session) result tables.old tables.new }
 {
     let text = owner.as_str();
     match may_end(text, session) {

@@ -21,7 +21,9 @@ use tables_outline::Outline;
 
 /// Tests a user root that is to be set.
 pub fn may_set(outline: &Outline, owned: &(String, String), path: &StorePath) -> Result<(), Refusal>
-    ensures { (s : Settings) (w : World) → outline_of w ≡ outline.now → Tested result (refusal s w (asked.set_user_root (string_bytes owned.now.0) (string_bytes owned.now.1) path.now)) }
+    ensures { (s : Settings) (w : World) → outline_of w ≡ outline.now
+        → Tested result
+        (refusal s w (asked.set_user_root (string_bytes owned.now.0) (string_bytes owned.now.1) path.now)) }
 {
     are_named(owned)?;
     is_valid(outline, path)?;
@@ -30,7 +32,8 @@ pub fn may_set(outline: &Outline, owned: &(String, String), path: &StorePath) ->
 
 /// Tests a user root that is to be dropped.
 pub fn may_drop(outline: &Outline, owned: &(String, String)) -> Result<(), Refusal>
-    ensures { (s : Settings) (w : World) → outline_of w ≡ outline.now → Tested result (refusal s w (asked.drop_user_root (string_bytes owned.now.0) (string_bytes owned.now.1))) }
+    ensures { (s : Settings) (w : World) → outline_of w ≡ outline.now
+        → Tested result (refusal s w (asked.drop_user_root (string_bytes owned.now.0) (string_bytes owned.now.1))) }
 {
     are_named(owned)?;
     has_user_root(outline, owned)?;
@@ -43,7 +46,9 @@ pub fn set_user_root<S: Alter>(
     owned: (String, String),
     path: StorePath,
 ) -> Result<Answer, Stop>
-    ensures { (s : Settings) (c : Caller) → IsMet S.Store s c (asked.set_user_root (string_bytes owned.0) (string_bytes owned.1) path) result tables.old tables.new }
+    ensures { (s : Settings) (c : Caller)
+        → IsMet S.Store s c (asked.set_user_root (string_bytes owned.0) (string_bytes owned.1) path) result tables.old
+        tables.new }
 {
     match may_set(tables.outline(), &owned, &path) {
         Ok(()) => {
@@ -61,7 +66,9 @@ pub fn drop_user_root<S: Alter>(
     tables: &mut Tables<S>,
     owned: (String, String),
 ) -> Result<Answer, Stop>
-    ensures { (s : Settings) (c : Caller) → IsMet S.Store s c (asked.drop_user_root (string_bytes owned.0) (string_bytes owned.1)) result tables.old tables.new }
+    ensures { (s : Settings) (c : Caller)
+        → IsMet S.Store s c (asked.drop_user_root (string_bytes owned.0) (string_bytes owned.1)) result tables.old
+        tables.new }
 {
     match may_drop(tables.outline(), &owned) {
         Ok(()) => {

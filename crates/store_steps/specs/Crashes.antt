@@ -20,6 +20,6 @@ pub record LeavesDone (dir : List ℕ) (old : Database) (left : Remains) (s : Se
   pub step : Step s w c q (done (answer s w c q)) next
   pub rows : LeavesWorld dir old left next
 
--- the same of a request that no rule forbids: none of its tests fails, and these are the rows of what it does
+-- a crash leaves the rows of what a request does that no rule forbids and none of whose tests fails
 abbrev pub LeavesPassed : List ℕ → Database → Remains → Settings → World → Request → Type 0
 LeavesPassed dir old left s w q = (refusal s w q ≡ None) × LeavesWorld dir old left (effect s w q)

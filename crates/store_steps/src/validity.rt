@@ -32,7 +32,8 @@ fn has_all(outline: &Outline, paths: &[StorePath]) -> bool
 
 /// Tests that paths are valid.
 pub fn are_valid(outline: &Outline, paths: &[StorePath]) -> Result<(), Refusal>
-    ensures { (w : World) → outline_of w ≡ outline.now → Tested result (unless (list_all (has w) paths.now) Refusal.NotValid) }
+    ensures { (w : World) → outline_of w ≡ outline.now
+        → Tested result (unless (list_all (has w) paths.now) Refusal.NotValid) }
 {
     if !has_all(outline, paths) {
         return Err(Refusal::NotValid);
@@ -42,7 +43,8 @@ pub fn are_valid(outline: &Outline, paths: &[StorePath]) -> Result<(), Refusal>
 
 /// Tests that there is a permanent root of this name.
 pub fn has_permanent(outline: &Outline, name: &str) -> Result<(), Refusal>
-    ensures { (w : World) → outline_of w ≡ outline.now → Tested result (unless (finite.contains_key w.permanent name.now) Refusal.NoRoot) }
+    ensures { (w : World) → outline_of w ≡ outline.now
+        → Tested result (unless (finite.contains_key w.permanent name.now) Refusal.NoRoot) }
 {
     if !outline.has_permanent(name) {
         return Err(Refusal::NoRoot);
@@ -52,7 +54,10 @@ pub fn has_permanent(outline: &Outline, name: &str) -> Result<(), Refusal>
 
 /// Tests that there is a user root of this owner and name.
 pub fn has_user_root(outline: &Outline, owned: &(String, String)) -> Result<(), Refusal>
-    ensures { (w : World) → outline_of w ≡ outline.now → Tested result (unless (finite.contains_key w.user_roots (string_bytes owned.now.0, string_bytes owned.now.1)) Refusal.NoRoot) }
+    ensures { (w : World) → outline_of w ≡ outline.now
+        → Tested result
+        (unless (finite.contains_key w.user_roots (string_bytes owned.now.0, string_bytes owned.now.1))
+        Refusal.NoRoot) }
 {
     if !outline.has_user_root(owned) {
         return Err(Refusal::NoRoot);
@@ -62,8 +67,11 @@ pub fn has_user_root(outline: &Outline, owned: &(String, String)) -> Result<(), 
 
 /// Tests that there is a profile of this owner and name.
 pub fn has_profile(outline: &Outline, owned: &(String, String)) -> Result<(), Refusal>
-    ensures reported { (w : World) → outline_of w ≡ outline.now → Tested result (unless (profiles.has_profile w (string_bytes owned.now.0, string_bytes owned.now.1)) Refusal.NoProfile) }
-    ensures present { OnOk result (IsTrue (finite.contains_key outline.now.profiles (string_bytes owned.now.0, string_bytes owned.now.1))) }
+    ensures reported { (w : World) → outline_of w ≡ outline.now
+        → Tested result
+        (unless (profiles.has_profile w (string_bytes owned.now.0, string_bytes owned.now.1)) Refusal.NoProfile) }
+    ensures present { OnOk result
+        (IsTrue (finite.contains_key outline.now.profiles (string_bytes owned.now.0, string_bytes owned.now.1))) }
 {
     if !outline.has_profile(owned) {
         return Err(Refusal::NoProfile);

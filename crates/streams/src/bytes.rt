@@ -33,11 +33,14 @@ fn push_piece(whole: &mut Vec<Vec<u8>>, last: &mut Vec<u8>, next: Vec<u8>) -> Re
     requires cut { AreCut (map (λ v. v.items) whole.old.items) last.old.items }
     requires full { 65536 ≤ length last.old.items }
     requires fits { length next.items ≤ 65536 }
-    requires small { length (concat (map (λ v. v.items) whole.old.items) ++ last.old.items) + length next.items < 2 ^ 64 }
+    requires small { length (concat (map (λ v. v.items) whole.old.items) ++ last.old.items) + length next.items
+        < 2 ^ 64 }
     ensures cut { AreCut (map (λ v. v.items) whole.new.items) last.new.items }
-    ensures ok { OnOk result (concat (map (λ v. v.items) whole.new.items) ++ last.new.items ≡ (concat (map (λ v. v.items) whole.old.items) ++ last.old.items) ++ next.items) }
+    ensures ok { OnOk result (concat (map (λ v. v.items) whole.new.items) ++ last.new.items
+        ≡ (concat (map (λ v. v.items) whole.old.items) ++ last.old.items) ++ next.items) }
     ensures last { OnOk result (last.new.items ≡ next.items) }
-    ensures err { OnErr result (concat (map (λ v. v.items) whole.new.items) ++ last.new.items ≡ concat (map (λ v. v.items) whole.old.items) ++ last.old.items) }
+    ensures err { OnErr result (concat (map (λ v. v.items) whole.new.items) ++ last.new.items
+        ≡ concat (map (λ v. v.items) whole.old.items) ++ last.old.items) }
 {
     let full = mem::replace(last, next);
     match whole.push(full) {
@@ -56,7 +59,8 @@ fn make_room(
     last: &mut Vec<u8>,
 ) -> Result<usize, AllocError>
     requires { AreCut (map (λ v. v.items) whole.old.items) last.old.items }
-    ensures same { concat (map (λ v. v.items) whole.new.items) ++ last.new.items ≡ concat (map (λ v. v.items) whole.old.items) ++ last.old.items }
+    ensures same { concat (map (λ v. v.items) whole.new.items) ++ last.new.items
+        ≡ concat (map (λ v. v.items) whole.old.items) ++ last.old.items }
     ensures cut { AreCut (map (λ v. v.items) whole.new.items) last.new.items }
     ensures room { IfOk result (λ room. (0 < room) × (room + length last.new.items ≡ 65536)) }
 {
@@ -215,7 +219,8 @@ impl Pieces {
     fn fill<'a>(&mut self, bytes: &'a [u8]) -> Result<&'a [u8], AllocError>
         requires some { 0 < length bytes.now }
         requires small { length self.old + length bytes.now < 2 ^ 64 }
-        ensures ok { IfOk result (λ rest. (self.new ++ rest.now ≡ self.old ++ bytes.now) × (length rest.now < length bytes.now)) }
+        ensures ok { IfOk result
+            (λ rest. (self.new ++ rest.now ≡ self.old ++ bytes.now) × (length rest.now < length bytes.now)) }
         ensures err { OnErr result (self.new ≡ self.old) }
     {
         let room = make_room(self.alloc, &mut self.whole, &mut self.last)?;

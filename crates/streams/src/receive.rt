@@ -16,7 +16,8 @@ fn read_on<R: Read, S: Sink>(
     sink: &mut S,
 ) -> Result<Option<usize>, ReadError>
     requires { 0 < length window.old }
-    ensures { ReadsOn (length window.old) (R.remaining input.old) (R.remaining input.new) (S.taken sink.old) (S.taken sink.new) result }
+    ensures { ReadsOn (length window.old) (R.remaining input.old) (R.remaining input.new) (S.taken sink.old)
+        (S.taken sink.new) result }
 {
     let count = match input.read(window) {
         Ok(count) => count,
@@ -41,7 +42,8 @@ pub fn receive_at_most<R: Read, S: Sink>(
     most: usize,
     sink: &mut S,
 ) -> Result<usize, ReadError>
-    ensures { Receives most (R.remaining input.old) (R.remaining input.new) (S.taken sink.old) (S.taken sink.new) result }
+    ensures { Receives most (R.remaining input.old) (R.remaining input.new) (S.taken sink.old) (S.taken sink.new)
+        result }
 {
     let mut window = [0; PIECE];
     let mut left = most;

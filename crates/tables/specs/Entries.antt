@@ -29,7 +29,7 @@ numbered (Some e) current p = switched (put_at p e.0 e.1) current
 abbrev pub with_profile_by : Pair → (Profile → Profile) → World → World
 with_profile_by owned change w = with_profile w owned (change (profile_at w owned))
 
--- it gets a path at a number, if one is given, and a current number
+-- a profile gets a path at a number, if one is given, and a current number
 abbrev pub with_numbers : Pair → Option (ℕ × Path) → ℕ → World → World
 with_numbers owned given current = with_profile_by owned (numbered given current)
 

@@ -21,15 +21,15 @@ is_name_used s t = is_present s t || (is_some (index_named s t.name) || is_some 
 abbrev pub has_store_tables : Schema → Bool
 has_store_tables s = list_any (is_name_used s) all_tables
 
--- it is there, and something acts on it: a foreign key refers to it, a table of another name has its tree, or a unique index other than that of its key keeps rows out of it
+-- a table exists, and something acts on it: a foreign key refers to it, a table of another name has its tree, or a unique index other than that of its key keeps rows out of it
 abbrev pub is_acted_on : Schema → Table → Bool
 is_acted_on s t = is_present s t && not (is_unreferred s (tree_named s t.name) && (is_alone s t.name (tree_named s t.name) && is_unguarded s (tree_named s t.name) t.primary))
 
--- it isn't there, and a foreign key waits for it
+-- a table is missing, and a foreign key waits for it
 abbrev pub is_awaited : Schema → Table → Bool
 is_awaited s t = not (is_present s t) && not (is_unawaited s t.name)
 
--- it isn't there, and can't be made: a table counts its rowids, and there is no counter
+-- a table is missing and can't be made: it would need the counter of rowids, which the database hasn't
 abbrev pub is_kept_out : Schema → Table → Bool
 is_kept_out s t = not (is_present s t) && lacks_sequence s
 

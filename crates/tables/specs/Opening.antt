@@ -31,7 +31,7 @@ use Rattle.tables.specs.InTheWay.{is_name_used, has_store_tables, are_others_in_
 use Rattle.tables.specs.declared.refusing.Cause.{Cause}
 use Rattle.tables.specs.declared.refusing.Cause.TheVariants.{BadSchema, OtherStoreDir, Failed}
 
--- the same connection without a limit on steps
+-- a connection without its limit on steps
 abbrev pub unlimited : State → State
 unlimited s = record s { step_limit = None }
 
@@ -62,7 +62,7 @@ pub record HoldsBy (schema : Schema) (dir : List ℕ) (db : Database) : Type 0 w
   pub readable : AreReadable (contents_of db)
   pub sound : IsSoundBy schema dir (contents_of db)
 
--- the same by one of the three schemas
+-- a database holds a store of a directory, by one of the three schemas
 abbrev pub HoldsStore : List ℕ → Database → Type 0
 HoldsStore dir db = (schema : Schema) × HoldsBy schema dir db
 
@@ -129,7 +129,7 @@ pub record IsPresentBy (schema : Schema) (dir : List ℕ) (db : Database) : Type
   pub readable : AreReadable (contents_of db)
   pub sound : IsSoundBy schema dir (contents_of db)
 
--- the same by one of the three schemas
+-- a store of a directory is present, by one of the three schemas
 abbrev pub IsPresent : List ℕ → Database → Type 0
 IsPresent dir db = (schema : Schema) × IsPresentBy schema dir db
 
@@ -146,7 +146,7 @@ IsRefusal dir db BadSchema = (IsTrue (has_store_tables db.schema) × ((d : List 
 IsRefusal dir db OtherStoreDir = (d : List ℕ) × HoldsStore d db × (d ≢ dir)
 IsRefusal dir db (Failed f) = ⊥
 
--- This is the cause of what it shows, or of a failure on the way from one state to another.
+-- A cause is one of what the database shows, or of a failure on the way from one state to another.
 abbrev pub IsCause : List ℕ → State → State → Cause → Type 0
 IsCause dir old new (Failed f) = FailsToAdopt dir old new f
 IsCause dir old new refusal = IsRefusal dir old.now refusal

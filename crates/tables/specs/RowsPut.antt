@@ -65,7 +65,7 @@ ObjectRows p o references outputs pieces t row =
     ObjectRow p o t row
     ⊎ (RowsOf (ReferenceRow p) references t row ⊎ (RowsOf (OutputRow p) outputs t row ⊎ RowsOf (PieceRow p) pieces t row))
 
--- the same of an archive and its summary, with a text of the content address
+-- the rows of an archive and its summary, with a text of the content address
 abbrev pub AddedRows : Path → List ℕ → Outlined → Rows
 AddedRows p nar o t row =
     (ca : Option (List ℕ)) × (address_in ca ≡ o.ca)

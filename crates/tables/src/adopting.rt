@@ -29,13 +29,21 @@ pub(crate) fn take<S: Alter>(
     requires alone { conn.in_transaction ≡ false }
     requires found { HasCleanDisk (state S.Store conn) → IsFound found (state S.Store conn) }
     ensures dir { IfOk result (λ t. t.dir ≡ dir.now) }
-    ensures took { IfOk result (λ t. HasCleanDisk (state S.Store t.connection) → OpensStore S.Store dir.now (state S.Store conn).now t) }
+    ensures took { IfOk result
+        (λ t. HasCleanDisk (state S.Store t.connection) → OpensStore S.Store dir.now (state S.Store conn).now t) }
     ensures alone { IfErr result (λ e. e.conn.in_transaction ≡ false) }
     ensures cause { IfErr result
-        (λ e. HasCleanDisk (state S.Store e.conn) → IsCause dir.now (state S.Store conn) (state S.Store e.conn) e.cause) }
-    ensures same { IfErr result (λ e. HasCleanDisk (state S.Store e.conn) → KeepsShown (state S.Store conn) (state S.Store e.conn)) }
-    ensures durable { MatchResult result (λ t. IsTrue (state S.Store t.connection).is_open → IsDurable (state S.Store t.connection)) (λ e. IsTrue (state S.Store e.conn).is_open → IsDurable (state S.Store e.conn)) }
-    ensures survives { MatchResult result (λ t. Survives (state S.Store conn) (state S.Store t.connection) (LeavesOpening dir.now (state S.Store conn).now)) (λ e. Survives (state S.Store conn) (state S.Store e.conn) (LeavesOpening dir.now (state S.Store conn).now)) }
+        (λ e. HasCleanDisk (state S.Store e.conn)
+        → IsCause dir.now (state S.Store conn) (state S.Store e.conn) e.cause) }
+    ensures same { IfErr result
+        (λ e. HasCleanDisk (state S.Store e.conn) → KeepsShown (state S.Store conn) (state S.Store e.conn)) }
+    ensures durable { MatchResult result
+        (λ t. IsTrue (state S.Store t.connection).is_open → IsDurable (state S.Store t.connection))
+        (λ e. IsTrue (state S.Store e.conn).is_open → IsDurable (state S.Store e.conn)) }
+    ensures survives { MatchResult result
+        (λ t. Survives (state S.Store conn) (state S.Store t.connection)
+        (LeavesOpening dir.now (state S.Store conn).now))
+        (λ e. Survives (state S.Store conn) (state S.Store e.conn) (LeavesOpening dir.now (state S.Store conn).now)) }
 {
     match found {
         Recognised::Nothing => open_new(alloc, conn, dir),
@@ -57,13 +65,21 @@ fn adopt_unlimited<S: Alter>(
 ) -> Result<Tables<S>, Unadopted<S>>
     requires alone { conn.in_transaction ≡ false }
     ensures dir { IfOk result (λ t. t.dir ≡ dir.now) }
-    ensures took { IfOk result (λ t. HasCleanDisk (state S.Store t.connection) → OpensStore S.Store dir.now (state S.Store conn).now t) }
+    ensures took { IfOk result
+        (λ t. HasCleanDisk (state S.Store t.connection) → OpensStore S.Store dir.now (state S.Store conn).now t) }
     ensures alone { IfErr result (λ e. e.conn.in_transaction ≡ false) }
     ensures cause { IfErr result
-        (λ e. HasCleanDisk (state S.Store e.conn) → IsCause dir.now (state S.Store conn) (state S.Store e.conn) e.cause) }
-    ensures same { IfErr result (λ e. HasCleanDisk (state S.Store e.conn) → KeepsShown (state S.Store conn) (state S.Store e.conn)) }
-    ensures durable { MatchResult result (λ t. IsTrue (state S.Store t.connection).is_open → IsDurable (state S.Store t.connection)) (λ e. IsTrue (state S.Store e.conn).is_open → IsDurable (state S.Store e.conn)) }
-    ensures survives { MatchResult result (λ t. Survives (state S.Store conn) (state S.Store t.connection) (LeavesOpening dir.now (state S.Store conn).now)) (λ e. Survives (state S.Store conn) (state S.Store e.conn) (LeavesOpening dir.now (state S.Store conn).now)) }
+        (λ e. HasCleanDisk (state S.Store e.conn)
+        → IsCause dir.now (state S.Store conn) (state S.Store e.conn) e.cause) }
+    ensures same { IfErr result
+        (λ e. HasCleanDisk (state S.Store e.conn) → KeepsShown (state S.Store conn) (state S.Store e.conn)) }
+    ensures durable { MatchResult result
+        (λ t. IsTrue (state S.Store t.connection).is_open → IsDurable (state S.Store t.connection))
+        (λ e. IsTrue (state S.Store e.conn).is_open → IsDurable (state S.Store e.conn)) }
+    ensures survives { MatchResult result
+        (λ t. Survives (state S.Store conn) (state S.Store t.connection)
+        (LeavesOpening dir.now (state S.Store conn).now))
+        (λ e. Survives (state S.Store conn) (state S.Store e.conn) (LeavesOpening dir.now (state S.Store conn).now)) }
 {
     match file::inspect(alloc, conn) {
         Ok(opened) => {
@@ -110,13 +126,22 @@ pub fn adopt<S: Alter>(
 ) -> Result<Tables<S>, Unadopted<S>>
     requires alone { conn.in_transaction ≡ false }
     ensures dir { IfOk result (λ t. t.dir ≡ dir.now) }
-    ensures took { IfOk result (λ t. HasCleanDisk (state S.Store t.connection) → OpensStore S.Store dir.now (state S.Store conn).now t) }
+    ensures took { IfOk result
+        (λ t. HasCleanDisk (state S.Store t.connection) → OpensStore S.Store dir.now (state S.Store conn).now t) }
     ensures alone { IfErr result (λ e. e.conn.in_transaction ≡ false) }
     ensures cause { IfErr result
-        (λ e. HasCleanDisk (state S.Store e.conn) → IsCause dir.now (unlimited (state S.Store conn)) (state S.Store e.conn) e.cause) }
-    ensures same { IfErr result (λ e. HasCleanDisk (state S.Store e.conn) → KeepsShown (state S.Store conn) (state S.Store e.conn)) }
-    ensures durable { MatchResult result (λ t. IsTrue (state S.Store t.connection).is_open → IsDurable (state S.Store t.connection)) (λ e. IsTrue (state S.Store e.conn).is_open → IsDurable (state S.Store e.conn)) }
-    ensures survives { MatchResult result (λ t. Survives (unlimited (state S.Store conn)) (state S.Store t.connection) (LeavesOpening dir.now (state S.Store conn).now)) (λ e. Survives (unlimited (state S.Store conn)) (state S.Store e.conn) (LeavesOpening dir.now (state S.Store conn).now)) }
+        (λ e. HasCleanDisk (state S.Store e.conn)
+        → IsCause dir.now (unlimited (state S.Store conn)) (state S.Store e.conn) e.cause) }
+    ensures same { IfErr result
+        (λ e. HasCleanDisk (state S.Store e.conn) → KeepsShown (state S.Store conn) (state S.Store e.conn)) }
+    ensures durable { MatchResult result
+        (λ t. IsTrue (state S.Store t.connection).is_open → IsDurable (state S.Store t.connection))
+        (λ e. IsTrue (state S.Store e.conn).is_open → IsDurable (state S.Store e.conn)) }
+    ensures survives { MatchResult result
+        (λ t. Survives (unlimited (state S.Store conn)) (state S.Store t.connection)
+        (LeavesOpening dir.now (state S.Store conn).now))
+        (λ e. Survives (unlimited (state S.Store conn)) (state S.Store e.conn)
+        (LeavesOpening dir.now (state S.Store conn).now)) }
 {
     conn.set_step_limit(None);
     adopt_unlimited(alloc, conn, dir)

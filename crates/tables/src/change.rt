@@ -27,11 +27,15 @@ pub(crate) trait Change {
 
     fn write<S: Alter>(&self, tx: &mut Transaction<'_, S>) -> Result<(), Failure>
         requires under_way { HasCleanDisk (state S.Store tx.old.conn.now) → IsUnderWay (state S.Store tx.old.conn.now) }
-        requires whole { HasCleanDisk (state S.Store tx.old.conn.now) → IsTrue (state S.Store tx.old.conn.now).is_open → IsWhole (state S.Store tx.old.conn.now).now }
-        requires fits { HasCleanDisk (state S.Store tx.old.conn.now) → IsTrue (state S.Store tx.old.conn.now).is_open → fits self.now (contents_of (state S.Store tx.old.conn.now).now) }
+        requires whole { HasCleanDisk (state S.Store tx.old.conn.now) → IsTrue (state S.Store tx.old.conn.now).is_open
+            → IsWhole (state S.Store tx.old.conn.now).now }
+        requires fits { HasCleanDisk (state S.Store tx.old.conn.now) → IsTrue (state S.Store tx.old.conn.now).is_open
+            → fits self.now (contents_of (state S.Store tx.old.conn.now).now) }
         ensures same_reference { tx.new.conn.ghost_name ≡ tx.old.conn.ghost_name }
-        ensures done { HasCleanDisk (state S.Store tx.new.conn.now) → OnOk result (Changes (state S.Store tx.old.conn.now) (state S.Store tx.new.conn.now) (change self.now)) }
-        ensures failed { HasCleanDisk (state S.Store tx.new.conn.now) → OnErr result (KeepsCommit (state S.Store tx.old.conn.now) (state S.Store tx.new.conn.now)) }
+        ensures done { HasCleanDisk (state S.Store tx.new.conn.now)
+            → OnOk result (Changes (state S.Store tx.old.conn.now) (state S.Store tx.new.conn.now) (change self.now)) }
+        ensures failed { HasCleanDisk (state S.Store tx.new.conn.now)
+            → OnErr result (KeepsCommit (state S.Store tx.old.conn.now) (state S.Store tx.new.conn.now)) }
         ensures cause { HasReason S.Store tx.old.conn.now tx.new.conn.now result (rows self.now) }
         ensures survives { Survives (state S.Store tx.old.conn.now) (state S.Store tx.new.conn.now) (λ _. ⊥) };
 }

@@ -27,12 +27,17 @@ fn bring<S: Alter>(alloc: Global, conn: &mut Connection<S>, schema: Schema) -> R
     requires ready { HasCleanDisk (state S.Store conn.old) → IsReady (state S.Store conn.old) }
     requires found { HasCleanDisk (state S.Store conn.old) → IsFoundBy schema (state S.Store conn.old).now }
     ensures alone { conn.new.in_transaction ≡ false }
-    ensures done { HasCleanDisk (state S.Store conn.new) → OnOk result ((dir : List ℕ) → IsSoundBy schema dir (contents_of (state S.Store conn.old).now) → IsMigrated schema dir (state S.Store conn.old) (state S.Store conn.new)) }
-    ensures failed { HasCleanDisk (state S.Store conn.new) → OnErr result (KeepsShown (state S.Store conn.old) (state S.Store conn.new)) }
+    ensures done { HasCleanDisk (state S.Store conn.new)
+        → OnOk result ((dir : List ℕ) → IsSoundBy schema dir (contents_of (state S.Store conn.old).now)
+        → IsMigrated schema dir (state S.Store conn.old) (state S.Store conn.new)) }
+    ensures failed { HasCleanDisk (state S.Store conn.new)
+        → OnErr result (KeepsShown (state S.Store conn.old) (state S.Store conn.new)) }
     ensures needed { OnErr result (schema ≢ V3) }
     ensures cause { HasCleanDisk (state S.Store conn.new)
         → IfErr result (FailsToMigrate schema (state S.Store conn.old) (state S.Store conn.new)) }
-    ensures survives { Survives (state S.Store conn.old) (state S.Store conn.new) (λ db. (dir : List ℕ) → IsSoundBy schema dir (contents_of (state S.Store conn.old).now) → LeavesMigrated schema dir (state S.Store conn.old).now db) }
+    ensures survives { Survives (state S.Store conn.old) (state S.Store conn.new)
+        (λ db. (dir : List ℕ) → IsSoundBy schema dir (contents_of (state S.Store conn.old).now)
+        → LeavesMigrated schema dir (state S.Store conn.old).now db) }
 {
     match schema {
         Schema::V1 => tables_make::from_first(alloc, conn),
@@ -53,12 +58,16 @@ fn read_and_bring<S: Alter>(
     requires found { HasCleanDisk (state S.Store conn.old) → IsFoundBy schema (state S.Store conn.old).now }
     ensures alone { conn.new.in_transaction ≡ false }
     ensures dir { IfOk result (λ r. r.dir ≡ dir.now) }
-    ensures reported { HasCleanDisk (state S.Store conn.new) → IfOk result (λ r. AreRead schema dir.now (state S.Store conn.old).now r.outline) }
-    ensures brought { HasCleanDisk (state S.Store conn.new) → OnOk result (IsMigrated schema dir.now (state S.Store conn.old) (state S.Store conn.new)) }
+    ensures reported { HasCleanDisk (state S.Store conn.new)
+        → IfOk result (λ r. AreRead schema dir.now (state S.Store conn.old).now r.outline) }
+    ensures brought { HasCleanDisk (state S.Store conn.new)
+        → OnOk result (IsMigrated schema dir.now (state S.Store conn.old) (state S.Store conn.new)) }
     ensures cause { HasCleanDisk (state S.Store conn.new)
         → IfErr result (IsCause dir.now (state S.Store conn.old) (state S.Store conn.new)) }
-    ensures same { HasCleanDisk (state S.Store conn.new) → OnErr result (KeepsShown (state S.Store conn.old) (state S.Store conn.new)) }
-    ensures survives { Survives (state S.Store conn.old) (state S.Store conn.new) (LeavesMigration schema dir.now (state S.Store conn.old).now) }
+    ensures same { HasCleanDisk (state S.Store conn.new)
+        → OnErr result (KeepsShown (state S.Store conn.old) (state S.Store conn.new)) }
+    ensures survives { Survives (state S.Store conn.old) (state S.Store conn.new)
+        (LeavesMigration schema dir.now (state S.Store conn.old).now) }
 {
     let loaded = read_as(alloc, conn, dir, schema)?;
     match bring(alloc, conn, schema) {
@@ -78,12 +87,20 @@ pub(crate) fn open_earlier<S: Alter>(
     requires ready { HasCleanDisk (state S.Store conn) → IsReady (state S.Store conn) }
     requires found { HasCleanDisk (state S.Store conn) → IsFoundBy schema (state S.Store conn).now }
     ensures dir { IfOk result (λ t. t.dir ≡ dir.now) }
-    ensures took { IfOk result (λ t. HasCleanDisk (state S.Store t.connection) → OpensMigrated S.Store schema dir.now (state S.Store conn).now t) }
+    ensures took { IfOk result
+        (λ t. HasCleanDisk (state S.Store t.connection)
+        → OpensMigrated S.Store schema dir.now (state S.Store conn).now t) }
     ensures alone { IfErr result (λ e. e.conn.in_transaction ≡ false) }
     ensures cause { IfErr result
-        (λ e. HasCleanDisk (state S.Store e.conn) → IsCause dir.now (state S.Store conn) (state S.Store e.conn) e.cause) }
-    ensures same { IfErr result (λ e. HasCleanDisk (state S.Store e.conn) → KeepsShown (state S.Store conn) (state S.Store e.conn)) }
-    ensures survives { MatchResult result (λ t. Survives (state S.Store conn) (state S.Store t.connection) (LeavesMigration schema dir.now (state S.Store conn).now)) (λ e. Survives (state S.Store conn) (state S.Store e.conn) (LeavesMigration schema dir.now (state S.Store conn).now)) }
+        (λ e. HasCleanDisk (state S.Store e.conn)
+        → IsCause dir.now (state S.Store conn) (state S.Store e.conn) e.cause) }
+    ensures same { IfErr result
+        (λ e. HasCleanDisk (state S.Store e.conn) → KeepsShown (state S.Store conn) (state S.Store e.conn)) }
+    ensures survives { MatchResult result
+        (λ t. Survives (state S.Store conn) (state S.Store t.connection)
+        (LeavesMigration schema dir.now (state S.Store conn).now))
+        (λ e. Survives (state S.Store conn) (state S.Store e.conn)
+        (LeavesMigration schema dir.now (state S.Store conn).now)) }
 {
     match read_and_bring(alloc, &mut conn, dir, schema) {
         Ok(loaded) => {

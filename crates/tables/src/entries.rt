@@ -29,7 +29,7 @@ use tables_sql::failure::Failure;
 pub struct Object {
     /// The bytes of the archive.
     pub nar: Pieces,
-    /// Its references, deriver, content address and outputs, and the size and the SHA-256 of the archive.
+    /// References, deriver, content address and outputs of the object, and the size and the SHA-256 of the archive.
     pub summary: Summary,
 }
 

@@ -30,12 +30,16 @@ pub(crate) fn open_existing<S: Alter>(
     requires ready { HasCleanDisk (state S.Store conn) → IsReady (state S.Store conn) }
     requires found { HasCleanDisk (state S.Store conn) → IsFoundBy V3 (state S.Store conn).now }
     ensures dir { IfOk result (λ t. t.dir ≡ dir.now) }
-    ensures took { IfOk result (λ t. HasCleanDisk (state S.Store t.connection) → OpensExisting S.Store dir.now (state S.Store conn).now t) }
+    ensures took { IfOk result
+        (λ t. HasCleanDisk (state S.Store t.connection) → OpensExisting S.Store dir.now (state S.Store conn).now t) }
     ensures alone { IfErr result (λ e. e.conn.in_transaction ≡ false) }
     ensures cause { IfErr result
-        (λ e. HasCleanDisk (state S.Store e.conn) → IsCause dir.now (state S.Store conn) (state S.Store e.conn) e.cause) }
-    ensures same { IfErr result (λ e. HasCleanDisk (state S.Store e.conn) → KeepsShown (state S.Store conn) (state S.Store e.conn)) }
-    ensures survives { MatchResult result (λ t. Survives (state S.Store conn) (state S.Store t.connection) (λ _. ⊥)) (λ e. Survives (state S.Store conn) (state S.Store e.conn) (λ _. ⊥)) }
+        (λ e. HasCleanDisk (state S.Store e.conn)
+        → IsCause dir.now (state S.Store conn) (state S.Store e.conn) e.cause) }
+    ensures same { IfErr result
+        (λ e. HasCleanDisk (state S.Store e.conn) → KeepsShown (state S.Store conn) (state S.Store e.conn)) }
+    ensures survives { MatchResult result (λ t. Survives (state S.Store conn) (state S.Store t.connection) (λ _. ⊥))
+        (λ e. Survives (state S.Store conn) (state S.Store e.conn) (λ _. ⊥)) }
 {
     match read_as(alloc, &mut conn, dir, Schema::V3) {
         Ok(loaded) => {
@@ -58,12 +62,17 @@ fn make_new<S: Alter>(
     requires none { HasCleanDisk (state S.Store conn) → HasNone (state S.Store conn).now.schema }
     requires settled { HasCleanDisk (state S.Store conn) → (state S.Store conn).now ≡ (state S.Store conn).committed }
     ensures dir { IfOk result (λ t. t.dir ≡ dir.now) }
-    ensures took { IfOk result (λ t. HasCleanDisk (state S.Store t.connection) → OpensNew S.Store (state S.Store conn).now t) }
+    ensures took { IfOk result
+        (λ t. HasCleanDisk (state S.Store t.connection) → OpensNew S.Store (state S.Store conn).now t) }
     ensures alone { IfErr result (λ e. e.conn.in_transaction ≡ false) }
     ensures cause { IfErr result
-        (λ e. HasCleanDisk (state S.Store e.conn) → IsCause dir.now (state S.Store conn) (state S.Store e.conn) e.cause) }
-    ensures same { IfErr result (λ e. HasCleanDisk (state S.Store e.conn) → KeepsShown (state S.Store conn) (state S.Store e.conn)) }
-    ensures survives { MatchResult result (λ t. Survives (state S.Store conn) (state S.Store t.connection) (LeavesMade dir.now (state S.Store conn).now)) (λ e. Survives (state S.Store conn) (state S.Store e.conn) (LeavesMade dir.now (state S.Store conn).now)) }
+        (λ e. HasCleanDisk (state S.Store e.conn)
+        → IsCause dir.now (state S.Store conn) (state S.Store e.conn) e.cause) }
+    ensures same { IfErr result
+        (λ e. HasCleanDisk (state S.Store e.conn) → KeepsShown (state S.Store conn) (state S.Store e.conn)) }
+    ensures survives { MatchResult result
+        (λ t. Survives (state S.Store conn) (state S.Store t.connection) (LeavesMade dir.now (state S.Store conn).now))
+        (λ e. Survives (state S.Store conn) (state S.Store e.conn) (LeavesMade dir.now (state S.Store conn).now)) }
 {
     match making::make(&mut conn, dir.as_str()) {
         Ok(()) => {
@@ -87,12 +96,17 @@ pub(crate) fn open_new<S: Alter>(
     requires none { HasCleanDisk (state S.Store conn) → HasNone (state S.Store conn).now.schema }
     requires settled { HasCleanDisk (state S.Store conn) → (state S.Store conn).now ≡ (state S.Store conn).committed }
     ensures dir { IfOk result (λ t. t.dir ≡ dir.now) }
-    ensures took { IfOk result (λ t. HasCleanDisk (state S.Store t.connection) → OpensNew S.Store (state S.Store conn).now t) }
+    ensures took { IfOk result
+        (λ t. HasCleanDisk (state S.Store t.connection) → OpensNew S.Store (state S.Store conn).now t) }
     ensures alone { IfErr result (λ e. e.conn.in_transaction ≡ false) }
     ensures cause { IfErr result
-        (λ e. HasCleanDisk (state S.Store e.conn) → IsCause dir.now (state S.Store conn) (state S.Store e.conn) e.cause) }
-    ensures same { IfErr result (λ e. HasCleanDisk (state S.Store e.conn) → KeepsShown (state S.Store conn) (state S.Store e.conn)) }
-    ensures survives { MatchResult result (λ t. Survives (state S.Store conn) (state S.Store t.connection) (LeavesMade dir.now (state S.Store conn).now)) (λ e. Survives (state S.Store conn) (state S.Store e.conn) (LeavesMade dir.now (state S.Store conn).now)) }
+        (λ e. HasCleanDisk (state S.Store e.conn)
+        → IsCause dir.now (state S.Store conn) (state S.Store e.conn) e.cause) }
+    ensures same { IfErr result
+        (λ e. HasCleanDisk (state S.Store e.conn) → KeepsShown (state S.Store conn) (state S.Store e.conn)) }
+    ensures survives { MatchResult result
+        (λ t. Survives (state S.Store conn) (state S.Store t.connection) (LeavesMade dir.now (state S.Store conn).now))
+        (λ e. Survives (state S.Store conn) (state S.Store e.conn) (LeavesMade dir.now (state S.Store conn).now)) }
 {
     match dir.clone() {
         Ok(own) => make_new(alloc, conn, dir, own),

@@ -27,11 +27,15 @@ pub(crate) fn delete_references<S: Alter>(
 ) -> Result<(), Failure>
     requires under_way { HasCleanDisk (state S.Store tx.old.conn.now) → IsUnderWay (state S.Store tx.old.conn.now) }
     requires is_open { HasCleanDisk (state S.Store tx.old.conn.now) → IsTrue (state S.Store tx.old.conn.now).is_open }
-    requires reported { HasCleanDisk (state S.Store tx.old.conn.now) → (r : List ℕ) → IsTrue (finite.contains_key (contents_of (state S.Store tx.old.conn.now).now).refs (base.now, r)) → IsTrue (finite.contains_key object.now.references r) }
+    requires reported { HasCleanDisk (state S.Store tx.old.conn.now) → (r : List ℕ)
+        → IsTrue (finite.contains_key (contents_of (state S.Store tx.old.conn.now).now).refs (base.now, r))
+        → IsTrue (finite.contains_key object.now.references r) }
     ensures same_reference { tx.new.conn.ghost_name ≡ tx.old.conn.ghost_name }
-    ensures done { HasCleanDisk (state S.Store tx.new.conn.now) → OnOk result (Changes (state S.Store tx.old.conn.now) (state S.Store tx.new.conn.now)
+    ensures done { HasCleanDisk (state S.Store tx.new.conn.now)
+        → OnOk result (Changes (state S.Store tx.old.conn.now) (state S.Store tx.new.conn.now)
         (λ c. record c { refs = finite.retain_keys c.refs (λ k. not (same k.0 base.now)) })) }
-    ensures failed { HasCleanDisk (state S.Store tx.new.conn.now) → OnErr result (KeepsCommit (state S.Store tx.old.conn.now) (state S.Store tx.new.conn.now)) }
+    ensures failed { HasCleanDisk (state S.Store tx.new.conn.now)
+        → OnErr result (KeepsCommit (state S.Store tx.old.conn.now) (state S.Store tx.new.conn.now)) }
     ensures cause { HasReason S.Store tx.old.conn.now tx.new.conn.now result NoRow }
     ensures survives { Survives (state S.Store tx.old.conn.now) (state S.Store tx.new.conn.now) (λ _. ⊥) }
 {
@@ -49,11 +53,15 @@ pub(crate) fn delete_outputs<S: Alter>(
 ) -> Result<(), Failure>
     requires under_way { HasCleanDisk (state S.Store tx.old.conn.now) → IsUnderWay (state S.Store tx.old.conn.now) }
     requires is_open { HasCleanDisk (state S.Store tx.old.conn.now) → IsTrue (state S.Store tx.old.conn.now).is_open }
-    requires reported { HasCleanDisk (state S.Store tx.old.conn.now) → (name : List ℕ) → IsTrue (finite.contains_key (contents_of (state S.Store tx.old.conn.now).now).outs (base.now, name)) → IsTrue (finite.contains_key object.now.outputs name) }
+    requires reported { HasCleanDisk (state S.Store tx.old.conn.now) → (name : List ℕ)
+        → IsTrue (finite.contains_key (contents_of (state S.Store tx.old.conn.now).now).outs (base.now, name))
+        → IsTrue (finite.contains_key object.now.outputs name) }
     ensures same_reference { tx.new.conn.ghost_name ≡ tx.old.conn.ghost_name }
-    ensures done { HasCleanDisk (state S.Store tx.new.conn.now) → OnOk result (Changes (state S.Store tx.old.conn.now) (state S.Store tx.new.conn.now)
+    ensures done { HasCleanDisk (state S.Store tx.new.conn.now)
+        → OnOk result (Changes (state S.Store tx.old.conn.now) (state S.Store tx.new.conn.now)
         (λ c. record c { outs = finite.retain_keys c.outs (λ k. not (same k.0 base.now)) })) }
-    ensures failed { HasCleanDisk (state S.Store tx.new.conn.now) → OnErr result (KeepsCommit (state S.Store tx.old.conn.now) (state S.Store tx.new.conn.now)) }
+    ensures failed { HasCleanDisk (state S.Store tx.new.conn.now)
+        → OnErr result (KeepsCommit (state S.Store tx.old.conn.now) (state S.Store tx.new.conn.now)) }
     ensures cause { HasReason S.Store tx.old.conn.now tx.new.conn.now result NoRow }
     ensures survives { Survives (state S.Store tx.old.conn.now) (state S.Store tx.new.conn.now) (λ _. ⊥) }
 {
@@ -71,12 +79,17 @@ pub(crate) fn delete_pieces<S: Alter>(
 ) -> Result<(), Failure>
     requires under_way { HasCleanDisk (state S.Store tx.old.conn.now) → IsUnderWay (state S.Store tx.old.conn.now) }
     requires is_open { HasCleanDisk (state S.Store tx.old.conn.now) → IsTrue (state S.Store tx.old.conn.now).is_open }
-    requires exists { HasCleanDisk (state S.Store tx.old.conn.now) → HasFurther (state S.Store tx.old.conn.now).now piece }
-    requires reported { HasCleanDisk (state S.Store tx.old.conn.now) → (n : ℤ) → IsTrue (finite.contains_key (contents_of (state S.Store tx.old.conn.now).now).pieces (base.now, n)) → piece_size < object.now.size }
+    requires exists { HasCleanDisk (state S.Store tx.old.conn.now)
+        → HasFurther (state S.Store tx.old.conn.now).now piece }
+    requires reported { HasCleanDisk (state S.Store tx.old.conn.now) → (n : ℤ)
+        → IsTrue (finite.contains_key (contents_of (state S.Store tx.old.conn.now).now).pieces (base.now, n))
+        → piece_size < object.now.size }
     ensures same_reference { tx.new.conn.ghost_name ≡ tx.old.conn.ghost_name }
-    ensures done { HasCleanDisk (state S.Store tx.new.conn.now) → OnOk result (Changes (state S.Store tx.old.conn.now) (state S.Store tx.new.conn.now)
+    ensures done { HasCleanDisk (state S.Store tx.new.conn.now)
+        → OnOk result (Changes (state S.Store tx.old.conn.now) (state S.Store tx.new.conn.now)
         (λ c. record c { pieces = finite.retain_keys c.pieces (λ k. not (same k.0 base.now)) })) }
-    ensures failed { HasCleanDisk (state S.Store tx.new.conn.now) → OnErr result (KeepsCommit (state S.Store tx.old.conn.now) (state S.Store tx.new.conn.now)) }
+    ensures failed { HasCleanDisk (state S.Store tx.new.conn.now)
+        → OnErr result (KeepsCommit (state S.Store tx.old.conn.now) (state S.Store tx.new.conn.now)) }
     ensures cause { HasReason S.Store tx.old.conn.now tx.new.conn.now result NoRow }
     ensures survives { Survives (state S.Store tx.old.conn.now) (state S.Store tx.new.conn.now) (λ _. ⊥) }
 {

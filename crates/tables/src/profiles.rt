@@ -22,9 +22,11 @@ pub(crate) fn put_current<S: Alter>(
 ) -> Result<(), Failure>
     requires under_way { HasCleanDisk (state S.Store tx.old.conn.now) → IsUnderWay (state S.Store tx.old.conn.now) }
     ensures same_reference { tx.new.conn.ghost_name ≡ tx.old.conn.ghost_name }
-    ensures done { HasCleanDisk (state S.Store tx.new.conn.now) → OnOk result (Changes (state S.Store tx.old.conn.now) (state S.Store tx.new.conn.now)
+    ensures done { HasCleanDisk (state S.Store tx.new.conn.now)
+        → OnOk result (Changes (state S.Store tx.old.conn.now) (state S.Store tx.new.conn.now)
         (λ c. record c { profiles = finite.insert c.profiles (owner.now, name.now) (pos current) })) }
-    ensures failed { HasCleanDisk (state S.Store tx.new.conn.now) → OnErr result (KeepsCommit (state S.Store tx.old.conn.now) (state S.Store tx.new.conn.now)) }
+    ensures failed { HasCleanDisk (state S.Store tx.new.conn.now)
+        → OnErr result (KeepsCommit (state S.Store tx.old.conn.now) (state S.Store tx.new.conn.now)) }
     ensures cause { HasReason S.Store tx.old.conn.now tx.new.conn.now result
         (ProfileRow (owner.now, name.now) current) }
     ensures survives { Survives (state S.Store tx.old.conn.now) (state S.Store tx.new.conn.now) (λ _. ⊥) }

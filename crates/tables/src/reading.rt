@@ -53,13 +53,16 @@ pub(crate) fn read_archive<S: Alter>(
     requires exists { HasCleanDisk (state S.Store conn.old) → IsTrue (state S.Store conn.old).is_open
         → HasFurther (state S.Store conn.old).now piece }
     requires cut { HasCleanDisk (state S.Store conn.old) → IsTrue (state S.Store conn.old).is_open
-        → (o : Stored) → finite.get (contents_of (state S.Store conn.old).now).objects base.now ≡ Some o → IsCut o.nar (finite.entries (pieces_in (rows_of (contents_of (state S.Store conn.old).now)) base.now)) }
+        → (o : Stored) → finite.get (contents_of (state S.Store conn.old).now).objects base.now ≡ Some o
+        → IsCut o.nar (finite.entries (pieces_in (rows_of (contents_of (state S.Store conn.old).now)) base.now)) }
     requires size { HasCleanDisk (state S.Store conn.old) → IsTrue (state S.Store conn.old).is_open
-        → (o : Stored) → finite.get (contents_of (state S.Store conn.old).now).objects base.now ≡ Some o → length (archive_in (rows_of (contents_of (state S.Store conn.old).now)) base.now o) ≡ size }
+        → (o : Stored) → finite.get (contents_of (state S.Store conn.old).now).objects base.now ≡ Some o
+        → length (archive_in (rows_of (contents_of (state S.Store conn.old).now)) base.now o) ≡ size }
     ensures alone { conn.new.in_transaction ≡ false }
     ensures reads { HasCleanDisk (state S.Store conn.new)
         → IfOk result (λ nar. IsUnchanged (state S.Store conn.old) (state S.Store conn.new)
-        × (nar ≡ option_map (archive_in (rows_of (contents_of (state S.Store conn.old).now)) base.now) (finite.get (contents_of (state S.Store conn.old).now).objects base.now))) }
+        × (nar ≡ option_map (archive_in (rows_of (contents_of (state S.Store conn.old).now)) base.now)
+        (finite.get (contents_of (state S.Store conn.old).now).objects base.now))) }
     ensures same { HasCleanDisk (state S.Store conn.new)
         → KeepsShown (state S.Store conn.old) (state S.Store conn.new) }
     ensures cause { FailsInReads S.Store conn.old conn.new result }

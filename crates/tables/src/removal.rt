@@ -30,12 +30,16 @@ fn delete_object<S: Alter>(
     path: &StorePath,
 ) -> Result<(), Failure>
     requires under_way { HasCleanDisk (state S.Store tx.old.conn.now) → IsUnderWay (state S.Store tx.old.conn.now) }
-    requires exists { HasCleanDisk (state S.Store tx.old.conn.now) → IsTrue (state S.Store tx.old.conn.now).is_open → HasFurther (state S.Store tx.old.conn.now).now piece }
-    requires covers { HasCleanDisk (state S.Store tx.old.conn.now) → IsTrue (state S.Store tx.old.conn.now).is_open → Covers outline.now (contents_of (state S.Store tx.old.conn.now).now) }
+    requires exists { HasCleanDisk (state S.Store tx.old.conn.now) → IsTrue (state S.Store tx.old.conn.now).is_open
+        → HasFurther (state S.Store tx.old.conn.now).now piece }
+    requires covers { HasCleanDisk (state S.Store tx.old.conn.now) → IsTrue (state S.Store tx.old.conn.now).is_open
+        → Covers outline.now (contents_of (state S.Store tx.old.conn.now).now) }
     ensures same_reference { tx.new.conn.ghost_name ≡ tx.old.conn.ghost_name }
-    ensures done { HasCleanDisk (state S.Store tx.new.conn.now) → OnOk result (Changes (state S.Store tx.old.conn.now) (state S.Store tx.new.conn.now)
+    ensures done { HasCleanDisk (state S.Store tx.new.conn.now)
+        → OnOk result (Changes (state S.Store tx.old.conn.now) (state S.Store tx.new.conn.now)
         (λ c. without_object path.now c)) }
-    ensures failed { HasCleanDisk (state S.Store tx.new.conn.now) → OnErr result (KeepsCommit (state S.Store tx.old.conn.now) (state S.Store tx.new.conn.now)) }
+    ensures failed { HasCleanDisk (state S.Store tx.new.conn.now)
+        → OnErr result (KeepsCommit (state S.Store tx.old.conn.now) (state S.Store tx.new.conn.now)) }
     ensures cause { HasReason S.Store tx.old.conn.now tx.new.conn.now result NoRow }
     ensures survives { Survives (state S.Store tx.old.conn.now) (state S.Store tx.new.conn.now) (λ _. ⊥) }
 {
@@ -57,12 +61,16 @@ fn delete_objects<S: Alter>(
 ) -> Result<(), Failure>
     requires under_way { HasCleanDisk (state S.Store tx.old.conn.now) → IsUnderWay (state S.Store tx.old.conn.now) }
     requires is_open { HasCleanDisk (state S.Store tx.old.conn.now) → IsTrue (state S.Store tx.old.conn.now).is_open }
-    requires exists { HasCleanDisk (state S.Store tx.old.conn.now) → HasFurther (state S.Store tx.old.conn.now).now piece }
-    requires covers { HasCleanDisk (state S.Store tx.old.conn.now) → Covers outline.now (contents_of (state S.Store tx.old.conn.now).now) }
+    requires exists { HasCleanDisk (state S.Store tx.old.conn.now)
+        → HasFurther (state S.Store tx.old.conn.now).now piece }
+    requires covers { HasCleanDisk (state S.Store tx.old.conn.now)
+        → Covers outline.now (contents_of (state S.Store tx.old.conn.now).now) }
     ensures same_reference { tx.new.conn.ghost_name ≡ tx.old.conn.ghost_name }
-    ensures done { HasCleanDisk (state S.Store tx.new.conn.now) → OnOk result (Changes (state S.Store tx.old.conn.now) (state S.Store tx.new.conn.now)
+    ensures done { HasCleanDisk (state S.Store tx.new.conn.now)
+        → OnOk result (Changes (state S.Store tx.old.conn.now) (state S.Store tx.new.conn.now)
         (λ c. without_objects paths.now c)) }
-    ensures failed { HasCleanDisk (state S.Store tx.new.conn.now) → OnErr result (KeepsCommit (state S.Store tx.old.conn.now) (state S.Store tx.new.conn.now)) }
+    ensures failed { HasCleanDisk (state S.Store tx.new.conn.now)
+        → OnErr result (KeepsCommit (state S.Store tx.old.conn.now) (state S.Store tx.new.conn.now)) }
     ensures cause { HasReason S.Store tx.old.conn.now tx.new.conn.now result NoRow }
     ensures survives { Survives (state S.Store tx.old.conn.now) (state S.Store tx.new.conn.now) (λ _. ⊥) }
 {
@@ -74,7 +82,8 @@ fn delete_objects<S: Alter>(
 
 /// Takes some objects out of an outline. It takes no memory.
 pub(crate) fn remove_all(outline: &mut Outline, paths: &[StorePath])
-    ensures { outline.new ≡ record outline.old { objects = finite.retain_keys outline.old.objects (λ p. not (holds paths.now p)) } }
+    ensures { outline.new
+        ≡ record outline.old { objects = finite.retain_keys outline.old.objects (λ p. not (holds paths.now p)) } }
 {
     'paths: for path in paths {
         outline.remove_object(path);

@@ -34,15 +34,21 @@ fn read<S: Alter>(
     schema: Schema,
 ) -> Result<Option<Loaded>, Failure>
     requires alone { conn.old.in_transaction ≡ false }
-    requires ready { HasCleanDisk (state S.Store conn.old) → IsTrue (state S.Store conn.old).is_open → IsReady (state S.Store conn.old) }
-    requires further { HasCleanDisk (state S.Store conn.old) → IsTrue (state S.Store conn.old).is_open → HasFurtherOf schema (state S.Store conn.old).now }
+    requires ready { HasCleanDisk (state S.Store conn.old) → IsTrue (state S.Store conn.old).is_open
+        → IsReady (state S.Store conn.old) }
+    requires further { HasCleanDisk (state S.Store conn.old) → IsTrue (state S.Store conn.old).is_open
+        → HasFurtherOf schema (state S.Store conn.old).now }
     ensures alone { conn.new.in_transaction ≡ false }
     ensures reported { HasCleanDisk (state S.Store conn.new) → IfOk result (λ o. MatchOption o
         ((dir : List ℕ) → ¬ IsSoundBy schema dir (contents_of (state S.Store conn.old).now))
-        (λ r. IsSoundBy schema r.dir (contents_of (state S.Store conn.old).now) × (outline_of (world_in (contents_of (state S.Store conn.old).now)) ≡ r.outline))) }
-    ensures unchanged { HasCleanDisk (state S.Store conn.new) → OnOk result (IsUnchanged (state S.Store conn.old) (state S.Store conn.new)) }
-    ensures same { HasCleanDisk (state S.Store conn.new) → KeepsShown (state S.Store conn.old) (state S.Store conn.new) }
-    ensures ready { HasCleanDisk (state S.Store conn.new) → IsTrue (state S.Store conn.new).is_open → IsReady (state S.Store conn.new) }
+        (λ r. IsSoundBy schema r.dir (contents_of (state S.Store conn.old).now)
+        × (outline_of (world_in (contents_of (state S.Store conn.old).now)) ≡ r.outline))) }
+    ensures unchanged { HasCleanDisk (state S.Store conn.new)
+        → OnOk result (IsUnchanged (state S.Store conn.old) (state S.Store conn.new)) }
+    ensures same { HasCleanDisk (state S.Store conn.new)
+        → KeepsShown (state S.Store conn.old) (state S.Store conn.new) }
+    ensures ready { HasCleanDisk (state S.Store conn.new) → IsTrue (state S.Store conn.new).is_open
+        → IsReady (state S.Store conn.new) }
     ensures cause { FailsInReads S.Store conn.old conn.new result }
     ensures survives { Survives (state S.Store conn.old) (state S.Store conn.new) (λ _. ⊥) }
 {
@@ -77,12 +83,16 @@ pub(crate) fn read_as<S: Alter>(
     requires found { HasCleanDisk (state S.Store conn.old) → IsFoundBy schema (state S.Store conn.old).now }
     ensures alone { conn.new.in_transaction ≡ false }
     ensures dir { IfOk result (λ r. r.dir ≡ dir.now) }
-    ensures reported { HasCleanDisk (state S.Store conn.new) → IfOk result (λ r. AreRead schema r.dir (state S.Store conn.old).now r.outline) }
-    ensures unchanged { HasCleanDisk (state S.Store conn.new) → OnOk result (IsUnchanged (state S.Store conn.old) (state S.Store conn.new)) }
+    ensures reported { HasCleanDisk (state S.Store conn.new)
+        → IfOk result (λ r. AreRead schema r.dir (state S.Store conn.old).now r.outline) }
+    ensures unchanged { HasCleanDisk (state S.Store conn.new)
+        → OnOk result (IsUnchanged (state S.Store conn.old) (state S.Store conn.new)) }
     ensures cause { HasCleanDisk (state S.Store conn.new)
         → IfErr result (IsCause dir.now (state S.Store conn.old) (state S.Store conn.new)) }
-    ensures same { HasCleanDisk (state S.Store conn.new) → KeepsShown (state S.Store conn.old) (state S.Store conn.new) }
-    ensures ready { HasCleanDisk (state S.Store conn.new) → IsTrue (state S.Store conn.new).is_open → IsReady (state S.Store conn.new) }
+    ensures same { HasCleanDisk (state S.Store conn.new)
+        → KeepsShown (state S.Store conn.old) (state S.Store conn.new) }
+    ensures ready { HasCleanDisk (state S.Store conn.new) → IsTrue (state S.Store conn.new).is_open
+        → IsReady (state S.Store conn.new) }
     ensures survives { Survives (state S.Store conn.old) (state S.Store conn.new) (λ _. ⊥) }
 {
     match read(alloc, conn, schema) {

@@ -37,7 +37,8 @@ fn address_text(alloc: Global, object: &Summary) -> Result<Option<String>, Alloc
 pub(crate) fn texts_of(alloc: Global, object: &Summary) -> Result<Texts, AllocError>
     ensures deriver { IfOk result (λ texts. option_map string_bytes texts.deriver ≡ object.now.deriver) }
     ensures ca { IfOk result (λ texts. address_in (option_map string_bytes texts.ca) ≡ object.now.ca) }
-    ensures valid { IfOk result (λ texts. (t : List ℕ) → option_map string_bytes texts.ca ≡ Some t → IsSome (address_of t)) }
+    ensures valid { IfOk result
+        (λ texts. (t : List ℕ) → option_map string_bytes texts.ca ≡ Some t → IsSome (address_of t)) }
 {
     let deriver = deriver_text(alloc, object)?;
     let ca = address_text(alloc, object)?;

@@ -24,7 +24,10 @@ fn add_generations(
     owned: &(String, String),
     profile: &Profile,
 ) -> Result<(), AllocError>
-    ensures { OnOk result (Gains root_cmp (root_set roots.old.keys) (map (generation_root (pair_bytes owned.now)) (finite.entries (profile_view profile.now).generations)) (root_set roots.new.keys)) }
+    ensures { OnOk result
+        (Gains root_cmp (root_set roots.old.keys)
+        (map (generation_root (pair_bytes owned.now)) (finite.entries (profile_view profile.now).generations))
+        (root_set roots.new.keys)) }
 {
     for (number, path) in profile.generations.iter() {
         let owner = owned.0.as_str();
@@ -40,7 +43,9 @@ fn add_permanent(
     roots: &mut BTreeSet<Root>,
     outline: &Outline,
 ) -> Result<(), AllocError>
-    ensures { OnOk result (Gains root_cmp (root_set roots.old.keys) (map permanent_root (finite.entries outline.now.permanent)) (root_set roots.new.keys)) }
+    ensures { OnOk result
+        (Gains root_cmp (root_set roots.old.keys) (map permanent_root (finite.entries outline.now.permanent))
+        (root_set roots.new.keys)) }
 {
     for (name, path) in outline.permanent_roots().iter() {
         let label = permanent_label(alloc, name.as_str())?;
@@ -50,7 +55,9 @@ fn add_permanent(
 }
 
 fn add_users(alloc: Global, roots: &mut BTreeSet<Root>, outline: &Outline) -> Result<(), AllocError>
-    ensures { OnOk result (Gains root_cmp (root_set roots.old.keys) (map user_root (finite.entries outline.now.user_roots)) (root_set roots.new.keys)) }
+    ensures { OnOk result
+        (Gains root_cmp (root_set roots.old.keys) (map user_root (finite.entries outline.now.user_roots))
+        (root_set roots.new.keys)) }
 {
     for (owned, path) in outline.user_roots().iter() {
         let owner = owned.0.as_str();
@@ -66,7 +73,9 @@ fn add_profiles(
     roots: &mut BTreeSet<Root>,
     outline: &Outline,
 ) -> Result<(), AllocError>
-    ensures { OnOk result (Gains root_cmp (root_set roots.old.keys) (flat_map generation_roots (finite.entries outline.now.profiles)) (root_set roots.new.keys)) }
+    ensures { OnOk result
+        (Gains root_cmp (root_set roots.old.keys) (flat_map generation_roots (finite.entries outline.now.profiles))
+        (root_set roots.new.keys)) }
 {
     for (owned, profile) in outline.profiles().iter() {
         add_generations(alloc, roots, owned, profile)?;
@@ -75,7 +84,9 @@ fn add_profiles(
 }
 
 fn add_runtime(roots: &mut BTreeSet<Root>, outline: &Outline) -> Result<(), AllocError>
-    ensures { OnOk result (Gains root_cmp (root_set roots.old.keys) (map runtime_root (finite.keys outline.now.runtime)) (root_set roots.new.keys)) }
+    ensures { OnOk result
+        (Gains root_cmp (root_set roots.old.keys) (map runtime_root (finite.keys outline.now.runtime))
+        (root_set roots.new.keys)) }
 {
     for pair in outline.runtime_roots().iter() {
         add(roots, RootKind::Runtime, &pair.1, pair.0.clone()?)?;
@@ -88,7 +99,9 @@ fn add_temporary(
     roots: &mut BTreeSet<Root>,
     outline: &Outline,
 ) -> Result<(), AllocError>
-    ensures { OnOk result (Gains root_cmp (root_set roots.old.keys) (map temporary_root (finite.keys outline.now.temporary)) (root_set roots.new.keys)) }
+    ensures { OnOk result
+        (Gains root_cmp (root_set roots.old.keys) (map temporary_root (finite.keys outline.now.temporary))
+        (root_set roots.new.keys)) }
 {
     for kept in outline.temporary_roots().iter() {
         let label = temporary_label(alloc, kept.1)?;
@@ -99,7 +112,10 @@ fn add_temporary(
 
 /// All roots, in their order.
 pub(crate) fn all_roots(alloc: Global, outline: &Outline) -> Result<BTreeSet<Root>, AllocError>
-    ensures { IfOk result (λ r. root_set r.keys ≡ set_of root_cmp (explicit_roots (rooted outline.now) ++ runtime_roots (rooted outline.now) ++ temporary_roots (rooted outline.now))) }
+    ensures { IfOk result
+        (λ r. root_set r.keys
+        ≡ set_of root_cmp (explicit_roots (rooted outline.now) ++ runtime_roots (rooted outline.now)
+        ++ temporary_roots (rooted outline.now))) }
 {
     let mut roots = BTreeSet::new(alloc);
     add_permanent(alloc, &mut roots, outline)?;

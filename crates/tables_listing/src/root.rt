@@ -17,7 +17,10 @@ pub(crate) fn add(
     target: &StorePath,
     label: String,
 ) -> Result<(), AllocError>
-    ensures { OnOk result (Gains root_cmp (root_set roots.old.keys) (record { kind = kind_view kind; target = target.now; label = string_bytes label } ∷ []) (root_set roots.new.keys)) }
+    ensures { OnOk result
+        (Gains root_cmp (root_set roots.old.keys)
+        (record { kind = kind_view kind; target = target.now; label = string_bytes label } ∷ [])
+        (root_set roots.new.keys)) }
 {
     let target = target.clone()?;
     roots.insert(Root {

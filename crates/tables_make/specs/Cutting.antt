@@ -16,7 +16,7 @@ put_pieces p (e ∷ es) m = put_pieces p es (finite.insert m (p, e.0) e.1)
 abbrev pub cut_row : Path → Stored → Contents → Contents
 cut_row p o c = record c { objects = finite.insert c.objects p (record o { nar = row_part o.nar }); pieces = put_pieces p (further_pieces o.nar) c.pieces }
 
--- the same, if there is one
+-- the archive of an object cut in pieces, if there is such an object
 abbrev pub cut_found : Path → Option Stored → Contents → Contents
 cut_found p None c = c
 cut_found p (Some o) c = cut_row p o c
@@ -24,7 +24,7 @@ cut_found p (Some o) c = cut_row p o c
 abbrev pub cut_object : Path → Contents → Contents
 cut_object p c = cut_found p (finite.get c.objects p) c
 
--- the same of some objects
+-- the archives of some objects cut in pieces
 abbrev pub cut_objects : List Path → Contents → Contents
 cut_objects [] c = c
 cut_objects (p ∷ ps) c = cut_objects ps (cut_object p c)

@@ -35,11 +35,11 @@ SettingRow = IsRow meta (Text (codes "schema") ∷ Text (schema_text V3) ∷ [])
 abbrev pub CutRows : Path → Stored → Rows
 CutRows p o t row = ObjectRow p (record o { nar = row_part o.nar }) t row ⊎ RowsOf (PieceRow p) (further_pieces o.nar) t row
 
--- the same, if the archive is longer than a row takes
+-- the rows of an object whose archive is longer than a row takes
 abbrev pub LongRows : Path → Stored → Rows
 LongRows p o t row = (piece_size < length o.nar) × CutRows p o t row
 
--- the same of one of the objects
+-- the rows of one of the objects whose archives are that long
 abbrev pub AllCutRows : Contents → Rows
 AllCutRows c t row = (p : Path) × (o : Stored) × (finite.get c.objects p ≡ Some o) × LongRows p o t row
 
@@ -54,7 +54,7 @@ IsUncut c = (p : Path) (o : Stored) → finite.get c.objects p ≡ Some o → pi
 
 -- ---- why it fails
 
--- the same connection with the tables that a schema lacks
+-- a connection with the tables that a schema lacks
 abbrev pub with_lacking : Schema → State → State
 with_lacking from s = record s { now = grown (lacking from) s.now }
 

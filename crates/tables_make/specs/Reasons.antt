@@ -15,7 +15,7 @@ use Rattle.tables_sql.specs.declared.failure.Failure.TheVariants.{Memory, Size, 
 abbrev pub Rows : Type 1
 Rows = Table → Row → Type 0
 
--- this row of this table
+-- one row of one table
 abbrev pub IsRow : Table → Row → Rows
 IsRow table values t row = (t ≡ table) × (row ≡ values)
 
@@ -23,7 +23,7 @@ IsRow table values t row = (t ≡ table) × (row ≡ values)
 abbrev pub NoRow : Rows
 NoRow t row = ⊥
 
--- those of each item of a list
+-- the rows of each item of a list
 abbrev pub RowsOf : {X : Type 0} → (X → Rows) → List X → Rows
 RowsOf rows [] t row = ⊥
 RowsOf rows (x ∷ xs) t row = rows x t row ⊎ RowsOf rows xs t row
@@ -48,6 +48,6 @@ IsReason rows old new Memory = ⊤
 IsReason rows old new Size = IsTrue old.is_open × HasLargeRow rows old.now
 IsReason rows old new Disk = HasDiskCause old new ⊎ (IsSome old.step_limit ⊎ LacksRowid rows old.now)
 
--- the same of its result
+-- a failed result has a reason among some rows
 abbrev pub HasReason : {S T : Type 0} → Ghosts S → Held S → Held S → Result T Failure → Rows → Type 0
 HasReason g old new result rows = HasCleanDisk (state g new) → IfErr result (IsReason rows (state g old) (state g new))

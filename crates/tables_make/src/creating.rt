@@ -57,9 +57,15 @@ fn text(table: OurTable) -> &'static str
 fn create<S: Alter>(tx: &mut Transaction<'_, S>, text: &str) -> Result<(), Failure>
     requires { HasCleanDisk (state S.Store tx.old.conn.now) → (state S.Store tx.old.conn.now).in_transaction ≡ true }
     ensures same_reference { tx.new.conn.ghost_name ≡ tx.old.conn.ghost_name }
-    ensures ran { HasCleanDisk (state S.Store tx.new.conn.now) → OnOk result ((count : ℕ) × ExecutesInside 0 text.now [] (state S.Store tx.old.conn.now) (state S.Store tx.new.conn.now) (Ok count)) }
-    ensures cause { HasCleanDisk (state S.Store tx.new.conn.now) → IfErr result (λ f. (g : Failure) × (f ≡ without_size g) × IsWriteFailure text.now [] (state S.Store tx.old.conn.now) (state S.Store tx.new.conn.now) g) }
-    ensures kept { HasCleanDisk (state S.Store tx.new.conn.now) → KeepsCommit (state S.Store tx.old.conn.now) (state S.Store tx.new.conn.now) }
+    ensures ran { HasCleanDisk (state S.Store tx.new.conn.now)
+        → OnOk result ((count : ℕ)
+        × ExecutesInside 0 text.now [] (state S.Store tx.old.conn.now) (state S.Store tx.new.conn.now) (Ok count)) }
+    ensures cause { HasCleanDisk (state S.Store tx.new.conn.now)
+        → IfErr result
+        (λ f. (g : Failure) × (f ≡ without_size g)
+        × IsWriteFailure text.now [] (state S.Store tx.old.conn.now) (state S.Store tx.new.conn.now) g) }
+    ensures kept { HasCleanDisk (state S.Store tx.new.conn.now)
+        → KeepsCommit (state S.Store tx.old.conn.now) (state S.Store tx.new.conn.now) }
     ensures survives { Survives (state S.Store tx.old.conn.now) (state S.Store tx.new.conn.now) (λ _. ⊥) }
 {
     match tx.execute(text, &[]) {
@@ -70,11 +76,16 @@ fn create<S: Alter>(tx: &mut Transaction<'_, S>, text: &str) -> Result<(), Failu
 
 /// The table, with no row.
 pub(crate) fn one<S: Alter>(tx: &mut Transaction<'_, S>, table: OurTable) -> Result<(), Failure>
-    requires { HasCleanDisk (state S.Store tx.old.conn.now) → IsMaking (form table ∷ []) (state S.Store tx.old.conn.now) }
+    requires { HasCleanDisk (state S.Store tx.old.conn.now)
+        → IsMaking (form table ∷ []) (state S.Store tx.old.conn.now) }
     ensures same_reference { tx.new.conn.ghost_name ≡ tx.old.conn.ghost_name }
-    ensures makes { HasCleanDisk (state S.Store tx.new.conn.now) → OnOk result (Makes (form table ∷ []) (state S.Store tx.old.conn.now) (state S.Store tx.new.conn.now)) }
-    ensures cause { HasCleanDisk (state S.Store tx.new.conn.now) → IfErr result (FailsToMakeThese (form table ∷ []) ⊥ ⊥ (state S.Store tx.old.conn.now) (state S.Store tx.new.conn.now)) }
-    ensures kept { HasCleanDisk (state S.Store tx.new.conn.now) → KeepsCommit (state S.Store tx.old.conn.now) (state S.Store tx.new.conn.now) }
+    ensures makes { HasCleanDisk (state S.Store tx.new.conn.now)
+        → OnOk result (Makes (form table ∷ []) (state S.Store tx.old.conn.now) (state S.Store tx.new.conn.now)) }
+    ensures cause { HasCleanDisk (state S.Store tx.new.conn.now)
+        → IfErr result (FailsToMakeThese (form table
+        ∷ []) ⊥ ⊥ (state S.Store tx.old.conn.now) (state S.Store tx.new.conn.now)) }
+    ensures kept { HasCleanDisk (state S.Store tx.new.conn.now)
+        → KeepsCommit (state S.Store tx.old.conn.now) (state S.Store tx.new.conn.now) }
     ensures survives { Survives (state S.Store tx.old.conn.now) (state S.Store tx.new.conn.now) (λ _. ⊥) }
 {
     create(tx, text(table))
@@ -84,11 +95,16 @@ pub(crate) fn one<S: Alter>(tx: &mut Transaction<'_, S>, table: OurTable) -> Res
 pub(crate) fn all<S: Alter>(tx: &mut Transaction<'_, S>, tables: &[OurTable]) -> Result<(), Failure>
     requires some { 0 < length tables.now }
     requires apart { are_apart (map form tables.now) ≡ true }
-    requires making { HasCleanDisk (state S.Store tx.old.conn.now) → IsMaking (map form tables.now) (state S.Store tx.old.conn.now) }
+    requires making { HasCleanDisk (state S.Store tx.old.conn.now)
+        → IsMaking (map form tables.now) (state S.Store tx.old.conn.now) }
     ensures same_reference { tx.new.conn.ghost_name ≡ tx.old.conn.ghost_name }
-    ensures makes { HasCleanDisk (state S.Store tx.new.conn.now) → OnOk result (Makes (map form tables.now) (state S.Store tx.old.conn.now) (state S.Store tx.new.conn.now)) }
-    ensures cause { HasCleanDisk (state S.Store tx.new.conn.now) → IfErr result (FailsToMakeThese (map form tables.now) ⊥ ⊥ (state S.Store tx.old.conn.now) (state S.Store tx.new.conn.now)) }
-    ensures kept { HasCleanDisk (state S.Store tx.new.conn.now) → KeepsCommit (state S.Store tx.old.conn.now) (state S.Store tx.new.conn.now) }
+    ensures makes { HasCleanDisk (state S.Store tx.new.conn.now)
+        → OnOk result (Makes (map form tables.now) (state S.Store tx.old.conn.now) (state S.Store tx.new.conn.now)) }
+    ensures cause { HasCleanDisk (state S.Store tx.new.conn.now)
+        → IfErr result
+        (FailsToMakeThese (map form tables.now) ⊥ ⊥ (state S.Store tx.old.conn.now) (state S.Store tx.new.conn.now)) }
+    ensures kept { HasCleanDisk (state S.Store tx.new.conn.now)
+        → KeepsCommit (state S.Store tx.old.conn.now) (state S.Store tx.new.conn.now) }
     ensures survives { Survives (state S.Store tx.old.conn.now) (state S.Store tx.new.conn.now) (λ _. ⊥) }
 {
     'tables: for table in tables {

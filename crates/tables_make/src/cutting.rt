@@ -30,12 +30,16 @@ pub(crate) fn put_pieces<S: Alter>(
 ) -> Result<(), Failure>
     requires under_way { HasCleanDisk (state S.Store tx.old.conn.now) → IsUnderWay (state S.Store tx.old.conn.now) }
     requires is_open { HasCleanDisk (state S.Store tx.old.conn.now) → IsTrue (state S.Store tx.old.conn.now).is_open }
-    requires exists { HasCleanDisk (state S.Store tx.old.conn.now) → HasFurther (state S.Store tx.old.conn.now).now piece }
-    requires free { HasCleanDisk (state S.Store tx.old.conn.now) → (n : ℤ) → finite.get (contents_of (state S.Store tx.old.conn.now).now).pieces (base.now, n) ≡ None }
+    requires exists { HasCleanDisk (state S.Store tx.old.conn.now)
+        → HasFurther (state S.Store tx.old.conn.now).now piece }
+    requires free { HasCleanDisk (state S.Store tx.old.conn.now) → (n : ℤ)
+        → finite.get (contents_of (state S.Store tx.old.conn.now).now).pieces (base.now, n) ≡ None }
     ensures same_reference { tx.new.conn.ghost_name ≡ tx.old.conn.ghost_name }
-    ensures done { HasCleanDisk (state S.Store tx.new.conn.now) → OnOk result (Changes (state S.Store tx.old.conn.now) (state S.Store tx.new.conn.now)
+    ensures done { HasCleanDisk (state S.Store tx.new.conn.now)
+        → OnOk result (Changes (state S.Store tx.old.conn.now) (state S.Store tx.new.conn.now)
         (λ c. record c { pieces = put_pieces base.now (pieces_by bytes.now 1 bytes.now) c.pieces })) }
-    ensures failed { HasCleanDisk (state S.Store tx.new.conn.now) → OnErr result (KeepsCommit (state S.Store tx.old.conn.now) (state S.Store tx.new.conn.now)) }
+    ensures failed { HasCleanDisk (state S.Store tx.new.conn.now)
+        → OnErr result (KeepsCommit (state S.Store tx.old.conn.now) (state S.Store tx.new.conn.now)) }
     ensures cause { HasReason S.Store tx.old.conn.now tx.new.conn.now result
         (RowsOf (PieceRow base.now) (pieces_by bytes.now 1 bytes.now)) }
     ensures survives { Survives (state S.Store tx.old.conn.now) (state S.Store tx.new.conn.now) (λ _. ⊥) }
@@ -57,13 +61,18 @@ pub(crate) fn put_pieces<S: Alter>(
 pub(crate) fn put_cut<S: Alter>(tx: &mut Transaction<'_, S>, object: &Object) -> Result<(), Failure>
     requires under_way { HasCleanDisk (state S.Store tx.old.conn.now) → IsUnderWay (state S.Store tx.old.conn.now) }
     requires is_open { HasCleanDisk (state S.Store tx.old.conn.now) → IsTrue (state S.Store tx.old.conn.now).is_open }
-    requires exists { HasCleanDisk (state S.Store tx.old.conn.now) → HasFurther (state S.Store tx.old.conn.now).now piece }
+    requires exists { HasCleanDisk (state S.Store tx.old.conn.now)
+        → HasFurther (state S.Store tx.old.conn.now).now piece }
     requires long { 65536 < length object.now.nar.items }
     requires free { HasCleanDisk (state S.Store tx.old.conn.now) → (n : ℤ)
         → finite.get (contents_of (state S.Store tx.old.conn.now).now).pieces ((stored_of object.now).0, n) ≡ None }
     ensures same_reference { tx.new.conn.ghost_name ≡ tx.old.conn.ghost_name }
-    ensures done { HasCleanDisk (state S.Store tx.new.conn.now) → OnOk result (Changes (state S.Store tx.old.conn.now) (state S.Store tx.new.conn.now) (cut_row (stored_of object.now).0 (stored_of object.now).1)) }
-    ensures failed { HasCleanDisk (state S.Store tx.new.conn.now) → OnErr result (KeepsCommit (state S.Store tx.old.conn.now) (state S.Store tx.new.conn.now)) }
+    ensures done { HasCleanDisk (state S.Store tx.new.conn.now)
+        → OnOk result
+        (Changes (state S.Store tx.old.conn.now) (state S.Store tx.new.conn.now)
+        (cut_row (stored_of object.now).0 (stored_of object.now).1)) }
+    ensures failed { HasCleanDisk (state S.Store tx.new.conn.now)
+        → OnErr result (KeepsCommit (state S.Store tx.old.conn.now) (state S.Store tx.new.conn.now)) }
     ensures cause { HasReason S.Store tx.old.conn.now tx.new.conn.now result
         (CutRows (stored_of object.now).0 (stored_of object.now).1) }
     ensures survives { Survives (state S.Store tx.old.conn.now) (state S.Store tx.new.conn.now) (λ _. ⊥) }
@@ -82,13 +91,21 @@ pub(crate) fn cut_found<S: Alter>(
 ) -> Result<(), Failure>
     requires under_way { HasCleanDisk (state S.Store tx.old.conn.now) → IsUnderWay (state S.Store tx.old.conn.now) }
     requires is_open { HasCleanDisk (state S.Store tx.old.conn.now) → IsTrue (state S.Store tx.old.conn.now).is_open }
-    requires exists { HasCleanDisk (state S.Store tx.old.conn.now) → HasFurther (state S.Store tx.old.conn.now).now piece }
-    requires present { HasCleanDisk (state S.Store tx.old.conn.now) → finite.get (contents_of (state S.Store tx.old.conn.now).now).objects (stored_of object.now).0 ≡ Some (stored_of object.now).1 }
-    requires free { HasCleanDisk (state S.Store tx.old.conn.now) → piece_size < length (stored_of object.now).1.nar → (n : ℤ)
+    requires exists { HasCleanDisk (state S.Store tx.old.conn.now)
+        → HasFurther (state S.Store tx.old.conn.now).now piece }
+    requires present { HasCleanDisk (state S.Store tx.old.conn.now)
+        → finite.get (contents_of (state S.Store tx.old.conn.now).now).objects (stored_of object.now).0
+        ≡ Some (stored_of object.now).1 }
+    requires free { HasCleanDisk (state S.Store tx.old.conn.now) → piece_size < length (stored_of object.now).1.nar
+        → (n : ℤ)
         → finite.get (contents_of (state S.Store tx.old.conn.now).now).pieces ((stored_of object.now).0, n) ≡ None }
     ensures same_reference { tx.new.conn.ghost_name ≡ tx.old.conn.ghost_name }
-    ensures done { HasCleanDisk (state S.Store tx.new.conn.now) → OnOk result (Changes (state S.Store tx.old.conn.now) (state S.Store tx.new.conn.now) (cut_object (stored_of object.now).0)) }
-    ensures failed { HasCleanDisk (state S.Store tx.new.conn.now) → OnErr result (KeepsCommit (state S.Store tx.old.conn.now) (state S.Store tx.new.conn.now)) }
+    ensures done { HasCleanDisk (state S.Store tx.new.conn.now)
+        → OnOk result
+        (Changes (state S.Store tx.old.conn.now) (state S.Store tx.new.conn.now)
+        (cut_object (stored_of object.now).0)) }
+    ensures failed { HasCleanDisk (state S.Store tx.new.conn.now)
+        → OnErr result (KeepsCommit (state S.Store tx.old.conn.now) (state S.Store tx.new.conn.now)) }
     ensures cause { HasReason S.Store tx.old.conn.now tx.new.conn.now result
         (LongRows (stored_of object.now).0 (stored_of object.now).1) }
     ensures survives { Survives (state S.Store tx.old.conn.now) (state S.Store tx.new.conn.now) (λ _. ⊥) }
@@ -107,11 +124,15 @@ pub(crate) fn cut<S: Alter>(
     base: &str,
 ) -> Result<(), Failure>
     requires under_way { HasCleanDisk (state S.Store tx.old.conn.now) → IsUnderWay (state S.Store tx.old.conn.now) }
-    requires exists { HasCleanDisk (state S.Store tx.old.conn.now) → IsTrue (state S.Store tx.old.conn.now).is_open → HasFurther (state S.Store tx.old.conn.now).now piece }
-    requires uncut { HasCleanDisk (state S.Store tx.old.conn.now) → IsTrue (state S.Store tx.old.conn.now).is_open → IsUncut (contents_of (state S.Store tx.old.conn.now).now) }
+    requires exists { HasCleanDisk (state S.Store tx.old.conn.now) → IsTrue (state S.Store tx.old.conn.now).is_open
+        → HasFurther (state S.Store tx.old.conn.now).now piece }
+    requires uncut { HasCleanDisk (state S.Store tx.old.conn.now) → IsTrue (state S.Store tx.old.conn.now).is_open
+        → IsUncut (contents_of (state S.Store tx.old.conn.now).now) }
     ensures same_reference { tx.new.conn.ghost_name ≡ tx.old.conn.ghost_name }
-    ensures done { HasCleanDisk (state S.Store tx.new.conn.now) → OnOk result (Changes (state S.Store tx.old.conn.now) (state S.Store tx.new.conn.now) (cut_object base.now)) }
-    ensures failed { HasCleanDisk (state S.Store tx.new.conn.now) → OnErr result (KeepsCommit (state S.Store tx.old.conn.now) (state S.Store tx.new.conn.now)) }
+    ensures done { HasCleanDisk (state S.Store tx.new.conn.now)
+        → OnOk result (Changes (state S.Store tx.old.conn.now) (state S.Store tx.new.conn.now) (cut_object base.now)) }
+    ensures failed { HasCleanDisk (state S.Store tx.new.conn.now)
+        → OnErr result (KeepsCommit (state S.Store tx.old.conn.now) (state S.Store tx.new.conn.now)) }
     ensures cause { HasReason S.Store tx.old.conn.now tx.new.conn.now result
         (AllCutRows (contents_of (state S.Store tx.old.conn.now).now)) }
     ensures survives { Survives (state S.Store tx.old.conn.now) (state S.Store tx.new.conn.now) (λ _. ⊥) }
@@ -131,11 +152,17 @@ pub(crate) fn cut_all<S: Alter>(
 ) -> Result<(), Failure>
     requires under_way { HasCleanDisk (state S.Store tx.old.conn.now) → IsUnderWay (state S.Store tx.old.conn.now) }
     requires is_open { HasCleanDisk (state S.Store tx.old.conn.now) → IsTrue (state S.Store tx.old.conn.now).is_open }
-    requires exists { HasCleanDisk (state S.Store tx.old.conn.now) → HasFurther (state S.Store tx.old.conn.now).now piece }
-    requires uncut { HasCleanDisk (state S.Store tx.old.conn.now) → IsUncut (contents_of (state S.Store tx.old.conn.now).now) }
+    requires exists { HasCleanDisk (state S.Store tx.old.conn.now)
+        → HasFurther (state S.Store tx.old.conn.now).now piece }
+    requires uncut { HasCleanDisk (state S.Store tx.old.conn.now)
+        → IsUncut (contents_of (state S.Store tx.old.conn.now).now) }
     ensures same_reference { tx.new.conn.ghost_name ≡ tx.old.conn.ghost_name }
-    ensures done { HasCleanDisk (state S.Store tx.new.conn.now) → OnOk result (Changes (state S.Store tx.old.conn.now) (state S.Store tx.new.conn.now) (cut_objects (map string_bytes bases.now))) }
-    ensures failed { HasCleanDisk (state S.Store tx.new.conn.now) → OnErr result (KeepsCommit (state S.Store tx.old.conn.now) (state S.Store tx.new.conn.now)) }
+    ensures done { HasCleanDisk (state S.Store tx.new.conn.now)
+        → OnOk result
+        (Changes (state S.Store tx.old.conn.now) (state S.Store tx.new.conn.now)
+        (cut_objects (map string_bytes bases.now))) }
+    ensures failed { HasCleanDisk (state S.Store tx.new.conn.now)
+        → OnErr result (KeepsCommit (state S.Store tx.old.conn.now) (state S.Store tx.new.conn.now)) }
     ensures cause { HasReason S.Store tx.old.conn.now tx.new.conn.now result
         (AllCutRows (contents_of (state S.Store tx.old.conn.now).now)) }
     ensures survives { Survives (state S.Store tx.old.conn.now) (state S.Store tx.new.conn.now) (λ _. ⊥) }

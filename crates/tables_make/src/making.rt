@@ -20,9 +20,13 @@ use tables_sql::failure::Failure;
 fn put<S: Alter>(tx: &mut Transaction<'_, S>, word: &str, value: &str) -> Result<(), Failure>
     requires { HasCleanDisk (state S.Store tx.old.conn.now) → HasMeta (state S.Store tx.old.conn.now) }
     ensures same_reference { tx.new.conn.ghost_name ≡ tx.old.conn.ghost_name }
-    ensures puts { HasCleanDisk (state S.Store tx.new.conn.now) → OnOk result (Puts word.now value.now (state S.Store tx.old.conn.now) (state S.Store tx.new.conn.now)) }
-    ensures cause { HasCleanDisk (state S.Store tx.new.conn.now) → IfErr result (IsWriteFailure (codes "INSERT INTO meta (word, val) VALUES (?1, ?2)") (Text word.now ∷ Text value.now ∷ []) (state S.Store tx.old.conn.now) (state S.Store tx.new.conn.now)) }
-    ensures kept { HasCleanDisk (state S.Store tx.new.conn.now) → KeepsCommit (state S.Store tx.old.conn.now) (state S.Store tx.new.conn.now) }
+    ensures puts { HasCleanDisk (state S.Store tx.new.conn.now)
+        → OnOk result (Puts word.now value.now (state S.Store tx.old.conn.now) (state S.Store tx.new.conn.now)) }
+    ensures cause { HasCleanDisk (state S.Store tx.new.conn.now)
+        → IfErr result (IsWriteFailure (codes "INSERT INTO meta (word, val) VALUES (?1, ?2)") (Text word.now
+        ∷ Text value.now ∷ []) (state S.Store tx.old.conn.now) (state S.Store tx.new.conn.now)) }
+    ensures kept { HasCleanDisk (state S.Store tx.new.conn.now)
+        → KeepsCommit (state S.Store tx.old.conn.now) (state S.Store tx.new.conn.now) }
     ensures survives { Survives (state S.Store tx.old.conn.now) (state S.Store tx.new.conn.now) (λ _. ⊥) }
 {
     tx.execute(
@@ -34,11 +38,17 @@ fn put<S: Alter>(tx: &mut Transaction<'_, S>, word: &str, value: &str) -> Result
 
 /// `meta` with its two settings.
 fn settle<S: Alter>(tx: &mut Transaction<'_, S>, store_dir: &str) -> Result<(), Failure>
-    requires { HasCleanDisk (state S.Store tx.old.conn.now) → IsMaking (meta ∷ other_tables) (state S.Store tx.old.conn.now) }
+    requires { HasCleanDisk (state S.Store tx.old.conn.now)
+        → IsMaking (meta ∷ other_tables) (state S.Store tx.old.conn.now) }
     ensures same_reference { tx.new.conn.ghost_name ≡ tx.old.conn.ghost_name }
-    ensures makes { HasCleanDisk (state S.Store tx.new.conn.now) → OnOk result (MakesMeta store_dir.now (state S.Store tx.old.conn.now) (state S.Store tx.new.conn.now)) }
-    ensures cause { HasCleanDisk (state S.Store tx.new.conn.now) → IfErr result (FailsToMakeThese (meta ∷ []) (IsTooLong store_dir.now) (IsSome (state S.Store tx.old.conn.now).step_limit) (state S.Store tx.old.conn.now) (state S.Store tx.new.conn.now)) }
-    ensures kept { HasCleanDisk (state S.Store tx.new.conn.now) → KeepsCommit (state S.Store tx.old.conn.now) (state S.Store tx.new.conn.now) }
+    ensures makes { HasCleanDisk (state S.Store tx.new.conn.now)
+        → OnOk result (MakesMeta store_dir.now (state S.Store tx.old.conn.now) (state S.Store tx.new.conn.now)) }
+    ensures cause { HasCleanDisk (state S.Store tx.new.conn.now)
+        → IfErr result (FailsToMakeThese (meta
+        ∷ []) (IsTooLong store_dir.now) (IsSome (state S.Store tx.old.conn.now).step_limit)
+        (state S.Store tx.old.conn.now) (state S.Store tx.new.conn.now)) }
+    ensures kept { HasCleanDisk (state S.Store tx.new.conn.now)
+        → KeepsCommit (state S.Store tx.old.conn.now) (state S.Store tx.new.conn.now) }
     ensures survives { Survives (state S.Store tx.old.conn.now) (state S.Store tx.new.conn.now) (λ _. ⊥) }
 {
     creating::one(tx, OurTable::Meta)?;
@@ -47,11 +57,15 @@ fn settle<S: Alter>(tx: &mut Transaction<'_, S>, store_dir: &str) -> Result<(), 
 }
 
 fn make_all<S: Alter>(tx: &mut Transaction<'_, S>, store_dir: &str) -> Result<(), Failure>
-    requires { HasCleanDisk (state S.Store tx.old.conn.now) → IsMaking (meta ∷ other_tables) (state S.Store tx.old.conn.now) }
+    requires { HasCleanDisk (state S.Store tx.old.conn.now)
+        → IsMaking (meta ∷ other_tables) (state S.Store tx.old.conn.now) }
     ensures same_reference { tx.new.conn.ghost_name ≡ tx.old.conn.ghost_name }
-    ensures makes { HasCleanDisk (state S.Store tx.new.conn.now) → OnOk result (MakesAll store_dir.now (state S.Store tx.old.conn.now) (state S.Store tx.new.conn.now)) }
-    ensures cause { HasCleanDisk (state S.Store tx.new.conn.now) → IfErr result (FailsToMake store_dir.now (state S.Store tx.old.conn.now) (state S.Store tx.new.conn.now)) }
-    ensures kept { HasCleanDisk (state S.Store tx.new.conn.now) → KeepsCommit (state S.Store tx.old.conn.now) (state S.Store tx.new.conn.now) }
+    ensures makes { HasCleanDisk (state S.Store tx.new.conn.now)
+        → OnOk result (MakesAll store_dir.now (state S.Store tx.old.conn.now) (state S.Store tx.new.conn.now)) }
+    ensures cause { HasCleanDisk (state S.Store tx.new.conn.now)
+        → IfErr result (FailsToMake store_dir.now (state S.Store tx.old.conn.now) (state S.Store tx.new.conn.now)) }
+    ensures kept { HasCleanDisk (state S.Store tx.new.conn.now)
+        → KeepsCommit (state S.Store tx.old.conn.now) (state S.Store tx.new.conn.now) }
     ensures survives { Survives (state S.Store tx.old.conn.now) (state S.Store tx.new.conn.now) (λ _. ⊥) }
 {
     settle(tx, store_dir)?;
@@ -61,14 +75,22 @@ fn make_all<S: Alter>(tx: &mut Transaction<'_, S>, store_dir: &str) -> Result<()
 #[tactic(auto, using(crate::proofs::Settles::committed_made))]
 fn make_and_commit<S: Alter>(conn: &mut Connection<S>, store_dir: &str) -> Result<(), Failure>
     requires alone { conn.old.in_transaction ≡ false }
-    requires sound { HasCleanDisk (state S.Store conn.old) → IsTrue (state S.Store conn.old).is_open → IsDatabase (state S.Store conn.old).now }
-    requires none { HasCleanDisk (state S.Store conn.old) → IsTrue (state S.Store conn.old).is_open → HasNone (state S.Store conn.old).now.schema }
+    requires sound { HasCleanDisk (state S.Store conn.old) → IsTrue (state S.Store conn.old).is_open
+        → IsDatabase (state S.Store conn.old).now }
+    requires none { HasCleanDisk (state S.Store conn.old) → IsTrue (state S.Store conn.old).is_open
+        → HasNone (state S.Store conn.old).now.schema }
     ensures alone { conn.new.in_transaction ≡ false }
-    ensures done { HasCleanDisk (state S.Store conn.new) → OnOk result (IsMadeIn store_dir.now (state S.Store conn.old) (state S.Store conn.new)) }
-    ensures cause { HasCleanDisk (state S.Store conn.new) → IfErr result (FailsToMake store_dir.now (state S.Store conn.old) (state S.Store conn.new)) }
-    ensures was_open { HasCleanDisk (state S.Store conn.new) → IsTrue (state S.Store conn.new).is_open → IsTrue (state S.Store conn.old).is_open }
-    ensures failed { HasCleanDisk (state S.Store conn.new) → IsTrue (state S.Store conn.new).is_open → OnErr result (((state S.Store conn.new).now ≡ (state S.Store conn.old).committed) × ((state S.Store conn.new).committed ≡ (state S.Store conn.old).committed)) }
-    ensures survives { Survives (state S.Store conn.old) (state S.Store conn.new) (λ db. IsTrue (state S.Store conn.old).is_open × IsMadeOf store_dir.now (state S.Store conn.old).now db) }
+    ensures done { HasCleanDisk (state S.Store conn.new)
+        → OnOk result (IsMadeIn store_dir.now (state S.Store conn.old) (state S.Store conn.new)) }
+    ensures cause { HasCleanDisk (state S.Store conn.new)
+        → IfErr result (FailsToMake store_dir.now (state S.Store conn.old) (state S.Store conn.new)) }
+    ensures was_open { HasCleanDisk (state S.Store conn.new) → IsTrue (state S.Store conn.new).is_open
+        → IsTrue (state S.Store conn.old).is_open }
+    ensures failed { HasCleanDisk (state S.Store conn.new) → IsTrue (state S.Store conn.new).is_open
+        → OnErr result (((state S.Store conn.new).now ≡ (state S.Store conn.old).committed)
+        × ((state S.Store conn.new).committed ≡ (state S.Store conn.old).committed)) }
+    ensures survives { Survives (state S.Store conn.old) (state S.Store conn.new)
+        (λ db. IsTrue (state S.Store conn.old).is_open × IsMadeOf store_dir.now (state S.Store conn.old).now db) }
 {
     let mut tx = conn.transaction();
     make_all(&mut tx, store_dir)?;
@@ -80,14 +102,21 @@ fn make_and_commit<S: Alter>(conn: &mut Connection<S>, store_dir: &str) -> Resul
 /// the others with no row: all at once, or nothing. Then the connection is ready for transactions.
 pub fn make<S: Alter>(conn: &mut Connection<S>, store_dir: &str) -> Result<(), Failure>
     requires alone { conn.old.in_transaction ≡ false }
-    requires none { HasCleanDisk (state S.Store conn.old) → IsTrue (state S.Store conn.old).is_open → HasNone (state S.Store conn.old).now.schema }
+    requires none { HasCleanDisk (state S.Store conn.old) → IsTrue (state S.Store conn.old).is_open
+        → HasNone (state S.Store conn.old).now.schema }
     ensures alone { conn.new.in_transaction ≡ false }
-    ensures done { HasCleanDisk (state S.Store conn.new) → OnOk result (IsMade store_dir.now (state S.Store conn.old) (state S.Store conn.new)) }
-    ensures cause { HasCleanDisk (state S.Store conn.new) → IfErr result (FailsToMake store_dir.now (state S.Store conn.old) (state S.Store conn.new)) }
-    ensures was_open { HasCleanDisk (state S.Store conn.new) → IsTrue (state S.Store conn.new).is_open → IsTrue (state S.Store conn.old).is_open }
-    ensures failed { HasCleanDisk (state S.Store conn.new) → IsTrue (state S.Store conn.new).is_open → OnErr result (((state S.Store conn.new).now ≡ (state S.Store conn.old).committed) × ((state S.Store conn.new).committed ≡ (state S.Store conn.old).committed)) }
+    ensures done { HasCleanDisk (state S.Store conn.new)
+        → OnOk result (IsMade store_dir.now (state S.Store conn.old) (state S.Store conn.new)) }
+    ensures cause { HasCleanDisk (state S.Store conn.new)
+        → IfErr result (FailsToMake store_dir.now (state S.Store conn.old) (state S.Store conn.new)) }
+    ensures was_open { HasCleanDisk (state S.Store conn.new) → IsTrue (state S.Store conn.new).is_open
+        → IsTrue (state S.Store conn.old).is_open }
+    ensures failed { HasCleanDisk (state S.Store conn.new) → IsTrue (state S.Store conn.new).is_open
+        → OnErr result (((state S.Store conn.new).now ≡ (state S.Store conn.old).committed)
+        × ((state S.Store conn.new).committed ≡ (state S.Store conn.old).committed)) }
     ensures durable { IsTrue (state S.Store conn.new).is_open → IsDurable (state S.Store conn.new) }
-    ensures survives { Survives (state S.Store conn.old) (state S.Store conn.new) (LeavesMade store_dir.now (state S.Store conn.old).now) }
+    ensures survives { Survives (state S.Store conn.old) (state S.Store conn.new)
+        (LeavesMade store_dir.now (state S.Store conn.old).now) }
 {
     // What an open connection shows lists its schema.
     let _listed = conn.schema();

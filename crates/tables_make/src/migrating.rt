@@ -32,11 +32,16 @@ fn rewrite<S: Alter>(
 ) -> Result<(), Failure>
     requires under_way { HasCleanDisk (state S.Store tx.old.conn.now) → IsUnderWay (state S.Store tx.old.conn.now) }
     requires is_open { HasCleanDisk (state S.Store tx.old.conn.now) → IsTrue (state S.Store tx.old.conn.now).is_open }
-    requires exists { HasCleanDisk (state S.Store tx.old.conn.now) → HasFurther (state S.Store tx.old.conn.now).now piece }
-    requires uncut { HasCleanDisk (state S.Store tx.old.conn.now) → IsUncut (contents_of (state S.Store tx.old.conn.now).now) }
+    requires exists { HasCleanDisk (state S.Store tx.old.conn.now)
+        → HasFurther (state S.Store tx.old.conn.now).now piece }
+    requires uncut { HasCleanDisk (state S.Store tx.old.conn.now)
+        → IsUncut (contents_of (state S.Store tx.old.conn.now).now) }
     ensures same_reference { tx.new.conn.ghost_name ≡ tx.old.conn.ghost_name }
-    ensures done { HasCleanDisk (state S.Store tx.new.conn.now) → OnOk result (Changes (state S.Store tx.old.conn.now) (state S.Store tx.new.conn.now) (λ c. renumbered (cut_objects (map string_bytes bases.now) c))) }
-    ensures failed { HasCleanDisk (state S.Store tx.new.conn.now) → OnErr result (KeepsCommit (state S.Store tx.old.conn.now) (state S.Store tx.new.conn.now)) }
+    ensures done { HasCleanDisk (state S.Store tx.new.conn.now)
+        → OnOk result (Changes (state S.Store tx.old.conn.now) (state S.Store tx.new.conn.now)
+        (λ c. renumbered (cut_objects (map string_bytes bases.now) c))) }
+    ensures failed { HasCleanDisk (state S.Store tx.new.conn.now)
+        → OnErr result (KeepsCommit (state S.Store tx.old.conn.now) (state S.Store tx.new.conn.now)) }
     ensures cause { HasReason S.Store tx.old.conn.now tx.new.conn.now result
         (MigratedRows V1 (contents_of (state S.Store tx.old.conn.now).now)) }
     ensures survives { Survives (state S.Store tx.old.conn.now) (state S.Store tx.new.conn.now) (λ _. ⊥) }
@@ -52,10 +57,16 @@ fn write_first<S: Alter>(
     bases: &[String],
 ) -> Result<(), Failure>
     requires under_way { HasCleanDisk (state S.Store tx.old.conn.now) → IsUnderWay (state S.Store tx.old.conn.now) }
-    requires first { HasCleanDisk (state S.Store tx.old.conn.now) → IsTrue (state S.Store tx.old.conn.now).is_open → HasFirst (state S.Store tx.old.conn.now).now.schema }
+    requires first { HasCleanDisk (state S.Store tx.old.conn.now) → IsTrue (state S.Store tx.old.conn.now).is_open
+        → HasFirst (state S.Store tx.old.conn.now).now.schema }
     ensures same_reference { tx.new.conn.ghost_name ≡ tx.old.conn.ghost_name }
-    ensures done { HasCleanDisk (state S.Store tx.new.conn.now) → OnOk result (Grows (lacking V1) (renumbered (cut_objects (map string_bytes bases.now) (contents_of (state S.Store tx.old.conn.now).now))) (state S.Store tx.old.conn.now) (state S.Store tx.new.conn.now)) }
-    ensures failed { HasCleanDisk (state S.Store tx.new.conn.now) → OnErr result (KeepsCommit (state S.Store tx.old.conn.now) (state S.Store tx.new.conn.now)) }
+    ensures done { HasCleanDisk (state S.Store tx.new.conn.now)
+        → OnOk result
+        (Grows (lacking V1)
+        (renumbered (cut_objects (map string_bytes bases.now) (contents_of (state S.Store tx.old.conn.now).now)))
+        (state S.Store tx.old.conn.now) (state S.Store tx.new.conn.now)) }
+    ensures failed { HasCleanDisk (state S.Store tx.new.conn.now)
+        → OnErr result (KeepsCommit (state S.Store tx.old.conn.now) (state S.Store tx.new.conn.now)) }
     ensures cause { HasCleanDisk (state S.Store tx.new.conn.now)
         → IfErr result (FailsToMigrate V1 (state S.Store tx.old.conn.now) (state S.Store tx.new.conn.now)) }
     ensures survives { Survives (state S.Store tx.old.conn.now) (state S.Store tx.new.conn.now) (λ _. ⊥) }
@@ -71,15 +82,24 @@ fn commit_first<S: Alter>(
     bases: &[String],
 ) -> Result<(), Failure>
     requires alone { conn.old.in_transaction ≡ false }
-    requires ready { HasCleanDisk (state S.Store conn.old) → IsTrue (state S.Store conn.old).is_open → IsReady (state S.Store conn.old) }
-    requires first { HasCleanDisk (state S.Store conn.old) → IsTrue (state S.Store conn.old).is_open → HasFirst (state S.Store conn.old).now.schema }
+    requires ready { HasCleanDisk (state S.Store conn.old) → IsTrue (state S.Store conn.old).is_open
+        → IsReady (state S.Store conn.old) }
+    requires first { HasCleanDisk (state S.Store conn.old) → IsTrue (state S.Store conn.old).is_open
+        → HasFirst (state S.Store conn.old).now.schema }
     ensures alone { conn.new.in_transaction ≡ false }
-    ensures done { HasCleanDisk (state S.Store conn.new) → OnOk result (IsGrown (lacking V1) (renumbered (cut_objects (map string_bytes bases.now) (contents_of (state S.Store conn.old).now))) (state S.Store conn.old) (state S.Store conn.new)) }
-    ensures failed { HasCleanDisk (state S.Store conn.new) → OnErr result (KeepsShown (state S.Store conn.old) (state S.Store conn.new)) }
+    ensures done { HasCleanDisk (state S.Store conn.new)
+        → OnOk result
+        (IsGrown (lacking V1)
+        (renumbered (cut_objects (map string_bytes bases.now) (contents_of (state S.Store conn.old).now)))
+        (state S.Store conn.old) (state S.Store conn.new)) }
+    ensures failed { HasCleanDisk (state S.Store conn.new)
+        → OnErr result (KeepsShown (state S.Store conn.old) (state S.Store conn.new)) }
     ensures cause { HasCleanDisk (state S.Store conn.new)
         → IfErr result (FailsToMigrate V1 (state S.Store conn.old) (state S.Store conn.new)) }
     ensures durable { OnOk result (IsTrue (state S.Store conn.new).is_open → IsDurable (state S.Store conn.new)) }
-    ensures survives { Survives (state S.Store conn.old) (state S.Store conn.new) (λ db. Leaves (grown (lacking V1) (state S.Store conn.old).now) db (renumbered (cut_objects (map string_bytes bases.now) (contents_of (state S.Store conn.old).now)))) }
+    ensures survives { Survives (state S.Store conn.old) (state S.Store conn.new)
+        (λ db. Leaves (grown (lacking V1) (state S.Store conn.old).now) db
+        (renumbered (cut_objects (map string_bytes bases.now) (contents_of (state S.Store conn.old).now)))) }
 {
     let mut tx = transaction::begin(conn);
     write_first(alloc, &mut tx, bases)?;
@@ -94,15 +114,22 @@ fn commit_first<S: Alter>(
 /// Memory was refused, a row is too large, the disk failed, or no number or name is left for a table; then the tables hold what they held.
 pub fn from_first<S: Alter>(alloc: Global, conn: &mut Connection<S>) -> Result<(), Failure>
     requires alone { conn.old.in_transaction ≡ false }
-    requires ready { HasCleanDisk (state S.Store conn.old) → IsTrue (state S.Store conn.old).is_open → IsReady (state S.Store conn.old) }
-    requires first { HasCleanDisk (state S.Store conn.old) → IsTrue (state S.Store conn.old).is_open → HasFirst (state S.Store conn.old).now.schema }
+    requires ready { HasCleanDisk (state S.Store conn.old) → IsTrue (state S.Store conn.old).is_open
+        → IsReady (state S.Store conn.old) }
+    requires first { HasCleanDisk (state S.Store conn.old) → IsTrue (state S.Store conn.old).is_open
+        → HasFirst (state S.Store conn.old).now.schema }
     ensures alone { conn.new.in_transaction ≡ false }
-    ensures done { HasCleanDisk (state S.Store conn.new) → OnOk result ((dir : List ℕ) → IsSoundBy V1 dir (contents_of (state S.Store conn.old).now) → IsMigrated V1 dir (state S.Store conn.old) (state S.Store conn.new)) }
-    ensures failed { HasCleanDisk (state S.Store conn.new) → OnErr result (KeepsShown (state S.Store conn.old) (state S.Store conn.new)) }
+    ensures done { HasCleanDisk (state S.Store conn.new)
+        → OnOk result ((dir : List ℕ) → IsSoundBy V1 dir (contents_of (state S.Store conn.old).now)
+        → IsMigrated V1 dir (state S.Store conn.old) (state S.Store conn.new)) }
+    ensures failed { HasCleanDisk (state S.Store conn.new)
+        → OnErr result (KeepsShown (state S.Store conn.old) (state S.Store conn.new)) }
     ensures cause { HasCleanDisk (state S.Store conn.new)
         → IfErr result (FailsToMigrate V1 (state S.Store conn.old) (state S.Store conn.new)) }
     ensures durable { OnOk result (IsTrue (state S.Store conn.new).is_open → IsDurable (state S.Store conn.new)) }
-    ensures survives { Survives (state S.Store conn.old) (state S.Store conn.new) (λ db. (dir : List ℕ) → IsSoundBy V1 dir (contents_of (state S.Store conn.old).now) → LeavesMigrated V1 dir (state S.Store conn.old).now db) }
+    ensures survives { Survives (state S.Store conn.old) (state S.Store conn.new)
+        (λ db. (dir : List ℕ) → IsSoundBy V1 dir (contents_of (state S.Store conn.old).now)
+        → LeavesMigrated V1 dir (state S.Store conn.old).now db) }
 {
     let bases = objects::keys(alloc, conn)?;
     commit_first(alloc, conn, &bases)
@@ -111,11 +138,17 @@ pub fn from_first<S: Alter>(alloc: Global, conn: &mut Connection<S>) -> Result<(
 /// What a migration from the second schema writes: the table of temporary roots, and the setting.
 fn write_second<S: Alter>(tx: &mut Transaction<'_, S>) -> Result<(), Failure>
     requires under_way { HasCleanDisk (state S.Store tx.old.conn.now) → IsUnderWay (state S.Store tx.old.conn.now) }
-    requires second { HasCleanDisk (state S.Store tx.old.conn.now) → IsTrue (state S.Store tx.old.conn.now).is_open → HasSecond (state S.Store tx.old.conn.now).now.schema }
-    requires pieces { HasCleanDisk (state S.Store tx.old.conn.now) → IsTrue (state S.Store tx.old.conn.now).is_open → HasFurther (state S.Store tx.old.conn.now).now piece }
+    requires second { HasCleanDisk (state S.Store tx.old.conn.now) → IsTrue (state S.Store tx.old.conn.now).is_open
+        → HasSecond (state S.Store tx.old.conn.now).now.schema }
+    requires pieces { HasCleanDisk (state S.Store tx.old.conn.now) → IsTrue (state S.Store tx.old.conn.now).is_open
+        → HasFurther (state S.Store tx.old.conn.now).now piece }
     ensures same_reference { tx.new.conn.ghost_name ≡ tx.old.conn.ghost_name }
-    ensures done { HasCleanDisk (state S.Store tx.new.conn.now) → OnOk result (Grows (lacking V2) (renumbered (contents_of (state S.Store tx.old.conn.now).now)) (state S.Store tx.old.conn.now) (state S.Store tx.new.conn.now)) }
-    ensures failed { HasCleanDisk (state S.Store tx.new.conn.now) → OnErr result (KeepsCommit (state S.Store tx.old.conn.now) (state S.Store tx.new.conn.now)) }
+    ensures done { HasCleanDisk (state S.Store tx.new.conn.now)
+        → OnOk result
+        (Grows (lacking V2) (renumbered (contents_of (state S.Store tx.old.conn.now).now))
+        (state S.Store tx.old.conn.now) (state S.Store tx.new.conn.now)) }
+    ensures failed { HasCleanDisk (state S.Store tx.new.conn.now)
+        → OnErr result (KeepsCommit (state S.Store tx.old.conn.now) (state S.Store tx.new.conn.now)) }
     ensures cause { HasCleanDisk (state S.Store tx.new.conn.now)
         → IfErr result (FailsToMigrate V2 (state S.Store tx.old.conn.now) (state S.Store tx.new.conn.now)) }
     ensures survives { Survives (state S.Store tx.old.conn.now) (state S.Store tx.new.conn.now) (λ _. ⊥) }
@@ -132,16 +165,24 @@ fn write_second<S: Alter>(tx: &mut Transaction<'_, S>) -> Result<(), Failure>
 /// Memory was refused, the disk failed, or no number or name is left for a table; then the tables hold what they held.
 pub fn from_second<S: Alter>(conn: &mut Connection<S>) -> Result<(), Failure>
     requires alone { conn.old.in_transaction ≡ false }
-    requires ready { HasCleanDisk (state S.Store conn.old) → IsTrue (state S.Store conn.old).is_open → IsReady (state S.Store conn.old) }
-    requires second { HasCleanDisk (state S.Store conn.old) → IsTrue (state S.Store conn.old).is_open → HasSecond (state S.Store conn.old).now.schema }
-    requires pieces { HasCleanDisk (state S.Store conn.old) → IsTrue (state S.Store conn.old).is_open → HasFurther (state S.Store conn.old).now piece }
+    requires ready { HasCleanDisk (state S.Store conn.old) → IsTrue (state S.Store conn.old).is_open
+        → IsReady (state S.Store conn.old) }
+    requires second { HasCleanDisk (state S.Store conn.old) → IsTrue (state S.Store conn.old).is_open
+        → HasSecond (state S.Store conn.old).now.schema }
+    requires pieces { HasCleanDisk (state S.Store conn.old) → IsTrue (state S.Store conn.old).is_open
+        → HasFurther (state S.Store conn.old).now piece }
     ensures alone { conn.new.in_transaction ≡ false }
-    ensures done { HasCleanDisk (state S.Store conn.new) → OnOk result ((dir : List ℕ) → IsSoundBy V2 dir (contents_of (state S.Store conn.old).now) → IsMigrated V2 dir (state S.Store conn.old) (state S.Store conn.new)) }
-    ensures failed { HasCleanDisk (state S.Store conn.new) → OnErr result (KeepsShown (state S.Store conn.old) (state S.Store conn.new)) }
+    ensures done { HasCleanDisk (state S.Store conn.new)
+        → OnOk result ((dir : List ℕ) → IsSoundBy V2 dir (contents_of (state S.Store conn.old).now)
+        → IsMigrated V2 dir (state S.Store conn.old) (state S.Store conn.new)) }
+    ensures failed { HasCleanDisk (state S.Store conn.new)
+        → OnErr result (KeepsShown (state S.Store conn.old) (state S.Store conn.new)) }
     ensures cause { HasCleanDisk (state S.Store conn.new)
         → IfErr result (FailsToMigrate V2 (state S.Store conn.old) (state S.Store conn.new)) }
     ensures durable { OnOk result (IsTrue (state S.Store conn.new).is_open → IsDurable (state S.Store conn.new)) }
-    ensures survives { Survives (state S.Store conn.old) (state S.Store conn.new) (λ db. (dir : List ℕ) → IsSoundBy V2 dir (contents_of (state S.Store conn.old).now) → LeavesMigrated V2 dir (state S.Store conn.old).now db) }
+    ensures survives { Survives (state S.Store conn.old) (state S.Store conn.new)
+        (λ db. (dir : List ℕ) → IsSoundBy V2 dir (contents_of (state S.Store conn.old).now)
+        → LeavesMigrated V2 dir (state S.Store conn.old).now db) }
 {
     let mut tx = transaction::begin(conn);
     write_second(&mut tx)?;

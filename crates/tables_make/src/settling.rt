@@ -16,8 +16,10 @@ use tables_sql::failure::Failure;
 pub(crate) fn renumber<S: Alter>(tx: &mut Transaction<'_, S>) -> Result<(), Failure>
     requires { HasCleanDisk (state S.Store tx.old.conn.now) → IsUnderWay (state S.Store tx.old.conn.now) }
     ensures same_reference { tx.new.conn.ghost_name ≡ tx.old.conn.ghost_name }
-    ensures done { HasCleanDisk (state S.Store tx.new.conn.now) → OnOk result (Changes (state S.Store tx.old.conn.now) (state S.Store tx.new.conn.now) renumbered) }
-    ensures failed { HasCleanDisk (state S.Store tx.new.conn.now) → OnErr result (KeepsCommit (state S.Store tx.old.conn.now) (state S.Store tx.new.conn.now)) }
+    ensures done { HasCleanDisk (state S.Store tx.new.conn.now)
+        → OnOk result (Changes (state S.Store tx.old.conn.now) (state S.Store tx.new.conn.now) renumbered) }
+    ensures failed { HasCleanDisk (state S.Store tx.new.conn.now)
+        → OnErr result (KeepsCommit (state S.Store tx.old.conn.now) (state S.Store tx.new.conn.now)) }
     ensures cause { HasReason S.Store tx.old.conn.now tx.new.conn.now result SettingRow }
     ensures survives { Survives (state S.Store tx.old.conn.now) (state S.Store tx.new.conn.now) (λ _. ⊥) }
 {

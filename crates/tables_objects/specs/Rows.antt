@@ -16,7 +16,7 @@ pub record AreRowsOf (c : Contents) (p : Path) (r : ObjectRows) : Type 0 where
   pub object : finite.get c.objects p ≡ Some (stored_of r.object).1
   pub pieces : parts_of r.pieces.items ≡ finite.entries (pieces_in (rows_of c) p)
 
--- those of a path, if it is an object's
+-- the rows at a path, if an object is there
 abbrev pub AreRowsAt : Contents → Path → Option ObjectRows → Type 0
 AreRowsAt c p o = MatchOption o (finite.get c.objects p ≡ None) (AreRowsOf c p)
 

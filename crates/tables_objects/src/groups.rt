@@ -62,7 +62,8 @@ impl OfPath for &StorePath {
 pub(crate) fn first_of<'a, T: OfPath>(rows: &'a [T], base: &str) -> Option<&'a T>
     ensures { Rises (map T.base_of rows.now) → MatchOption result
         (list_any (λ row. eq_by_cmp bytes_cmp base.now (T.base_of row)) rows.now ≡ false)
-        (λ row. (list_any (λ r. eq_by_cmp bytes_cmp base.now (T.base_of r)) rows.now ≡ true) × (base.now ≡ T.base_of row.now)) }
+        (λ row. (list_any (λ r. eq_by_cmp bytes_cmp base.now (T.base_of r)) rows.now ≡ true)
+        × (base.now ≡ T.base_of row.now)) }
 {
     let start = rows.partition_point(|row| row.base() < base);
     let (_, rest) = rows.split_at(start);
@@ -78,7 +79,8 @@ pub(crate) fn first_of<'a, T: OfPath>(rows: &'a [T], base: &str) -> Option<&'a T
 
 /// The rows of a path among rows in order, found by two searches.
 pub(crate) fn group<'a, T: OfPath>(rows: &'a [T], base: &str) -> &'a [T]
-    ensures { Rises (map T.base_of rows.now) → result.now ≡ filter (λ row. eq_by_cmp bytes_cmp base.now (T.base_of row)) rows.now }
+    ensures { Rises (map T.base_of rows.now)
+        → result.now ≡ filter (λ row. eq_by_cmp bytes_cmp base.now (T.base_of row)) rows.now }
 {
     let start = rows.partition_point(|row| row.base() < base);
     let (_, rest) = rows.split_at(start);

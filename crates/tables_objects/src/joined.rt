@@ -41,16 +41,22 @@ fn keys_of<S: Alter>(
     schema: Schema,
 ) -> Result<Vec<PieceKey>, Failure>
     requires alone { conn.old.in_transaction ≡ false }
-    requires ready { HasCleanDisk (state S.Store conn.old) → IsTrue (state S.Store conn.old).is_open → IsReady (state S.Store conn.old) }
+    requires ready { HasCleanDisk (state S.Store conn.old) → IsTrue (state S.Store conn.old).is_open
+        → IsReady (state S.Store conn.old) }
     requires opened { HasCleanDisk (state S.Store conn.old) → IsTrue (state S.Store conn.old).is_open }
-    requires exists { HasCleanDisk (state S.Store conn.old) → IsTrue (has_pieces schema) → IsTrue (state S.Store conn.old).is_open → HasFurther (state S.Store conn.old).now piece }
-    requires no_table { HasCleanDisk (state S.Store conn.old) → IsFalse (has_pieces schema) → IsTrue (state S.Store conn.old).is_open → (contents_of (state S.Store conn.old).now).pieces ≡ finite.empty }
+    requires exists { HasCleanDisk (state S.Store conn.old) → IsTrue (has_pieces schema)
+        → IsTrue (state S.Store conn.old).is_open → HasFurther (state S.Store conn.old).now piece }
+    requires no_table { HasCleanDisk (state S.Store conn.old) → IsFalse (has_pieces schema)
+        → IsTrue (state S.Store conn.old).is_open → (contents_of (state S.Store conn.old).now).pieces ≡ finite.empty }
     ensures alone { conn.new.in_transaction ≡ false }
     ensures cause { FailsInReads S.Store conn.old conn.new result }
-    ensures reads { HasCleanDisk (state S.Store conn.new) → IfOk result (λ all. IsUnchanged (state S.Store conn.old) (state S.Store conn.new)
+    ensures reads { HasCleanDisk (state S.Store conn.new)
+        → IfOk result (λ all. IsUnchanged (state S.Store conn.old) (state S.Store conn.new)
         × (map numbered_in all.items ≡ finite.keys (contents_of (state S.Store conn.old).now).pieces)) }
-    ensures same { HasCleanDisk (state S.Store conn.new) → KeepsShown (state S.Store conn.old) (state S.Store conn.new) }
-    ensures ready { HasCleanDisk (state S.Store conn.new) → IsTrue (state S.Store conn.new).is_open → IsReady (state S.Store conn.new) }
+    ensures same { HasCleanDisk (state S.Store conn.new)
+        → KeepsShown (state S.Store conn.old) (state S.Store conn.new) }
+    ensures ready { HasCleanDisk (state S.Store conn.new) → IsTrue (state S.Store conn.new).is_open
+        → IsReady (state S.Store conn.new) }
     ensures survives { Survives (state S.Store conn.old) (state S.Store conn.new) (λ _. ⊥) }
 {
     if !schema.has_pieces() {
@@ -66,14 +72,22 @@ pub(crate) fn read_joined<S: Alter>(
     schema: Schema,
 ) -> Result<Joined, Failure>
     requires alone { conn.old.in_transaction ≡ false }
-    requires ready { HasCleanDisk (state S.Store conn.old) → IsTrue (state S.Store conn.old).is_open → IsReady (state S.Store conn.old) }
-    requires exists { HasCleanDisk (state S.Store conn.old) → IsTrue (has_pieces schema) → IsTrue (state S.Store conn.old).is_open → HasFurther (state S.Store conn.old).now piece }
-    requires no_table { HasCleanDisk (state S.Store conn.old) → IsFalse (has_pieces schema) → IsTrue (state S.Store conn.old).is_open → (contents_of (state S.Store conn.old).now).pieces ≡ finite.empty }
+    requires ready { HasCleanDisk (state S.Store conn.old) → IsTrue (state S.Store conn.old).is_open
+        → IsReady (state S.Store conn.old) }
+    requires exists { HasCleanDisk (state S.Store conn.old) → IsTrue (has_pieces schema)
+        → IsTrue (state S.Store conn.old).is_open → HasFurther (state S.Store conn.old).now piece }
+    requires no_table { HasCleanDisk (state S.Store conn.old) → IsFalse (has_pieces schema)
+        → IsTrue (state S.Store conn.old).is_open → (contents_of (state S.Store conn.old).now).pieces ≡ finite.empty }
     ensures alone { conn.new.in_transaction ≡ false }
     ensures cause { FailsInReads S.Store conn.old conn.new result }
-    ensures reads { HasCleanDisk (state S.Store conn.new) → IfOk result (λ all. IsUnchanged (state S.Store conn.old) (state S.Store conn.new) × AreJoined (contents_of (state S.Store conn.old).now) all) }
-    ensures same { HasCleanDisk (state S.Store conn.new) → KeepsShown (state S.Store conn.old) (state S.Store conn.new) }
-    ensures ready { HasCleanDisk (state S.Store conn.new) → IsTrue (state S.Store conn.new).is_open → IsReady (state S.Store conn.new) }
+    ensures reads { HasCleanDisk (state S.Store conn.new)
+        → IfOk result
+        (λ all. IsUnchanged (state S.Store conn.old) (state S.Store conn.new)
+        × AreJoined (contents_of (state S.Store conn.old).now) all) }
+    ensures same { HasCleanDisk (state S.Store conn.new)
+        → KeepsShown (state S.Store conn.old) (state S.Store conn.new) }
+    ensures ready { HasCleanDisk (state S.Store conn.new) → IsTrue (state S.Store conn.new).is_open
+        → IsReady (state S.Store conn.new) }
     ensures survives { Survives (state S.Store conn.old) (state S.Store conn.new) (λ _. ⊥) }
 {
     let references = references::all(alloc, conn)?;
@@ -92,7 +106,9 @@ pub(crate) fn are_joined(
     outline: &Outline,
     joined: &Joined,
 ) -> Result<bool, AllocError>
-    ensures { IfOk result (λ ok. ok ≡ ((list_all (is_reference outline.now.objects) (map reference_of joined.now.references.items) && list_all (is_output outline.now.objects) (map output_of joined.now.outputs.items))
+    ensures { IfOk result
+        (λ ok. ok ≡ ((list_all (is_reference outline.now.objects) (map reference_of joined.now.references.items)
+        && list_all (is_output outline.now.objects) (map output_of joined.now.outputs.items))
         && list_all (is_owned outline.now.objects) (map numbered_in joined.now.pieces.items))) }
 {
     let paths = paths_in(alloc, outline)?;

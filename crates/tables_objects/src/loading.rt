@@ -39,17 +39,29 @@ pub fn load_objects<S: Alter>(
     outline: &mut Outline,
 ) -> Result<bool, Failure>
     requires alone { conn.old.in_transaction ≡ false }
-    requires ready { HasCleanDisk (state S.Store conn.old) → IsTrue (state S.Store conn.old).is_open → IsReady (state S.Store conn.old) }
-    requires exists { HasCleanDisk (state S.Store conn.old) → IsTrue (has_pieces schema) → IsTrue (state S.Store conn.old).is_open → HasFurther (state S.Store conn.old).now piece }
-    requires no_table { HasCleanDisk (state S.Store conn.old) → IsFalse (has_pieces schema) → IsTrue (state S.Store conn.old).is_open → (contents_of (state S.Store conn.old).now).pieces ≡ finite.empty }
+    requires ready { HasCleanDisk (state S.Store conn.old) → IsTrue (state S.Store conn.old).is_open
+        → IsReady (state S.Store conn.old) }
+    requires exists { HasCleanDisk (state S.Store conn.old) → IsTrue (has_pieces schema)
+        → IsTrue (state S.Store conn.old).is_open → HasFurther (state S.Store conn.old).now piece }
+    requires no_table { HasCleanDisk (state S.Store conn.old) → IsFalse (has_pieces schema)
+        → IsTrue (state S.Store conn.old).is_open → (contents_of (state S.Store conn.old).now).pieces ≡ finite.empty }
     requires empty { outline.old.objects ≡ finite.empty }
     ensures alone { conn.new.in_transaction ≡ false }
     ensures cause { FailsInReads S.Store conn.old conn.new result }
-    ensures reported { HasCleanDisk (state S.Store conn.new) → IfOk result (λ ok. IsTrue ok ↔ AreSoundInPieces schema dir.now (rows_of (contents_of (state S.Store conn.old).now))) }
-    ensures loaded { HasCleanDisk (state S.Store conn.new) → IfOk result (λ ok. IsTrue ok → outline.new ≡ record outline.old { objects = (outline_of (world_in (contents_of (state S.Store conn.old).now))).objects }) }
-    ensures unchanged { HasCleanDisk (state S.Store conn.new) → OnOk result (IsUnchanged (state S.Store conn.old) (state S.Store conn.new)) }
-    ensures same { HasCleanDisk (state S.Store conn.new) → KeepsShown (state S.Store conn.old) (state S.Store conn.new) }
-    ensures ready { HasCleanDisk (state S.Store conn.new) → IsTrue (state S.Store conn.new).is_open → IsReady (state S.Store conn.new) }
+    ensures reported { HasCleanDisk (state S.Store conn.new)
+        → IfOk result
+        (λ ok. IsTrue ok ↔ AreSoundInPieces schema dir.now (rows_of (contents_of (state S.Store conn.old).now))) }
+    ensures loaded { HasCleanDisk (state S.Store conn.new)
+        → IfOk result
+        (λ ok. IsTrue ok
+        → outline.new
+        ≡ record outline.old { objects = (outline_of (world_in (contents_of (state S.Store conn.old).now))).objects }) }
+    ensures unchanged { HasCleanDisk (state S.Store conn.new)
+        → OnOk result (IsUnchanged (state S.Store conn.old) (state S.Store conn.new)) }
+    ensures same { HasCleanDisk (state S.Store conn.new)
+        → KeepsShown (state S.Store conn.old) (state S.Store conn.new) }
+    ensures ready { HasCleanDisk (state S.Store conn.new) → IsTrue (state S.Store conn.new).is_open
+        → IsReady (state S.Store conn.new) }
     ensures survives { Survives (state S.Store conn.old) (state S.Store conn.new) (λ _. ⊥) }
 {
     let joined = read_joined(alloc, conn, schema)?;

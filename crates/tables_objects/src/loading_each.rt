@@ -53,11 +53,14 @@ fn load_rows(
     references: &[Reference],
     outputs: &[Output],
 ) -> Result<bool, AllocError>
-    ensures reported { IfOk result (λ ok. IsTrue ok ↔ (IsCutBy schema (stored_of rows.object).1.nar (parts_of rows.pieces.items)
-        × IsSoundAt dir.now (stored_of rows.object).0 (whole_of (stored_of rows.object).1 (parts_of rows.pieces.items)) (targets_of references.now) (named_of outputs.now))) }
+    ensures reported { IfOk result
+        (λ ok. IsTrue ok ↔ (IsCutBy schema (stored_of rows.object).1.nar (parts_of rows.pieces.items)
+        × IsSoundAt dir.now (stored_of rows.object).0 (whole_of (stored_of rows.object).1 (parts_of rows.pieces.items))
+        (targets_of references.now) (named_of outputs.now))) }
     ensures loaded { IfOk result (λ ok. IsTrue ok → outline.new ≡ record outline.old {
       objects = finite.insert outline.old.objects (stored_of rows.object).0
-          (kept_of dir.now (stored_of rows.object).0 (whole_of (stored_of rows.object).1 (parts_of rows.pieces.items)) (targets_of references.now));
+          (kept_of dir.now (stored_of rows.object).0 (whole_of (stored_of rows.object).1 (parts_of rows.pieces.items))
+          (targets_of references.now));
     }) }
 {
     let ObjectRows { object, pieces } = rows;
@@ -83,17 +86,31 @@ fn load_object<S: Alter>(
     base: &str,
 ) -> Result<bool, Failure>
     requires alone { conn.old.in_transaction ≡ false }
-    requires ready { HasCleanDisk (state S.Store conn.old) → IsTrue (state S.Store conn.old).is_open → IsReady (state S.Store conn.old) }
-    requires exists { HasCleanDisk (state S.Store conn.old) → IsTrue (has_pieces schema) → IsTrue (state S.Store conn.old).is_open → HasFurther (state S.Store conn.old).now piece }
-    requires no_table { HasCleanDisk (state S.Store conn.old) → IsFalse (has_pieces schema) → IsTrue (state S.Store conn.old).is_open → (contents_of (state S.Store conn.old).now).pieces ≡ finite.empty }
-    requires joined { HasCleanDisk (state S.Store conn.old) → AreJoined (contents_of (state S.Store conn.old).now) joined.now }
+    requires ready { HasCleanDisk (state S.Store conn.old) → IsTrue (state S.Store conn.old).is_open
+        → IsReady (state S.Store conn.old) }
+    requires exists { HasCleanDisk (state S.Store conn.old) → IsTrue (has_pieces schema)
+        → IsTrue (state S.Store conn.old).is_open → HasFurther (state S.Store conn.old).now piece }
+    requires no_table { HasCleanDisk (state S.Store conn.old) → IsFalse (has_pieces schema)
+        → IsTrue (state S.Store conn.old).is_open → (contents_of (state S.Store conn.old).now).pieces ≡ finite.empty }
+    requires joined { HasCleanDisk (state S.Store conn.old)
+        → AreJoined (contents_of (state S.Store conn.old).now) joined.now }
     ensures alone { conn.new.in_transaction ≡ false }
     ensures cause { FailsInReads S.Store conn.old conn.new result }
-    ensures reported { HasCleanDisk (state S.Store conn.new) → IfOk result (λ ok. IsTrue ok ↔ IsSoundOne schema dir.now (contents_of (state S.Store conn.old).now) base.now) }
-    ensures loaded { HasCleanDisk (state S.Store conn.new) → IfOk result (λ ok. IsTrue ok → outline.new ≡ record outline.old { objects = with_object (contents_of (state S.Store conn.old).now) base.now outline.old.objects }) }
-    ensures unchanged { HasCleanDisk (state S.Store conn.new) → OnOk result (IsUnchanged (state S.Store conn.old) (state S.Store conn.new)) }
-    ensures same { HasCleanDisk (state S.Store conn.new) → KeepsShown (state S.Store conn.old) (state S.Store conn.new) }
-    ensures ready { HasCleanDisk (state S.Store conn.new) → IsTrue (state S.Store conn.new).is_open → IsReady (state S.Store conn.new) }
+    ensures reported { HasCleanDisk (state S.Store conn.new)
+        → IfOk result
+        (λ ok. IsTrue ok ↔ IsSoundOne schema dir.now (contents_of (state S.Store conn.old).now) base.now) }
+    ensures loaded { HasCleanDisk (state S.Store conn.new)
+        → IfOk result
+        (λ ok. IsTrue ok
+        → outline.new
+        ≡ record outline.old
+        { objects = with_object (contents_of (state S.Store conn.old).now) base.now outline.old.objects }) }
+    ensures unchanged { HasCleanDisk (state S.Store conn.new)
+        → OnOk result (IsUnchanged (state S.Store conn.old) (state S.Store conn.new)) }
+    ensures same { HasCleanDisk (state S.Store conn.new)
+        → KeepsShown (state S.Store conn.old) (state S.Store conn.new) }
+    ensures ready { HasCleanDisk (state S.Store conn.new) → IsTrue (state S.Store conn.new).is_open
+        → IsReady (state S.Store conn.new) }
     ensures survives { Survives (state S.Store conn.old) (state S.Store conn.new) (λ _. ⊥) }
 {
     let Some(rows) = rows_at(alloc, conn, schema, &joined.pieces, base)? else {
@@ -115,18 +132,36 @@ fn load_each<S: Alter>(
     bases: &[String],
 ) -> Result<bool, Failure>
     requires alone { conn.old.in_transaction ≡ false }
-    requires ready { HasCleanDisk (state S.Store conn.old) → IsTrue (state S.Store conn.old).is_open → IsReady (state S.Store conn.old) }
+    requires ready { HasCleanDisk (state S.Store conn.old) → IsTrue (state S.Store conn.old).is_open
+        → IsReady (state S.Store conn.old) }
     requires opened { HasCleanDisk (state S.Store conn.old) → IsTrue (state S.Store conn.old).is_open }
-    requires exists { HasCleanDisk (state S.Store conn.old) → IsTrue (has_pieces schema) → IsTrue (state S.Store conn.old).is_open → HasFurther (state S.Store conn.old).now piece }
-    requires no_table { HasCleanDisk (state S.Store conn.old) → IsFalse (has_pieces schema) → IsTrue (state S.Store conn.old).is_open → (contents_of (state S.Store conn.old).now).pieces ≡ finite.empty }
-    requires joined { HasCleanDisk (state S.Store conn.old) → AreJoined (contents_of (state S.Store conn.old).now) joined.now }
+    requires exists { HasCleanDisk (state S.Store conn.old) → IsTrue (has_pieces schema)
+        → IsTrue (state S.Store conn.old).is_open → HasFurther (state S.Store conn.old).now piece }
+    requires no_table { HasCleanDisk (state S.Store conn.old) → IsFalse (has_pieces schema)
+        → IsTrue (state S.Store conn.old).is_open → (contents_of (state S.Store conn.old).now).pieces ≡ finite.empty }
+    requires joined { HasCleanDisk (state S.Store conn.old)
+        → AreJoined (contents_of (state S.Store conn.old).now) joined.now }
     ensures alone { conn.new.in_transaction ≡ false }
     ensures cause { FailsInReads S.Store conn.old conn.new result }
-    ensures reported { HasCleanDisk (state S.Store conn.new) → IfOk result (λ ok. IsTrue ok ↔ AllByRecursion (IsSoundOne schema dir.now (contents_of (state S.Store conn.old).now)) (map string_bytes bases.now)) }
-    ensures loaded { HasCleanDisk (state S.Store conn.new) → IfOk result (λ ok. IsTrue ok → outline.new ≡ record outline.old { objects = with_objects (contents_of (state S.Store conn.old).now) (map string_bytes bases.now) outline.old.objects }) }
-    ensures unchanged { HasCleanDisk (state S.Store conn.new) → OnOk result (IsUnchanged (state S.Store conn.old) (state S.Store conn.new)) }
-    ensures same { HasCleanDisk (state S.Store conn.new) → KeepsShown (state S.Store conn.old) (state S.Store conn.new) }
-    ensures ready { HasCleanDisk (state S.Store conn.new) → IsTrue (state S.Store conn.new).is_open → IsReady (state S.Store conn.new) }
+    ensures reported { HasCleanDisk (state S.Store conn.new)
+        → IfOk result
+        (λ ok. IsTrue ok
+        ↔ AllByRecursion (IsSoundOne schema dir.now (contents_of (state S.Store conn.old).now))
+        (map string_bytes bases.now)) }
+    ensures loaded { HasCleanDisk (state S.Store conn.new)
+        → IfOk result
+        (λ ok. IsTrue ok
+        → outline.new
+        ≡ record outline.old {
+          objects = with_objects (contents_of (state S.Store conn.old).now) (map string_bytes bases.now)
+              outline.old.objects;
+        }) }
+    ensures unchanged { HasCleanDisk (state S.Store conn.new)
+        → OnOk result (IsUnchanged (state S.Store conn.old) (state S.Store conn.new)) }
+    ensures same { HasCleanDisk (state S.Store conn.new)
+        → KeepsShown (state S.Store conn.old) (state S.Store conn.new) }
+    ensures ready { HasCleanDisk (state S.Store conn.new) → IsTrue (state S.Store conn.new).is_open
+        → IsReady (state S.Store conn.new) }
     ensures survives { Survives (state S.Store conn.old) (state S.Store conn.new) (λ _. ⊥) }
 {
     'bases: for base in bases {
@@ -147,17 +182,35 @@ pub(crate) fn load_all<S: Alter>(
     joined: &Joined,
 ) -> Result<bool, Failure>
     requires alone { conn.old.in_transaction ≡ false }
-    requires ready { HasCleanDisk (state S.Store conn.old) → IsTrue (state S.Store conn.old).is_open → IsReady (state S.Store conn.old) }
-    requires exists { HasCleanDisk (state S.Store conn.old) → IsTrue (has_pieces schema) → IsTrue (state S.Store conn.old).is_open → HasFurther (state S.Store conn.old).now piece }
-    requires no_table { HasCleanDisk (state S.Store conn.old) → IsFalse (has_pieces schema) → IsTrue (state S.Store conn.old).is_open → (contents_of (state S.Store conn.old).now).pieces ≡ finite.empty }
-    requires joined { HasCleanDisk (state S.Store conn.old) → AreJoined (contents_of (state S.Store conn.old).now) joined.now }
+    requires ready { HasCleanDisk (state S.Store conn.old) → IsTrue (state S.Store conn.old).is_open
+        → IsReady (state S.Store conn.old) }
+    requires exists { HasCleanDisk (state S.Store conn.old) → IsTrue (has_pieces schema)
+        → IsTrue (state S.Store conn.old).is_open → HasFurther (state S.Store conn.old).now piece }
+    requires no_table { HasCleanDisk (state S.Store conn.old) → IsFalse (has_pieces schema)
+        → IsTrue (state S.Store conn.old).is_open → (contents_of (state S.Store conn.old).now).pieces ≡ finite.empty }
+    requires joined { HasCleanDisk (state S.Store conn.old)
+        → AreJoined (contents_of (state S.Store conn.old).now) joined.now }
     ensures alone { conn.new.in_transaction ≡ false }
     ensures cause { FailsInReads S.Store conn.old conn.new result }
-    ensures reported { HasCleanDisk (state S.Store conn.new) → IfOk result (λ ok. IsTrue ok ↔ AllByRecursion (IsSoundOne schema dir.now (contents_of (state S.Store conn.old).now)) (finite.keys (contents_of (state S.Store conn.old).now).objects)) }
-    ensures loaded { HasCleanDisk (state S.Store conn.new) → IfOk result (λ ok. IsTrue ok → outline.new ≡ record outline.old { objects = with_objects (contents_of (state S.Store conn.old).now) (finite.keys (contents_of (state S.Store conn.old).now).objects) outline.old.objects }) }
-    ensures unchanged { HasCleanDisk (state S.Store conn.new) → OnOk result (IsUnchanged (state S.Store conn.old) (state S.Store conn.new)) }
-    ensures same { HasCleanDisk (state S.Store conn.new) → KeepsShown (state S.Store conn.old) (state S.Store conn.new) }
-    ensures ready { HasCleanDisk (state S.Store conn.new) → IsTrue (state S.Store conn.new).is_open → IsReady (state S.Store conn.new) }
+    ensures reported { HasCleanDisk (state S.Store conn.new)
+        → IfOk result
+        (λ ok. IsTrue ok
+        ↔ AllByRecursion (IsSoundOne schema dir.now (contents_of (state S.Store conn.old).now))
+        (finite.keys (contents_of (state S.Store conn.old).now).objects)) }
+    ensures loaded { HasCleanDisk (state S.Store conn.new)
+        → IfOk result
+        (λ ok. IsTrue ok
+        → outline.new
+        ≡ record outline.old {
+          objects = with_objects (contents_of (state S.Store conn.old).now)
+              (finite.keys (contents_of (state S.Store conn.old).now).objects) outline.old.objects;
+        }) }
+    ensures unchanged { HasCleanDisk (state S.Store conn.new)
+        → OnOk result (IsUnchanged (state S.Store conn.old) (state S.Store conn.new)) }
+    ensures same { HasCleanDisk (state S.Store conn.new)
+        → KeepsShown (state S.Store conn.old) (state S.Store conn.new) }
+    ensures ready { HasCleanDisk (state S.Store conn.new) → IsTrue (state S.Store conn.new).is_open
+        → IsReady (state S.Store conn.new) }
     ensures survives { Survives (state S.Store conn.old) (state S.Store conn.new) (λ _. ⊥) }
 {
     let bases = objects::keys(alloc, conn)?;

@@ -40,8 +40,11 @@ fn sound_outputs(
     requires reported { DescribesBytes archive.now }
     requires sound { archive.now.fault ≡ None }
     ensures { IfOk result (λ o. MatchOption o
-        (¬ (IsRecorded dir.now path.now archive.now.pieces × (named_of rows.now ≡ finite.entries (outputs_at dir.now path.now archive.now.pieces))))
-        (λ l. IsRecorded dir.now path.now archive.now.pieces × (named_of rows.now ≡ finite.entries (outputs_at dir.now path.now archive.now.pieces)) × IsListed (map string_bytes l.names.items) l.paths.items (outputs_at dir.now path.now archive.now.pieces))) }
+        (¬ (IsRecorded dir.now path.now archive.now.pieces
+        × (named_of rows.now ≡ finite.entries (outputs_at dir.now path.now archive.now.pieces))))
+        (λ l. IsRecorded dir.now path.now archive.now.pieces
+        × (named_of rows.now ≡ finite.entries (outputs_at dir.now path.now archive.now.pieces))
+        × IsListed (map string_bytes l.names.items) l.paths.items (outputs_at dir.now path.now archive.now.pieces))) }
 {
     recorded(alloc, dir, path, &archive.pieces, rows)
 }
@@ -57,7 +60,17 @@ fn summary_of(
     requires refs { IsTrue (rise refs.items) }
     requires names { IsTrue (rise (map string_bytes outputs.names.items)) }
     requires paths { length outputs.paths.items ≡ length (map string_bytes outputs.names.items) }
-    ensures { result ≡ record { size = length archive.now.pieces; hash = archive.now.nar_hash; references = set_of bytes_cmp refs.items; deriver = deriver; ca = ca; outputs = finite.from_entries (zip (map string_bytes outputs.names.items) outputs.paths.items) } }
+    ensures { result
+        ≡ record {
+          size = length archive.now.pieces;
+          hash = archive.now.nar_hash;
+          references = set_of bytes_cmp
+              refs.items;
+          deriver = deriver;
+          ca = ca;
+          outputs = finite.from_entries
+              (zip (map string_bytes outputs.names.items) outputs.paths.items);
+        } }
 {
     let Listed { names, paths } = outputs;
     let size = archive.pieces.len();
@@ -88,7 +101,14 @@ fn sound_archive(
     ensures { IfOk result (λ o. MatchOption o
         (¬ IsSoundArchive dir.now path.now archive.now.pieces hash.now ca refs.items (named_of outputs.now))
         (λ s. IsSoundArchive dir.now path.now archive.now.pieces hash.now ca refs.items (named_of outputs.now)
-        × (s ≡ record { size = length archive.now.pieces; hash = sha256 archive.now.pieces; references = set_of bytes_cmp refs.items; deriver = deriver; ca = ca; outputs = outputs_at dir.now path.now archive.now.pieces }))) }
+        × (s ≡ record {
+          size = length archive.now.pieces;
+          hash = sha256 archive.now.pieces;
+          references = set_of bytes_cmp refs.items;
+          deriver = deriver;
+          ca = ca;
+          outputs = outputs_at dir.now path.now archive.now.pieces;
+        }))) }
 {
     if !are_same(hash, &archive.nar_hash) {
         return Ok(None);
@@ -115,10 +135,13 @@ pub(crate) fn sound_object(
     outputs: &[Output],
 ) -> Result<Option<(StorePath, Summary)>, AllocError>
     ensures { IfOk result (λ o. MatchOption o
-        (¬ IsSoundAt dir.now (stored_of object).0 (whole_of (stored_of object).1 (parts_of pieces.items)) (targets_of references.now) (named_of outputs.now))
-        (λ s. IsSoundAt dir.now (stored_of object).0 (whole_of (stored_of object).1 (parts_of pieces.items)) (targets_of references.now) (named_of outputs.now)
+        (¬ IsSoundAt dir.now (stored_of object).0 (whole_of (stored_of object).1 (parts_of pieces.items))
+        (targets_of references.now) (named_of outputs.now))
+        (λ s. IsSoundAt dir.now (stored_of object).0 (whole_of (stored_of object).1 (parts_of pieces.items))
+        (targets_of references.now) (named_of outputs.now)
         × (s.0 ≡ (stored_of object).0)
-        × (s.1 ≡ kept_of dir.now (stored_of object).0 (whole_of (stored_of object).1 (parts_of pieces.items)) (targets_of references.now)))) }
+        × (s.1 ≡ kept_of dir.now (stored_of object).0 (whole_of (stored_of object).1 (parts_of pieces.items))
+        (targets_of references.now)))) }
 {
     if references.len() > MOST_REFERENCES {
         return Ok(None);

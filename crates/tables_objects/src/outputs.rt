@@ -22,7 +22,8 @@ pub(crate) struct Listed {
 }
 
 fn is_same(row: &Output, name: &str, path: &str) -> bool
-    ensures { result ≡ (bytes_eq (string_bytes row.now.name) name.now && bytes_eq (string_bytes row.now.target) path.now) }
+    ensures { result
+        ≡ (bytes_eq (string_bytes row.now.name) name.now && bytes_eq (string_bytes row.now.target) path.now) }
 {
     row.name.as_str() == name && row.target.as_str() == path
 }
@@ -66,7 +67,8 @@ pub(crate) fn recorded(
 ) -> Result<Option<Listed>, AllocError>
     ensures { (t : Tree) → outcome_of archive.now ≡ Ok t → IfOk result (λ o. MatchOption o
         (¬ (IfDerivation dir.now path.now t × (named_of rows.now ≡ finite.entries (outputs_in dir.now path.now t))))
-        (λ l. IfDerivation dir.now path.now t × (named_of rows.now ≡ finite.entries (outputs_in dir.now path.now t)) × IsListed (map string_bytes l.names.items) l.paths.items (outputs_in dir.now path.now t))) }
+        (λ l. IfDerivation dir.now path.now t × (named_of rows.now ≡ finite.entries (outputs_in dir.now path.now t))
+        × IsListed (map string_bytes l.names.items) l.paths.items (outputs_in dir.now path.now t))) }
 {
     let Some(found) = found_in(alloc, dir, path, archive)? else {
         return Ok(None);

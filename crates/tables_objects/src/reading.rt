@@ -39,17 +39,26 @@ fn pieces_of<S: Alter>(
     base: &str,
 ) -> Result<Vec<Piece>, Failure>
     requires alone { conn.old.in_transaction ≡ false }
-    requires ready { HasCleanDisk (state S.Store conn.old) → IsTrue (state S.Store conn.old).is_open → IsReady (state S.Store conn.old) }
+    requires ready { HasCleanDisk (state S.Store conn.old) → IsTrue (state S.Store conn.old).is_open
+        → IsReady (state S.Store conn.old) }
     requires opened { HasCleanDisk (state S.Store conn.old) → IsTrue (state S.Store conn.old).is_open }
-    requires exists { HasCleanDisk (state S.Store conn.old) → IsTrue (has_pieces schema) → IsTrue (state S.Store conn.old).is_open → HasFurther (state S.Store conn.old).now piece }
-    requires no_table { HasCleanDisk (state S.Store conn.old) → IsFalse (has_pieces schema) → IsTrue (state S.Store conn.old).is_open → (contents_of (state S.Store conn.old).now).pieces ≡ finite.empty }
-    requires listed { HasCleanDisk (state S.Store conn.old) → map numbered_in keys.now ≡ finite.keys (contents_of (state S.Store conn.old).now).pieces }
+    requires exists { HasCleanDisk (state S.Store conn.old) → IsTrue (has_pieces schema)
+        → IsTrue (state S.Store conn.old).is_open → HasFurther (state S.Store conn.old).now piece }
+    requires no_table { HasCleanDisk (state S.Store conn.old) → IsFalse (has_pieces schema)
+        → IsTrue (state S.Store conn.old).is_open → (contents_of (state S.Store conn.old).now).pieces ≡ finite.empty }
+    requires listed { HasCleanDisk (state S.Store conn.old)
+        → map numbered_in keys.now ≡ finite.keys (contents_of (state S.Store conn.old).now).pieces }
     ensures alone { conn.new.in_transaction ≡ false }
     ensures cause { FailsInReads S.Store conn.old conn.new result }
-    ensures reads { HasCleanDisk (state S.Store conn.new) → IfOk result (λ all. IsUnchanged (state S.Store conn.old) (state S.Store conn.new)
-        × (map piece_in all.items ≡ finite.entries (finite.retain_keys (contents_of (state S.Store conn.old).now).pieces (λ k. eq_by_cmp texts_cmp k.0 base.now)))) }
-    ensures same { HasCleanDisk (state S.Store conn.new) → KeepsShown (state S.Store conn.old) (state S.Store conn.new) }
-    ensures ready { HasCleanDisk (state S.Store conn.new) → IsTrue (state S.Store conn.new).is_open → IsReady (state S.Store conn.new) }
+    ensures reads { HasCleanDisk (state S.Store conn.new)
+        → IfOk result (λ all. IsUnchanged (state S.Store conn.old) (state S.Store conn.new)
+        × (map piece_in all.items
+        ≡ finite.entries (finite.retain_keys (contents_of (state S.Store conn.old).now).pieces
+        (λ k. eq_by_cmp texts_cmp k.0 base.now)))) }
+    ensures same { HasCleanDisk (state S.Store conn.new)
+        → KeepsShown (state S.Store conn.old) (state S.Store conn.new) }
+    ensures ready { HasCleanDisk (state S.Store conn.new) → IsTrue (state S.Store conn.new).is_open
+        → IsReady (state S.Store conn.new) }
     ensures survives { Survives (state S.Store conn.old) (state S.Store conn.new) (λ _. ⊥) }
 {
     if !schema.has_pieces() {
@@ -70,15 +79,24 @@ pub(crate) fn rows_at<S: Alter>(
     base: &str,
 ) -> Result<Option<ObjectRows>, Failure>
     requires alone { conn.old.in_transaction ≡ false }
-    requires ready { HasCleanDisk (state S.Store conn.old) → IsTrue (state S.Store conn.old).is_open → IsReady (state S.Store conn.old) }
-    requires exists { HasCleanDisk (state S.Store conn.old) → IsTrue (has_pieces schema) → IsTrue (state S.Store conn.old).is_open → HasFurther (state S.Store conn.old).now piece }
-    requires no_table { HasCleanDisk (state S.Store conn.old) → IsFalse (has_pieces schema) → IsTrue (state S.Store conn.old).is_open → (contents_of (state S.Store conn.old).now).pieces ≡ finite.empty }
-    requires listed { HasCleanDisk (state S.Store conn.old) → map numbered_in keys.now ≡ finite.keys (contents_of (state S.Store conn.old).now).pieces }
+    requires ready { HasCleanDisk (state S.Store conn.old) → IsTrue (state S.Store conn.old).is_open
+        → IsReady (state S.Store conn.old) }
+    requires exists { HasCleanDisk (state S.Store conn.old) → IsTrue (has_pieces schema)
+        → IsTrue (state S.Store conn.old).is_open → HasFurther (state S.Store conn.old).now piece }
+    requires no_table { HasCleanDisk (state S.Store conn.old) → IsFalse (has_pieces schema)
+        → IsTrue (state S.Store conn.old).is_open → (contents_of (state S.Store conn.old).now).pieces ≡ finite.empty }
+    requires listed { HasCleanDisk (state S.Store conn.old)
+        → map numbered_in keys.now ≡ finite.keys (contents_of (state S.Store conn.old).now).pieces }
     ensures alone { conn.new.in_transaction ≡ false }
     ensures cause { FailsInReads S.Store conn.old conn.new result }
-    ensures reads { HasCleanDisk (state S.Store conn.new) → IfOk result (λ o. IsUnchanged (state S.Store conn.old) (state S.Store conn.new) × AreRowsAt (contents_of (state S.Store conn.old).now) base.now o) }
-    ensures same { HasCleanDisk (state S.Store conn.new) → KeepsShown (state S.Store conn.old) (state S.Store conn.new) }
-    ensures ready { HasCleanDisk (state S.Store conn.new) → IsTrue (state S.Store conn.new).is_open → IsReady (state S.Store conn.new) }
+    ensures reads { HasCleanDisk (state S.Store conn.new)
+        → IfOk result
+        (λ o. IsUnchanged (state S.Store conn.old) (state S.Store conn.new)
+        × AreRowsAt (contents_of (state S.Store conn.old).now) base.now o) }
+    ensures same { HasCleanDisk (state S.Store conn.new)
+        → KeepsShown (state S.Store conn.old) (state S.Store conn.new) }
+    ensures ready { HasCleanDisk (state S.Store conn.new) → IsTrue (state S.Store conn.new).is_open
+        → IsReady (state S.Store conn.new) }
     ensures survives { Survives (state S.Store conn.old) (state S.Store conn.new) (λ _. ⊥) }
 {
     let Some(object) = objects::get(alloc, conn, base)? else {

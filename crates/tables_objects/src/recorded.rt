@@ -38,7 +38,10 @@ fn outputs_of(
     dir: &StoreDir,
     text: &[u8],
 ) -> Result<Option<BTreeMap<String, StorePath>>, AllocError>
-    ensures { IfOk result (λ o. MatchOption o (¬ IsOk (outcome.outputs_of dir.now text.now)) (λ map. IsOk (outcome.outputs_of dir.now text.now) × (outputs_view map.entries ≡ objects.outputs_if_sound (outcome.outputs_of dir.now text.now)))) }
+    ensures { IfOk result
+        (λ o. MatchOption o (¬ IsOk (outcome.outputs_of dir.now text.now))
+        (λ map. IsOk (outcome.outputs_of dir.now text.now)
+        × (outputs_view map.entries ≡ objects.outputs_if_sound (outcome.outputs_of dir.now text.now)))) }
 {
     match drv::outputs(alloc, text, dir) {
         Ok(found) => Ok(Some(by_name(alloc, found)?)),
@@ -53,7 +56,11 @@ fn derivation_outputs(
     dir: &StoreDir,
     archive: &Pieces,
 ) -> Result<Option<BTreeMap<String, StorePath>>, AllocError>
-    ensures { (t : Tree) → outcome_of archive.now ≡ Ok t → IfOk result (λ o. MatchOption o (¬ HoldsDerivation dir.now t) (λ map. HoldsDerivation dir.now t × (outputs_view map.entries ≡ objects.tree_outputs {E = Fault} dir.now (Ok t)))) }
+    ensures { (t : Tree) → outcome_of archive.now ≡ Ok t
+        → IfOk result
+        (λ o. MatchOption o (¬ HoldsDerivation dir.now t)
+        (λ map. HoldsDerivation dir.now t
+        × (outputs_view map.entries ≡ objects.tree_outputs {E = Fault} dir.now (Ok t)))) }
 {
     let bytes = archive.joined()?;
     match file_contents(alloc, &bytes)? {
@@ -69,7 +76,10 @@ pub(crate) fn found_in(
     path: &StorePath,
     archive: &Pieces,
 ) -> Result<Option<BTreeMap<String, StorePath>>, AllocError>
-    ensures { (t : Tree) → outcome_of archive.now ≡ Ok t → IfOk result (λ o. MatchOption o (¬ IfDerivation dir.now path.now t) (λ map. IfDerivation dir.now path.now t × (outputs_view map.entries ≡ outputs_in dir.now path.now t))) }
+    ensures { (t : Tree) → outcome_of archive.now ≡ Ok t
+        → IfOk result
+        (λ o. MatchOption o (¬ IfDerivation dir.now path.now t)
+        (λ map. IfDerivation dir.now path.now t × (outputs_view map.entries ≡ outputs_in dir.now path.now t))) }
 {
     if path.is_derivation() {
         derivation_outputs(alloc, dir, archive)

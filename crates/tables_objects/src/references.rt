@@ -25,7 +25,9 @@ pub(crate) fn paths_of(
     alloc: Global,
     rows: &[Reference],
 ) -> Result<Option<Vec<StorePath>>, AllocError>
-    ensures { IfOk result (λ o. MatchOption o (are_paths None (targets_of rows.now) ≡ false) (λ v. (v.items ≡ targets_of rows.now) × (are_paths None (targets_of rows.now) ≡ true))) }
+    ensures { IfOk result
+        (λ o. MatchOption o (are_paths None (targets_of rows.now) ≡ false)
+        (λ v. (v.items ≡ targets_of rows.now) × (are_paths None (targets_of rows.now) ≡ true))) }
 {
     let mut paths = Vec::new(alloc);
     let mut last = None;

@@ -10,7 +10,8 @@ use std::alloc::{AllocError, Global};
 
 /// The path of a base name, if a text is one.
 pub(crate) fn path_of(alloc: Global, text: &str) -> Result<Option<StorePath>, AllocError>
-    ensures { IfOk result (λ o. MatchOption o (is_base_name text.now ≡ false) (λ p. (p ≡ text.now) × (is_base_name text.now ≡ true))) }
+    ensures { IfOk result
+        (λ o. MatchOption o (is_base_name text.now ≡ false) (λ p. (p ≡ text.now) × (is_base_name text.now ≡ true))) }
 {
     match StorePath::from_base(alloc, text) {
         Ok(path) => Ok(Some(path)),
@@ -24,7 +25,9 @@ pub(crate) fn deriver_of(
     alloc: Global,
     text: &Option<String>,
 ) -> Result<Option<Option<StorePath>>, AllocError>
-    ensures { IfOk result (λ o. MatchOption o (is_base_if_any (option_map string_bytes text.now) ≡ false) (λ d. (d ≡ option_map string_bytes text.now) × (is_base_if_any (option_map string_bytes text.now) ≡ true))) }
+    ensures { IfOk result
+        (λ o. MatchOption o (is_base_if_any (option_map string_bytes text.now) ≡ false)
+        (λ d. (d ≡ option_map string_bytes text.now) × (is_base_if_any (option_map string_bytes text.now) ≡ true))) }
 {
     let Some(text) = text else {
         return Ok(Some(None));
@@ -40,7 +43,10 @@ pub(crate) fn address_of(
     alloc: Global,
     text: &Option<String>,
 ) -> Result<Option<Option<Ca>>, AllocError>
-    ensures { IfOk result (λ o. MatchOption o (is_address_if_any (option_map string_bytes text.now) ≡ false) (λ a. (a ≡ address_in (option_map string_bytes text.now)) × (is_address_if_any (option_map string_bytes text.now) ≡ true))) }
+    ensures { IfOk result
+        (λ o. MatchOption o (is_address_if_any (option_map string_bytes text.now) ≡ false)
+        (λ a. (a ≡ address_in (option_map string_bytes text.now))
+        × (is_address_if_any (option_map string_bytes text.now) ≡ true))) }
 {
     let Some(text) = text else {
         return Ok(Some(None));

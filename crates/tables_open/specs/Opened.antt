@@ -72,7 +72,7 @@ IsReadyBy (Tables V2) s = IsReady s × HasFurther s.now piece
 IsReadyBy (Tables V3) s = IsReady s × IsWhole s.now
 IsReadyBy Other s = ⊤
 
--- this is what the database has of the store's tables; and if it holds the tables of a schema, it is ready
+-- what the database has of the store's tables was found; if it holds the tables of a schema, it is ready
 pub record IsFound (r : Recognised) (s : State) : Type 0 where
   pub by_schema : IsBySchema r s.now
   pub ready : IsReadyBy r s

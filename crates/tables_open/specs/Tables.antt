@@ -8,7 +8,7 @@ use Rattle.tables_sql.specs.Calls.{IsKeyed}
 use Rattle.tables_schema.specs.declared.our_table.OurTable.{OurTable}
 use Rattle.tables_schema.specs.declared.our_table.OurTable.TheVariants.{Meta, Object, Refs, Outs, Permanent, UserRoot, Profile, Generation, Runtime, Piece, TempRoot}
 
--- it shows the rowid of each row
+-- the query for the rowid of each row
 abbrev pub rowids_text : OurTable → List ℕ
 rowids_text Meta = codes "SELECT rowid FROM meta ORDER BY word"
 rowids_text Object = codes "SELECT rowid FROM object ORDER BY base"
@@ -22,7 +22,7 @@ rowids_text Runtime = codes "SELECT rowid FROM runtime ORDER BY label, target"
 rowids_text Piece = codes "SELECT rowid FROM piece ORDER BY base, num"
 rowids_text TempRoot = codes "SELECT rowid FROM temp_root ORDER BY owner, session, target"
 
--- it shows each text of each row
+-- the query for each text of each row
 abbrev pub texts_text : OurTable → List ℕ
 texts_text Meta = codes "SELECT word, val FROM meta ORDER BY word"
 texts_text Object = codes "SELECT base, hash, deriver, ca FROM object ORDER BY base"

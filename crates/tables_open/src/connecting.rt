@@ -34,9 +34,12 @@ fn opening_error(error: OpenError) -> Error
 /// The file at a path and its log. Neither memory nor a URI is one, as for `sqlite`.
 fn open_pair<S: Start>(rt: &HostRuntime, path: &str, start: S) -> Result<Files<FileFrom<S>>, Error>
     ensures memory { path.now ≡ codes ":memory:" → result ≡ Err (Error.SqliteFailure ErrorCode.CannotOpen) }
-    ensures usable { IfOk result (λ files. IsTrue (file_is_usable S.Start files.log) × IsTrue (file_is_usable S.Start files.db)) }
+    ensures usable { IfOk result
+        (λ files. IsTrue (file_is_usable S.Start files.log) × IsTrue (file_is_usable S.Start files.db)) }
     ensures fresh { IfOk result (λ files. IsFresh true files.log × IsFresh false files.db) }
-    ensures kind { IfErr result (λ e. (e ≡ Error.SqliteFailure ErrorCode.CannotOpen) ⊎ ((e ≡ Error.SqliteFailure ErrorCode.OutOfMemory) ⊎ (e ≡ Error.SqliteFailure ErrorCode.DatabaseBusy))) }
+    ensures kind { IfErr result
+        (λ e. (e ≡ Error.SqliteFailure ErrorCode.CannotOpen)
+        ⊎ ((e ≡ Error.SqliteFailure ErrorCode.OutOfMemory) ⊎ (e ≡ Error.SqliteFailure ErrorCode.DatabaseBusy))) }
 {
     if path == ":memory:" || path.starts_with("file:") {
         return Err(CANNOT_OPEN);
@@ -53,7 +56,8 @@ pub fn connect<S: Start>(
     path: &str,
     start: S,
 ) -> Result<Connection<FileStore<FileFrom<S>>>, (Error, Option<Leftover<FileFrom<S>>>)>
-    ensures memory { path.now ≡ codes ":memory:" → IsErrAnd result (λ e. e.0 ≡ Error.SqliteFailure ErrorCode.CannotOpen) }
+    ensures memory { path.now ≡ codes ":memory:"
+        → IsErrAnd result (λ e. e.0 ≡ Error.SqliteFailure ErrorCode.CannotOpen) }
     ensures opened { IfOk result (IsOpenedOver (image_at S.Start)) }
     ensures cause { IfErr result (λ e. Refuses e.0 e.1) }
 {

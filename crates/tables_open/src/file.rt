@@ -69,11 +69,17 @@ fn opening_failure(error: Error) -> Option<Failure>
 pub fn inspect<S: Alter>(alloc: Global, mut conn: Connection<S>) -> Result<Opened<S>, Unreadable<S>>
     requires alone { conn.in_transaction ≡ false }
     ensures alone { MatchResult result (λ it. it.conn.in_transaction ≡ false) (λ e. e.conn.in_transaction ≡ false) }
-    ensures found { IfOk result (λ it. HasCleanDisk (state S.Store it.conn) → IsFound it.found (state S.Store it.conn)) }
-    ensures unchanged { IfOk result (λ it. HasCleanDisk (state S.Store it.conn) → IsUnchanged (state S.Store conn) (state S.Store it.conn)) }
-    ensures cause { IfErr result (λ e. HasCleanDisk (state S.Store e.conn) → FailsToOpen (state S.Store conn) (state S.Store e.conn) e.failure) }
-    ensures same { MatchResult result (λ it. HasCleanDisk (state S.Store it.conn) → KeepsShown (state S.Store conn) (state S.Store it.conn)) (λ e. HasCleanDisk (state S.Store e.conn) → KeepsShown (state S.Store conn) (state S.Store e.conn)) }
-    ensures survives { MatchResult result (λ it. Survives (state S.Store conn) (state S.Store it.conn) (λ _. ⊥)) (λ e. Survives (state S.Store conn) (state S.Store e.conn) (λ _. ⊥)) }
+    ensures found { IfOk result
+        (λ it. HasCleanDisk (state S.Store it.conn) → IsFound it.found (state S.Store it.conn)) }
+    ensures unchanged { IfOk result
+        (λ it. HasCleanDisk (state S.Store it.conn) → IsUnchanged (state S.Store conn) (state S.Store it.conn)) }
+    ensures cause { IfErr result
+        (λ e. HasCleanDisk (state S.Store e.conn) → FailsToOpen (state S.Store conn) (state S.Store e.conn) e.failure) }
+    ensures same { MatchResult result
+        (λ it. HasCleanDisk (state S.Store it.conn) → KeepsShown (state S.Store conn) (state S.Store it.conn))
+        (λ e. HasCleanDisk (state S.Store e.conn) → KeepsShown (state S.Store conn) (state S.Store e.conn)) }
+    ensures survives { MatchResult result (λ it. Survives (state S.Store conn) (state S.Store it.conn) (λ _. ⊥))
+        (λ e. Survives (state S.Store conn) (state S.Store e.conn) (λ _. ⊥)) }
 {
     match opening::open(alloc, &mut conn) {
         Ok(found) => Ok(Opened { conn, found }),
@@ -90,11 +96,13 @@ pub fn open<S: Start>(
     path: &str,
     start: S,
 ) -> Result<Opened<FileStore<FileFrom<S>>>, Unopened<FileStore<FileFrom<S>>, FileFrom<S>>>
-    ensures memory { path.now ≡ codes ":memory:" → IsErrAnd result (λ e. (left : _) × (e ≡ Unopened.Refused None left)) }
+    ensures memory { path.now ≡ codes ":memory:"
+        → IsErrAnd result (λ e. (left : _) × (e ≡ Unopened.Refused None left)) }
     ensures alone { IfOk result (λ it. it.conn.in_transaction ≡ false) }
     ensures found { IfOk result (λ it. HasCleanDisk (file_state it.conn) → IsFound it.found (file_state it.conn)) }
     ensures opened { IfOk result (λ it. (was : _) × IsAsOpened (image_at S.Start) was it.conn) }
-    ensures held { IfOk result (λ it. HasCleanDisk (file_state it.conn) → FindsIn (image_at S.Start) (file_state it.conn)) }
+    ensures held { IfOk result
+        (λ it. HasCleanDisk (file_state it.conn) → FindsIn (image_at S.Start) (file_state it.conn)) }
     ensures guarded { IfOk result (λ it. HasCleanDisk (file_state it.conn) → (file_state it.conn).IsShielded) }
     ensures cause { IfErr result (FailsToOpenFile (image_at S.Start)) }
 {

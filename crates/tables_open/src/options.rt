@@ -52,7 +52,9 @@ fn kept_pages(found: &Measured) -> usize
 ///
 /// The system gives no random number.
 pub fn options(rt: &HostRuntime, path: &str) -> Result<Options, Error>
-    ensures kept { IfOk result (λ it. (found : Measured) × (512 ≤ found.page) × (found.page ≤ 65536) × (it.cache_pages ≡ kept_pages found.len found.logged found.page)) }
+    ensures kept { IfOk result
+        (λ it. (found : Measured) × (512 ≤ found.page) × (found.page ≤ 65536)
+        × (it.cache_pages ≡ kept_pages found.len found.logged found.page)) }
     ensures log { IfOk result (λ it. (it.spill_pages ≡ 1000) × (it.checkpoint_frames ≡ 1000)) }
     ensures cause { IfErr result (λ e. e ≡ Error.SqliteFailure ErrorCode.CannotOpen) }
 {

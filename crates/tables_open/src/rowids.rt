@@ -80,10 +80,16 @@ pub(crate) fn check<S: Alter>(
 ) -> Result<(), Failure>
     requires { IsSelect text.now }
     ensures alone { conn.old.in_transaction ≡ false → conn.new.in_transaction ≡ false }
-    ensures shown { HasCleanDisk (state S.Store conn.new) → OnOk result ((rows : List Values) × IsAnswered text.now [] (state S.Store conn.old) (state S.Store conn.new) rows × ShowIds rows) }
-    ensures cause { HasCleanDisk (state S.Store conn.new) → IfErr result (λ f. IsQueryFailure text.now [] (state S.Store conn.old) (state S.Store conn.new) f
-        ⊎ ((rows : List Values) × HasBegunWith text.now [] (state S.Store conn.old) (state S.Store conn.new) rows × ((f ≡ Memory) ⊎ ((f ≡ Disk) × ¬ ShowIds rows)))) }
-    ensures same { HasCleanDisk (state S.Store conn.new) → (IsTrue (state S.Store conn.old).is_open → (state S.Store conn.old).now ≡ (state S.Store conn.old).committed) → KeepsShown (state S.Store conn.old) (state S.Store conn.new) }
+    ensures shown { HasCleanDisk (state S.Store conn.new)
+        → OnOk result ((rows : List Values)
+        × IsAnswered text.now [] (state S.Store conn.old) (state S.Store conn.new) rows × ShowIds rows) }
+    ensures cause { HasCleanDisk (state S.Store conn.new)
+        → IfErr result (λ f. IsQueryFailure text.now [] (state S.Store conn.old) (state S.Store conn.new) f
+        ⊎ ((rows : List Values) × HasBegunWith text.now [] (state S.Store conn.old) (state S.Store conn.new) rows
+        × ((f ≡ Memory) ⊎ ((f ≡ Disk) × ¬ ShowIds rows)))) }
+    ensures same { HasCleanDisk (state S.Store conn.new)
+        → (IsTrue (state S.Store conn.old).is_open → (state S.Store conn.old).now ≡ (state S.Store conn.old).committed)
+        → KeepsShown (state S.Store conn.old) (state S.Store conn.new) }
     ensures survives { Survives (state S.Store conn.old) (state S.Store conn.new) (λ _. ⊥) }
 {
     let empty = Rowids {

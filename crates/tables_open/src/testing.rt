@@ -21,15 +21,22 @@ use tables_sql::failure::Failure;
 /// No archive is shown, nor the bytes of a piece.
 fn one<S: Alter>(alloc: Global, conn: &mut Connection<S>, table: OurTable) -> Result<bool, Failure>
     requires alone { conn.old.in_transaction ≡ false }
-    requires settled { HasCleanDisk (state S.Store conn.old) → IsTrue (state S.Store conn.old).is_open → (state S.Store conn.old).now ≡ (state S.Store conn.old).committed }
-    requires exists { HasCleanDisk (state S.Store conn.old) → IsTrue (state S.Store conn.old).is_open → IsIntact (state S.Store conn.old).now.schema (form table) }
-    requires sound { HasCleanDisk (state S.Store conn.old) → IsTrue (state S.Store conn.old).is_open → IsDatabase (state S.Store conn.old).now }
+    requires settled { HasCleanDisk (state S.Store conn.old) → IsTrue (state S.Store conn.old).is_open
+        → (state S.Store conn.old).now ≡ (state S.Store conn.old).committed }
+    requires exists { HasCleanDisk (state S.Store conn.old) → IsTrue (state S.Store conn.old).is_open
+        → IsIntact (state S.Store conn.old).now.schema (form table) }
+    requires sound { HasCleanDisk (state S.Store conn.old) → IsTrue (state S.Store conn.old).is_open
+        → IsDatabase (state S.Store conn.old).now }
     ensures alone { conn.new.in_transaction ≡ false }
-    ensures reported { HasCleanDisk (state S.Store conn.new) → IfOk result (λ all. IsUnchanged (state S.Store conn.old) (state S.Store conn.new)
-        × HasOwnRowids (state S.Store conn.old).now table × (IsTrue all ↔ HasReadableTexts (state S.Store conn.old).now table)) }
-    ensures cause { HasCleanDisk (state S.Store conn.new) → IfErr result (FailsToTest (state S.Store conn.old) (state S.Store conn.new)
+    ensures reported { HasCleanDisk (state S.Store conn.new)
+        → IfOk result (λ all. IsUnchanged (state S.Store conn.old) (state S.Store conn.new)
+        × HasOwnRowids (state S.Store conn.old).now table
+        × (IsTrue all ↔ HasReadableTexts (state S.Store conn.old).now table)) }
+    ensures cause { HasCleanDisk (state S.Store conn.new)
+        → IfErr result (FailsToTest (state S.Store conn.old) (state S.Store conn.new)
         (¬ HasOwnRowids (state S.Store conn.old).now table)) }
-    ensures same { HasCleanDisk (state S.Store conn.new) → KeepsShown (state S.Store conn.old) (state S.Store conn.new) }
+    ensures same { HasCleanDisk (state S.Store conn.new)
+        → KeepsShown (state S.Store conn.old) (state S.Store conn.new) }
     ensures survives { Survives (state S.Store conn.old) (state S.Store conn.new) (λ _. ⊥) }
 {
     rowids::check(alloc, conn, queries::rowids(table))?;
@@ -44,15 +51,22 @@ pub(crate) fn all<S: Alter>(
 ) -> Result<bool, Failure>
     requires some { 0 < length tables.now }
     requires alone { conn.old.in_transaction ≡ false }
-    requires settled { HasCleanDisk (state S.Store conn.old) → IsTrue (state S.Store conn.old).is_open → (state S.Store conn.old).now ≡ (state S.Store conn.old).committed }
-    requires stand { HasCleanDisk (state S.Store conn.old) → IsTrue (state S.Store conn.old).is_open → AllByRecursion (λ t. IsIntact (state S.Store conn.old).now.schema (form t)) tables.now }
-    requires sound { HasCleanDisk (state S.Store conn.old) → IsTrue (state S.Store conn.old).is_open → IsDatabase (state S.Store conn.old).now }
+    requires settled { HasCleanDisk (state S.Store conn.old) → IsTrue (state S.Store conn.old).is_open
+        → (state S.Store conn.old).now ≡ (state S.Store conn.old).committed }
+    requires stand { HasCleanDisk (state S.Store conn.old) → IsTrue (state S.Store conn.old).is_open
+        → AllByRecursion (λ t. IsIntact (state S.Store conn.old).now.schema (form t)) tables.now }
+    requires sound { HasCleanDisk (state S.Store conn.old) → IsTrue (state S.Store conn.old).is_open
+        → IsDatabase (state S.Store conn.old).now }
     ensures alone { conn.new.in_transaction ≡ false }
-    ensures reported { HasCleanDisk (state S.Store conn.new) → IfOk result (λ all. IsUnchanged (state S.Store conn.old) (state S.Store conn.new)
-        × AllByRecursion (HasOwnRowids (state S.Store conn.old).now) tables.now × (IsTrue all ↔ AllByRecursion (HasReadableTexts (state S.Store conn.old).now) tables.now)) }
-    ensures cause { HasCleanDisk (state S.Store conn.new) → IfErr result (FailsToTest (state S.Store conn.old) (state S.Store conn.new)
+    ensures reported { HasCleanDisk (state S.Store conn.new)
+        → IfOk result (λ all. IsUnchanged (state S.Store conn.old) (state S.Store conn.new)
+        × AllByRecursion (HasOwnRowids (state S.Store conn.old).now) tables.now
+        × (IsTrue all ↔ AllByRecursion (HasReadableTexts (state S.Store conn.old).now) tables.now)) }
+    ensures cause { HasCleanDisk (state S.Store conn.new)
+        → IfErr result (FailsToTest (state S.Store conn.old) (state S.Store conn.new)
         (¬ AllByRecursion (HasOwnRowids (state S.Store conn.old).now) tables.now)) }
-    ensures same { HasCleanDisk (state S.Store conn.new) → KeepsShown (state S.Store conn.old) (state S.Store conn.new) }
+    ensures same { HasCleanDisk (state S.Store conn.new)
+        → KeepsShown (state S.Store conn.old) (state S.Store conn.new) }
     ensures survives { Survives (state S.Store conn.old) (state S.Store conn.new) (λ _. ⊥) }
 {
     let mut readable = true;

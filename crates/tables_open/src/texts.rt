@@ -61,11 +61,16 @@ impl Sink for Texts {
 pub(crate) fn check<S: Alter>(conn: &mut Connection<S>, text: &str) -> Result<bool, Failure>
     requires { IsSelect text.now }
     ensures alone { conn.old.in_transaction ≡ false → conn.new.in_transaction ≡ false }
-    ensures shown { HasCleanDisk (state S.Store conn.new) → IfOk result (λ all. (rows : List Values) × IsAnswered text.now [] (state S.Store conn.old) (state S.Store conn.new) rows
+    ensures shown { HasCleanDisk (state S.Store conn.new)
+        → IfOk result
+        (λ all. (rows : List Values) × IsAnswered text.now [] (state S.Store conn.old) (state S.Store conn.new) rows
         × (IsTrue all ↔ AllByRecursion IsReadableRow rows)) }
-    ensures cause { HasCleanDisk (state S.Store conn.new) → IfErr result (λ f. IsQueryFailure text.now [] (state S.Store conn.old) (state S.Store conn.new) f
+    ensures cause { HasCleanDisk (state S.Store conn.new)
+        → IfErr result (λ f. IsQueryFailure text.now [] (state S.Store conn.old) (state S.Store conn.new) f
         ⊎ ((f ≡ Memory) × IsUnchanged (state S.Store conn.old) (state S.Store conn.new))) }
-    ensures same { HasCleanDisk (state S.Store conn.new) → (IsTrue (state S.Store conn.old).is_open → (state S.Store conn.old).now ≡ (state S.Store conn.old).committed) → KeepsShown (state S.Store conn.old) (state S.Store conn.new) }
+    ensures same { HasCleanDisk (state S.Store conn.new)
+        → (IsTrue (state S.Store conn.old).is_open → (state S.Store conn.old).now ≡ (state S.Store conn.old).committed)
+        → KeepsShown (state S.Store conn.old) (state S.Store conn.new) }
     ensures survives { Survives (state S.Store conn.old) (state S.Store conn.new) (λ _. ⊥) }
 {
     let read = read_into(conn, text, &[], Texts { are_readable: true })?;

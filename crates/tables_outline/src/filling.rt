@@ -29,7 +29,8 @@ fn is_current(profile: &Profile) -> bool
 }
 
 fn all_current(profiles: &BTreeMap<(String, String), Profile>) -> bool
-    ensures { result ≡ list_all (λ p. finite.contains_key (profile_view p).generations p.current) (map (λ e. e.1) profiles.now.entries) }
+    ensures { result ≡ list_all
+        (λ p. finite.contains_key (profile_view p).generations p.current) (map (λ e. e.1) profiles.now.entries) }
 {
     profiles.values().all(|profile| is_current(profile))
 }
@@ -37,7 +38,8 @@ fn all_current(profiles: &BTreeMap<(String, String), Profile>) -> bool
 impl Outline {
     /// Adds a runtime root.
     pub fn add_runtime(&mut self, label: String, target: StorePath) -> Result<(), AllocError>
-        ensures { OnOk result (self.new ≡ record self.old { runtime = finite.insert self.old.runtime (string_bytes label, target) tt }) }
+        ensures { OnOk result (self.new
+            ≡ record self.old { runtime = finite.insert self.old.runtime (string_bytes label, target) tt }) }
     {
         self.runtime.insert((label, target))?;
         Ok(())
@@ -50,7 +52,11 @@ impl Outline {
         owned: (String, String),
         current: u32,
     ) -> Result<(), AllocError>
-        ensures { OnOk result (self.new ≡ record self.old { profiles = finite.insert self.old.profiles (pair_bytes owned) (record { generations = finite.empty; current = current }) }) }
+        ensures { OnOk result (self.new
+            ≡ record self.old {
+              profiles = finite.insert self.old.profiles (pair_bytes owned)
+                  (record { generations = finite.empty; current = current });
+            }) }
     {
         let generations = BTreeMap::new(alloc);
         self.profiles.insert(
@@ -70,8 +76,12 @@ impl Outline {
         number: u32,
         target: StorePath,
     ) -> Result<bool, AllocError>
-        ensures present { IfOk result (λ present. present ≡ finite.contains_key self.old.profiles (pair_bytes owned.now)) }
-        ensures done { IfOk result (λ present. IsTrue present → self.new ≡ record self.old { profiles = with_generation (pair_bytes owned.now) number target self.old.profiles }) }
+        ensures present { IfOk result
+            (λ present. present ≡ finite.contains_key self.old.profiles (pair_bytes owned.now)) }
+        ensures done { IfOk result
+            (λ present. IsTrue present
+            → self.new ≡ record self.old
+            { profiles = with_generation (pair_bytes owned.now) number target self.old.profiles }) }
     {
         match self.profiles.get_mut(owned) {
             Some(profile) => {

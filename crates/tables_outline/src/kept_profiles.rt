@@ -74,7 +74,8 @@ impl Outline {
 
     /// The number that a path gets in a profile, if one is left.
     pub fn number_left(&self, owned: &(String, String), target: &StorePath) -> Option<u32>
-        ensures fits { is_some result ≡ nat_le (number_for (profile_of self.now (pair_bytes owned.now)) target.now) last_number }
+        ensures fits { is_some result
+            ≡ nat_le (number_for (profile_of self.now (pair_bytes owned.now)) target.now) last_number }
         ensures number { IfSome result (λ n. n ≡ number_for (profile_of self.now (pair_bytes owned.now)) target.now) }
     {
         match self.profile(owned) {
@@ -91,7 +92,9 @@ impl Outline {
         target: StorePath,
     ) -> Result<(), AllocError>
         requires { IsFalse (finite.contains_key self.old.profiles (pair_bytes owned)) }
-        ensures done { OnOk result (self.new ≡ with_profile self.old (pair_bytes owned) (put_at (profile_of self.old (pair_bytes owned)) number target)) }
+        ensures done { OnOk result (self.new
+            ≡ with_profile self.old (pair_bytes owned)
+            (put_at (profile_of self.old (pair_bytes owned)) number target)) }
         ensures failed { OnErr result (self.new ≡ self.old) }
     {
         let generations = BTreeMap::new(alloc);
@@ -111,7 +114,9 @@ impl Outline {
         target: StorePath,
     ) -> Result<(), AllocError>
         requires { IsTrue (finite.contains_key self.old.profiles (pair_bytes owned.now)) }
-        ensures done { OnOk result (self.new ≡ with_profile self.old (pair_bytes owned.now) (put_at (profile_of self.old (pair_bytes owned.now)) number target)) }
+        ensures done { OnOk result (self.new
+            ≡ with_profile self.old (pair_bytes owned.now)
+            (put_at (profile_of self.old (pair_bytes owned.now)) number target)) }
         ensures failed { OnErr result (self.new ≡ self.old) }
     {
         let Some(profile) = self.profiles.get_mut(owned) else {
@@ -130,7 +135,9 @@ impl Outline {
         number: u32,
         target: StorePath,
     ) -> Result<Option<u32>, AllocError>
-        ensures done { OnOk result (self.new ≡ with_profile self.old (pair_bytes owned) (put_at (profile_of self.old (pair_bytes owned)) number target)) }
+        ensures done { OnOk result (self.new
+            ≡ with_profile self.old (pair_bytes owned)
+            (put_at (profile_of self.old (pair_bytes owned)) number target)) }
         ensures had { IfOk result (λ had. had ≡ current_of self.old (pair_bytes owned)) }
         ensures failed { OnErr result (self.new ≡ self.old) }
     {
@@ -179,7 +186,9 @@ impl Outline {
     /// Makes a generation of a profile current. It takes no memory.
     pub fn switch_generation(&mut self, owned: &(String, String), number: u32)
         requires { IsTrue (finite.contains_key self.old.profiles (pair_bytes owned.now)) }
-        ensures { self.new ≡ with_profile self.old (pair_bytes owned.now) (switched (profile_of self.old (pair_bytes owned.now)) number) }
+        ensures { self.new
+            ≡ with_profile self.old (pair_bytes owned.now)
+            (switched (profile_of self.old (pair_bytes owned.now)) number) }
     {
         let Some(profile) = self.profiles.get_mut(owned) else {
             return;
@@ -190,7 +199,9 @@ impl Outline {
     /// Drops a generation of a profile, if it is there. It takes no memory.
     pub fn drop_generation(&mut self, owned: &(String, String), number: u32)
         requires { IsTrue (finite.contains_key self.old.profiles (pair_bytes owned.now)) }
-        ensures { self.new ≡ with_profile self.old (pair_bytes owned.now) (without_generation (profile_of self.old (pair_bytes owned.now)) number) }
+        ensures { self.new
+            ≡ with_profile self.old (pair_bytes owned.now)
+            (without_generation (profile_of self.old (pair_bytes owned.now)) number) }
     {
         let Some(profile) = self.profiles.get_mut(owned) else {
             return;

@@ -50,7 +50,8 @@ impl Outline {
 
     /// Puts an object. If memory is refused, nothing changes.
     pub fn insert_object(&mut self, path: StorePath, object: Summary) -> Result<(), AllocError>
-        ensures done { OnOk result (self.new ≡ record self.old { objects = finite.insert self.old.objects path object }) }
+        ensures done { OnOk result (self.new
+            ≡ record self.old { objects = finite.insert self.old.objects path object }) }
         ensures failed { OnErr result (self.new ≡ self.old) }
     {
         self.objects.insert(path, object)?;

@@ -24,7 +24,8 @@ impl Outline {
         name: String,
         target: StorePath,
     ) -> Result<Option<StorePath>, AllocError>
-        ensures done { OnOk result (self.new ≡ record self.old { permanent = finite.insert self.old.permanent (string_bytes name) target }) }
+        ensures done { OnOk result (self.new
+            ≡ record self.old { permanent = finite.insert self.old.permanent (string_bytes name) target }) }
         ensures had { IfOk result (λ had. had ≡ finite.get self.old.permanent (string_bytes name)) }
         ensures failed { OnErr result (self.new ≡ self.old) }
     {
@@ -67,7 +68,8 @@ impl Outline {
         owned: (String, String),
         target: StorePath,
     ) -> Result<Option<StorePath>, AllocError>
-        ensures done { OnOk result (self.new ≡ record self.old { user_roots = finite.insert self.old.user_roots (pair_bytes owned) target }) }
+        ensures done { OnOk result (self.new
+            ≡ record self.old { user_roots = finite.insert self.old.user_roots (pair_bytes owned) target }) }
         ensures had { IfOk result (λ had. had ≡ finite.get self.old.user_roots (pair_bytes owned)) }
         ensures failed { OnErr result (self.new ≡ self.old) }
     {

@@ -60,7 +60,16 @@ impl Summary {
         requires references { IsTrue (rise references.items) }
         requires names { IsTrue (rise (map string_bytes names.items)) }
         requires paths { length outputs.items ≡ length names.items }
-        ensures { result ≡ record { size = size; hash = hash; references = set_of bytes_cmp references.items; deriver = deriver; ca = ca; outputs = finite.from_entries (zip (map string_bytes names.items) outputs.items) } }
+        ensures { result
+            ≡ record {
+              size = size;
+              hash = hash;
+              references = set_of bytes_cmp references.items;
+              deriver = deriver;
+              ca =
+                  ca;
+              outputs = finite.from_entries (zip (map string_bytes names.items) outputs.items);
+            } }
     {
         Summary {
             size,

@@ -26,7 +26,8 @@ impl Outline {
 
     /// Puts a path that a session of an owner keeps, and answers whether it kept it already. If memory is refused, nothing changes.
     pub fn put_temporary(&mut self, kept: (String, u32, StorePath)) -> Result<bool, AllocError>
-        ensures done { OnOk result (self.new ≡ record self.old { temporary = finite.insert self.old.temporary (temporary_bytes kept) tt }) }
+        ensures done { OnOk result (self.new
+            ≡ record self.old { temporary = finite.insert self.old.temporary (temporary_bytes kept) tt }) }
         ensures had { IfOk result (λ had. had ≡ finite.contains_key self.old.temporary (temporary_bytes kept)) }
         ensures failed { OnErr result (self.new ≡ self.old) }
     {

@@ -56,7 +56,9 @@ pub fn read<S: Alter>(
     ensures frame { LeftAsItWas S.Store conn.old conn.new }
     ensures cause { FailsInReads S.Store conn.old conn.new result }
     ensures reported { HasCleanDisk (state S.Store conn.new) → IfOk result
-        (λ o. MatchOption o ((dir : List ℕ) → IsTrue (is_store_dir dir) → ¬ ((contents_of (state S.Store conn.old).now).meta ≡ settings schema dir)) (λ d. IsTrue (is_store_dir d) × ((contents_of (state S.Store conn.old).now).meta ≡ settings schema d))) }
+        (λ o. MatchOption o ((dir : List ℕ) → IsTrue (is_store_dir dir)
+        → ¬ ((contents_of (state S.Store conn.old).now).meta ≡ settings schema dir))
+        (λ d. IsTrue (is_store_dir d) × ((contents_of (state S.Store conn.old).now).meta ≡ settings schema d))) }
     ensures unchanged { HasCleanDisk (state S.Store conn.new) → OnOk result
         (IsUnchanged (state S.Store conn.old) (state S.Store conn.new)) }
 {

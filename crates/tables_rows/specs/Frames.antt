@@ -19,7 +19,7 @@ module _ {S : Type 0} (g : Ghosts S) where
     pub alone : old.in_transaction ≡ false
     pub ready : HasCleanDisk (state g old) → IsTrue (state g old).is_open → IsReady (state g old)
 
-  -- It ends outside a transaction, whether it succeeds or fails. The connection shows what it showed, unless a fault has shut it, and is as ready as before. A crash leaves what it could leave before.
+  -- A read ends outside a transaction, whether it succeeds or fails. The connection shows what it showed, unless a fault has shut it, and is as ready as before. A crash leaves what it could leave before.
   pub record LeftAsItWas (old new : Held S) : Type 0 where
     pub alone : new.in_transaction ≡ false
     pub same : HasCleanDisk (state g new) → KeepsShown (state g old) (state g new)
@@ -36,7 +36,7 @@ module _ {S : Type 0} (g : Ghosts S) where
   abbrev pub IsInside : MutBor (Held S) → Type 0
   IsInside old = HasCleanDisk (state g old.now) → IsUnderWay (state g old.now)
 
-  -- It is the same transaction, and where it fails nothing is committed. A crash leaves what it could leave before.
+  -- A write stays in its transaction, and where it fails nothing is committed. A crash leaves what it could leave before.
   pub record StaysInside {T E : Type 0} (old new : MutBor (Held S)) (result : Result T E) : Type 0 where
     pub same_reference : new.ghost_name ≡ old.ghost_name
     pub failed : HasCleanDisk (state g new.now) → OnErr result (KeepsCommit (state g old.now) (state g new.now))

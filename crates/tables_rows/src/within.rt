@@ -50,7 +50,8 @@ pub(crate) fn select<S: Alter, T: Entry>(
         × AllZip T.is_shown rows all.items) }
     ensures rises { IfOk result (λ all. AllAdjacentBelow (λ x y. true ≡ T.is_below x y) all.items (length all.items)) }
     ensures cause { HasCleanDisk (state S.Store tx.new.conn.now) → IfErr result
-        (λ f. IsQueryFailure text.now (bound params.now) (state S.Store tx.old.conn.now) (state S.Store tx.new.conn.now) f
+        (λ f. IsQueryFailure text.now (bound params.now) (state S.Store tx.old.conn.now) (state S.Store tx.new.conn.now)
+        f
         ⊎ ((rows : List Values)
         × HasBegunWith text.now (bound params.now) (state S.Store tx.old.conn.now) (state S.Store tx.new.conn.now) rows
         × ((f ≡ Memory) ⊎ ((f ≡ Disk) × IsAmiss T.is_legible T.is_shown T.is_below rows)))) }

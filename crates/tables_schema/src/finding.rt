@@ -28,7 +28,8 @@ fn next_are_intact(schema: &Schema) -> bool
 }
 
 fn last_are_intact(schema: &Schema) -> bool
-    ensures { IsTrue result ↔ IsIntact schema.now profile × IsIntact schema.now generation × IsIntact schema.now runtime }
+    ensures { IsTrue result
+        ↔ IsIntact schema.now profile × IsIntact schema.now generation × IsIntact schema.now runtime }
 {
     profile_is_intact(schema) && generation_is_intact(schema) && runtime_is_intact(schema)
 }

@@ -65,7 +65,9 @@ fn are_apart(tables: &[Table], name: &[u8], tree: u32) -> bool
 
 /// Whether it is no unique index of the table, or that of its key.
 fn is_key(index: &Index, tree: u32, key: &[usize]) -> bool
-    ensures { result ≡ (not (index.now.is_unique && (index.now.table == tree)) || (bytes_eq index.now.columns key.now && (index.now.order.digits == 0))) }
+    ensures { result
+        ≡ (not (index.now.is_unique && (index.now.table == tree))
+        || (bytes_eq index.now.columns key.now && (index.now.order.digits == 0))) }
 {
     if index.is_unique && index.table == tree {
         return same_places(index.columns.as_slice(), key) && index.order.digits == 0;
@@ -75,7 +77,9 @@ fn is_key(index: &Index, tree: u32, key: &[usize]) -> bool
 
 /// Whether each unique index of the table is that of its key.
 fn are_keys(indexes: &[Index], tree: u32, key: &[usize]) -> bool
-    ensures { result ≡ list_all (λ i. not (i.is_unique && (i.table == tree)) || (bytes_eq i.columns key.now && (i.order.digits == 0))) indexes.now }
+    ensures { result ≡ list_all
+        (λ i. not (i.is_unique && (i.table == tree)) || (bytes_eq i.columns key.now && (i.order.digits == 0)))
+        indexes.now }
 {
     match indexes {
         [] => true,
@@ -91,7 +95,9 @@ fn is_first(
     columns: &[Expected<'_>],
     key: &[usize],
 ) -> bool
-    ensures { IsTrue result ↔ find (λ t. t.tree == tree) tables.now ≡ Some (record (strict name.now (map expected_column columns.now) key.now) { tree = tree }) }
+    ensures { IsTrue result
+        ↔ find (λ t. t.tree == tree) tables.now
+        ≡ Some (record (strict name.now (map expected_column columns.now) key.now) { tree = tree }) }
 {
     match tables {
         [] => false,

@@ -27,8 +27,10 @@ pub enum Recognised {
 
 /// By which schema the store's tables are there, where the nine are; `Other` where the further ones make none.
 fn by_further(schema: &Shown) -> Recognised
-    ensures first { result ≡ Tables V1 ↔ IsFree schema.now piece.name × IsFree schema.now temp_root.name × (lacks_sequence schema.now ≡ false) }
-    ensures second { result ≡ Tables V2 ↔ IsIntact schema.now piece × IsFree schema.now temp_root.name × (lacks_sequence schema.now ≡ false) }
+    ensures first { result ≡ Tables V1
+        ↔ IsFree schema.now piece.name × IsFree schema.now temp_root.name × (lacks_sequence schema.now ≡ false) }
+    ensures second { result ≡ Tables V2
+        ↔ IsIntact schema.now piece × IsFree schema.now temp_root.name × (lacks_sequence schema.now ≡ false) }
     ensures third { result ≡ Tables V3 ↔ IsIntact schema.now piece × IsIntact schema.now temp_root }
     ensures some { result ≢ Nothing }
 {

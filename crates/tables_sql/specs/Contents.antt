@@ -171,7 +171,7 @@ map_of R kind entry rows = finite.from_entries (map entry (filter kind rows))
 abbrev pub rows_named : Database → Bytes → List Row
 rows_named db name = db.trees (tree_named db.schema name)
 
--- the same, where there may be no such table
+-- the rows of a table that may be missing
 unfoldable pub rows_if_any : Database → Bytes → List Row
 rows_if_any db name = unwrap_or (option_map (λ t. db.trees t.tree) (find (λ t. same_name t.name name) db.schema.tables)) []
 

@@ -21,15 +21,18 @@ use std::alloc::Global;
 
 /// What is made of the rows of an answer, which it is given one at a time.
 pub trait Sink: Sized + Drop {
-    // It was made of these rows.
+    // The sink was made of these rows.
     ghost is_of: { List (List Value) → Self → Type 0 };
 
-    // It takes no answer that begins with these rows.
+    // The sink takes no answer that begins with these rows.
     ghost is_amiss: { List (List Value) → Type 0 };
 
     fn take(&mut self, row: &Row) -> Result<(), Failure>
-        ensures loaded { OnOk result ((rows : List (List Value)) → is_of rows self.old → is_of (rows ++ row.now ∷ []) self.new) }
-        ensures refused { IfErr result (λ f. (f ≡ Memory) ⊎ ((f ≡ Disk) × ((rows : List (List Value)) → is_of rows self.old → is_amiss (rows ++ row.now ∷ [])))) };
+        ensures loaded { OnOk result ((rows : List (List Value)) → is_of rows self.old
+            → is_of (rows ++ row.now ∷ []) self.new) }
+        ensures refused { IfErr result
+            (λ f. (f ≡ Memory)
+            ⊎ ((f ≡ Disk) × ((rows : List (List Value)) → is_of rows self.old → is_amiss (rows ++ row.now ∷ [])))) };
 }
 
 /// HasBegunWith the rows that a query shows to `sink`, one at a time, up to the first that it doesn't take. Nothing changes.
@@ -42,9 +45,17 @@ pub fn read_into<S: Alter, T: Sink>(
     requires reads { IsSelect text.now }
     requires empty { T.is_of [] sink }
     ensures alone { conn.old.in_transaction ≡ false → conn.new.in_transaction ≡ false }
-    ensures shown { HasCleanDisk (state S.Store conn.new) → IfOk result (λ it. (rows : List Values) × IsAnswered text.now (bound params.now) (state S.Store conn.old) (state S.Store conn.new) rows × T.is_of rows it) }
-    ensures cause { HasCleanDisk (state S.Store conn.new) → IfErr result (λ f. IsQueryFailure text.now (bound params.now) (state S.Store conn.old) (state S.Store conn.new) f
-        ⊎ ((rows : List Values) × HasBegunWith text.now (bound params.now) (state S.Store conn.old) (state S.Store conn.new) rows × ((f ≡ Memory) ⊎ ((f ≡ Disk) × T.is_amiss rows)))) }
+    ensures shown { HasCleanDisk (state S.Store conn.new)
+        → IfOk result
+        (λ it. (rows : List Values)
+        × IsAnswered text.now (bound params.now) (state S.Store conn.old) (state S.Store conn.new) rows
+        × T.is_of rows it) }
+    ensures cause { HasCleanDisk (state S.Store conn.new)
+        → IfErr result
+        (λ f. IsQueryFailure text.now (bound params.now) (state S.Store conn.old) (state S.Store conn.new) f
+        ⊎ ((rows : List Values)
+        × HasBegunWith text.now (bound params.now) (state S.Store conn.old) (state S.Store conn.new) rows
+        × ((f ≡ Memory) ⊎ ((f ≡ Disk) × T.is_amiss rows)))) }
     ensures survives { Survives (state S.Store conn.old) (state S.Store conn.new) (λ _. ⊥) }
 {
     let mut rows = conn.query(text, params)?;
@@ -67,11 +78,22 @@ pub fn select<S: Alter, T: Entry>(
 ) -> Result<Vec<T>, Failure>
     requires { IsSelect text.now }
     ensures alone { conn.old.in_transaction ≡ false → conn.new.in_transaction ≡ false }
-    ensures shown { HasCleanDisk (state S.Store conn.new) → IfOk result (λ all. (rows : List Values) × IsAnswered text.now (bound params.now) (state S.Store conn.old) (state S.Store conn.new) rows × AllZip T.is_shown rows all.items) }
-    ensures rises { HasCleanDisk (state S.Store conn.new) → IfOk result (λ all. AllAdjacentBelow (λ x y. true ≡ T.is_below x y) all.items (length all.items)) }
-    ensures cause { HasCleanDisk (state S.Store conn.new) → IfErr result (λ f. IsQueryFailure text.now (bound params.now) (state S.Store conn.old) (state S.Store conn.new) f
-        ⊎ ((rows : List Values) × HasBegunWith text.now (bound params.now) (state S.Store conn.old) (state S.Store conn.new) rows × ((f ≡ Memory) ⊎ ((f ≡ Disk) × IsAmiss T.is_legible T.is_shown T.is_below rows)))) }
-    ensures same { HasCleanDisk (state S.Store conn.new) → (IsTrue (state S.Store conn.old).is_open → (state S.Store conn.old).now ≡ (state S.Store conn.old).committed) → KeepsShown (state S.Store conn.old) (state S.Store conn.new) }
+    ensures shown { HasCleanDisk (state S.Store conn.new)
+        → IfOk result
+        (λ all. (rows : List Values)
+        × IsAnswered text.now (bound params.now) (state S.Store conn.old) (state S.Store conn.new) rows
+        × AllZip T.is_shown rows all.items) }
+    ensures rises { HasCleanDisk (state S.Store conn.new)
+        → IfOk result (λ all. AllAdjacentBelow (λ x y. true ≡ T.is_below x y) all.items (length all.items)) }
+    ensures cause { HasCleanDisk (state S.Store conn.new)
+        → IfErr result
+        (λ f. IsQueryFailure text.now (bound params.now) (state S.Store conn.old) (state S.Store conn.new) f
+        ⊎ ((rows : List Values)
+        × HasBegunWith text.now (bound params.now) (state S.Store conn.old) (state S.Store conn.new) rows
+        × ((f ≡ Memory) ⊎ ((f ≡ Disk) × IsAmiss T.is_legible T.is_shown T.is_below rows)))) }
+    ensures same { HasCleanDisk (state S.Store conn.new)
+        → (IsTrue (state S.Store conn.old).is_open → (state S.Store conn.old).now ≡ (state S.Store conn.old).committed)
+        → KeepsShown (state S.Store conn.old) (state S.Store conn.new) }
     ensures survives { Survives (state S.Store conn.old) (state S.Store conn.new) (λ _. ⊥) }
 {
     read_into(conn, text, params, Vec::new(alloc))

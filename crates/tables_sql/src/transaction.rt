@@ -13,7 +13,8 @@ use sqlite::{Alter, Connection, Transaction};
 /// Begins a transaction. Dropped before `commit`, it rolls back.
 pub fn begin<S: Alter>(conn: &mut Connection<S>) -> Transaction<'_, S>
     requires alone { conn.old.in_transaction ≡ false }
-    requires ready { HasCleanDisk (state S.Store conn.old) → IsTrue (state S.Store conn.old).is_open → IsReady (state S.Store conn.old) }
+    requires ready { HasCleanDisk (state S.Store conn.old) → IsTrue (state S.Store conn.old).is_open
+        → IsReady (state S.Store conn.old) }
     ensures same_reference { result.conn.ghost_name ≡ conn.entry.ghost_name }
     ensures begun { result.conn.now ≡ record conn.old { in_transaction = true } }
     ensures under_way { HasCleanDisk (state S.Store result.conn.now) → IsUnderWay (state S.Store result.conn.now) }
@@ -25,12 +26,17 @@ pub fn begin<S: Alter>(conn: &mut Connection<S>) -> Transaction<'_, S>
 pub fn commit<S: Alter>(tx: Transaction<'_, S>) -> Result<(), Failure>
     requires { HasCleanDisk (state S.Store tx.conn.now) → IsUnderWay (state S.Store tx.conn.now) }
     ensures ended { tx.exit.0.now.in_transaction ≡ false }
-    ensures done { HasCleanDisk (state S.Store tx.exit.0.now) → OnOk result (IsCommitted (state S.Store tx.entry.conn.now) (state S.Store tx.exit.0.now)) }
-    ensures cause { HasCleanDisk (state S.Store tx.exit.0.now) → IfErr result (FailsToCommit (state S.Store tx.entry.conn.now) (state S.Store tx.exit.0.now)) }
-    ensures failed { HasCleanDisk (state S.Store tx.exit.0.now) → OnErr result (IsRolledBack (state S.Store tx.entry.conn.now) (state S.Store tx.exit.0.now)) }
-    ensures survives { Survives (state S.Store tx.entry.conn.now) (state S.Store tx.exit.0.now) (λ db. db ≡ (state S.Store tx.entry.conn.now).now.trees) }
+    ensures done { HasCleanDisk (state S.Store tx.exit.0.now)
+        → OnOk result (IsCommitted (state S.Store tx.entry.conn.now) (state S.Store tx.exit.0.now)) }
+    ensures cause { HasCleanDisk (state S.Store tx.exit.0.now)
+        → IfErr result (FailsToCommit (state S.Store tx.entry.conn.now) (state S.Store tx.exit.0.now)) }
+    ensures failed { HasCleanDisk (state S.Store tx.exit.0.now)
+        → OnErr result (IsRolledBack (state S.Store tx.entry.conn.now) (state S.Store tx.exit.0.now)) }
+    ensures survives { Survives (state S.Store tx.entry.conn.now) (state S.Store tx.exit.0.now)
+        (λ db. db ≡ (state S.Store tx.entry.conn.now).now.trees) }
     ensures durable { IsTrue (state S.Store tx.exit.0.now).is_open → IsDurable (state S.Store tx.exit.0.now) }
-    ensures leaves { Survives (state S.Store tx.entry.conn.now) (state S.Store tx.exit.0.now) (λ db. Leaves (state S.Store tx.entry.conn.now).now db (contents_of (state S.Store tx.entry.conn.now).now)) }
+    ensures leaves { Survives (state S.Store tx.entry.conn.now) (state S.Store tx.exit.0.now)
+        (λ db. Leaves (state S.Store tx.entry.conn.now).now db (contents_of (state S.Store tx.entry.conn.now).now)) }
 {
     tx.commit()?;
     Ok(())

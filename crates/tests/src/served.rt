@@ -9,10 +9,10 @@ use std::test::Fail;
 use store::Store;
 use wire::{WireError, serve};
 
-/// It lists the paths: there are none.
+/// A listing of the paths: there are none.
 const FIRST: &[u8] = b"GET /paths HTTP/1.1\r\nstore-user: ann\r\n\r\n";
 
-/// It adds a text.
+/// An add of a text.
 const SECOND: &[u8] =
     b"POST /text HTTP/1.1\r\nstore-user: ann\r\ncontent-length: 10\r\n\r\nname: a\n\nx";
 

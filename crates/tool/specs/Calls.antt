@@ -39,11 +39,11 @@ AnswersIn answered ask dir c input w = GivesUp (LosesInput ask dir c input) w �
 
 -- ---- how a request is answered
 
--- it may have a reply in this world, and that reply is written
+-- a reply that a step of this world may give is written
 abbrev pub AnswersStep : Settings → World → Caller → Written → Request → Type 0
 AnswersStep s world c w q = (reply : Reply) × (next : World) × Step s world c q reply next × IsPrinted s.store_dir reply w
 
--- It is served over tables, and the reply is written: of each world of the tables before, a step to one of the tables then. What is
+-- A request is served over tables, and the reply is written: of each world of the tables before, a step to one of the tables then. What is
 -- served may be another request whose every step is one of this request.
 pub record Serves {S : Type 0} (g : Ghosts S) (s : Settings) (t : Kept S) (c : Caller) (w : Written) (q : Request) : Type 0 where
   pub made : Request

@@ -31,12 +31,12 @@ AnswersCause dir (Lacks f) w = IsPrinted dir (failed (failure_view f)) w
 
 -- By what the file held that is opened. Which that is no code reads, so what is said here holds whatever it was.
 module _ {S : Type 0} {host : calls.Ghosts Host} (start : Ghosts S) (g : disk.Ghosts (Modelled Host S host start)) where
-  -- it was opened as the store of the directory, and the work is done over its tables
+  -- the file was opened as the store of the directory, and the work is done over its tables
   abbrev pub DoesOpened : Doing
   DoesOpened s d console = (t : Kept (FileStore (Modelled Host S host start) g)) × Opens (image_at start) s.store_dir t
       × DoesOver over_files s t d console
 
-  -- it isn't opened, and its cause is reported
+  -- the file isn't opened, and the cause is reported
   abbrev pub AnswersUnopened : List ℕ → Written → Type 0
   AnswersUnopened dir w = (e : Unopened (FileStore (Modelled Host S host start) g) (Modelled Host S host start) g)
       × IsUnopened (image_at start) dir e × AnswersCause dir (cause_of e) w

@@ -149,11 +149,11 @@ IsAsked fails asks (Err (Failed Memory)) = ⊤
 IsAsked fails asks (Err (Failed Input)) = fails
 IsAsked fails asks (Err (Failed _)) = ⊥
 
--- the same by the bytes of the input: some bytes, where it doesn't say them
+-- what is asked by the bytes of the input: by some bytes, where it doesn't say them
 abbrev pub IsAskedOver : Type 0 → (List ℕ → Result Request Refusal → Type 0) → Option (List ℕ) → Result Made Stop → Type 0
 IsAskedOver fails ask None made = (bytes : List ℕ) × IsAsked fails (ask bytes) made
 IsAskedOver fails ask (Some bytes) made = IsAsked fails (ask bytes) made
 
--- the same of all that is asked of a store
+-- what a subcommand asks of a store, by its input
 abbrev pub IsAskedBy : Ask → List ℕ → Caller → Stream → Result Made Stop → Type 0
 IsAskedBy ask dir c input made = IsAskedOver (LosesInput ask dir c input) (Demands ask dir c) input.old made

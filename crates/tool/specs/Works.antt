@@ -25,7 +25,7 @@ use Rattle.tool.specs.Serving.{ServesBy}
 pub data OnStore : Type 0 where
   -- a caller asks something of it
   calls : Caller → Ask → OnStore
-  -- it is served over HTTP
+  -- the store is served over HTTP
   serves : ServeArguments → OnStore
 
 -- the work of the code, seen so; none where the subcommand asks nothing of a store
@@ -38,12 +38,12 @@ abbrev pub reads_whole : Work → Bool
 reads_whole (work.Call c t) = reads_all (asked_view t.now)
 reads_whole (work.Serve a) = true
 
--- it is done over tables
+-- work that is done over tables
 abbrev pub DoesOver : {S : Type 0} → Ghosts S → Settings → Kept S → OnStore → Console → Type 0
 DoesOver g s t (calls c ask) console = AnswersIn (Serves g s t c console.written) ask s.store_dir c console.input console.written
 DoesOver g s t (serves a) console = ServesBy (message.Answers g) a console (record { tables = t; settings = s })
 
--- it is done in a world
+-- work that is done in a world
 abbrev pub DoesIn : Settings → World → OnStore → Console → Type 0
 DoesIn s w (calls c ask) console = AnswersIn (AnswersStep s w c console.written) ask s.store_dir c console.input console.written
 DoesIn s w (serves a) console = ServesBy (AnswersFrom s) a console w
@@ -58,7 +58,7 @@ DoesNew s d console =
     (DoesIn s no_world d console × ((t : Kept MemStore) × HasWorld over_memory t no_world × DoesOver over_memory s t d console))
     ⊎ IsPrinted s.store_dir (failed memory) console.written
 
--- it is done with the store of the file, if one is named, and else with one in memory
+-- work that is done with the store of the file, if one is named, and else with one in memory
 unfoldable pub DoesWith : Doing → Option Text → Doing
 DoesWith of_file None s d console = DoesNew s d console
 DoesWith of_file (Some file) s d console = of_file s d console

@@ -36,7 +36,8 @@ fn parse_arguments(
 /// A text object with the contents that came is to be added; or why none came.
 fn text_of(object: Object, came: Result<Vec<u8>, Stop>) -> Result<Request, Stop>
     ensures came { IfOk came
-        (λ bytes. IsOkAnd result (λ q. request_view q ≡ asked.add_text object.name object.references.items bytes.items)) }
+        (λ bytes. IsOkAnd result
+        (λ q. request_view q ≡ asked.add_text object.name object.references.items bytes.items)) }
     ensures stopped { IfErr came (λ stop. result ≡ Err stop) }
 {
     let contents = came?;
@@ -55,8 +56,11 @@ pub(crate) fn add_text<R: Read>(
     input: &mut R,
 ) -> Result<Request, Stop>
     ensures asked { IsAskedOver
-        (InputFails (is_ok (on_object dir.now (object_view object.now) (λ name refs bytes. asked.add_text name refs bytes))) most_of_contents (change_of R.remaining input.old input.new))
-        (λ bytes. Gives (with_bytes bytes (on_object dir.now (object_view object.now) (λ name refs bytes. asked.add_text name refs bytes))))
+        (InputFails (is_ok (on_object dir.now (object_view object.now)
+        (λ name refs bytes. asked.add_text name refs bytes))) most_of_contents
+        (change_of R.remaining input.old input.new))
+        (λ bytes. Gives (with_bytes bytes (on_object dir.now (object_view object.now)
+        (λ name refs bytes. asked.add_text name refs bytes))))
         (R.remaining input.old) result }
     ensures reads { ConsumesAtMost max_prefix (R.remaining input.old) (R.remaining input.new) }
 {
@@ -67,7 +71,8 @@ pub(crate) fn add_text<R: Read>(
 /// A source object with the archive that came is to be added; or why none came.
 fn source_of(object: Object, came: Result<Intake, Stop>) -> Result<Request, Stop>
     ensures came { IfOk came
-        (λ nar. IsOkAnd result (λ q. request_view q ≡ asked.add_source object.name object.references.items (bytes_in nar))) }
+        (λ nar. IsOkAnd result
+        (λ q. request_view q ≡ asked.add_source object.name object.references.items (bytes_in nar))) }
     ensures stopped { IfErr came (λ stop. result ≡ Err stop) }
 {
     let nar = came?;
@@ -86,8 +91,10 @@ pub(crate) fn add_source<R: Read>(
     input: &mut R,
 ) -> Result<Request, Stop>
     ensures asked { IsAskedOver
-        (InputFails (is_ok (on_object dir.now (object_view object.now) (λ name refs bytes. asked.add_source name refs bytes))) max_prefix (change_of R.remaining input.old input.new))
-        (λ bytes. Gives (with_bytes bytes (on_object dir.now (object_view object.now) (λ name refs bytes. asked.add_source name refs bytes))))
+        (InputFails (is_ok (on_object dir.now (object_view object.now)
+        (λ name refs bytes. asked.add_source name refs bytes))) max_prefix (change_of R.remaining input.old input.new))
+        (λ bytes. Gives (with_bytes bytes (on_object dir.now (object_view object.now)
+        (λ name refs bytes. asked.add_source name refs bytes))))
         (R.remaining input.old) result }
     ensures reads { ConsumesAtMost max_prefix (R.remaining input.old) (R.remaining input.new) }
 {

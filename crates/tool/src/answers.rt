@@ -115,7 +115,8 @@ fn answer_alone<F: Start, R: Read, W: Write, E: Write>(
     errors: &mut E,
 ) -> u8
     requires { asks (asked.asked_view line.now.task) ≡ None }
-    ensures answer { AnswersAlone (DoesFile F.Start ⟦<FileFrom<F> as Disk>⟧) config.now (line_view line.now) (asked.asked_view line.now.task)
+    ensures answer { AnswersAlone (DoesFile F.Start ⟦<FileFrom<F> as Disk>⟧) config.now (line_view line.now)
+        (asked.asked_view line.now.task)
         (record {
           input = change_of R.remaining input.old input.new;
           written = record {
@@ -124,7 +125,8 @@ fn answer_alone<F: Start, R: Read, W: Write, E: Write>(
             status = result;
           };
         }) }
-    ensures reads { reads_all (asked.asked_view line.now.task) ≡ false → ConsumesAtMost max_prefix (R.remaining input.old) (R.remaining input.new) }
+    ensures reads { reads_all (asked.asked_view line.now.task) ≡ false
+        → ConsumesAtMost max_prefix (R.remaining input.old) (R.remaining input.new) }
 {
     let alloc = rt.alloc();
     match &line.task {
@@ -175,7 +177,8 @@ pub fn answer<F: Start, R: Read, W: Write, E: Write>(
             status = result;
           };
         }) }
-    ensures reads { reads_all (asked.asked_view line.now.task) ≡ false → ConsumesAtMost max_prefix (R.remaining input.old) (R.remaining input.new) }
+    ensures reads { reads_all (asked.asked_view line.now.task) ≡ false
+        → ConsumesAtMost max_prefix (R.remaining input.old) (R.remaining input.new) }
 {
     if is_asked(&line.task) {
         return call(rt, start, config, line, input, output, errors);

@@ -47,7 +47,8 @@ pub(crate) fn call_over<S: Alter + Drop, R: Read, W: Write, E: Write>(
           errors = change_of E.contents errors.old errors.new;
           status = result;
         }) }
-    ensures reads { reads_all (asked_view task.now) ≡ false → ConsumesAtMost max_prefix (R.remaining input.old) (R.remaining input.new) }
+    ensures reads { reads_all (asked_view task.now) ≡ false
+        → ConsumesAtMost max_prefix (R.remaining input.old) (R.remaining input.new) }
 {
     match request(alloc, store_dir(&config), caller, task, input) {
         Ok(request) => {
@@ -84,7 +85,8 @@ pub(crate) fn call<F: Start, R: Read, W: Write, E: Write>(
             status = result;
           };
         }) }
-    ensures reads { reads_all (asked_view line.now.task) ≡ false → ConsumesAtMost max_prefix (R.remaining input.old) (R.remaining input.new) }
+    ensures reads { reads_all (asked_view line.now.task) ≡ false
+        → ConsumesAtMost max_prefix (R.remaining input.old) (R.remaining input.new) }
 {
     let config = match settings(rt.alloc(), config) {
         Ok(config) => config,

@@ -15,7 +15,8 @@ pub(crate) fn delete_paths(
     dir: &StoreDir,
     deletion: &DeleteArguments<'_>,
 ) -> Result<Request, Stop>
-    ensures { IsAsked ⊥ (Gives (on_paths dir.now (texts deletion.now.paths.items) (λ named. asked.delete named deletion.now.ignore_liveness))) result }
+    ensures { IsAsked ⊥ (Gives (on_paths dir.now (texts deletion.now.paths.items)
+        (λ named. asked.delete named deletion.now.ignore_liveness))) result }
 {
     let named = parse_references(alloc, dir, deletion.paths.as_slice())?;
     Ok(Request::Delete {

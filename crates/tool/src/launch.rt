@@ -75,7 +75,8 @@ pub fn run<F: Start, S: AsStr, R: Read, W: Write, E: Write>(
           errors = change_of E.contents errors.old errors.new;
           status = result;
         }) }
-    ensures reads { ((line : Line) → IsLine (map S.text words.now) line → reads_all line.asked ≡ false) → ConsumesAtMost max_prefix (R.remaining input.old) (R.remaining input.new) }
+    ensures reads { ((line : Line) → IsLine (map S.text words.now) line → reads_all line.asked ≡ false)
+        → ConsumesAtMost max_prefix (R.remaining input.old) (R.remaining input.new) }
 {
     match command(rt.alloc(), words) {
         Ok(line) => execute(rt, start, &line, input, output, errors),
@@ -238,8 +239,12 @@ fn explain_by<W: Write, E: Write>(
 /// assert_eq!(rt; errors.as_slice(), b"failed: memory\n".as_slice());
 /// ```
 pub fn refuse_words<E: Write>(fault: &io::Error, errors: &mut E) -> u8
-    ensures memory { error_kind fault.now ≡ ErrorKind.OutOfMemory → Says (Stop.Failed Failure.Memory) (record { writer = change_of E.contents errors.old errors.new; status = result }) }
-    ensures other { error_kind fault.now ≢ ErrorKind.OutOfMemory → (text : List ℕ) × Prints text 2 (record { writer = change_of E.contents errors.old errors.new; status = result }) }
+    ensures memory { error_kind fault.now ≡ ErrorKind.OutOfMemory
+        → Says (Stop.Failed Failure.Memory)
+        (record { writer = change_of E.contents errors.old errors.new; status = result }) }
+    ensures other { error_kind fault.now ≢ ErrorKind.OutOfMemory
+        → (text : List ℕ)
+        × Prints text 2 (record { writer = change_of E.contents errors.old errors.new; status = result }) }
 {
     if fault.kind() == ErrorKind::OutOfMemory {
         return say(Stop::Failed(Failure::Memory), errors);

@@ -56,7 +56,8 @@ pub(crate) fn set_root(
     caller: &Caller,
     root: &RootArguments<'_>,
 ) -> Result<Request, Stop>
-    ensures { IsAsked ⊥ (Gives (on_path dir.now root.now.path.now (spec.set_root root.now.kind caller.now root.now.name.now))) result }
+    ensures { IsAsked ⊥
+        (Gives (on_path dir.now root.now.path.now (spec.set_root root.now.kind caller.now root.now.name.now))) result }
 {
     let path = parse_reference(alloc, dir, root.path)?;
     Ok(root_at(alloc, caller, root, path)?)

@@ -35,7 +35,9 @@ fn set(
     profile: &ProfileArguments<'_>,
     path: StorePath,
 ) -> Result<Request, AllocError>
-    ensures { IfOk result (λ q. request_view q ≡ asked.set_profile (owner_of caller.now (optional_text profile.now.owner)) profile.now.name.now path) }
+    ensures { IfOk result
+        (λ q. request_view q
+        ≡ asked.set_profile (owner_of caller.now (optional_text profile.now.owner)) profile.now.name.now path) }
 {
     let (owner, name) = names(alloc, caller, profile)?;
     Ok(Request::SetProfile {
@@ -51,7 +53,9 @@ fn rollback(
     caller: &Caller,
     profile: &ProfileArguments<'_>,
 ) -> Result<Request, AllocError>
-    ensures { IfOk result (λ q. request_view q ≡ asked.rollback (owner_of caller.now (optional_text profile.now.owner)) profile.now.name.now) }
+    ensures { IfOk result
+        (λ q. request_view q
+        ≡ asked.rollback (owner_of caller.now (optional_text profile.now.owner)) profile.now.name.now) }
 {
     let (owner, name) = names(alloc, caller, profile)?;
     Ok(Request::Rollback {
@@ -67,7 +71,9 @@ fn switch(
     profile: &ProfileArguments<'_>,
     number: u32,
 ) -> Result<Request, AllocError>
-    ensures { IfOk result (λ q. request_view q ≡ asked.switch (owner_of caller.now (optional_text profile.now.owner)) profile.now.name.now number) }
+    ensures { IfOk result
+        (λ q. request_view q
+        ≡ asked.switch (owner_of caller.now (optional_text profile.now.owner)) profile.now.name.now number) }
 {
     let (owner, name) = names(alloc, caller, profile)?;
     Ok(Request::Switch {
@@ -84,7 +90,9 @@ fn delete(
     profile: &ProfileArguments<'_>,
     number: u32,
 ) -> Result<Request, AllocError>
-    ensures { IfOk result (λ q. request_view q ≡ asked.delete_generation (owner_of caller.now (optional_text profile.now.owner)) profile.now.name.now number) }
+    ensures { IfOk result
+        (λ q. request_view q
+        ≡ asked.delete_generation (owner_of caller.now (optional_text profile.now.owner)) profile.now.name.now number) }
 {
     let (owner, name) = names(alloc, caller, profile)?;
     Ok(Request::DeleteGeneration {
@@ -101,7 +109,9 @@ pub(crate) fn change_profile(
     caller: &Caller,
     profile: &ProfileArguments<'_>,
 ) -> Result<Request, Stop>
-    ensures { IsAsked ⊥ (Gives (spec.change_profile dir.now (owner_of caller.now (optional_text profile.now.owner)) profile.now.name.now (on_profile_view profile.now.action))) result }
+    ensures { IsAsked ⊥
+        (Gives (spec.change_profile dir.now (owner_of caller.now (optional_text profile.now.owner)) profile.now.name.now
+        (on_profile_view profile.now.action))) result }
 {
     match profile.action {
         ProfileAction::Set(text) => {

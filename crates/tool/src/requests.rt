@@ -67,8 +67,10 @@ pub(crate) fn request<R: Read>(
     input: &mut R,
 ) -> Result<Request, Stop>
     requires { IsSome (asks (asked_view task.now)) }
-    ensures asked { (ask : Ask) → asks (asked_view task.now) ≡ Some ask → IsAskedBy ask dir.now caller.now (change_of R.remaining input.old input.new) result }
-    ensures reads { reads_all (asked_view task.now) ≡ false → ConsumesAtMost max_prefix (R.remaining input.old) (R.remaining input.new) }
+    ensures asked { (ask : Ask) → asks (asked_view task.now) ≡ Some ask
+        → IsAskedBy ask dir.now caller.now (change_of R.remaining input.old input.new) result }
+    ensures reads { reads_all (asked_view task.now) ≡ false
+        → ConsumesAtMost max_prefix (R.remaining input.old) (R.remaining input.new) }
 {
     match task {
         Task::List => Ok(Request::List),

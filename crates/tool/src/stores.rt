@@ -36,7 +36,8 @@ fn in_memory<R: Read, W: Write, E: Write>(
             status = result;
           };
         }) }
-    ensures reads { reads_whole work.now ≡ false → ConsumesAtMost max_prefix (R.remaining input.old) (R.remaining input.new) }
+    ensures reads { reads_whole work.now ≡ false
+        → ConsumesAtMost max_prefix (R.remaining input.old) (R.remaining input.new) }
 {
     match Tables::open_in_memory(rt.alloc(), store_dir(&config)) {
         Ok(tables) => work_over(rt, config, tables, work, input, output, errors),
@@ -72,7 +73,8 @@ fn in_file<F: Start, R: Read, W: Write, E: Write>(
             status = result;
           };
         }) }
-    ensures reads { reads_whole work.now ≡ false → ConsumesAtMost max_prefix (R.remaining input.old) (R.remaining input.new) }
+    ensures reads { reads_whole work.now ≡ false
+        → ConsumesAtMost max_prefix (R.remaining input.old) (R.remaining input.new) }
 {
     match tables::open(rt, path, store_dir(&config), start) {
         Ok(tables) => work_over(rt, config, tables, work, input, output, errors),
@@ -109,7 +111,8 @@ pub(crate) fn with_tables<F: Start, R: Read, W: Write, E: Write>(
             status = result;
           };
         }) }
-    ensures reads { reads_whole work.now ≡ false → ConsumesAtMost max_prefix (R.remaining input.old) (R.remaining input.new) }
+    ensures reads { reads_whole work.now ≡ false
+        → ConsumesAtMost max_prefix (R.remaining input.old) (R.remaining input.new) }
 {
     match db {
         Some(path) => in_file(rt, start, path, config, work, input, output, errors),

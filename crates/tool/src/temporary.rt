@@ -21,7 +21,9 @@ fn add(
     session: &TempArguments<'_>,
     path: StorePath,
 ) -> Result<Request, AllocError>
-    ensures { IfOk result (λ q. request_view q ≡ asked.add_temp (owner_of caller.now (optional_text session.now.owner)) session.now.session path) }
+    ensures { IfOk result
+        (λ q. request_view q
+        ≡ asked.add_temp (owner_of caller.now (optional_text session.now.owner)) session.now.session path) }
 {
     let owner = owner(alloc, caller, session.owner)?;
     Ok(Request::AddTemp {
@@ -33,7 +35,9 @@ fn add(
 
 /// The request that ends a session.
 fn end(alloc: Global, caller: &Caller, session: &TempArguments<'_>) -> Result<Request, AllocError>
-    ensures { IfOk result (λ q. request_view q ≡ asked.end_session (owner_of caller.now (optional_text session.now.owner)) session.now.session) }
+    ensures { IfOk result
+        (λ q. request_view q
+        ≡ asked.end_session (owner_of caller.now (optional_text session.now.owner)) session.now.session) }
 {
     let owner = owner(alloc, caller, session.owner)?;
     Ok(Request::EndSession {
@@ -49,7 +53,9 @@ pub(crate) fn change_session(
     caller: &Caller,
     session: &TempArguments<'_>,
 ) -> Result<Request, Stop>
-    ensures { IsAsked ⊥ (Gives (spec.change_session dir.now (owner_of caller.now (optional_text session.now.owner)) session.now.session (on_session_view session.now.action))) result }
+    ensures { IsAsked ⊥
+        (Gives (spec.change_session dir.now (owner_of caller.now (optional_text session.now.owner)) session.now.session
+        (on_session_view session.now.action))) result }
 {
     match session.action {
         TempAction::Add(text) => {

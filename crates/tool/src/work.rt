@@ -58,7 +58,8 @@ pub(crate) fn work_over<S: Alter + Drop, R: Read, W: Write, E: Write>(
             status = result;
           };
         }) }
-    ensures reads { reads_whole work.now ≡ false → ConsumesAtMost max_prefix (R.remaining input.old) (R.remaining input.new) }
+    ensures reads { reads_whole work.now ≡ false
+        → ConsumesAtMost max_prefix (R.remaining input.old) (R.remaining input.new) }
 {
     match work {
         Work::Call(caller, task) => call_over(

@@ -9,7 +9,7 @@ use Rattle.tool_pure.specs.declared.stops.Stop.TheVariants.{Failed}
 abbrev pub Opened : Type 0
 Opened = Option (Result (Option (List ℕ)) Error)
 
--- the same of a file of the code, by the bytes that it has
+-- a file of the code as what was opened, by the bytes that it has
 abbrev pub opened_by : {R : Type 0} → (R → Option (List ℕ)) → Option (Result R Error) → Opened
 opened_by remaining None = None
 opened_by remaining (Some (Ok input)) = Some (Ok (remaining input))

@@ -17,7 +17,9 @@ pub const MOST_OF_ARCHIVE: usize = 16_777_224;
 pub(crate) fn read_archive(alloc: Global, bytes: &[u8]) -> Result<Node<'_>, Stop>
     ensures ok { IfOk result (λ node. outcome_of bytes.now ≡ Ok (tree_of node)) }
     ensures fits { IfOk result (λ node. length bytes.now ≤ 16777216) }
-    ensures err { IfErr result (λ e. (e ≡ Stop.Failed Failure.Memory) ⊎ ((text : Tree → List ℕ) → by_outcome (outcome_of bytes.now) text ≡ Err e)) }
+    ensures err { IfErr result
+        (λ e. (e ≡ Stop.Failed Failure.Memory)
+        ⊎ ((text : Tree → List ℕ) → by_outcome (outcome_of bytes.now) text ≡ Err e)) }
 {
     let node = nar::read(alloc, bytes)?;
     Ok(node)

@@ -32,7 +32,8 @@ fn file_text<R: Read + Drop>(alloc: Global, file: io::Result<R>) -> Result<Vec<u
     ensures text { IfOk file
         (λ input. IfOk result (λ text. IfSome (R.remaining input) (λ all. text.items ≡ take 1048577 all))) }
     ensures memory { IfOk file
-        (λ input. IfErr result (λ e. e ≡ Stop.Failed Failure.Memory → IfSome (R.remaining input) (λ all. 0 < length all))) }
+        (λ input. IfErr result
+        (λ e. e ≡ Stop.Failed Failure.Memory → IfSome (R.remaining input) (λ all. 0 < length all))) }
     ensures err { IfErr result (λ e. (e ≡ Stop.Failed Failure.Memory) ⊎ (e ≡ Stop.Failed Failure.File)) }
 {
     let mut input = match file {
@@ -60,9 +61,12 @@ pub fn config_text<R: Read + Drop>(
     ensures none { file ≡ None → IsOkAnd result (λ text. text.items ≡ []) }
     ensures unopened { IfSome file (λ opened. IfErr opened (λ fault. IsErrOf result (Stop.Failed Failure.File))) }
     ensures text { IfSome file
-        (λ opened. IfOk opened (λ input. IfOk result (λ text. IfSome (R.remaining input) (λ all. text.items ≡ take 1048577 all)))) }
+        (λ opened. IfOk opened
+        (λ input. IfOk result (λ text. IfSome (R.remaining input) (λ all. text.items ≡ take 1048577 all)))) }
     ensures memory { IfSome file
-        (λ opened. IfOk opened (λ input. IfErr result (λ e. e ≡ Stop.Failed Failure.Memory → IfSome (R.remaining input) (λ all. 0 < length all)))) }
+        (λ opened. IfOk opened
+        (λ input. IfErr result
+        (λ e. e ≡ Stop.Failed Failure.Memory → IfSome (R.remaining input) (λ all. 0 < length all)))) }
     ensures err { IfErr result (λ e. (e ≡ Stop.Failed Failure.Memory) ⊎ (e ≡ Stop.Failed Failure.File)) }
 {
     match file {

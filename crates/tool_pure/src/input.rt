@@ -23,8 +23,10 @@ pub fn read_input<R: Read>(alloc: Global, input: &mut R, most: usize) -> Result<
     ensures ok { IfOk result (λ bytes. IfSome (R.remaining input.old) (λ all. bytes.items ≡ take most all)) }
     ensures err { IfErr result (λ e. (e ≡ Stop.Failed Failure.Memory) ⊎ (e ≡ Stop.Failed Failure.Input)) }
     ensures reads { ConsumesAtMost most (R.remaining input.old) (R.remaining input.new) }
-    ensures input { IsErrOf result (Stop.Failed Failure.Input) → TakesFewer most (R.remaining input.old) (R.remaining input.new) }
-    ensures memory { IsErrOf result (Stop.Failed Failure.Memory) → TakesSome most (R.remaining input.old) (R.remaining input.new) }
+    ensures input { IsErrOf result (Stop.Failed Failure.Input)
+        → TakesFewer most (R.remaining input.old) (R.remaining input.new) }
+    ensures memory { IsErrOf result (Stop.Failed Failure.Memory)
+        → TakesSome most (R.remaining input.old) (R.remaining input.new) }
 {
     match read_at_most(alloc, input, most) {
         Ok(bytes) => Ok(bytes),
@@ -42,8 +44,10 @@ pub fn receive_archive<R: Read>(alloc: Global, input: &mut R) -> Result<Intake, 
     ensures bytes { IfOk result (λ nar. IsBytes (bytes_in nar)) }
     ensures err { IfErr result (λ e. (e ≡ Stop.Failed Failure.Memory) ⊎ (e ≡ Stop.Failed Failure.Input)) }
     ensures reads { ConsumesAtMost max_prefix (R.remaining input.old) (R.remaining input.new) }
-    ensures input { IsErrOf result (Stop.Failed Failure.Input) → TakesFewer max_prefix (R.remaining input.old) (R.remaining input.new) }
-    ensures memory { IsErrOf result (Stop.Failed Failure.Memory) → TakesSome max_prefix (R.remaining input.old) (R.remaining input.new) }
+    ensures input { IsErrOf result (Stop.Failed Failure.Input)
+        → TakesFewer max_prefix (R.remaining input.old) (R.remaining input.new) }
+    ensures memory { IsErrOf result (Stop.Failed Failure.Memory)
+        → TakesSome max_prefix (R.remaining input.old) (R.remaining input.new) }
 {
     let mut nar = Intake::new(alloc);
     match receive_at_most(input, MOST_OF_ARCHIVE, &mut nar) {
@@ -67,8 +71,10 @@ const UNBOUNDED: usize = usize::MAX;
 pub fn receive_input<R: Read, S: Sink>(input: &mut R, sink: &mut S) -> Result<(), Stop>
     ensures ok { OnOk result (IfSome (R.remaining input.old) (λ all. S.taken sink.new ≡ S.taken sink.old ++ all)) }
     ensures err { IfErr result (λ e. (e ≡ Stop.Failed Failure.Memory) ⊎ (e ≡ Stop.Failed Failure.Input)) }
-    ensures input { IsErrOf result (Stop.Failed Failure.Input) → TakesFewer UNBOUNDED (R.remaining input.old) (R.remaining input.new) }
-    ensures memory { IsErrOf result (Stop.Failed Failure.Memory) → TakesSome UNBOUNDED (R.remaining input.old) (R.remaining input.new) }
+    ensures input { IsErrOf result (Stop.Failed Failure.Input)
+        → TakesFewer UNBOUNDED (R.remaining input.old) (R.remaining input.new) }
+    ensures memory { IsErrOf result (Stop.Failed Failure.Memory)
+        → TakesSome UNBOUNDED (R.remaining input.old) (R.remaining input.new) }
 {
     match receive_at_most(input, UNBOUNDED, sink) {
         Ok(count) => {

@@ -22,7 +22,9 @@ const MAX_REFERENCES: usize = 4_096;
 /// The name of a store object.
 fn parse_name(alloc: Global, text: &str) -> Result<Name, Stop>
     ensures ok { IfOk result (λ n. (n ≡ text.now) × (is_store_name text.now ≡ true)) }
-    ensures err { IfErr result (λ e. (e ≡ Stop.Failed Failure.Memory) ⊎ ((e ≡ Stop.Refused Refusal.BadStoreName) × (is_store_name text.now ≡ false))) }
+    ensures err { IfErr result
+        (λ e. (e ≡ Stop.Failed Failure.Memory)
+        ⊎ ((e ≡ Stop.Refused Refusal.BadStoreName) × (is_store_name text.now ≡ false))) }
 {
     let name = Name::parse(alloc, text)?;
     Ok(name)
@@ -31,7 +33,9 @@ fn parse_name(alloc: Global, text: &str) -> Result<Name, Stop>
 /// The store path that a path text names.
 pub fn parse_reference(alloc: Global, dir: &StoreDir, text: &str) -> Result<StorePath, Stop>
     ensures ok { IfOk result (λ p. (p ≡ base_of dir.now text.now) × (is_path_text dir.now text.now ≡ true)) }
-    ensures err { IfErr result (λ e. (e ≡ Stop.Failed Failure.Memory) ⊎ ((e ≡ Stop.Refused Refusal.BadStorePath) × (is_path_text dir.now text.now ≡ false))) }
+    ensures err { IfErr result
+        (λ e. (e ≡ Stop.Failed Failure.Memory)
+        ⊎ ((e ≡ Stop.Refused Refusal.BadStorePath) × (is_path_text dir.now text.now ≡ false))) }
 {
     let path = StorePath::parse(alloc, dir, text)?;
     Ok(path)
@@ -43,8 +47,13 @@ pub fn parse_references<S: AsStr>(
     dir: &StoreDir,
     texts: &[S],
 ) -> Result<Vec<StorePath>, Stop>
-    ensures ok { IfOk result (λ v. (v.items ≡ map (λ t. base_of dir.now (S.text t)) texts.now) × (list_all (λ t. is_path_text dir.now (S.text t)) texts.now ≡ true)) }
-    ensures err { IfErr result (λ e. (e ≡ Stop.Failed Failure.Memory) ⊎ ((e ≡ Stop.Refused Refusal.BadStorePath) × (list_all (λ t. is_path_text dir.now (S.text t)) texts.now ≡ false))) }
+    ensures ok { IfOk result
+        (λ v. (v.items ≡ map (λ t. base_of dir.now (S.text t)) texts.now)
+        × (list_all (λ t. is_path_text dir.now (S.text t)) texts.now ≡ true)) }
+    ensures err { IfErr result
+        (λ e. (e ≡ Stop.Failed Failure.Memory)
+        ⊎ ((e ≡ Stop.Refused Refusal.BadStorePath)
+        × (list_all (λ t. is_path_text dir.now (S.text t)) texts.now ≡ false))) }
 {
     let mut paths = Vec::new(alloc);
     for text in texts {
@@ -57,7 +66,7 @@ pub fn parse_references<S: AsStr>(
 /// The name of a store object, and its references in the order given.
 #[derive(Drop)]
 pub struct Object {
-    /// Its name.
+    /// The name.
     pub name: Name,
     /// The paths of its references.
     pub references: Vec<StorePath>,
@@ -74,7 +83,8 @@ pub fn parse_object<S: AsStr>(
     name: &str,
     references: &[S],
 ) -> Result<Object, Stop>
-    ensures ok { IfOk result (λ o. (named_fault dir.now name.now (map S.text references.now) ≡ None) × (o.name ≡ name.now)
+    ensures ok { IfOk result
+        (λ o. (named_fault dir.now name.now (map S.text references.now) ≡ None) × (o.name ≡ name.now)
         × (o.references.items ≡ map (base_of dir.now) (map S.text references.now))) }
     ensures err { IfErr result (IsStopBy (named_fault dir.now name.now (map S.text references.now))) }
 {
@@ -90,7 +100,8 @@ fn parse_small<S: AsStr>(
     name: &str,
     references: &[S],
 ) -> Result<Object, Stop>
-    ensures ok { IfOk result (λ o. (object_fault dir.now name.now (map S.text references.now) ≡ None) × (o.name ≡ name.now)
+    ensures ok { IfOk result
+        (λ o. (object_fault dir.now name.now (map S.text references.now) ≡ None) × (o.name ≡ name.now)
         × (o.references.items ≡ map (base_of dir.now) (map S.text references.now))) }
     ensures err { IfErr result (IsStopBy (object_fault dir.now name.now (map S.text references.now))) }
 {
@@ -111,11 +122,15 @@ pub(crate) fn read_object<S: AsStr, R: Read>(
     input: &mut R,
     most: usize,
 ) -> Result<(Object, Vec<u8>), Stop>
-    ensures object { IfOk result (λ x. (object_fault dir.now name.now (map S.text references.now) ≡ None) × (x.0.name ≡ name.now)
+    ensures object { IfOk result
+        (λ x. (object_fault dir.now name.now (map S.text references.now) ≡ None) × (x.0.name ≡ name.now)
         × (x.0.references.items ≡ map (base_of dir.now) (map S.text references.now))) }
     ensures bytes { IfOk result (λ x. IfSome (R.remaining input.old) (λ all. x.1.items ≡ take most all)) }
-    ensures err { IfErr result (IsStopAt (object_fault dir.now name.now (map S.text references.now)) most (change_of R.remaining input.old input.new)) }
-    ensures reads { ReadsFor (object_fault dir.now name.now (map S.text references.now)) most (R.remaining input.old) (R.remaining input.new) }
+    ensures err { IfErr result
+        (IsStopAt (object_fault dir.now name.now (map S.text references.now)) most
+        (change_of R.remaining input.old input.new)) }
+    ensures reads { ReadsFor (object_fault dir.now name.now (map S.text references.now)) most (R.remaining input.old)
+        (R.remaining input.new) }
 {
     let object = parse_small(alloc, dir, name, references)?;
     let bytes = read_input(alloc, input, most)?;

@@ -65,8 +65,10 @@ fn print_denial<E: Write>(
     root: Option<(String, StorePath)>,
     errors: &mut E,
 ) -> u8
-    ensures { Prints (denial_text dir.now rule (option_map labelled_bytes root)) 4 (record { writer = change_of E.contents errors.old errors.new; status = result })
-        ⊎ Says (Stop.Failed Failure.Memory) (record { writer = change_of E.contents errors.old errors.new; status = result }) }
+    ensures { Prints (denial_text dir.now rule (option_map labelled_bytes root)) 4
+        (record { writer = change_of E.contents errors.old errors.new; status = result })
+        ⊎ Says (Stop.Failed Failure.Memory)
+        (record { writer = change_of E.contents errors.old errors.new; status = result }) }
 {
     match denial_line(alloc, dir, rule, root) {
         Ok(line) => print(line.as_str(), 4, errors),

@@ -17,9 +17,13 @@ use std::convert::AsStr;
 use std::io::{Read, Write};
 
 fn source_line(alloc: Global, dir: &StoreDir, object: &Object, nar: &[u8]) -> Result<String, Stop>
-    ensures ok { IfOk result (λ line. source_path_answer dir.now object.now.name object.now.references.items nar.now ≡ Ok (string_bytes line)) }
+    ensures ok { IfOk result
+        (λ line. source_path_answer dir.now object.now.name object.now.references.items nar.now
+        ≡ Ok (string_bytes line)) }
     ensures fits { IfOk result (λ line. length nar.now ≤ 16777216) }
-    ensures err { IfErr result (λ e. (e ≡ Stop.Failed Failure.Memory) ⊎ (source_path_answer dir.now object.now.name object.now.references.items nar.now ≡ Err e)) }
+    ensures err { IfErr result
+        (λ e. (e ≡ Stop.Failed Failure.Memory)
+        ⊎ (source_path_answer dir.now object.now.name object.now.references.items nar.now ≡ Err e)) }
 {
     read_archive(alloc, nar)?;
     let references = object.references.as_slice();
@@ -34,10 +38,13 @@ fn source_path_result<S: AsStr, R: Read>(
     references: &[S],
     input: &mut R,
 ) -> Result<String, Stop>
-    ensures answer { IsFailure (InputFails (is_none (object_fault dir.now name.now (map S.text references.now))) max_prefix (change_of R.remaining input.old input.new))
+    ensures answer { IsFailure (InputFails (is_none (object_fault dir.now name.now (map S.text references.now))) max_prefix
+        (change_of R.remaining input.old input.new))
         (result_text result) ⊎ IsResultOf (object_fault dir.now name.now (map S.text references.now))
-        (source_path_answer dir.now name.now (map (base_of dir.now) (map S.text references.now))) (R.remaining input.old) (result_text result) }
-    ensures reads { ReadsFor (object_fault dir.now name.now (map S.text references.now)) max_prefix (R.remaining input.old) (R.remaining input.new) }
+        (source_path_answer dir.now name.now (map (base_of dir.now) (map S.text references.now)))
+        (R.remaining input.old) (result_text result) }
+    ensures reads { ReadsFor (object_fault dir.now name.now (map S.text references.now)) max_prefix (R.remaining input.old)
+        (R.remaining input.new) }
 {
     let (object, nar) = read_object(alloc, dir, name, references, input, MOST_OF_ARCHIVE)?;
     source_line(alloc, dir, &object, nar.as_slice())
@@ -82,7 +89,8 @@ pub fn source_path<S: AsStr, R: Read, W: Write, E: Write>(
             status = result;
           };
         }) }
-    ensures reads { ReadsFor (object_fault dir.now name.now (map S.text references.now)) max_prefix (R.remaining input.old) (R.remaining input.new) }
+    ensures reads { ReadsFor (object_fault dir.now name.now (map S.text references.now)) max_prefix (R.remaining input.old)
+        (R.remaining input.new) }
 {
     give(
         source_path_result(alloc, dir, name, references, input),

@@ -78,8 +78,10 @@ pub fn judge(
     user: Option<&str>,
     group: Option<&str>,
 ) -> Result<Verdict, Stop>
-    ensures ok { IfOk result (λ v. verdict_of config.now (option_map (λ s. s.now) user.entry) (option_map (λ s. s.now) group.entry) ≡ Ok v) }
-    ensures err { IfErr result (StopsWho (verdict_of config.now (option_map (λ s. s.now) user.entry) (option_map (λ s. s.now) group.entry))) }
+    ensures ok { IfOk result
+        (λ v. verdict_of config.now (option_map (λ s. s.now) user.entry) (option_map (λ s. s.now) group.entry) ≡ Ok v) }
+    ensures err { IfErr result (StopsWho (verdict_of config.now (option_map (λ s. s.now) user.entry) (option_map
+        (λ s. s.now) group.entry))) }
 {
     let config = settings(alloc, config)?;
     let caller = parse_caller(alloc, user, group)?;
@@ -106,7 +108,8 @@ pub fn who<W: Write>(
     group: Option<&str>,
     out: &mut W,
 ) -> u8
-    ensures { AnswersWho (verdict_of config.now (option_map (λ s. s.now) user.entry) (option_map (λ s. s.now) group.entry)) (record { writer = change_of W.contents out.old out.new; status = result }) }
+    ensures { AnswersWho (verdict_of config.now (option_map (λ s. s.now) user.entry) (option_map
+        (λ s. s.now) group.entry)) (record { writer = change_of W.contents out.old out.new; status = result }) }
 {
     match judge(alloc, config, user, group) {
         Ok(verdict) => match verdict.text(alloc) {

@@ -70,7 +70,9 @@ pub(crate) fn unrooted<'a>(
     owner: Option<&'a str>,
     name: &'a str,
 ) -> Result<UnrootArguments<'a>, UsageFault>
-    ensures ok { IfOk result (λ r. action.unrooted permanent (optional_text owner.entry) name.entry.now ≡ Ok (unroot_view r.root r.name.now)) }
+    ensures ok { IfOk result
+        (λ r. action.unrooted permanent (optional_text owner.entry) name.entry.now
+        ≡ Ok (unroot_view r.root r.name.now)) }
     ensures err { IfErr result (λ f. action.unrooted permanent (optional_text owner.entry) name.entry.now ≡ Err f) }
 {
     let root = match (permanent, owner) {

@@ -31,8 +31,11 @@ fn named<'a>(alloc: Global, name: &str, matches: &ArgMatches<'a>) -> Result<Task
 
 /// The subcommand that `clap` found.
 fn subcommand<'a>(alloc: Global, matches: &ArgMatches<'a>) -> Result<Task<'a>, CommandError>
-    ensures ok { IfOk result (λ t. option_map_or (λ p. asked_by p.0 p.1) (subcommand_rows_of matches.now) (Err UsageFault.NoSubcommand) ≡ Ok (asked_view t)) }
-    ensures err { IfErr result (Misses (option_map_or (λ p. asked_by p.0 p.1) (subcommand_rows_of matches.now) (Err UsageFault.NoSubcommand))) }
+    ensures ok { IfOk result
+        (λ t. option_map_or (λ p. asked_by p.0 p.1) (subcommand_rows_of matches.now) (Err UsageFault.NoSubcommand)
+        ≡ Ok (asked_view t)) }
+    ensures err { IfErr result (Misses (option_map_or
+        (λ p. asked_by p.0 p.1) (subcommand_rows_of matches.now) (Err UsageFault.NoSubcommand))) }
 {
     match matches.subcommand() {
         Some((name, matches)) => named(alloc, name, matches),

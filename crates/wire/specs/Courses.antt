@@ -31,7 +31,7 @@ pub data Admission : Type 0 where
   refuses : Replied → Admission
   admits : Caller → Kind → Admission
 
--- This is replied, and the store isn't asked; or the store is asked this.
+-- A reply is made without the store, or the store is asked a request.
 pub data Course : Type 0 where
   replies : Replied → Course
   calls : Caller → Request → Course

@@ -36,7 +36,7 @@ operation_at kinds.Collect target = operations.collect false
 operation_at kinds.Delete target = operations.delete false
 operation_at _ target = plain
 
--- the same by the whole body, or without it
+-- what the rules may be asked: by the whole body, or without it
 abbrev pub AsksOfRules : List ℕ → Kind → List ℕ → List ℕ → Operation → Type 0
 AsksOfRules dir kind target body op = ((q : Request) × Asks dir kind target body q × (op ≡ operation_of q)) ⊎ (op ≡ operation_at kind target)
 

@@ -22,7 +22,7 @@ LeadsTo s (calls c q) w r new = (reply : Reply) × Step s w c q reply new × (r 
 abbrev pub AnswersFrom : Settings → World → RequestHead → List ℕ → Replied → World → Type 0
 AnswersFrom s w h body r new = (course : Course) × HasCourse s h body course × LeadsTo s course w r new
 
--- the same where nothing is known of the world: some reply
+-- the response of a course where nothing is known of the world: some reply
 abbrev pub IsSomeReply : Settings → Course → Replied → Type 0
 IsSomeReply s (replies it) r = r ≡ it
 IsSomeReply s (calls c q) r = (reply : Reply) × (r ≡ response_to s.store_dir reply)

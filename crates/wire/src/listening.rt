@@ -47,7 +47,8 @@ pub fn serve_on<C: Clock, S: Alter, E: Write>(
     ensures settings { store.new.settings ≡ store.old.settings }
     // Over a disk that is clean afterwards, each reply is that of a step.
     ensures worlds { LeadsWorlds S.Store store.old store.new (λ w next.
-        ServesOver (AnswersFrom store.old.settings) connections (E.contents errors.old) (E.contents errors.new) w next result) }
+        ServesOver (AnswersFrom store.old.settings) connections (E.contents errors.old) (E.contents errors.new) w next
+        result) }
 {
     match Server::new(alloc) {
         Ok(server) => {

@@ -53,7 +53,8 @@ fn listen<N: Net<Listener = TcpListener, Stream = TcpStream> + Clock, E: Write, 
 ) -> u8
     ensures { Prints (codes "failed: input\n") 1
         (record { writer = change_of E.contents errors.old errors.new; status = result })
-        ⊎ ServesListener A.answers connections None None None None (E.contents errors.old) (E.contents errors.new) state.old state.new result }
+        ⊎ ServesListener A.answers connections None None None None (E.contents errors.old) (E.contents errors.new)
+        state.old state.new result }
 {
     match TcpListener::bind(net, (Ipv4Addr::LOCALHOST, port)) {
         Ok(listener) => {

@@ -39,7 +39,8 @@ pub fn serve<S: Alter, R: Read, W: Write>(
     ensures settings { store.new.settings ≡ store.old.settings }
     // Over a disk that is clean afterwards, each reply is that of a step.
     ensures worlds { LeadsWorlds S.Store store.old store.new (λ w next.
-        Served (AnswersFrom store.old.settings) (R.remaining input.old) (W.contents output.old) (W.contents output.new) w next result) }
+        Served (AnswersFrom store.old.settings) (R.remaining input.old) (W.contents output.old) (W.contents output.new)
+        w next result) }
     ensures replies { Served (AnswersSome store.old.settings) (R.remaining input.old) (W.contents output.old)
         (W.contents output.new) tt tt result }
 {

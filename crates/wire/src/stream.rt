@@ -85,11 +85,13 @@ pub fn serve_streams<S: Alter + Drop, R: Read, W: Write, E: Write>(
         (W.contents output.new) (E.contents errors.old) (E.contents errors.new)
         (record { tables = tables; settings = config }) result }
     ensures worlds { ((h : Held S) → HasCleanDisk (state S.Store h)) → (w : World) → HasWorld S.Store tables w
-        → ServesStreams (AnswersFrom config) (R.remaining input.old) (W.contents output.old) (W.contents output.new) (E.contents errors.old) (E.contents errors.new) w result }
+        → ServesStreams (AnswersFrom config) (R.remaining input.old) (W.contents output.old) (W.contents output.new)
+        (E.contents errors.old) (E.contents errors.new) w result }
     // Over a disk that is clean afterwards, each reply is that of a step.
     ensures steps { EndsStreams (ServedByWorlds S.Store (R.remaining input.old) (W.contents output.old)
         (W.contents output.new))
-        (W.contents output.old) (W.contents output.new) (E.contents errors.old) (E.contents errors.new) (record { tables = tables; settings = config }) result }
+        (W.contents output.old) (W.contents output.new) (E.contents errors.old) (E.contents errors.new)
+        (record { tables = tables; settings = config }) result }
     ensures replies { ServesStreams (AnswersSome config) (R.remaining input.old) (W.contents output.old)
         (W.contents output.new) (E.contents errors.old) (E.contents errors.new) tt result }
 {

@@ -49,12 +49,12 @@ is_colon b = b == 58
 abbrev pub entry_in : List ℕ → Entry
 entry_in line = (before_first is_colon line, drop 1 (after_first is_colon line))
 
--- those of the lines of a text, of whose first line a prefix comes before it
+-- the entries of the lines of a text, of whose first line a prefix comes before it
 abbrev pub entries_from : List ℕ → List ℕ → List Entry
 entries_from front [] = []
 entries_from front (b ∷ text) = cond (b == 10) (entry_in front ∷ entries_from [] text) (entries_from (front ++ b ∷ []) text)
 
--- those of the lines of a text
+-- the entries of the lines of a text
 abbrev pub entries_in : List ℕ → List Entry
 entries_in text = entries_from [] text
 

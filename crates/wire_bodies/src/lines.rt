@@ -52,7 +52,7 @@ impl<'b> Model for Lines<'b> {
 }
 
 impl<'b> Lines<'b> {
-    /// The same lines, to be gone through.
+    /// A second walk over these lines.
     pub fn again(&self) -> Lines<'b>
         ensures { result ≡ self.now }
     {

@@ -7,7 +7,7 @@ use Rattle.wire_messages.specs.declared.keeping.Fate.TheVariants.{Kept, Lost, Sh
 use Rattle.wire_messages.specs.declared.keeping.Piece.{Piece}
 use Rattle.wire_messages.specs.declared.keeping.Piece.TheVariants as pieces
 
--- These bytes were read, of a number that is missing of a body: all of them; or the input ended before.
+-- Of a number of bytes that are missing of a body, all were read, or the input ended before.
 pub record ReadsRest (old new : Option (List ℕ)) (left : ℕ) (read : List ℕ) (result : Result Bool ReceiveError) : Type 0 where
   pub consumed : Consumes old new read
   pub whole : result ≡ Ok true → length read ≡ left
@@ -30,7 +30,7 @@ has_come (Ok Lost) = Ok true
 has_come (Ok Short) = Ok false
 has_come (Err e) = Err e
 
--- It was kept as it came; or memory was refused for it, and it may be that body by all that is still known.
+-- A body was kept as it came; or memory was refused for it, and it may be that body by all that is still known.
 pub record KeepsBody (old new : Option (List ℕ)) (held : List ℕ) (len size : ℕ) (kept kept' : List ℕ) (may_be : List ℕ → Type 0) (result : Result Fate ReceiveError) : Type 0 where
   pub came : ReadsBody old new held len size (has_come result)
   pub kept_all : result ≡ Ok Kept → kept' ≡ kept ++ take size (drop len (held ++ came.read))
@@ -38,7 +38,7 @@ pub record KeepsBody (old new : Option (List ℕ)) (held : List ℕ) (len size :
 
 -- ---- inside the crate
 
--- the same of the bytes that are missing
+-- the bytes that are missing of a body were kept, or memory was refused for them
 pub record KeepsRest (old new : Option (List ℕ)) (left : ℕ) (kept kept' : List ℕ) (may_be : List ℕ → Type 0) (result : Result Fate ReceiveError) : Type 0 where
   pub read : List ℕ
   pub came : ReadsRest old new left read (has_come result)

@@ -20,7 +20,7 @@ Fields = List (List ℕ × List ℕ)
 abbrev pub fields_of : RequestHead → Fields
 fields_of h = map name_and_value h.fields
 
--- the same, by their places in a buffer
+-- the fields of a head by their places in a buffer
 abbrev pub fields_at : List ℕ → Head → Fields
 fields_at buf head = map (header_bytes buf) (take head.spans.headers head.fields)
 

@@ -34,7 +34,7 @@ fn broken(fault: &Error) -> ReceiveError {
     }
 }
 
-/// The same in the middle of a message, where one who gives up waiting has failed.
+/// A fault in the middle of a message, where a reader that gives up waiting has failed.
 fn within(fault: ReceiveError) -> ReceiveError
     ensures { result ≡ ReceiveError.Silent → ⊥ }
 {

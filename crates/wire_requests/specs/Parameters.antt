@@ -32,7 +32,7 @@ AreParameters kinds.AddTemp target p = (string_bytes p.user ≡ user at_temp tar
 AreParameters kinds.EndSession target p = (string_bytes p.user ≡ user at_temp target) × (string_bytes p.session ≡ session at_temp target)
 AreParameters _ target p = ⊤
 
--- the same for each kind of a route
+-- parameters fit each kind of a route
 abbrev pub AreParametersOf : Requests → List ℕ → Parameters → Type 0
 AreParametersOf (Get kind) target p = AreParameters kind target p
 AreParametersOf (Post kind) target p = AreParameters kind target p

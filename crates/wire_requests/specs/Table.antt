@@ -66,7 +66,7 @@ routes =
     ∷ (codes "/delete", Post kinds.Delete)
     ∷ []
 
--- the same with the pattern of each text
+-- the routes with the pattern of each text
 unfoldable pub table : List (List ℕ × Requests)
 table = map (λ row. (pattern_in row.0, row.1)) routes
 

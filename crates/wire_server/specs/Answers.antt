@@ -26,7 +26,7 @@ module _ {S C B : Type 0} (answers : S → RequestHead → List ℕ → Replied 
   IsBegun s h (Accepted course body) = decides s h course × (kept body ≡ [])
   IsBegun s h (Refused response) = (all : List ℕ) → answers s h all (replied response) s
 
-  -- The same once the body has come: it was kept; or memory was refused for it, and it may be that body by all that is still known.
+  -- What is ready once the body has come: it was kept; or memory was refused for it, and it may be that body by all that is still known.
   abbrev pub IsReady : (B → List ℕ → Type 0) → S → RequestHead → List ℕ → Ready C B → Type 0
   IsReady may_be s h all (ready.Kept course body) = decides s h course × (kept body ≡ all)
   IsReady may_be s h all (ready.Lost course body) = decides s h course × may_be body all

@@ -29,7 +29,7 @@ module _ {S : Type 0} (answers : S → RequestHead → List ℕ → Replied → 
     pub holds : HoldsMessage all head size h
     pub answered : answers s h (body_in all head size) r s'
 
-  -- That is the response, after which the rest is held.
+  -- The exchange has the response, after which the rest is held.
   abbrev pub IsAnswered : List ℕ → List ℕ → S → Exchange → S → Type 0
   IsAnswered all held' s x s' =
       (a : Answers all s (replied x.response) s') × (x.close ≡ closes a.h) × (held' ≡ drop (a.head.spans.len + a.size) all)

@@ -29,7 +29,7 @@ Begins input [] = ⊤
 Begins input (message h body ∷ items) = (rest : List ℕ) × IsMessage input h body rest × cond (closes h) (items ≡ []) (Begins rest items)
 Begins input (faulty fault ∷ items) = (0 < length input) × IsFault input fault × (items ≡ [])
 
--- the same of an input that may show its bytes, whole or not
+-- an input that may show its bytes is divided into items, whole or not
 abbrev pub DividesAll : Option (List ℕ) → List Item → Type 0
 DividesAll None items = ⊤
 DividesAll (Some all) items = Divides all items

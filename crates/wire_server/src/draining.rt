@@ -31,7 +31,7 @@ fn patience<C: Clock>(clock: &C, start: Instant) -> io::Result<Option<Duration>>
 ///
 /// # Errors
 ///
-/// That of the first read that fails, or waits too long, or of the clock.
+/// The error of the first read that fails or waits too long, or of the clock.
 pub(crate) fn read_out<C: Clock>(clock: &C, input: &mut TcpStream) -> io::Result<()> {
     let start = Instant::now(clock)?;
     let mut window = [0; 65_536];

@@ -63,7 +63,8 @@ fn write_last(out: &mut String, size: usize) -> Result<(), AllocError>
 /// a prefix of it may have been appended.
 pub fn write_reply_head(out: &mut String, head: &ReplyHead) -> Result<(), AllocError>
     ensures { OnOk result (string_bytes out.new ≡ string_bytes out.old
-        ++ reply_head head.now.status head.now.kind.now (option_map (λ methods. methods.now) head.now.allow) head.now.close head.now.size) }
+        ++ reply_head head.now.status head.now.kind.now (option_map (λ methods. methods.now) head.now.allow)
+        head.now.close head.now.size) }
 {
     write_start(out, head.status, head.kind)?;
     write_allow(out, head.allow)?;

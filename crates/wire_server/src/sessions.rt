@@ -26,7 +26,7 @@ pub enum End {
 /// How the connection of a peer came to be closed.
 #[derive(Clone, Copy, PartialEq, Eq, Debug)]
 pub(crate) enum Close {
-    /// It ended, or failed.
+    /// The connection ended, or failed.
     Ended(End),
     /// The peer was silent for too long between two messages. The number is that of the messages answered.
     Idle(u64),

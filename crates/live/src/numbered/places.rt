@@ -96,7 +96,8 @@ fn add_places(
     requires rise { Rise (paths_of (rows_view rows.now)) }
     requires heads { AreHeads (paths_of (rows_view rows.now)) heads.now }
     requires texts { AreTexts (paths_of (rows_view rows.now)) texts.now }
-    ensures { OnOk result (targets.new.items ≡ targets.old.items ++ places_of (paths_of (rows_view rows.now)) paths.now) }
+    ensures { OnOk result (targets.new.items ≡ targets.old.items
+        ++ places_of (paths_of (rows_view rows.now)) paths.now) }
 {
     for path in paths {
         if let Some(place) = place_guessed(rows, heads, texts, path, guesses.next()) {
@@ -118,7 +119,9 @@ pub(crate) fn add_row(
     requires rise { Rise (paths_of (rows_view rows.now)) }
     requires heads { AreHeads (paths_of (rows_view rows.now)) heads.now }
     requires texts { AreTexts (paths_of (rows_view rows.now)) texts.now }
-    ensures { IfOk result (IsAdded (numbered_links (paths_of (rows_view rows.now)) (row_view row.entry).1) targets.old.items targets.new.items) }
+    ensures { IfOk result
+        (IsAdded (numbered_links (paths_of (rows_view rows.now)) (row_view row.entry).1) targets.old.items
+        targets.new.items) }
 {
     let references = targets.len();
     add_places(targets, rows, heads, texts, guesses, row.references)?;

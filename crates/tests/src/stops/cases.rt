@@ -117,7 +117,7 @@ fn is_begun(alloc: Global, case: &Case, held: &Contents) -> Result<bool, Fail> {
     Ok(is_world(case, 0, &earlier_of(alloc, held, THIRD)?))
 }
 
-/// These files, left by a stop, hold the store before the call that met it, or that of its done case.
+/// Whether files that a stop left hold the store before the call that met it, or that of its done case.
 fn stands_in(alloc: Global, case: &Case, made: usize, held: &Contents) -> Result<(), Fail> {
     if made == 0 && !is_begun(alloc, case, held)? {
         return Err(Fail::new("neither what was there nor a store"));
@@ -130,7 +130,7 @@ fn stands_in(alloc: Global, case: &Case, made: usize, held: &Contents) -> Result
     }
 }
 
-/// These bytes of the log, and those of the database file.
+/// The contents of two files: the bytes of the log, and those of the database file.
 fn held_of(alloc: Global, log: &[u8], db: &[u8]) -> Result<Contents, Fail> {
     Ok(Contents {
         log: Vec::from_slice(alloc, log)?,

@@ -86,7 +86,7 @@ refused: 31 no-older-generation
 refused: 29 no-generation
 ";
 
-/// These calls over files that hold nothing yet, one of which stops.
+/// Makes calls over files that hold nothing yet, one of which stops.
 fn stop(
     alloc: Global,
     settings: &'static [u8],
