@@ -112,7 +112,8 @@ name_at text = string_at text >>= λ x. name_in x.0 >>= λ name. Some (name, x.1
 -- the base name of a full path in the store directory
 unfoldable pub base_in : List ℕ → List ℕ → Option (List ℕ)
 base_in dir text =
-    if begins text (dir ++ codes "/") && is_base_name (drop (length dir + 1) text) then Some (drop (length dir + 1) text) else None
+    if begins text (dir ++ codes "/") && is_base_name (drop (length dir + 1) text)
+        then Some (drop (length dir + 1) text) else None
 
 -- the path of an output, if it has one
 abbrev pub path_in : List ℕ → List ℕ → Option (Option (List ℕ))
@@ -141,7 +142,8 @@ inputs_end = further (list_end input_end) >=> further (list_end string_end)
 
 unfoldable pub process_end : List ℕ → Option (List ℕ)
 process_end =
-    further string_end >=> further string_end >=> further (list_end string_end) >=> further (list_end variable_end) >=> after 41
+    further string_end >=> further string_end >=> further (list_end string_end) >=> further (list_end variable_end)
+        >=> after 41
 
 abbrev pub if_ended : {A : Type 0} → A → List ℕ → Option A
 if_ended x [] = Some x
@@ -150,5 +152,6 @@ if_ended x (b ∷ rest) = None
 -- the outputs of a whole text
 unfoldable pub listed : List ℕ → List ℕ → Option (List (List ℕ × Option (List ℕ)))
 listed dir text =
-    after_derive text >>= λ t. list_at (output_at dir) t >>= λ outputs. inputs_end outputs.1 >>= λ t. process_end t >>= λ rest.
+    after_derive text >>= λ t. list_at (output_at dir) t >>= λ outputs. inputs_end outputs.1 >>= λ t. process_end t
+        >>= λ rest.
     if_ended outputs.0 rest

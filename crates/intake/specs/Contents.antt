@@ -9,7 +9,9 @@ use Rattle.nar.specs.Archive.{other, spelling}
 
 -- what the archive of such a file begins with, up to the length of its contents: 88 bytes
 unfoldable pub plain_prefix : List ℕ
-plain_prefix = spelling (other (codes "nix-archive-1") ∷ other (codes "(") ∷ other (codes "type") ∷ other (codes "regular") ∷ other (codes "contents") ∷ [])
+plain_prefix =
+    spelling (other (codes "nix-archive-1")
+    ∷ other (codes "(") ∷ other (codes "type") ∷ other (codes "regular") ∷ other (codes "contents") ∷ [])
 
 abbrev pub begins_plain : List ℕ → Bool
 begins_plain bytes = bytes_eq (take 88 bytes) plain_prefix

@@ -18,12 +18,18 @@ use Rattle.laws.specs.Faults.{IsRefusedWith}
 abbrev pub TextsAreMeasured : Type 0
 TextsAreMeasured = (contents : List ℕ) → text_archive_size contents ≡ length (text_archive contents)
 
--- where an archive is read, another digest than the given one is reported before any fault of addresses, references and derivations
+-- where an archive is read, another digest than the given one is reported before any fault of addresses, references and
+-- derivations
 abbrev pub DigestsComeFirst : Type 0
-DigestsComeFirst = (s : Settings) (w : World) (c : Caller) (i : Imported) (t : Tree) (reply : Reply) (new : World) → Step s w c (import_object i) reply new
-    → length i.refs ≤ most_references → outcome_of i.nar ≡ Ok t → (sha256 i.nar ≡ i.nar_hash → ⊥) → IsRefusedWith NarHashMismatch reply
+DigestsComeFirst =
+    (s : Settings) (w : World) (c : Caller) (i : Imported) (t : Tree) (reply : Reply) (new : World)
+    → Step s w c (import_object i) reply new
+    → length i.refs ≤ most_references → outcome_of i.nar ≡ Ok t → (sha256 i.nar ≡ i.nar_hash → ⊥)
+    → IsRefusedWith NarHashMismatch reply
 
 -- a reference that is reported missing isn't valid, and isn't the object's own path
 abbrev pub MissingAreMissing : Type 0
-MissingAreMissing = (s : Settings) (w : World) (c : Caller) (i : Imported) (new : World) → Step s w c (import_object i) (refused MissingReference) new
+MissingAreMissing =
+    (s : Settings) (w : World) (c : Caller) (i : Imported) (new : World)
+    → Step s w c (import_object i) (refused MissingReference) new
     → (r : List ℕ) × Contains i.refs r × (r ≡ i.path → ⊥) × IsFalse (has w r)

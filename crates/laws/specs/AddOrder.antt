@@ -40,39 +40,56 @@ pub record Lacks (w : World) (p : Path) (refs : List Path) : Type 0 where
 
 -- what is wrong with a tree as that of a derivation's archive: it isn't a regular file, or its contents have this fault
 pub data IsFaultyTree (dir : List ℕ) (t : Tree) (e : DrvError) : Type 0 where
-  text : (executable : Bool) (contents : List ℕ) → t ≡ regular executable contents → outputs_of dir contents ≡ Err e → IsFaultyTree dir t e
-  other : ((executable : Bool) (contents : List ℕ) → t ≡ regular executable contents → ⊥) → e ≡ BadDerivation → IsFaultyTree dir t e
+  text : (executable : Bool) (contents : List ℕ) → t ≡ regular executable contents → outputs_of dir contents ≡ Err e
+      → IsFaultyTree dir t e
+  other : ((executable : Bool) (contents : List ℕ) → t ≡ regular executable contents → ⊥) → e ≡ BadDerivation
+      → IsFaultyTree dir t e
 
 -- nothing is wrong with it, where the path's name ends in `.drv`
 abbrev pub IsRightTree : List ℕ → Path → Tree → Type 0
 IsRightTree dir p t = (e : DrvError) → IsTrue (is_derivation p) → IsFaultyTree dir t e → ⊥
 
--- Of a source: too many references; what is wrong with the archive; a reference to itself; what is wrong with a derivation; and a
--- missing reference. Each is reported where nothing before it is wrong.
-pub record SourceFaults (s : Settings) (w : World) (c : Caller) (name : List ℕ) (refs : List Path) (b : List ℕ) : Type 0 where
+-- Of a source: too many references; what is wrong with the archive; a reference to itself; what is wrong with a
+-- derivation; and a missing reference. Each is reported where nothing before it is wrong.
+pub record SourceFaults (s : Settings) (w : World) (c : Caller) (name : List ℕ) (refs : List Path)
+    (b : List ℕ) : Type 0 where
   pub count : most_references < length refs → Refuses s w c (add_source name refs b) TooManyReferences
-  pub archive_ : length refs ≤ most_references → (e : NarError) (r : Refusal) → outcome_of b ≡ Err e → archive_refusal e ≡ Some r
+  pub archive_ : length refs ≤ most_references → (e : NarError) (r : Refusal) → outcome_of b ≡ Err e
+      → archive_refusal e ≡ Some r
       → Refuses s w c (add_source name refs b) r
-  pub itself : length refs ≤ most_references → (t : Tree) → outcome_of b ≡ Ok t → Contains refs (source_path s.store_dir name refs b)
+  pub itself : length refs ≤ most_references → (t : Tree) → outcome_of b ≡ Ok t
+      → Contains refs (source_path s.store_dir name refs b)
       → Refuses s w c (add_source name refs b) SelfReference
-  pub tree : length refs ≤ most_references → (t : Tree) → outcome_of b ≡ Ok t → (Contains refs (source_path s.store_dir name refs b) → ⊥)
-      → IsTrue (is_derivation (source_path s.store_dir name refs b)) → (e : DrvError) (r : Refusal) → IsFaultyTree s.store_dir t e → derivation_refusal e ≡ Some r
+  pub tree : length refs ≤ most_references → (t : Tree) → outcome_of b ≡ Ok t
+      → (Contains refs (source_path s.store_dir name refs b) → ⊥)
+      → IsTrue (is_derivation (source_path s.store_dir name refs b)) → (e : DrvError) (r : Refusal)
+      → IsFaultyTree s.store_dir t e → derivation_refusal e ≡ Some r
       → Refuses s w c (add_source name refs b) r
-  pub reference : length refs ≤ most_references → (t : Tree) → outcome_of b ≡ Ok t → (Contains refs (source_path s.store_dir name refs b) → ⊥)
-      → IsRightTree s.store_dir (source_path s.store_dir name refs b) t → Lacks w (source_path s.store_dir name refs b) refs → Refuses s w c (add_source name refs b) MissingReference
+  pub reference : length refs ≤ most_references → (t : Tree) → outcome_of b ≡ Ok t
+      → (Contains refs (source_path s.store_dir name refs b) → ⊥)
+      → IsRightTree s.store_dir (source_path s.store_dir name refs b) t
+      → Lacks w (source_path s.store_dir name refs b) refs → Refuses s w c (add_source name refs b) MissingReference
 
 -- Of a text the same, with the size of its archive for what may be wrong with it.
-pub record TextFaults (s : Settings) (w : World) (c : Caller) (name : List ℕ) (refs : List Path) (contents : List ℕ) : Type 0 where
+pub record TextFaults (s : Settings) (w : World) (c : Caller) (name : List ℕ) (refs : List Path)
+    (contents : List ℕ) : Type 0 where
   pub count : most_references < length refs → Refuses s w c (add_text name refs contents) TooManyReferences
-  pub size : length refs ≤ most_references → limit < length (text_archive contents) → Refuses s w c (add_text name refs contents) TooLarge
-  pub itself : length refs ≤ most_references → length (text_archive contents) ≤ limit → Contains refs (text_path s.store_dir name refs contents)
+  pub size : length refs ≤ most_references → limit < length (text_archive contents)
+      → Refuses s w c (add_text name refs contents) TooLarge
+  pub itself : length refs ≤ most_references → length (text_archive contents) ≤ limit
+      → Contains refs (text_path s.store_dir name refs contents)
       → Refuses s w c (add_text name refs contents) SelfReference
-  pub tree : length refs ≤ most_references → length (text_archive contents) ≤ limit → (Contains refs (text_path s.store_dir name refs contents) → ⊥)
-      → IsTrue (is_derivation (text_path s.store_dir name refs contents)) → (e : DrvError) (r : Refusal) → outputs_of s.store_dir contents ≡ Err e
+  pub tree : length refs ≤ most_references → length (text_archive contents) ≤ limit
+      → (Contains refs (text_path s.store_dir name refs contents) → ⊥)
+      → IsTrue (is_derivation (text_path s.store_dir name refs contents)) → (e : DrvError) (r : Refusal)
+      → outputs_of s.store_dir contents ≡ Err e
       → derivation_refusal e ≡ Some r → Refuses s w c (add_text name refs contents) r
-  pub reference : length refs ≤ most_references → length (text_archive contents) ≤ limit → (Contains refs (text_path s.store_dir name refs contents) → ⊥)
-      → ((e : DrvError) → IsTrue (is_derivation (text_path s.store_dir name refs contents)) → outputs_of s.store_dir contents ≡ Err e → ⊥)
-      → Lacks w (text_path s.store_dir name refs contents) refs → Refuses s w c (add_text name refs contents) MissingReference
+  pub reference : length refs ≤ most_references → length (text_archive contents) ≤ limit
+      → (Contains refs (text_path s.store_dir name refs contents) → ⊥)
+      → ((e : DrvError) → IsTrue (is_derivation (text_path s.store_dir name refs contents))
+      → outputs_of s.store_dir contents ≡ Err e → ⊥)
+      → Lacks w (text_path s.store_dir name refs contents) refs
+      → Refuses s w c (add_text name refs contents) MissingReference
 
 -- an archive that is read and has the digest that is given, with few enough references
 pub record IsAsGiven (i : Imported) (t : Tree) : Type 0 where
@@ -83,28 +100,38 @@ pub record IsAsGiven (i : Imported) (t : Tree) : Type 0 where
 -- an object that has an address doesn't refer to itself, and the address verifies
 pub record IsAsAddressed (dir : List ℕ) (i : Imported) : Type 0 where
   pub itself : (a : ContentAddress) → i.ca ≡ Some a → Contains i.refs i.path → ⊥
-  pub address : (a : ContentAddress) → i.ca ≡ Some a → IsTrue (verifies a dir i.path (finite.keys (set_of bytes_cmp i.refs)) i.nar)
+  pub address : (a : ContentAddress) → i.ca ≡ Some a
+      → IsTrue (verifies a dir i.path (finite.keys (set_of bytes_cmp i.refs)) i.nar)
 
--- Of an import too many references, and what is wrong with the archive; another digest, which `adds_are_refused_for_their_faults` covers;
--- then, under an address, a reference to itself, and an address that doesn't verify; what is wrong with a derivation; and a missing
--- reference.
+-- Of an import too many references, and what is wrong with the archive; another digest, which
+-- `adds_are_refused_for_their_faults` covers; then, under an address, a reference to itself, and an address that
+-- doesn't verify; what is wrong with a derivation; and a missing reference.
 pub record ImportFaults (s : Settings) (w : World) (c : Caller) (i : Imported) : Type 0 where
   pub count : most_references < length i.refs → Refuses s w c (import_object i) TooManyReferences
-  pub archive_ : length i.refs ≤ most_references → (e : NarError) (r : Refusal) → outcome_of i.nar ≡ Err e → archive_refusal e ≡ Some r
+  pub archive_ : length i.refs ≤ most_references → (e : NarError) (r : Refusal) → outcome_of i.nar ≡ Err e
+      → archive_refusal e ≡ Some r
       → Refuses s w c (import_object i) r
-  pub itself : (t : Tree) → IsAsGiven i t → (a : ContentAddress) → i.ca ≡ Some a → Contains i.refs i.path → Refuses s w c (import_object i) SelfReference
+  pub itself : (t : Tree) → IsAsGiven i t → (a : ContentAddress) → i.ca ≡ Some a → Contains i.refs i.path
+      → Refuses s w c (import_object i) SelfReference
   pub address : (t : Tree) → IsAsGiven i t → (a : ContentAddress) → i.ca ≡ Some a → (Contains i.refs i.path → ⊥)
-      → IsFalse (verifies a s.store_dir i.path (finite.keys (set_of bytes_cmp i.refs)) i.nar) → Refuses s w c (import_object i) CaMismatch
-  pub tree : (t : Tree) → IsAsGiven i t → IsAsAddressed s.store_dir i → IsTrue (is_derivation i.path) → (e : DrvError) (r : Refusal) → IsFaultyTree s.store_dir t e
+      → IsFalse (verifies a s.store_dir i.path (finite.keys (set_of bytes_cmp i.refs)) i.nar)
+      → Refuses s w c (import_object i) CaMismatch
+  pub tree : (t : Tree) → IsAsGiven i t → IsAsAddressed s.store_dir i → IsTrue (is_derivation i.path)
+      → (e : DrvError) (r : Refusal) → IsFaultyTree s.store_dir t e
       → derivation_refusal e ≡ Some r → Refuses s w c (import_object i) r
-  pub reference : (t : Tree) → IsAsGiven i t → IsAsAddressed s.store_dir i → IsRightTree s.store_dir i.path t → Lacks w i.path i.refs
+  pub reference : (t : Tree) → IsAsGiven i t → IsAsAddressed s.store_dir i → IsRightTree s.store_dir i.path t
+      → Lacks w i.path i.refs
       → Refuses s w c (import_object i) MissingReference
 
 abbrev pub SourceFaultsInOrder : Type 0
-SourceFaultsInOrder = (s : Settings) (w : World) (c : Caller) (name : List ℕ) (refs : List Path) (b : List ℕ) → SourceFaults s w c name refs b
+SourceFaultsInOrder =
+    (s : Settings) (w : World) (c : Caller) (name : List ℕ) (refs : List Path) (b : List ℕ)
+    → SourceFaults s w c name refs b
 
 abbrev pub TextFaultsInOrder : Type 0
-TextFaultsInOrder = (s : Settings) (w : World) (c : Caller) (name : List ℕ) (refs : List Path) (contents : List ℕ) → TextFaults s w c name refs contents
+TextFaultsInOrder =
+    (s : Settings) (w : World) (c : Caller) (name : List ℕ) (refs : List Path) (contents : List ℕ)
+    → TextFaults s w c name refs contents
 
 abbrev pub ImportFaultsInOrder : Type 0
 ImportFaultsInOrder = (s : Settings) (w : World) (c : Caller) (i : Imported) → ImportFaults s w c i

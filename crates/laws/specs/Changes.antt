@@ -21,7 +21,8 @@ use Rattle.model.specs.Collection.{KeepsRoots}
 
 -- ---- adds
 
--- what an add passes: a path, references in any order and perhaps twice, a deriver and an address if there are, an archive
+-- what an add passes: a path, references in any order and perhaps twice, a deriver and an address if there are, an
+-- archive
 pub record Submitted : Type 0 where
   pub path : Path
   pub references : List Path
@@ -32,17 +33,21 @@ pub record Submitted : Type 0 where
 -- with a text: the archive of the file with these contents that isn't executable
 abbrev pub with_text : List ℕ → List ℕ → List Path → List ℕ → Submitted
 with_text dir name refs contents =
-    record { path = text_path dir name refs contents; references = refs; deriver = None; ca = Some (text_address contents); nar = spelling (archive (regular false contents)) }
+    record { path = text_path dir name refs contents; references = refs; deriver = None;
+        ca = Some (text_address contents); nar = spelling (archive (regular false contents)) }
 
 -- with an archive
 abbrev pub with_source : List ℕ → List ℕ → List Path → List ℕ → Submitted
-with_source dir name refs nar = record { path = source_path dir name refs nar; references = refs; deriver = None; ca = Some (source_address nar); nar = nar }
+with_source dir name refs nar =
+    record { path = source_path dir name refs nar; references = refs; deriver = None; ca = Some (source_address nar);
+    nar = nar }
 
 -- with an object: all that is given
 abbrev pub with_import : Imported → Submitted
 with_import i = record { path = i.path; references = i.refs; deriver = i.deriver; ca = i.ca; nar = i.nar }
 
--- the object that was passed: the same archive, references, deriver and address, and the outputs that the archive records
+-- the object that was passed: the same archive, references, deriver and address, and the outputs that the archive
+-- records
 pub record IsAsSubmitted (dir : List ℕ) (a : Submitted) (o : Object) : Type 0 where
   pub nar : o.nar ≡ a.nar
   pub references : (r : Path) → IsTrue (finite.contains_key o.references r) ↔ Contains a.references r
@@ -65,8 +70,8 @@ AddsExactly s q a = (w : World) (c : Caller) (reply : Reply) (new : World) → S
 
 -- ---- deletions
 
--- From the one world to the other exactly those were deleted that reach one of the named by references, named or not; each other
--- object, and all roots and profiles, are as they were.
+-- From the one world to the other exactly those were deleted that reach one of the named by references, named or not;
+-- each other object, and all roots and profiles, are as they were.
 pub record DeletesExactly (named : List Path) (w new : World) : Type 0 where
   pub gone : (p : Path) → RefersToAny (graph_of w) named p → IsFalse (has new p)
   pub kept : (p : Path) → (RefersToAny (graph_of w) named p → ⊥) → finite.get new.objects p ≡ finite.get w.objects p
@@ -82,10 +87,11 @@ Deletes = (s : Settings) (w : World) (c : Caller) (named : List Path) (ignores :
 -- a number is the sum of the bytes of the archives at these paths, all of them valid
 abbrev pub Weigh : World → List Path → ℕ → Type 0
 Weigh w [] n = n ≡ 0
-Weigh w (p ∷ ps) n = (o : Object) × (rest : ℕ) × (finite.get w.objects p ≡ Some o) × Weigh w ps rest × (n ≡ length o.nar + rest)
+Weigh w (p ∷ ps) n =
+    (o : Object) × (rest : ℕ) × (finite.get w.objects p ≡ Some o) × Weigh w ps rest × (n ≡ length o.nar + rest)
 
--- The answer is exactly what was deleted: in order and each once, the paths that were valid before and aren't after, and the bytes
--- of their archives. What is left is as it was.
+-- The answer is exactly what was deleted: in order and each once, the paths that were valid before and aren't after,
+-- and the bytes of their archives. What is left is as it was.
 pub record ReportsDeleted (w new : World) (a : Answer) : Type 0 where
   pub went : List Path
   pub bytes : ℕ
@@ -97,4 +103,5 @@ pub record ReportsDeleted (w new : World) (a : Answer) : Type 0 where
 
 -- a request that is done is answered by what was deleted
 abbrev pub FreesAsReported : Settings → Request → Type 0
-FreesAsReported s q = (w : World) (c : Caller) (a : Answer) (new : World) → Step s w c q (done a) new → ReportsDeleted w new a
+FreesAsReported s q =
+    (w : World) (c : Caller) (a : Answer) (new : World) → Step s w c q (done a) new → ReportsDeleted w new a

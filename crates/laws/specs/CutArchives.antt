@@ -20,5 +20,7 @@ pub record HasArchive (c : Contents) (p : Path) (o : Stored) (nar : List ℕ) : 
 
 -- where rows are sound, the object of a path has this archive
 abbrev pub ArchivesAreReadWhole : Type 0
-ArchivesAreReadWhole = (schema : Schema) (dir : List ℕ) (c : Contents) → IsSoundBy schema dir c → (p : Path) (o : Stored) (nar : List ℕ) → finite.get c.objects p ≡ Some o → HasArchive c p o nar
+ArchivesAreReadWhole =
+    (schema : Schema) (dir : List ℕ) (c : Contents) → IsSoundBy schema dir c → (p : Path) (o : Stored) (nar : List ℕ)
+    → finite.get c.objects p ≡ Some o → HasArchive c p o nar
     → (x : Object) × (finite.get (world_in c).objects p ≡ Some x) × (x.nar ≡ nar)

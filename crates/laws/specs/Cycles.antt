@@ -1,4 +1,5 @@
--- The law of a collection up to a limit where references make a cycle: the least dead path left is deleted with all that reach it.
+-- The law of a collection up to a limit where references make a cycle: the least dead path left is deleted with all
+-- that reach it.
 use Rattle.std.specs.Prelude.{◌≡◌, ◌<◌, ◌↔◌, Bool, List, length, Some, IsTrue, Contains}
 use Rattle.std.specs.List.Sorted.{IsStrictlySortedBy}
 use Rattle.std.specs.declared.cmp.Ordering.TheVariants.{Less}
@@ -18,4 +19,5 @@ pub record IsCycle (g : Graph) (dead : Path → Bool) (left group : List Path) :
 -- the next group of paths in their order, where it has more than one path
 abbrev pub CyclesGoByTheLeast : Type 0
 CyclesGoByTheLeast = (g : Graph) (dead : Path → Bool) (left group : List Path)
-    → IsStrictlySortedBy bytes_cmp left → next_group g dead left ≡ Some group → 1 < length group → IsCycle g dead left group
+    → IsStrictlySortedBy bytes_cmp left → next_group g dead left ≡ Some group → 1 < length group
+    → IsCycle g dead left group

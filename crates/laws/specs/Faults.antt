@@ -28,17 +28,21 @@ pub record IsSessionOf (owner : List ℕ) (session : ℕ) : Type 0 where
   pub owner_ : IsTrue (is_plain_name owner)
   pub number : IsInBounds session
 
--- A path is kept for a session where nothing is wrong with the session and the path is valid; else the first fault is reported, that of
--- the path last.
-pub record ReportsTemporaryFault (s : Settings) (w : World) (c : Caller) (owner : List ℕ) (session : ℕ) (p : Path) : Type 0 where
-  pub done_ : (a : Answer) (new : World) → Step s w c (add_temp owner session p) (done a) new → IsSessionOf owner session × IsTrue (has w p)
+-- A path is kept for a session where nothing is wrong with the session and the path is valid; else the first fault is
+-- reported, that of the path last.
+pub record ReportsTemporaryFault (s : Settings) (w : World) (c : Caller) (owner : List ℕ) (session : ℕ)
+    (p : Path) : Type 0 where
+  pub done_ : (a : Answer) (new : World) → Step s w c (add_temp owner session p) (done a) new
+      → IsSessionOf owner session × IsTrue (has w p)
   pub refused_ : (r : Refusal) (new : World) → Step s w c (add_temp owner session p) (refused r) new
       → SessionFault owner session r ⊎ (IsSessionOf owner session × IsFalse (has w p) × (r ≡ NotValid))
 
 -- a session is ended where nothing is wrong with it, whether it kept anything or not
 pub record ReportsSessionFault (s : Settings) (w : World) (c : Caller) (owner : List ℕ) (session : ℕ) : Type 0 where
-  pub done_ : (a : Answer) (new : World) → Step s w c (end_session owner session) (done a) new → IsSessionOf owner session
-  pub refused_ : (r : Refusal) (new : World) → Step s w c (end_session owner session) (refused r) new → SessionFault owner session r
+  pub done_ : (a : Answer) (new : World) → Step s w c (end_session owner session) (done a) new
+      → IsSessionOf owner session
+  pub refused_ : (r : Refusal) (new : World) → Step s w c (end_session owner session) (refused r) new
+      → SessionFault owner session r
 
 abbrev pub SessionFaultsAreReported : Type 0
 SessionFaultsAreReported = (s : Settings) (w : World) (c : Caller) (owner : List ℕ) (session : ℕ)
@@ -82,15 +86,21 @@ IsRefusedWith r (failed f) = Unit {0}
 
 -- a name that isn't plain is reported before any other fault
 abbrev pub NamesComeFirst : Type 0
-NamesComeFirst = (s : Settings) (w : World) (c : Caller) (q : Request) (reply : Reply) (new : World) → Step s w c q reply new → HasBadName q → IsRefusedWith BadRootName reply
+NamesComeFirst =
+    (s : Settings) (w : World) (c : Caller) (q : Request) (reply : Reply) (new : World) → Step s w c q reply new
+    → HasBadName q → IsRefusedWith BadRootName reply
 
 -- a profile that isn't there is reported before any fault of a generation
 abbrev pub ProfilesComeNext : Type 0
-ProfilesComeNext = (s : Settings) (w : World) (c : Caller) (q : Request) (reply : Reply) (new : World) → Step s w c q reply new → LacksProfile w q → IsRefusedWith NoProfile reply
+ProfilesComeNext =
+    (s : Settings) (w : World) (c : Caller) (q : Request) (reply : Reply) (new : World) → Step s w c q reply new
+    → LacksProfile w q → IsRefusedWith NoProfile reply
 
 -- of a profile a path that isn't valid is reported before a number that is beyond the greatest
 abbrev pub PathsComeBeforeNumbers : Type 0
-PathsComeBeforeNumbers = (s : Settings) (w : World) (c : Caller) (owner name : List ℕ) (p : Path) (reply : Reply) (new : World) → Step s w c (set_profile owner name p) reply new
+PathsComeBeforeNumbers =
+    (s : Settings) (w : World) (c : Caller) (owner name : List ℕ) (p : Path) (reply : Reply) (new : World)
+    → Step s w c (set_profile owner name p) reply new
     → IsTrue (is_plain_name owner) → IsTrue (is_plain_name name) → IsFalse (has w p) → IsRefusedWith NotValid reply
 
 -- ---- deletions

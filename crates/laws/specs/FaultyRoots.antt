@@ -26,13 +26,18 @@ pub record ExcludesFaultyRuntime (c : Contents) (label : List ℕ) (t : Path) : 
   pub to_no_object : finite.get c.objects t ≡ None → AreUnsound c
 
 abbrev pub FaultyPermanentAreUnsound : Type 0
-FaultyPermanentAreUnsound = (c : Contents) (name : List ℕ) (t : Path) → finite.get c.permanent name ≡ Some t → ExcludesFaultyPermanent c name t
+FaultyPermanentAreUnsound =
+    (c : Contents) (name : List ℕ) (t : Path) → finite.get c.permanent name ≡ Some t → ExcludesFaultyPermanent c name t
 
 abbrev pub FaultyUserRootsAreUnsound : Type 0
-FaultyUserRootsAreUnsound = (c : Contents) (owner name : List ℕ) (t : Path) → finite.get c.user_roots (owner, name) ≡ Some t → ExcludesFaultyUserRoot c owner name t
+FaultyUserRootsAreUnsound =
+    (c : Contents) (owner name : List ℕ) (t : Path) → finite.get c.user_roots (owner, name) ≡ Some t
+    → ExcludesFaultyUserRoot c owner name t
 
 abbrev pub FaultyRuntimeAreUnsound : Type 0
-FaultyRuntimeAreUnsound = (c : Contents) (label : List ℕ) (t : Path) → IsTrue (finite.contains_key c.runtime (label, t)) → ExcludesFaultyRuntime c label t
+FaultyRuntimeAreUnsound =
+    (c : Contents) (label : List ℕ) (t : Path) → IsTrue (finite.contains_key c.runtime (label, t))
+    → ExcludesFaultyRuntime c label t
 
 -- ---- profiles
 
@@ -50,10 +55,14 @@ pub record ExcludesFaultyGeneration (c : Contents) (owner name : List ℕ) (n : 
   pub to_no_object : finite.get c.objects t ≡ None → AreUnsound c
 
 abbrev pub FaultyProfilesAreUnsound : Type 0
-FaultyProfilesAreUnsound = (c : Contents) (owner name : List ℕ) (current : ℤ) → finite.get c.profiles (owner, name) ≡ Some current → ExcludesFaultyProfile c owner name current
+FaultyProfilesAreUnsound =
+    (c : Contents) (owner name : List ℕ) (current : ℤ) → finite.get c.profiles (owner, name) ≡ Some current
+    → ExcludesFaultyProfile c owner name current
 
 abbrev pub FaultyGenerationsAreUnsound : Type 0
-FaultyGenerationsAreUnsound = (c : Contents) (owner name : List ℕ) (n : ℤ) (t : Path) → finite.get c.generations (owner, name, n) ≡ Some t → ExcludesFaultyGeneration c owner name n t
+FaultyGenerationsAreUnsound =
+    (c : Contents) (owner name : List ℕ) (n : ℤ) (t : Path) → finite.get c.generations (owner, name, n) ≡ Some t
+    → ExcludesFaultyGeneration c owner name n t
 
 -- ---- sessions
 
@@ -65,4 +74,6 @@ pub record ExcludesFaultySession (c : Contents) (owner : List ℕ) (n : ℤ) (t 
   pub to_no_object : finite.get c.objects t ≡ None → AreUnsound c
 
 abbrev pub FaultySessionsAreUnsound : Type 0
-FaultySessionsAreUnsound = (c : Contents) (owner : List ℕ) (n : ℤ) (t : Path) → IsTrue (finite.contains_key c.temp_roots (owner, n, t)) → ExcludesFaultySession c owner n t
+FaultySessionsAreUnsound =
+    (c : Contents) (owner : List ℕ) (n : ℤ) (t : Path) → IsTrue (finite.contains_key c.temp_roots (owner, n, t))
+    → ExcludesFaultySession c owner n t

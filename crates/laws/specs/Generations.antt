@@ -26,13 +26,15 @@ pub record IsHighest (p : Profile) (n : ℕ) : Type 0 where
   pub present : IsTrue (has_generation p n)
   pub greatest : (m : ℕ) → IsTrue (has_generation p m) → m ≤ n
 
--- The number that a path gets: that of the highest generation, if it's the path's; the next one, if it isn't; 1, if there's none.
+-- The number that a path gets: that of the highest generation, if it's the path's; the next one, if it isn't; 1, if
+-- there's none.
 pub data IsNumberFor (p : Profile) (t : Path) (n : ℕ) : Type 0 where
   again : IsHighest p n → finite.get p.generations n ≡ Some t → IsNumberFor p t n
   next : (m : ℕ) → IsHighest p m → (finite.get p.generations m ≡ Some t → ⊥) → n ≡ m + 1 → IsNumberFor p t n
   first : ((m : ℕ) → IsFalse (has_generation p m)) → n ≡ 1 → IsNumberFor p t n
 
--- The answer is the number that the path gets; this generation is the current one, and is the path's; every other is as it was.
+-- The answer is the number that the path gets; this generation is the current one, and is the path's; every other is as
+-- it was.
 pub record SetsProfile (w : World) (owned : Pair) (t : Path) (a : Answer) (new : World) : Type 0 where
   pub number : ℕ
   pub reported : a ≡ generation number
@@ -85,7 +87,8 @@ SwitchesAsSpecified = (s : Settings) (w : World) (c : Caller) (owner name : List
 
 -- ---- a generation is deleted
 
--- a profile loses a generation that wasn't the current one: the current number and every other generation are as they were
+-- a profile loses a generation that wasn't the current one: the current number and every other generation are as they
+-- were
 pub record LosesGeneration (w : World) (owned : Pair) (n : ℕ) (new : World) : Type 0 where
   pub was : Profile
   pub stood : finite.get w.profiles owned ≡ Some was

@@ -8,12 +8,15 @@ use Rattle.model.specs.Liveness.{graph_of, keep_of, lives}
 
 -- ---- which setting keeps what
 
--- An object keeps a path that is valid: each of its references, whatever the settings are; each of its outputs, if outputs are to be
--- kept; and its deriver, if derivations are to be kept.
+-- An object keeps a path that is valid: each of its references, whatever the settings are; each of its outputs, if
+-- outputs are to be kept; and its deriver, if derivations are to be kept.
 pub data KeepsPath (s : Settings) (w : World) (q p : Path) : Type 0 where
-  reference : (o : Object) → finite.get w.objects q ≡ Some o → IsTrue (has w p) → IsTrue (finite.contains_key o.references p) → KeepsPath s w q p
-  output : (o : Object) → finite.get w.objects q ≡ Some o → IsTrue (has w p) → IsTrue s.keep_outputs → (name : List ℕ) → finite.get o.outputs name ≡ Some p → KeepsPath s w q p
-  deriver : (o : Object) → finite.get w.objects q ≡ Some o → IsTrue (has w p) → IsTrue s.keep_derivations → o.deriver ≡ Some p → KeepsPath s w q p
+  reference : (o : Object) → finite.get w.objects q ≡ Some o → IsTrue (has w p)
+      → IsTrue (finite.contains_key o.references p) → KeepsPath s w q p
+  output : (o : Object) → finite.get w.objects q ≡ Some o → IsTrue (has w p) → IsTrue s.keep_outputs → (name : List ℕ)
+      → finite.get o.outputs name ≡ Some p → KeepsPath s w q p
+  deriver : (o : Object) → finite.get w.objects q ≡ Some o → IsTrue (has w p) → IsTrue s.keep_derivations
+      → o.deriver ≡ Some p → KeepsPath s w q p
 
 -- exactly so the edges go, along which roots reach
 abbrev pub EdgesAsSet : Type 0

@@ -34,7 +34,8 @@ MayFail = (s : Settings) (w : World) (c : Caller) (q : Request) (f : Failure)
 
 -- a denial by a rule other than `Live` shows no root
 abbrev pub OthersShowNoRoot : Type 0
-OthersShowNoRoot = (s : Settings) (w : World) (c : Caller) (q : Request) (rule : Rule) (root : Option Pair) (new : World)
+OthersShowNoRoot =
+    (s : Settings) (w : World) (c : Caller) (q : Request) (rule : Rule) (root : Option Pair) (new : World)
     → Step s w c q (denied rule root) new → (rule ≡ Live → ⊥) → root ≡ None
 
 -- two replies that aren't failures are one, with one world after them
@@ -44,7 +45,9 @@ IsFunctional = (s : Settings) (w : World) (c : Caller) (q : Request) (r1 r2 : Re
 
 -- there is always a reply that isn't a failure
 abbrev pub IsAnswered : Type 0
-IsAnswered = (s : Settings) (w : World) (c : Caller) (q : Request) → (reply : Reply) × (new : World) × Step s w c q reply new × (HasFailed reply → ⊥)
+IsAnswered =
+    (s : Settings) (w : World) (c : Caller) (q : Request)
+    → (reply : Reply) × (new : World) × Step s w c q reply new × (HasFailed reply → ⊥)
 
 -- The worlds in between follow: two runs over the same calls with the same replies end alike.
 abbrev pub RunsEndAlike : Type 0
@@ -66,7 +69,8 @@ pub record NamesTheLiving (s : Settings) (w : World) (c : Caller) (q : Request) 
   pub is_shown : shown s w c q Live ≡ Some (seen_root (class_of s c) root)
 
 abbrev pub DenialsNameTheLiving : Type 0
-DenialsNameTheLiving = (s : Settings) (w : World) (c : Caller) (q : Request) → verdict s w c q ≡ Some Live → NamesTheLiving s w c q
+DenialsNameTheLiving =
+    (s : Settings) (w : World) (c : Caller) (q : Request) → verdict s w c q ≡ Some Live → NamesTheLiving s w c q
 
 -- live and dead add up to all
 pub record UsageAddsUp (live dead total : Usage) : Type 0 where

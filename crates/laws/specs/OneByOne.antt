@@ -1,4 +1,5 @@
--- The law of a collection up to a limit where no references make a cycle: paths go one by one, each after all that refer to it.
+-- The law of a collection up to a limit where no references make a cycle: paths go one by one, each after all that
+-- refer to it.
 use Rattle.std.specs.Prelude.{◌≡◌, ◌↔◌, ◌⊎◌, ℕ, ◌<◌, ◌≤◌, ◌++◌, Bool, List, ◌∷◌, Some, IsTrue, IsFalse, Contains}
 use Rattle.std.specs.FinMap as finite
 use Rattle.std.specs.declared.cmp.Ordering.TheVariants.{Less}
@@ -16,24 +17,29 @@ use Rattle.laws.specs.Changes.{Weigh}
 
 -- no two paths reach each other by references
 abbrev pub HasNoCycle : World → Type 0
-HasNoCycle w = (p q : Path) → Reaches references_alone (graph_of w) p q → Reaches references_alone (graph_of w) q p → p ≡ q
+HasNoCycle w =
+    (p q : Path) → Reaches references_alone (graph_of w) p q → Reaches references_alone (graph_of w) q p → p ≡ q
 
--- A path may go once these are gone: it is valid and dead, and isn't gone yet; all that refer to it are gone, but for itself; and the
--- archives of those that are gone have fewer bytes than the limit.
+-- A path may go once these are gone: it is valid and dead, and isn't gone yet; all that refer to it are gone, but for
+-- itself; and the archives of those that are gone have fewer bytes than the limit.
 pub record MayGo (s : Settings) (w : World) (limit : ℕ) (gone : List Path) (p : Path) : Type 0 where
   pub present : IsTrue (has w p)
   pub dead : IsFalse (lives s w p)
   pub fresh : Contains gone p → ⊥
-  pub referrers : (q : Path) (o : Object) → finite.get w.objects q ≡ Some o → IsTrue (finite.contains_key o.references p) → (q ≡ p → ⊥) → Contains gone q
+  pub referrers : (q : Path) (o : Object) → finite.get w.objects q ≡ Some o
+      → IsTrue (finite.contains_key o.references p) → (q ≡ p → ⊥) → Contains gone q
   pub wanted : (bytes : ℕ) → Weigh w gone bytes → bytes < limit
 
--- What was deleted is what may be, one path after another, each the least of those that may; and at the end the archives have as many bytes as the limit, or no dead path is left.
+-- What was deleted is what may be, one path after another, each the least of those that may; and at the end the
+-- archives have as many bytes as the limit, or no dead path is left.
 pub record CollectsOneByOne (s : Settings) (w : World) (limit : ℕ) (new : World) : Type 0 where
   pub order : List Path
   pub each : (front back : List Path) (p : Path) → order ≡ front ++ p ∷ back → MayGo s w limit front p
-  pub least : (front back : List Path) (p : Path) → order ≡ front ++ p ∷ back → (q : Path) → MayGo s w limit front q → bytes_cmp q p ≡ Less → ⊥
+  pub least : (front back : List Path) (p : Path) → order ≡ front ++ p ∷ back → (q : Path) → MayGo s w limit front q
+      → bytes_cmp q p ≡ Less → ⊥
   pub went : (p : Path) → IsTrue (has w p) → IsFalse (has new p) ↔ Contains order p
-  pub enough : (bytes : ℕ) → Weigh w order bytes → (limit ≤ bytes) ⊎ ((p : Path) → IsTrue (has w p) → IsFalse (lives s w p) → Contains order p)
+  pub enough : (bytes : ℕ) → Weigh w order bytes → (limit ≤ bytes)
+      ⊎ ((p : Path) → IsTrue (has w p) → IsFalse (lives s w p) → Contains order p)
 
 abbrev pub ReferrersGoFirst : Type 0
 ReferrersGoFirst = (s : Settings) (w : World) (c : Caller) (ignores : Bool) (limit : ℕ) (a : Answer) (new : World)

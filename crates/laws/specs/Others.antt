@@ -13,30 +13,37 @@ use Rattle.model.specs.Step.{Step}
 
 -- ---- what nobody does for another
 
--- a profile after a call compared with the same before: the current generation is as it was, and there are none but those that were
+-- a profile after a call compared with the same before: the current generation is as it was, and there are none but
+-- those that were
 pub record HasNoMore (before now : Profile) : Type 0 where
   pub current : now.current ≡ before.current
   pub current_target : finite.get now.generations now.current ≡ finite.get before.generations before.current
-  pub generations : (n : ℕ) (t : Path) → finite.get now.generations n ≡ Some t → finite.get before.generations n ≡ Some t
+  pub generations : (n : ℕ) (t : Path) → finite.get now.generations n ≡ Some t
+      → finite.get before.generations n ≡ Some t
 
--- Of what an owner has things may be dropped, and nothing else changes: no root comes or gets another target, no profile comes or is dropped, or
--- moves to another generation.
+-- Of what an owner has things may be dropped, and nothing else changes: no root comes or gets another target, no
+-- profile comes or is dropped, or moves to another generation.
 pub record OnlyLoses (owner : List ℕ) (w new : World) : Type 0 where
-  pub user_roots : (name : List ℕ) (t : Path) → finite.get new.user_roots (owner, name) ≡ Some t → finite.get w.user_roots (owner, name) ≡ Some t
-  pub profiles : (name : List ℕ) → finite.contains_key new.profiles (owner, name) ≡ finite.contains_key w.profiles (owner, name)
+  pub user_roots : (name : List ℕ) (t : Path) → finite.get new.user_roots (owner, name) ≡ Some t
+      → finite.get w.user_roots (owner, name) ≡ Some t
+  pub profiles : (name : List ℕ)
+      → finite.contains_key new.profiles (owner, name) ≡ finite.contains_key w.profiles (owner, name)
   pub generations : (name : List ℕ) (now : Profile) → finite.get new.profiles (owner, name) ≡ Some now
       → (before : Profile) × (finite.get w.profiles (owner, name) ≡ Some before) × HasNoMore before now
-  pub temporary : (session : ℕ) (p : Path) → IsTrue (finite.contains_key new.temporary (record { owner = owner; session = session; path = p }))
+  pub temporary : (session : ℕ) (p : Path)
+      → IsTrue (finite.contains_key new.temporary (record { owner = owner; session = session; path = p }))
       → IsTrue (finite.contains_key w.temporary (record { owner = owner; session = session; path = p }))
 
 -- Whoever calls, trusted or not: what another owns only loses by it.
 abbrev pub OthersOnlyLose : Type 0
-OthersOnlyLose = (s : Settings) (w : World) (c : Caller) (q : Request) (reply : Reply) (new : World) → Step s w c q reply new
+OthersOnlyLose =
+    (s : Settings) (w : World) (c : Caller) (q : Request) (reply : Reply) (new : World) → Step s w c q reply new
     → (owner : List ℕ) → (owner ≡ c.name → ⊥) → OnlyLoses owner w new
 
 -- ---- what the rules leave to whom
 
--- what a trusted caller may do: import any object, change permanent and runtime roots, and drop, delete or end what anyone owns
+-- what a trusted caller may do: import any object, change permanent and runtime roots, and drop, delete or end what
+-- anyone owns
 pub record MayAsTrusted (s : Settings) (w : World) (c : Caller) : Type 0 where
   pub import : (i : Imported) → verdict s w c (import_object i) ≡ None
   pub set_permanent : (name : List ℕ) (p : Path) → verdict s w c (set_permanent name p) ≡ None

@@ -18,10 +18,11 @@ pub record MayNotIgnoreLiveness (s : Settings) (w : World) (c : Caller) : Type 0
   pub delete_ : (named : List Path) → verdict s w c (delete named true) ≡ Some NoIgnoreLiveness
 
 abbrev pub NobodyIgnoresLiveness : Type 0
-NobodyIgnoresLiveness = (s : Settings) (w : World) (c : Caller) → IsFalse (is_stranger (class_of s c)) → MayNotIgnoreLiveness s w c
+NobodyIgnoresLiveness =
+    (s : Settings) (w : World) (c : Caller) → IsFalse (is_stranger (class_of s c)) → MayNotIgnoreLiveness s w c
 
--- what each caller but a stranger may ask: to add a text, a source, or an object that has an address; all that only asks; to collect;
--- and to delete paths of which none lives
+-- what each caller but a stranger may ask: to add a text, a source, or an object that has an address; all that only
+-- asks; to collect; and to delete paths of which none lives
 pub record MayAsk (s : Settings) (w : World) (c : Caller) : Type 0 where
   pub text : (name : List ℕ) (refs : List Path) (contents : List ℕ) → verdict s w c (add_text name refs contents) ≡ None
   pub source : (name : List ℕ) (refs : List Path) (b : List ℕ) → verdict s w c (add_source name refs b) ≡ None

@@ -38,7 +38,9 @@ OnlyReads _ = ⊥
 
 -- such a request changes nothing
 abbrev pub ReadingChangesNothing : Type 0
-ReadingChangesNothing = (s : Settings) (w : World) (c : Caller) (q : Request) (reply : Reply) (new : World) → Step s w c q reply new → OnlyReads q → new ≡ w
+ReadingChangesNothing =
+    (s : Settings) (w : World) (c : Caller) (q : Request) (reply : Reply) (new : World) → Step s w c q reply new
+    → OnlyReads q → new ≡ w
 
 -- ---- objects
 
@@ -55,18 +57,23 @@ pub record ReportsObject (p : Path) (o : Object) (a : Answer) : Type 0 where
   pub ca : record_.ca ≡ o.ca
 
 abbrev pub RecordsAreExact : Type 0
-RecordsAreExact = (s : Settings) (w : World) (c : Caller) (p : Path) (a : Answer) (new : World) → Step s w c (info p) (done a) new
+RecordsAreExact =
+    (s : Settings) (w : World) (c : Caller) (p : Path) (a : Answer) (new : World) → Step s w c (info p) (done a) new
     → (o : Object) × (finite.get w.objects p ≡ Some o) × ReportsObject p o a
 
 -- an archive that is answered is the object's
 abbrev pub ArchivesAreTheObjects : Type 0
-ArchivesAreTheObjects = (s : Settings) (w : World) (c : Caller) (p : Path) (a : Answer) (new : World) → Step s w c (nar p) (done a) new
+ArchivesAreTheObjects =
+    (s : Settings) (w : World) (c : Caller) (p : Path) (a : Answer) (new : World) → Step s w c (nar p) (done a) new
     → (o : Object) × (finite.get w.objects p ≡ Some o) × (a ≡ archive_of o.nar)
 
 -- a listing that is answered is that of the tree of which the object's archive is
 abbrev pub ListingsAreTheObjects : Type 0
-ListingsAreTheObjects = (s : Settings) (w : World) (c : Caller) (p : Path) (a : Answer) (new : World) → IsSound s.store_dir w → Step s w c (ls p) (done a) new
-    → (o : Object) × (t : Tree) × (finite.get w.objects p ≡ Some o) × IsArchive t o.nar × (a ≡ listing_of (listing (codes ".") t))
+ListingsAreTheObjects =
+    (s : Settings) (w : World) (c : Caller) (p : Path) (a : Answer) (new : World) → IsSound s.store_dir w
+    → Step s w c (ls p) (done a) new
+    → (o : Object) × (t : Tree) × (finite.get w.objects p ≡ Some o) × IsArchive t o.nar
+    × (a ≡ listing_of (listing (codes ".") t))
 
 -- a record says exactly what was passed
 pub record ReportsSubmitted (h : Submitted) (a : Answer) : Type 0 where
@@ -82,7 +89,9 @@ pub record ReportsSubmitted (h : Submitted) (a : Answer) : Type 0 where
 
 -- after an add that is done of a path that wasn't valid the record says what was passed
 abbrev pub RecordsAdds : Settings → Request → Submitted → Type 0
-RecordsAdds s q h = (w : World) (c : Caller) (reply : Reply) (mid : World) → Step s w c q reply mid → IsDone reply → IsFalse (has w h.path)
+RecordsAdds s q h =
+    (w : World) (c : Caller) (reply : Reply) (mid : World) → Step s w c q reply mid → IsDone reply
+    → IsFalse (has w h.path)
     → (next : Caller) (a : Answer) (last : World) → Step s mid next (info h.path) (done a) last → ReportsSubmitted h a
 
 -- ---- listings
@@ -98,7 +107,8 @@ pub record ListsExactly (Holds : Path → Type 0) (a : Answer) : Type 0 where
 pub record PathsAreListed (s : Settings) (w : World) (c : Caller) : Type 0 where
   pub all : (a : Answer) (new : World) → Step s w c list (done a) new → ListsExactly (λ p. IsTrue (has w p)) a
   pub live : (a : Answer) (new : World) → Step s w c list_live (done a) new → ListsExactly (λ p. IsTrue (lives s w p)) a
-  pub dead : (a : Answer) (new : World) → Step s w c list_dead (done a) new → ListsExactly (λ p. IsTrue (has w p) × IsFalse (lives s w p)) a
+  pub dead : (a : Answer) (new : World) → Step s w c list_dead (done a) new
+      → ListsExactly (λ p. IsTrue (has w p) × IsFalse (lives s w p)) a
 
 abbrev pub ListingsAreExact : Type 0
 ListingsAreExact = (s : Settings) (w : World) (c : Caller) → PathsAreListed s w c
@@ -112,7 +122,8 @@ pub record ShowsExactly (s : Settings) (c : Caller) (Holds : Root → Type 0) (a
 
 -- all roots; and of a path those that reach it
 pub record RootsAreListed (s : Settings) (w : World) (c : Caller) : Type 0 where
-  pub all : (a : Answer) (new : World) → Step s w c list_roots (done a) new → ShowsExactly s c (λ r. Contains (roots_of w) r) a
+  pub all : (a : Answer) (new : World) → Step s w c list_roots (done a) new
+      → ShowsExactly s c (λ r. Contains (roots_of w) r) a
   pub of : (p : Path) (a : Answer) (new : World) → Step s w c (list_roots_of p) (done a) new
       → ShowsExactly s c (λ r. Contains (roots_of w) r × Reaches (keep_of s) (graph_of w) r.target p) a
 
@@ -127,7 +138,8 @@ pub record ReportsUsage (s : Settings) (w : World) (a : Answer) : Type 0 where
   pub dead : List Path
   pub live_bytes : ℕ
   pub dead_bytes : ℕ
-  pub reported : a ≡ usage (record { paths = length live; bytes = live_bytes }) (record { paths = length dead; bytes = dead_bytes })
+  pub reported : a
+      ≡ usage (record { paths = length live; bytes = live_bytes }) (record { paths = length dead; bytes = dead_bytes })
       (record { paths = length live + length dead; bytes = live_bytes + dead_bytes })
   pub is_live : (p : Path) → Contains live p ↔ IsTrue (lives s w p)
   pub is_dead : (p : Path) → Contains dead p ↔ (IsTrue (has w p) × IsFalse (lives s w p))
@@ -135,4 +147,6 @@ pub record ReportsUsage (s : Settings) (w : World) (a : Answer) : Type 0 where
   pub dead_weight : Weigh w dead dead_bytes
 
 abbrev pub ReportsAreExact : Type 0
-ReportsAreExact = (s : Settings) (w : World) (c : Caller) (a : Answer) (new : World) → Step s w c report (done a) new → ReportsUsage s w a
+ReportsAreExact =
+    (s : Settings) (w : World) (c : Caller) (a : Answer) (new : World) → Step s w c report (done a) new
+    → ReportsUsage s w a

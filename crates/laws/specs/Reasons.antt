@@ -1,4 +1,5 @@
--- Laws of reasons: a request is refused for a fault that it has, and a deletion denied for the first of the named that lives.
+-- Laws of reasons: a request is refused for a fault that it has, and a deletion denied for the first of the named that
+-- lives.
 use Rattle.std.specs.Prelude.{◌≡◌, ℕ, ◌<◌, ◌≤◌, ◌++◌, Bool, List, ◌∷◌, length, Option, Some, Ok, Err, IsTrue, IsFalse, Contains}
 use Rattle.std.specs.FinMap as finite
 use Rattle.sha2.specs.Sha256.{sha256}
@@ -36,7 +37,8 @@ use Rattle.model.specs.Step.{Step}
 -- ---- refusals
 
 -- the content address with which an object is passed doesn't verify
-pub record IsNoAddressOf (dir path : List ℕ) (refs : List Path) (nar : List ℕ) (ca : Option ContentAddress) : Type 0 where
+pub record IsNoAddressOf (dir path : List ℕ) (refs : List Path) (nar : List ℕ)
+    (ca : Option ContentAddress) : Type 0 where
   pub given : ContentAddress
   pub is : ca ≡ Some given
   pub fails : IsFalse (verifies given dir path (finite.keys (set_of bytes_cmp refs)) nar)
@@ -70,10 +72,12 @@ HasFault s w (drop_user_root owner name) BadRootName = HasBadName (drop_user_roo
 HasFault s w (drop_user_root owner name) NoRoot = IsFalse (finite.contains_key w.user_roots (owner, name))
 HasFault s w (set_profile owner name p) BadRootName = HasBadName (set_profile owner name p)
 HasFault s w (set_profile owner name p) NotValid = IsFalse (has w p)
-HasFault s w (set_profile owner name p) GenerationLimit = (n : ℕ) × IsNumberFor (profile_at w (owner, name)) p n × (9999 < n)
+HasFault s w (set_profile owner name p) GenerationLimit =
+    (n : ℕ) × IsNumberFor (profile_at w (owner, name)) p n × (9999 < n)
 HasFault s w (rollback owner name) BadRootName = HasBadName (rollback owner name)
 HasFault s w (rollback owner name) NoProfile = IsFalse (has_profile w (owner, name))
-HasFault s w (rollback owner name) NoOlderGeneration = (n : ℕ) → IsTrue (has_generation (profile_at w (owner, name)) n) → (profile_at w (owner, name)).current ≤ n
+HasFault s w (rollback owner name) NoOlderGeneration =
+    (n : ℕ) → IsTrue (has_generation (profile_at w (owner, name)) n) → (profile_at w (owner, name)).current ≤ n
 HasFault s w (switch owner name n) BadRootName = HasBadName (switch owner name n)
 HasFault s w (switch owner name n) NoProfile = IsFalse (has_profile w (owner, name))
 HasFault s w (switch owner name n) NoGeneration = IsFalse (has_generation (profile_at w (owner, name)) n)
@@ -91,13 +95,19 @@ HasFault s w (delete named ignores) NotValid = (p : Path) × Contains named p ×
 HasFault s w (add_text name refs contents) TooManyReferences = 4096 < length refs
 HasFault s w (add_text name refs contents) TooLarge = 16777216 < length (text_archive contents)
 HasFault s w (add_text name refs contents) SelfReference = Contains refs (text_path s.store_dir name refs contents)
-HasFault s w (add_text name refs contents) BadDerivation = IsTrue (is_derivation (text_path s.store_dir name refs contents)) × (outputs_of s.store_dir contents ≡ Err text.BadDerivation)
-HasFault s w (add_text name refs contents) DoubleOutput = IsTrue (is_derivation (text_path s.store_dir name refs contents)) × (outputs_of s.store_dir contents ≡ Err text.DoubleOutput)
+HasFault s w (add_text name refs contents) BadDerivation =
+    IsTrue (is_derivation (text_path s.store_dir name refs contents))
+    × (outputs_of s.store_dir contents ≡ Err text.BadDerivation)
+HasFault s w (add_text name refs contents) DoubleOutput =
+    IsTrue (is_derivation (text_path s.store_dir name refs contents))
+    × (outputs_of s.store_dir contents ≡ Err text.DoubleOutput)
 HasFault s w (add_text name refs contents) MissingReference = Lacks w (text_path s.store_dir name refs contents) refs
 HasFault s w (add_source name refs b) TooManyReferences = 4096 < length refs
 HasFault s w (add_source name refs b) SelfReference = Contains refs (source_path s.store_dir name refs b)
-HasFault s w (add_source name refs b) BadDerivation = IsNoDerivation s.store_dir (source_path s.store_dir name refs b) b text.BadDerivation
-HasFault s w (add_source name refs b) DoubleOutput = IsNoDerivation s.store_dir (source_path s.store_dir name refs b) b text.DoubleOutput
+HasFault s w (add_source name refs b) BadDerivation =
+    IsNoDerivation s.store_dir (source_path s.store_dir name refs b) b text.BadDerivation
+HasFault s w (add_source name refs b) DoubleOutput =
+    IsNoDerivation s.store_dir (source_path s.store_dir name refs b) b text.DoubleOutput
 HasFault s w (add_source name refs b) MissingReference = Lacks w (source_path s.store_dir name refs b) refs
 HasFault s w (add_source name refs b) r = IsNoArchive b r
 HasFault s w (import_object i) TooManyReferences = 4096 < length i.refs
@@ -112,7 +122,9 @@ HasFault s w _ _ = ⊥
 
 -- a request that is refused has the fault that is reported
 abbrev pub RefusalsHaveReasons : Type 0
-RefusalsHaveReasons = (s : Settings) (w : World) (c : Caller) (q : Request) (r : Refusal) (new : World) → Step s w c q (refused r) new → HasFault s w q r
+RefusalsHaveReasons =
+    (s : Settings) (w : World) (c : Caller) (q : Request) (r : Refusal) (new : World) → Step s w c q (refused r) new
+    → HasFault s w q r
 
 -- a path of which something is answered is valid
 pub record MentionsTheValid (s : Settings) (w : World) (c : Caller) (p : Path) : Type 0 where
@@ -139,5 +151,6 @@ pub record ShowsTheFirst (s : Settings) (w : World) (c : Caller) (named : List P
   pub is_shown : root ≡ Some (seen_root (class_of s c) first)
 
 abbrev pub DenialsAreForTheFirst : Type 0
-DenialsAreForTheFirst = (s : Settings) (w : World) (c : Caller) (named : List Path) (ignores : Bool) (root : Option Pair) (new : World)
+DenialsAreForTheFirst =
+    (s : Settings) (w : World) (c : Caller) (named : List Path) (ignores : Bool) (root : Option Pair) (new : World)
     → Step s w c (delete named ignores) (denied Live root) new → ShowsTheFirst s w c named root

@@ -25,12 +25,15 @@ StrangersAreDenied = (s : Settings) (w : World) (c : Caller) (q : Request) (repl
 
 -- what is valid before and after a call has the same object
 abbrev pub NothingIsReplaced : Type 0
-NothingIsReplaced = (s : Settings) (w : World) (c : Caller) (q : Request) (reply : Reply) (new : World) → Step s w c q reply new
+NothingIsReplaced =
+    (s : Settings) (w : World) (c : Caller) (q : Request) (reply : Reply) (new : World) → Step s w c q reply new
     → (p : Path) → IsTrue (has w p) → IsTrue (has new p) → finite.get new.objects p ≡ finite.get w.objects p
 
--- what a caller who isn't trusted adds has a content address, which verifies for its path, its references and its archive
+-- what a caller who isn't trusted adds has a content address, which verifies for its path, its references and its
+-- archive
 abbrev pub NobodyPlants : Type 0
-NobodyPlants = (s : Settings) (w : World) (c : Caller) (q : Request) (reply : Reply) (new : World) → Step s w c q reply new
+NobodyPlants =
+    (s : Settings) (w : World) (c : Caller) (q : Request) (reply : Reply) (new : World) → Step s w c q reply new
     → IsFalse (is_trusted (class_of s c)) → IsWellFormed q → IsSound s.store_dir w
     → (p : Path) (o : Object) → IsFalse (has w p) → finite.get new.objects p ≡ Some o
     → (a : ContentAddress) × (o.ca ≡ Some a) × IsTrue (verifies a s.store_dir p (finite.keys o.references) o.nar)
@@ -46,10 +49,13 @@ pub record KeepsOfTheTrusted (w new : World) : Type 0 where
 pub record KeepsOfOwner (owner : List ℕ) (w new : World) : Type 0 where
   pub user_roots : (name : List ℕ) → finite.get new.user_roots (owner, name) ≡ finite.get w.user_roots (owner, name)
   pub profiles : (name : List ℕ) → finite.get new.profiles (owner, name) ≡ finite.get w.profiles (owner, name)
-  pub temporary : (session : ℕ) (p : Path) → finite.contains_key new.temporary (record { owner = owner; session = session; path = p })
+  pub temporary : (session : ℕ) (p : Path)
+      → finite.contains_key new.temporary (record { owner = owner; session = session; path = p })
       ≡ finite.contains_key w.temporary (record { owner = owner; session = session; path = p })
 
 -- A caller who isn't trusted changes no permanent and no runtime root, and nothing that another owns.
 abbrev pub RootsAreTheirOwners : Type 0
-RootsAreTheirOwners = (s : Settings) (w : World) (c : Caller) (q : Request) (reply : Reply) (new : World) → Step s w c q reply new
-    → IsFalse (is_trusted (class_of s c)) → KeepsOfTheTrusted w new × ((owner : List ℕ) → (owner ≡ c.name → ⊥) → KeepsOfOwner owner w new)
+RootsAreTheirOwners =
+    (s : Settings) (w : World) (c : Caller) (q : Request) (reply : Reply) (new : World) → Step s w c q reply new
+    → IsFalse (is_trusted (class_of s c))
+    → KeepsOfTheTrusted w new × ((owner : List ℕ) → (owner ≡ c.name → ⊥) → KeepsOfOwner owner w new)

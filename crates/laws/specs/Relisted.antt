@@ -16,7 +16,8 @@ use Rattle.model.specs.Step.{Step}
 use Rattle.laws.specs.ReadOnly.{ShowsExactly}
 use Rattle.laws.specs.ListedRoots.{Shows}
 
--- A caller who asks for all roots, or for those of a path, gets exactly the roots of which something is true, as the caller sees them.
+-- A caller who asks for all roots, or for those of a path, gets exactly the roots of which something is true, as the
+-- caller sees them.
 pub record ListsRoots (s : Settings) (w : World) (c : Caller) (Holds : Root → Type 0) : Type 0 where
   pub all : (a : Answer) (new : World) → Step s w c list_roots (done a) new → ShowsExactly s c Holds a
   pub of : (p : Path) (a : Answer) (new : World) → Step s w c (list_roots_of p) (done a) new
@@ -41,55 +42,77 @@ pub record IsKeptByAnother (w : World) (owner : List ℕ) (session : ℕ) (r : R
   pub keeps : IsTrue (finite.contains_key w.temporary (record { owner = another; session = session; path = r.target }))
   pub is : r ≡ temporary_root (record { owner = another; session = session; path = r.target })
 
--- What was dropped isn't listed to whoever asks next, and every other root from before is: a permanent root, a user root, a generation;
--- the runtime roots that aren't among those given; and what a session kept, but for what another owner's session of its number keeps.
+-- What was dropped isn't listed to whoever asks next, and every other root from before is: a permanent root, a user
+-- root, a generation; the runtime roots that aren't among those given; and what a session kept, but for what another
+-- owner's session of its number keeps.
 pub record DroppedRootsGo (s : Settings) (w : World) (c : Caller) (mid : World) (next : Caller) : Type 0 where
-  pub permanent_ : (name : List ℕ) (a : Answer) → Step s w c (drop_permanent name) (done a) mid → ListsRoots s mid next (CoexistedWith w permanent (permanent_label name))
-  pub user_ : (owner name : List ℕ) (a : Answer) → Step s w c (drop_user_root owner name) (done a) mid → ListsRoots s mid next (CoexistedWith w user (user_label owner name))
-  pub generation_ : (owner name : List ℕ) (n : ℕ) (a : Answer) → Step s w c (delete_generation owner name n) (done a) mid
+  pub permanent_ : (name : List ℕ) (a : Answer) → Step s w c (drop_permanent name) (done a) mid
+      → ListsRoots s mid next (CoexistedWith w permanent (permanent_label name))
+  pub user_ : (owner name : List ℕ) (a : Answer) → Step s w c (drop_user_root owner name) (done a) mid
+      → ListsRoots s mid next (CoexistedWith w user (user_label owner name))
+  pub generation_ : (owner name : List ℕ) (n : ℕ) (a : Answer)
+      → Step s w c (delete_generation owner name n) (done a) mid
       → ListsRoots s mid next (CoexistedWith w profile (generation_label owner name n))
   pub runtime_ : (pairs : List Pair) (a : Answer) → Step s w c (replace_runtime pairs) (done a) mid
       → ListsRoots s mid next (λ r. IsGiven w pairs r ⊎ (Contains (roots_of w) r × (r.kind ≡ runtime → ⊥)))
   pub session_ : (owner : List ℕ) (session : ℕ) (a : Answer) → Step s w c (end_session owner session) (done a) mid
-      → ListsRoots s mid next (λ r. IsKeptByAnother w owner session r ⊎ CoexistedWith w temporary (temporary_label session) r)
+      → ListsRoots s mid next
+      (λ r. IsKeptByAnother w owner session r ⊎ CoexistedWith w temporary (temporary_label session) r)
 
--- What was set is listed, and so is every root from before but one that it replaced: a permanent root, or a user root, of its name. A
--- profile that goes to another generation keeps all of them.
+-- What was set is listed, and so is every root from before but one that it replaced: a permanent root, or a user root,
+-- of its name. A profile that goes to another generation keeps all of them.
 pub record SetRootsCome (s : Settings) (w : World) (c : Caller) (mid : World) (next : Caller) : Type 0 where
   pub permanent_ : (name : List ℕ) (p : Path) (a : Answer) → Step s w c (set_permanent name p) (done a) mid
       → ListsRoots s mid next (λ r. (r ≡ permanent_root (name, p)) ⊎ CoexistedWith w permanent (permanent_label name) r)
   pub user_ : (owner name : List ℕ) (p : Path) (a : Answer) → Step s w c (set_user_root owner name p) (done a) mid
       → ListsRoots s mid next (λ r. (r ≡ user_root ((owner, name), p)) ⊎ CoexistedWith w user (user_label owner name) r)
-  pub generation_ : (owner name : List ℕ) (p : Path) (n : ℕ) → Step s w c (set_profile owner name p) (done (generation n)) mid
+  pub generation_ : (owner name : List ℕ) (p : Path) (n : ℕ)
+      → Step s w c (set_profile owner name p) (done (generation n)) mid
       → ListsRoots s mid next (λ r. (r ≡ generation_root (owner, name) (n, p)) ⊎ Contains (roots_of w) r)
-  pub back : (owner name : List ℕ) (a : Answer) → Step s w c (rollback owner name) (done a) mid → ListsRoots s mid next (Contains (roots_of w))
-  pub switch_ : (owner name : List ℕ) (n : ℕ) (a : Answer) → Step s w c (switch owner name n) (done a) mid → ListsRoots s mid next (Contains (roots_of w))
-  pub session_ : (owner : List ℕ) (session : ℕ) (p : Path) (a : Answer) → Step s w c (add_temp owner session p) (done a) mid
-      → ListsRoots s mid next (λ r. (r ≡ temporary_root (record { owner = owner; session = session; path = p })) ⊎ Contains (roots_of w) r)
+  pub back : (owner name : List ℕ) (a : Answer) → Step s w c (rollback owner name) (done a) mid
+      → ListsRoots s mid next (Contains (roots_of w))
+  pub switch_ : (owner name : List ℕ) (n : ℕ) (a : Answer) → Step s w c (switch owner name n) (done a) mid
+      → ListsRoots s mid next (Contains (roots_of w))
+  pub session_ : (owner : List ℕ) (session : ℕ) (p : Path) (a : Answer)
+      → Step s w c (add_temp owner session p) (done a) mid
+      → ListsRoots s mid next
+      (λ r. (r ≡ temporary_root (record { owner = owner; session = session; path = p })) ⊎ Contains (roots_of w) r)
 
 -- from a sound world
 abbrev pub DropsAreListed : Type 0
-DropsAreListed = (s : Settings) (w : World) (c : Caller) (mid : World) (next : Caller) → IsSound s.store_dir w → DroppedRootsGo s w c mid next
+DropsAreListed =
+    (s : Settings) (w : World) (c : Caller) (mid : World) (next : Caller) → IsSound s.store_dir w
+    → DroppedRootsGo s w c mid next
 
 abbrev pub SetsAreListed : Type 0
-SetsAreListed = (s : Settings) (w : World) (c : Caller) (mid : World) (next : Caller) → IsSound s.store_dir w → SetRootsCome s w c mid next
+SetsAreListed =
+    (s : Settings) (w : World) (c : Caller) (mid : World) (next : Caller) → IsSound s.store_dir w
+    → SetRootsCome s w c mid next
 
 -- ---- labels
 
--- A caller who asks for all roots, or for those of a path, doesn't get this label, but for a runtime root's, which a trusted caller gets.
+-- A caller who asks for all roots, or for those of a path, doesn't get this label, but for a runtime root's, which a
+-- trusted caller gets.
 pub record ListsNoMore (s : Settings) (w : World) (c : Caller) (label : List ℕ) : Type 0 where
   pub all : (a : Answer) (new : World) → Step s w c list_roots (done a) new
-      → (p : Path) → Shows a (label, p) → IsTrue (is_trusted (class_of s c)) × IsTrue (finite.contains_key w.runtime (label, p))
+      → (p : Path) → Shows a (label, p)
+      → IsTrue (is_trusted (class_of s c)) × IsTrue (finite.contains_key w.runtime (label, p))
   pub of : (q : Path) (a : Answer) (new : World) → Step s w c (list_roots_of q) (done a) new
-      → (p : Path) → Shows a (label, p) → IsTrue (is_trusted (class_of s c)) × IsTrue (finite.contains_key w.runtime (label, p))
+      → (p : Path) → Shows a (label, p)
+      → IsTrue (is_trusted (class_of s c)) × IsTrue (finite.contains_key w.runtime (label, p))
 
 -- so it is with the label of a permanent root, of a user root and of a generation that was dropped
 pub record DroppedLabelsGo (s : Settings) (w : World) (c : Caller) (mid : World) (next : Caller) : Type 0 where
-  pub permanent_ : (name : List ℕ) (a : Answer) → Step s w c (drop_permanent name) (done a) mid → ListsNoMore s mid next (codes "gcroots/" ++ name)
+  pub permanent_ : (name : List ℕ) (a : Answer) → Step s w c (drop_permanent name) (done a) mid
+      → ListsNoMore s mid next (codes "gcroots/" ++ name)
   pub user_ : (owner name : List ℕ) (a : Answer) → Step s w c (drop_user_root owner name) (done a) mid
       → ListsNoMore s mid next (codes "gcroots/per-user/" ++ owner ++ codes "/" ++ name)
-  pub generation_ : (owner name : List ℕ) (n : ℕ) (a : Answer) → Step s w c (delete_generation owner name n) (done a) mid
-      → ListsNoMore s mid next (codes "profiles/per-user/" ++ owner ++ codes "/" ++ name ++ codes "-" ++ decimal n ++ codes "-link")
+  pub generation_ : (owner name : List ℕ) (n : ℕ) (a : Answer)
+      → Step s w c (delete_generation owner name n) (done a) mid
+      → ListsNoMore s mid next
+      (codes "profiles/per-user/" ++ owner ++ codes "/" ++ name ++ codes "-" ++ decimal n ++ codes "-link")
 
 abbrev pub DroppedLabelsAreNotListed : Type 0
-DroppedLabelsAreNotListed = (s : Settings) (w : World) (c : Caller) (mid : World) (next : Caller) → IsSound s.store_dir w → DroppedLabelsGo s w c mid next
+DroppedLabelsAreNotListed =
+    (s : Settings) (w : World) (c : Caller) (mid : World) (next : Caller) → IsSound s.store_dir w
+    → DroppedLabelsGo s w c mid next

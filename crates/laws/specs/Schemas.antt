@@ -12,10 +12,11 @@ pub record NamesSchema (number dir : List ℕ) (c : Rows) : Type 0 where
   pub schema : finite.get c.meta (codes "schema") ≡ Some number
   pub directory : finite.get c.meta (codes "store-dir") ≡ Some dir
 
--- The first schema has the number 1, no further pieces and no temporary roots; the second has the number 2 and no temporary roots;
--- the third has the number 3.
+-- The first schema has the number 1, no further pieces and no temporary roots; the second has the number 2 and no
+-- temporary roots; the third has the number 3.
 pub record SchemasDiffer (dir : List ℕ) (c : Rows) : Type 0 where
-  pub first : IsSoundRows V1 dir c → NamesSchema (codes "1") dir c × (c.pieces ≡ finite.empty) × (c.temp_roots ≡ finite.empty)
+  pub first : IsSoundRows V1 dir c
+      → NamesSchema (codes "1") dir c × (c.pieces ≡ finite.empty) × (c.temp_roots ≡ finite.empty)
   pub second : IsSoundRows V2 dir c → NamesSchema (codes "2") dir c × (c.temp_roots ≡ finite.empty)
   pub third : IsSoundRows V3 dir c → NamesSchema (codes "3") dir c
 
@@ -34,4 +35,6 @@ pub record KeepsInBounds (c : Rows) (k : Kept) : Type 0 where
   pub target : IsTrue (finite.contains_key c.objects k.2)
 
 abbrev pub SessionsKeepInBounds : Type 0
-SessionsKeepInBounds = (schema : Schema) (dir : List ℕ) (c : Rows) → IsSoundRows schema dir c → (k : Kept) → IsTrue (finite.contains_key c.temp_roots k) → KeepsInBounds c k
+SessionsKeepInBounds =
+    (schema : Schema) (dir : List ℕ) (c : Rows) → IsSoundRows schema dir c → (k : Kept)
+    → IsTrue (finite.contains_key c.temp_roots k) → KeepsInBounds c k

@@ -13,6 +13,7 @@ steps_of keep rows = length rows + sum_by (λ (e : Entries). length (counting ke
 
 -- marking takes at most a step for each object, each entry that counts and each root
 pub record TakesFewSteps (keep : Keep) : Type 0 where
-  pub places : (rows : List Entries) (targets : List ℕ) (m : Marking) → IsMarking keep rows targets m → m.steps ≤ steps_of keep rows + length targets
+  pub places : (rows : List Entries) (targets : List ℕ) (m : Marking) → IsMarking keep rows targets m
+      → m.steps ≤ steps_of keep rows + length targets
   pub paths : (rows : List Row) (roots : List Root) (m : Marking) → IsExact keep rows roots m
       → m.steps ≤ length rows + sum_by (λ (e : Entries). length (counting keep e)) (numbered rows) + length roots

@@ -8,7 +8,8 @@ use Rattle.live.specs.declared.numbered.rows.Row.{Row}
 use Rattle.live.specs.declared.numbered.rows.Root.{Root}
 
 abbrev pub row_view : Row → numbers.Row
-row_view r = (r.path.now, record { references = r.references.now; outputs = r.outputs.now; deriver = option_copied r.deriver })
+row_view r =
+    (r.path.now, record { references = r.references.now; outputs = r.outputs.now; deriver = option_copied r.deriver })
 
 abbrev pub rows_view : List Row → List numbers.Row
 rows_view rows = map row_view rows

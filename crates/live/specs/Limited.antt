@@ -22,8 +22,8 @@ next_alone g dead left = option_map (λ p. p ∷ []) (find (λ p. dead p && not 
 abbrev pub next_with_referrers : Graph → (Path → Bool) → List Path → Option (List Path)
 next_with_referrers g dead left = option_map (λ p. filter (λ q. reaches references_alone g q p) left) (find dead left)
 
--- The next group of the paths left, if a dead one is left: a path to which no other path left refers; if each has such a
--- referrer, since references make a cycle, one with all that reach it.
+-- The next group of the paths left, if a dead one is left: a path to which no other path left refers; if each has such
+-- a referrer, since references make a cycle, one with all that reach it.
 abbrev pub next_group : Graph → (Path → Bool) → List Path → Option (List Path)
 next_group g dead left = option_or (next_alone g dead left) (next_with_referrers g dead left)
 
@@ -31,12 +31,13 @@ next_group g dead left = option_or (next_alone g dead left) (next_with_referrers
 abbrev pub without : List Path → List Path → List Path
 without group left = filter (λ p. not (holds group p)) left
 
--- From these paths left, with this number of bytes still wanted, these groups are deleted: each is the next one of the paths left by those
--- before it, which free less than is wanted; all free what is wanted, or no dead path is left.
+-- From these paths left, with this number of bytes still wanted, these groups are deleted: each is the next one of the
+-- paths left by those before it, which free less than is wanted; all free what is wanted, or no dead path is left.
 abbrev pub DeletesGroups : Graph → (Path → Bool) → (Path → ℕ) → List Path → ℕ → List (List Path) → Type 0
 DeletesGroups g dead size left wanted [] = (wanted ≡ 0) ⊎ (next_group g dead left ≡ None)
 DeletesGroups g dead size left wanted (group ∷ groups) =
-    (0 < wanted) × (next_group g dead left ≡ Some group) × DeletesGroups g dead size (without group left) (wanted - sum_by size group) groups
+    (0 < wanted) × (next_group g dead left ≡ Some group)
+        × DeletesGroups g dead size (without group left) (wanted - sum_by size group) groups
 
 -- ---- the same by a function that computes
 
@@ -45,7 +46,9 @@ unfoldable pub groups_by : Graph → (Path → Bool) → (Path → ℕ) → (tur
 groups_by g dead size [] left wanted = []
 groups_by g dead size (turn ∷ turns) left wanted =
     if nat_lt 0 wanted
-    then option_map_or (λ group. group ∷ groups_by g dead size turns (without group left) (wanted - sum_by size group)) (next_group g dead left) []
+    then option_map_or
+        (λ group. group ∷ groups_by g dead size turns (without group left) (wanted - sum_by size group))
+        (next_group g dead left) []
     else []
 
 -- the groups that go from a graph up to a limit; each takes a path, so there are no more than paths

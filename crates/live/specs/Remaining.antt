@@ -52,7 +52,8 @@ pub record IsRemaining (es : List Entries) (owed : ℕ → ℕ) (s : Remaining) 
   -- what waits in the heap has no referrer
   pub waits : (r : Reverse ℕ) → Contains s.ready r → (r.0 < length es) × (slice_index s.referrers r.0 ≡ 0)
   -- whatever is dead, left and without referrer waits
-  pub complete : (t : ℕ) → t < length es → IsTrue (is_in s.dead t) → IsTrue (is_in s.left t) → slice_index s.referrers t ≡ 0 → Contains s.ready (at t)
+  pub complete : (t : ℕ) → t < length es → IsTrue (is_in s.dead t) → IsTrue (is_in s.left t)
+      → slice_index s.referrers t ≡ 0 → Contains s.ready (at t)
   pub ordered : IsHeap least_first s.ready
 
 abbrev pub nothing_owed : ℕ → ℕ
@@ -72,7 +73,8 @@ pub record IsNextAlone (s : Remaining) (p : ℕ) : Type 0 where
 
 -- each place that is dead and left has a referrer
 abbrev pub NoneAlone : Remaining → Type 0
-NoneAlone s = (t : ℕ) → t < length s.left → IsTrue (is_in s.dead t) → IsTrue (is_in s.left t) → slice_index s.referrers t ≡ 0 → ⊥
+NoneAlone s =
+    (t : ℕ) → t < length s.left → IsTrue (is_in s.dead t) → IsTrue (is_in s.left t) → slice_index s.referrers t ≡ 0 → ⊥
 
 -- the least place that is dead and left
 pub record IsLeastDead (s : Remaining) (p : ℕ) : Type 0 where
@@ -85,7 +87,8 @@ abbrev pub NoneDead : Remaining → Type 0
 NoneDead s = (t : ℕ) → t < length s.left → IsTrue (is_in s.dead t) → IsTrue (is_in s.left t) → ⊥
 
 -- what the places stand for: rows, which paths are dead, and the sizes of paths
-pub record Represents (es : List Entries) (dead : List Bool) (sizes : List ℕ) (rows_of : List Row) (is_dead : Path → Bool) (size_of : Path → ℕ) : Type 0 where
+pub record Represents (es : List Entries) (dead : List Bool) (sizes : List ℕ) (rows_of : List Row)
+    (is_dead : Path → Bool) (size_of : Path → ℕ) : Type 0 where
   pub rise : Rise (paths_of rows_of)
   pub rows : es ≡ numbered rows_of
   pub deads : (i : ℕ) → i < length rows_of → is_dead (path_at rows_of i) ≡ is_in dead i
@@ -102,5 +105,7 @@ unfoldable pub left_after : Graph → (Path → Bool) → (Path → ℕ) → (tu
 left_after g dead size [] left wanted = left
 left_after g dead size (turn ∷ turns) left wanted =
     if nat_lt 0 wanted
-    then option_map_or (λ group. left_after g dead size turns (without group left) (wanted - sum_by size group)) (next_group g dead left) left
+    then option_map_or
+        (λ group. left_after g dead size turns (without group left) (wanted - sum_by size group))
+        (next_group g dead left) left
     else left

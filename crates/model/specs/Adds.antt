@@ -19,7 +19,8 @@ pub record Added : Type 0 where
 abbrev pub added_at : List ℕ → Path → List Path → Option Path → Option ContentAddress → List ℕ → Added
 added_at dir path refs deriver ca nar = record {
   path = path;
-  object = record { nar = nar; references = set_of bytes_cmp refs; deriver = deriver; ca = ca; outputs = outputs_at dir path nar };
+  object = record { nar = nar; references = set_of bytes_cmp refs; deriver = deriver; ca = ca;
+      outputs = outputs_at dir path nar };
 }
 
 -- the archive of a text object: of the regular file with these contents that isn't executable
@@ -32,7 +33,8 @@ text_archive_size contents = 112 + padded (length contents)
 
 -- a text object, at the path of its contents
 abbrev pub added_text : List ℕ → List ℕ → List Path → List ℕ → Added
-added_text dir name refs contents = added_at dir (text_path dir name refs contents) refs None (Some (text_address contents)) (text_archive contents)
+added_text dir name refs contents =
+    added_at dir (text_path dir name refs contents) refs None (Some (text_address contents)) (text_archive contents)
 
 -- a source object: an archive, at its path
 abbrev pub added_source : List ℕ → List ℕ → List Path → List ℕ → Added

@@ -20,20 +20,21 @@ pub record KeepsRoots (w new : World) : Type 0 where
   pub runtime : new.runtime ≡ w.runtime
   pub temporary : new.temporary ≡ w.temporary
 
--- From the one world to the other exactly the dead paths were deleted: each live object is unchanged, no other path is valid,
--- roots and profiles are the same, and a further collection frees nothing.
+-- From the one world to the other exactly the dead paths were deleted: each live object is unchanged, no other path is
+-- valid, roots and profiles are the same, and a further collection frees nothing.
 pub record CollectsExactly (s : Settings) (w new : World) : Type 0 where
   pub kept : (p : Path) → IsTrue (lives s w p) → finite.get new.objects p ≡ finite.get w.objects p
   pub gone : (p : Path) → IsFalse (lives s w p) → IsFalse (has new p)
   pub roots : KeepsRoots w new
-  pub once : (c : Caller) (reply : Reply) (last : World) → Step s new c (collect false None) reply last → IsDone reply → (reply ≡ done (freed [] 0)) × (last ≡ new)
+  pub once : (c : Caller) (reply : Reply) (last : World) → Step s new c (collect false None) reply last → IsDone reply
+      → (reply ≡ done (freed [] 0)) × (last ≡ new)
 
 abbrev pub Collects : Type 0
 Collects = (s : Settings) (w : World) (c : Caller) (ignores : Bool) (reply : Reply) (new : World)
     → Step s w c (collect ignores None) reply new → IsDone reply → CollectsExactly s w new
 
--- With a limit some dead paths are deleted, and none that another path refers to which is left: each live object is unchanged, and so
--- does each other that is left; roots and profiles are the same. A limit of no bytes removes nothing.
+-- With a limit some dead paths are deleted, and none that another path refers to which is left: each live object is
+-- unchanged, and so does each other that is left; roots and profiles are the same. A limit of no bytes removes nothing.
 pub record CollectsSome (s : Settings) (w : World) (limit : ℕ) (new : World) : Type 0 where
   pub kept : (p : Path) → IsTrue (lives s w p) → finite.get new.objects p ≡ finite.get w.objects p
   pub left : (p : Path) → IsTrue (has new p) → finite.get new.objects p ≡ finite.get w.objects p
@@ -48,13 +49,14 @@ CollectsUpToALimit = (s : Settings) (w : World) (c : Caller) (ignores : Bool) (l
 
 -- After a deletion no reference of an object that is left points at a path that was deleted.
 abbrev pub LeavesNoReference : Type 0
-LeavesNoReference = (s : Settings) (w : World) (c : Caller) (named : List Path) (ignores : Bool) (reply : Reply) (new : World)
+LeavesNoReference =
+    (s : Settings) (w : World) (c : Caller) (named : List Path) (ignores : Bool) (reply : Reply) (new : World)
     → Step s w c (delete named ignores) reply new → IsDone reply
     → (p : Path) (o : Object) → finite.get new.objects p ≡ Some o
     → (r : Path) → IsTrue (finite.contains_key o.references r) → IsTrue (has w r) → IsTrue (has new r)
 
--- What was deleted is what groups of dead paths have, one group after another: each is deleted while the archives of those before it have fewer
--- bytes than the limit, and at the end they have as many, or no dead path is left.
+-- What was deleted is what groups of dead paths have, one group after another: each is deleted while the archives of
+-- those before it have fewer bytes than the limit, and at the end they have as many, or no dead path is left.
 pub record DeletesByBytes (s : Settings) (w : World) (limit : ℕ) (new : World) : Type 0 where
   pub size : Path → ℕ
   pub bytes : (p : Path) (o : Object) → finite.get w.objects p ≡ Some o → size p ≡ length o.nar

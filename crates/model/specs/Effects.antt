@@ -54,7 +54,8 @@ abbrev pub of_session : World → List ℕ → ℕ → Set temporary_cmp
 of_session w owner session = finite.retain_keys w.temporary (is_of_session owner session)
 
 abbrev pub without_session : World → List ℕ → ℕ → World
-without_session w owner session = record w { temporary = finite.retain_keys w.temporary (λ t. not (is_of_session owner session t)) }
+without_session w owner session =
+    record w { temporary = finite.retain_keys w.temporary (λ t. not (is_of_session owner session t)) }
 
 -- the world after a request that is done
 abbrev pub effect : Settings → World → Request → World
@@ -68,7 +69,8 @@ effect s w (drop_user_root owner name) = without_user_root w (owner, name)
 effect s w (set_profile owner name p) = with_profile w (owner, name) (set_to (profile_at w (owner, name)) p)
 effect s w (rollback owner name) = with_profile w (owner, name) (rolled_back (profile_at w (owner, name)))
 effect s w (switch owner name n) = with_profile w (owner, name) (switched (profile_at w (owner, name)) n)
-effect s w (delete_generation owner name n) = with_profile w (owner, name) (without_generation (profile_at w (owner, name)) n)
+effect s w (delete_generation owner name n) =
+    with_profile w (owner, name) (without_generation (profile_at w (owner, name)) n)
 effect s w (replace_runtime pairs) = with_runtime w (valid_pairs w pairs)
 effect s w (add_temp owner session p) = with_temporary w (record { owner = owner; session = session; path = p })
 effect s w (end_session owner session) = without_session w owner session

@@ -13,7 +13,9 @@ use Rattle.model.specs.Step.{Step, Run}
 
 -- each target of the one set of runtime roots is a target of the other
 abbrev pub TargetsAreIn : Set pair_cmp → Set pair_cmp → Type 0
-TargetsAreIn r1 r2 = (label target : List ℕ) → IsTrue (finite.contains_key r1 (label, target)) → (other : List ℕ) × IsTrue (finite.contains_key r2 (other, target))
+TargetsAreIn r1 r2 =
+    (label target : List ℕ) → IsTrue (finite.contains_key r1 (label, target))
+    → (other : List ℕ) × IsTrue (finite.contains_key r2 (other, target))
 
 -- two worlds that differ in runtime labels alone, with the same runtime targets
 pub record DifferInLabels (w v : World) : Type 0 where
@@ -37,7 +39,8 @@ pub record LookAlike (s : Settings) (c : Caller) (a b : Reply) : Type 0 where
   pub same : IsFalse (is_trusted (class_of s c)) → a ≡ b
   pub failures : FailAlike a b
 
--- Whatever a step does in the one world, some step of the other looks alike, and the worlds after them differ in labels alone.
+-- Whatever a step does in the one world, some step of the other looks alike, and the worlds after them differ in labels
+-- alone.
 abbrev pub MirrorsSteps : Type 0
 MirrorsSteps = (s : Settings) (w v : World) → DifferInLabels w v
     → (c : Caller) (q : Request) (reply : Reply) (new : World) → Step s w c q reply new
@@ -50,20 +53,27 @@ AllLookAlike s _ _ _ = ⊥
 
 -- runs from worlds that differ in runtime labels alone
 abbrev pub MirrorsRuns : Type 0
-MirrorsRuns = (s : Settings) (w v new : World) (calls : List (Caller × Request)) (replies : List Reply) → DifferInLabels w v → Run s w calls replies new
-    → (others : List Reply) × (next : World) × Run s v calls others next × AllLookAlike s calls replies others × DifferInLabels new next
+MirrorsRuns =
+    (s : Settings) (w v new : World) (calls : List (Caller × Request)) (replies : List Reply) → DifferInLabels w v
+    → Run s w calls replies new
+    → (others : List Reply) × (next : World) × Run s v calls others next × AllLookAlike s calls replies others
+    × DifferInLabels new next
 
 abbrev pub AllFailAlike : List Reply → List Reply → Type 0
 AllFailAlike [] [] = Unit {0}
 AllFailAlike (a ∷ more) (b ∷ others) = FailAlike a b × AllFailAlike more others
 AllFailAlike _ _ = ⊥
 
--- Any two runs over the same calls, from worlds that differ in runtime labels alone and with the same failures at the same
--- places, look alike, and the worlds after them differ in labels alone.
-pub record RunsAreAlike (s : Settings) (calls : List (Caller × Request)) (replies others : List Reply) (new next : World) : Type 0 where
+-- Any two runs over the same calls, from worlds that differ in runtime labels alone and with the same failures at the
+-- same places, look alike, and the worlds after them differ in labels alone.
+pub record RunsAreAlike (s : Settings) (calls : List (Caller × Request)) (replies others : List Reply)
+    (new next : World) : Type 0 where
   pub look : AllLookAlike s calls replies others
   pub worlds : DifferInLabels new next
 
 abbrev pub RunsLookAlike : Type 0
-RunsLookAlike = (s : Settings) (w v new next : World) (calls : List (Caller × Request)) (replies others : List Reply) → DifferInLabels w v
-    → Run s w calls replies new → Run s v calls others next → AllFailAlike replies others → RunsAreAlike s calls replies others new next
+RunsLookAlike =
+    (s : Settings) (w v new next : World) (calls : List (Caller × Request)) (replies others : List Reply)
+    → DifferInLabels w v
+    → Run s w calls replies new → Run s v calls others next → AllFailAlike replies others
+    → RunsAreAlike s calls replies others new next

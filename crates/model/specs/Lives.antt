@@ -11,8 +11,9 @@ use Rattle.policy.specs.Class.{class_of}
 use Rattle.model.specs.Liveness.{graph_of, keep_of, lives, live_paths, dead_paths, first_root_of, roots_that_keep}
 use Rattle.model.specs.Seen.{seen, seen_root}
 
--- what is said of a path: the test of a live path is right; it is listed as live or as dead where it is, and what is valid is one
--- of the two; a live path has a first root, whose target reaches it and that of no lesser root does, and any other has none
+-- what is said of a path: the test of a live path is right; it is listed as live or as dead where it is, and what is
+-- valid is one of the two; a live path has a first root, whose target reaches it and that of no lesser root does, and
+-- any other has none
 pub record HasExactLiveness (s : Settings) (w : World) (p : Path) : Type 0 where
   pub decided : IsTrue (lives s w p) ↔ IsLive (keep_of s) (graph_of w) (roots_of w) p
   pub live : Contains (live_paths s w) p ↔ IsLive (keep_of s) (graph_of w) (roots_of w) p
@@ -22,9 +23,12 @@ pub record HasExactLiveness (s : Settings) (w : World) (p : Path) : Type 0 where
 
 -- In a sound world the target of each root is valid, and so it lives.
 abbrev pub TargetsLive : Type 0
-TargetsLive = (s : Settings) (w : World) → IsSound s.store_dir w → (r : Root) → Contains (roots_of w) r → IsTrue (has w r.target) × IsTrue (lives s w r.target)
+TargetsLive =
+    (s : Settings) (w : World) → IsSound s.store_dir w → (r : Root) → Contains (roots_of w) r
+    → IsTrue (has w r.target) × IsTrue (lives s w r.target)
 
 -- The first of the roots that a caller is shown for a path is the path's first root.
 abbrev pub FirstIsShownFirst : Type 0
 FirstIsShownFirst = (s : Settings) (w : World) (c : Caller) (p : Path)
-    → slice_get (seen (class_of s c) (roots_that_keep s w p)) 0 ≡ option_map (seen_root (class_of s c)) (first_root_of s w p)
+    → slice_get (seen (class_of s c) (roots_that_keep s w p)) 0
+    ≡ option_map (seen_root (class_of s c)) (first_root_of s w p)

@@ -29,11 +29,13 @@ world_after s w q _ = w
 
 -- a step leads to that world
 abbrev pub LeadsOn : Type 0
-LeadsOn = (s : Settings) (w : World) (c : Caller) (q : Request) (reply : Reply) (new : World) → Step s w c q reply new → new ≡ world_after s w q reply
+LeadsOn = (s : Settings) (w : World) (c : Caller) (q : Request) (reply : Reply) (new : World) → Step s w c q reply new
+    → new ≡ world_after s w q reply
 
 -- the root exists before each of the calls that had these replies
 abbrev pub RemainsThroughout : Settings → World → Root → List (Caller × Request) → List Reply → Type 0
-RemainsThroughout s w r (call ∷ calls) (reply ∷ replies) = Contains (roots_of w) r × RemainsThroughout s (world_after s w call.1 reply) r calls replies
+RemainsThroughout s w r (call ∷ calls) (reply ∷ replies) =
+    Contains (roots_of w) r × RemainsThroughout s (world_after s w call.1 reply) r calls replies
 RemainsThroughout s w r _ _ = Unit {0}
 
 -- over a run such a root keeps what it reached at the start

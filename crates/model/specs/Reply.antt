@@ -11,8 +11,8 @@ pub data Failure : Type 0 where
   size : Failure
   disk : Failure
 
--- the record of an object: its path, the SHA-256 digest and the number of bytes of its archive, its references in the order
--- of paths, its deriver and its content address
+-- the record of an object: its path, the SHA-256 digest and the number of bytes of its archive, its references in the
+-- order of paths, its deriver and its content address
 pub record Info : Type 0 where
   pub path : Path
   pub hash : List ℕ

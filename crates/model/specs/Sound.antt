@@ -47,10 +47,12 @@ pub record IsSoundProfile (w : World) (owned : Pair) (p : Profile) : Type 0 wher
 -- a world that is sound in a store directory
 pub record IsSound (dir : List ℕ) (w : World) : Type 0 where
   pub objects : (p : Path) (o : Object) → finite.get w.objects p ≡ Some o → IsSoundObject dir w p o
-  -- every name is a plain name, every label a runtime label, every session 1 to 4,194,304, and every target of a root an object
+  -- every name is a plain name, every label a runtime label, every session 1 to 4,194,304, and every target of a root
+  -- an object
   pub permanent_name : (name : List ℕ) → IsTrue (finite.contains_key w.permanent name) → IsTrue (is_plain_name name)
   pub permanent_target : (name : List ℕ) (t : Path) → finite.get w.permanent name ≡ Some t → IsTrue (has w t)
-  pub user_root_owner : (owned : Pair) → IsTrue (finite.contains_key w.user_roots owned) → IsTrue (is_plain_name owned.0)
+  pub user_root_owner : (owned : Pair) → IsTrue (finite.contains_key w.user_roots owned)
+      → IsTrue (is_plain_name owned.0)
   pub user_root_name : (owned : Pair) → IsTrue (finite.contains_key w.user_roots owned) → IsTrue (is_plain_name owned.1)
   pub user_root_target : (owned : Pair) (t : Path) → finite.get w.user_roots owned ≡ Some t → IsTrue (has w t)
   pub profiles : (owned : Pair) (p : Profile) → finite.get w.profiles owned ≡ Some p → IsSoundProfile w owned p

@@ -27,11 +27,13 @@ Step s w c q (refused r) new = (verdict s w c q ≡ None) × (refusal s w q ≡ 
 -- the call failed: no rule but `Live` denies it, and the world stays
 Step s w c q (failed f) new = IsNoneOrLive (verdict s w c q) × (new ≡ w)
 -- every rule allows it and no test fails: the one answer, and the one effect
-Step s w c q (done a) new = (verdict s w c q ≡ None) × (refusal s w q ≡ None) × (a ≡ answer s w c q) × (new ≡ effect s w q)
+Step s w c q (done a) new =
+    (verdict s w c q ≡ None) × (refusal s w q ≡ None) × (a ≡ answer s w c q) × (new ≡ effect s w q)
 
 -- Calls, each a caller's request, may have these replies, one step after another.
 abbrev pub Run : Settings → World → List (Caller × Request) → List Reply → World → Type 0
 Run s w [] [] new = new ≡ w
-Run s w (call ∷ calls) (reply ∷ replies) new = (mid : World) × Step s w call.0 call.1 reply mid × Run s mid calls replies new
+Run s w (call ∷ calls) (reply ∷ replies) new =
+    (mid : World) × Step s w call.0 call.1 reply mid × Run s mid calls replies new
 Run s w [] (reply ∷ replies) new = ⊥
 Run s w (call ∷ calls) [] new = ⊥

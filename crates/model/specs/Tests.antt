@@ -99,7 +99,8 @@ import_tests dir w i =
 
 -- the tests of each request, in their order
 abbrev pub tests : Settings → World → Request → List (Option Refusal)
-tests s w (add_text name refs contents) = text_tests s.store_dir w (text_path s.store_dir name refs contents) refs contents
+tests s w (add_text name refs contents) =
+    text_tests s.store_dir w (text_path s.store_dir name refs contents) refs contents
 tests s w (add_source name refs b) = source_tests s.store_dir w (source_path s.store_dir name refs b) refs b
 tests s w (import_object i) = import_tests s.store_dir w i
 tests s w (info p) = unless (has w p) NotValid ∷ []

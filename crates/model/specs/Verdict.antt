@@ -47,8 +47,8 @@ abbrev pub root_of_first : Settings → World → Option Path → Option Root
 root_of_first s w None = None
 root_of_first s w (Some p) = first_root_of s w p
 
--- What a denial shows: for `Live`, as the caller sees it, the first root of the first path that is live of the named, in
--- the order given.
+-- What a denial shows: for `Live`, as the caller sees it, the first root of the first path that is live of the named,
+-- in the order given.
 abbrev pub shown : Settings → World → Caller → Request → Rule → Option Pair
 shown s w c q Live = option_map (seen_root (class_of s c)) (root_of_first s w (find (lives s w) (named_in q)))
 shown s w c q _ = None

@@ -19,7 +19,8 @@ Pair = List ℕ × List ℕ
 abbrev pub pair_cmp : Pair → Pair → Ordering
 pair_cmp = then_cmp (on (λ p. p.0) bytes_cmp) (on (λ p. p.1) bytes_cmp)
 
--- a store object: the bytes of its archive, its references, its deriver and content address if recorded, its outputs by name
+-- a store object: the bytes of its archive, its references, its deriver and content address if recorded, its outputs by
+-- name
 pub record Object : Type 0 where
   pub nar : List ℕ
   pub references : Set bytes_cmp
@@ -44,7 +45,8 @@ pub record Temporary : Type 0 where
 
 -- the order of these: by owner, then session, then path
 abbrev pub temporary_cmp : Temporary → Temporary → Ordering
-temporary_cmp = then_cmp (on (λ t. t.owner) bytes_cmp) (then_cmp (on (λ t. t.session) nat_cmp) (on (λ t. t.path) bytes_cmp))
+temporary_cmp =
+    then_cmp (on (λ t. t.owner) bytes_cmp) (then_cmp (on (λ t. t.session) nat_cmp) (on (λ t. t.path) bytes_cmp))
 
 -- The world: objects by path; permanent roots by name; user roots and profiles by owner and name; runtime roots,
 -- each a label and a target; and the paths that sessions keep, the temporary roots.
@@ -58,7 +60,8 @@ pub record World : Type 0 where
 
 -- the world of a database that was just made
 abbrev pub no_world : World
-no_world = record { objects = finite.empty; permanent = finite.empty; user_roots = finite.empty; profiles = finite.empty; runtime = finite.empty; temporary = finite.empty }
+no_world = record { objects = finite.empty; permanent = finite.empty; user_roots = finite.empty;
+    profiles = finite.empty; runtime = finite.empty; temporary = finite.empty }
 
 -- a path is valid if it is an object's
 abbrev pub has : World → Path → Bool

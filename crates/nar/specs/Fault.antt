@@ -39,7 +39,9 @@ Refuses parts s Memory = ⊥
 abbrev pub Fails : List Part → List ℕ → NarError → Type 0
 Fails parts rest fault =
     (IsWhole parts × (rest ≢ []) × (fault ≡ Trailing))
-    ⊎ ((IsWhole parts → ⊥) × MatchResult (string_at (limit - length (spelling parts)) rest) (λ next. Refuses parts next.0 fault) (λ early. fault ≡ early))
+    ⊎ ((IsWhole parts → ⊥)
+    × MatchResult (string_at (limit - length (spelling parts)) rest) (λ next. Refuses parts next.0 fault)
+    (λ early. fault ≡ early))
 
 -- A good prefix of the input: whole strings within the limits that begin an archive. The rest follows.
 pub record IsGoodPrefix (input : List ℕ) (parts : List Part) (rest : List ℕ) : Type 0 where
@@ -53,5 +55,6 @@ pub record IsFault (input : List ℕ) (fault : NarError) : Type 0 where
   pub parts : List Part
   pub rest : List ℕ
   pub good : IsGoodPrefix input parts rest
-  pub longest : (others : List Part) (more : List ℕ) → IsGoodPrefix input others more → length (spelling others) ≤ length (spelling parts)
+  pub longest : (others : List Part) (more : List ℕ) → IsGoodPrefix input others more
+      → length (spelling others) ≤ length (spelling parts)
   pub fails : Fails parts rest fault

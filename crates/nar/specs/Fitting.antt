@@ -27,11 +27,14 @@ abbrev mutual
   room_after depth room (regular executable contents) =
       if are_bytes contents then less room (file_size executable + size_of (length contents)) else None
   room_after depth room (symlink target) = if are_bytes target then less room (80 + size_of (length target)) else None
-  room_after depth room (directory entries) = option_and_then (λ left. entries_room depth None left entries) (less room 72)
+  room_after depth room (directory entries) =
+      option_and_then (λ left. entries_room depth None left entries) (less room 72)
 
   pub entries_room : ℕ → Option (List ℕ) → ℕ → Entries → Option ℕ
   entries_room depth last room no_entries = Some room
   entries_room depth last room (entry n t entries) =
       if may_enter depth last n
-      then option_and_then (λ left. option_and_then (λ more. entries_room depth (Some n) more entries) (room_after (depth + 1) left t)) (less room (80 + size_of (length n)))
+      then option_and_then
+          (λ left. option_and_then (λ more. entries_room depth (Some n) more entries) (room_after (depth + 1) left t))
+          (less room (80 + size_of (length n)))
       else None

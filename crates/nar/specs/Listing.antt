@@ -9,7 +9,8 @@ hex_digit n = if nat_lt n 10 then 48 + n else 87 + n
 
 -- a byte outside 33 to 126, and a backslash, in hexadecimal after a backslash and an x
 abbrev pub escape : ℕ → List ℕ
-escape b = if nat_lt b 33 || nat_lt 126 b || b == 92 then 92 ∷ 120 ∷ hex_digit (b / 16) ∷ hex_digit (b % 16) ∷ [] else b ∷ []
+escape b = if nat_lt b 33 || nat_lt 126 b || b == 92 then 92 ∷ 120 ∷ hex_digit (b / 16) ∷ hex_digit (b % 16) ∷ []
+    else b ∷ []
 
 -- a name or a target, each of its bytes escaped where it has to be
 abbrev pub escaped : List ℕ → List ℕ
@@ -23,7 +24,8 @@ letter false = codes "r "
 -- the lines of a tree that is at this path, and of a directory's entries, the directory being at this path
 abbrev mutual
   pub listing : List ℕ → Tree → List ℕ
-  listing path (regular executable contents) = letter executable ++ decimal (length contents) ++ codes " " ++ path ++ codes "\n"
+  listing path (regular executable contents) =
+      letter executable ++ decimal (length contents) ++ codes " " ++ path ++ codes "\n"
   listing path (symlink target) = codes "l " ++ path ++ codes " -> " ++ escaped target ++ codes "\n"
   listing path (directory es) = codes "d " ++ path ++ codes "\n" ++ lines path es
 

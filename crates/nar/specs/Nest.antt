@@ -13,7 +13,8 @@ under [] = []
 under (n ∷ names) = word (codes ")") ∷ entries (length names + 1) (Some n) ∷ under names
 
 abbrev pub symbols : Phase → Option (List ℕ) → List (List ℕ) → List Symbol
-symbols phases.Magic last names = word (codes "nix-archive-1") ∷ word (codes "(") ∷ word (codes "type") ∷ kind (length names + 1) ∷ under names
+symbols phases.Magic last names =
+    word (codes "nix-archive-1") ∷ word (codes "(") ∷ word (codes "type") ∷ kind (length names + 1) ∷ under names
 symbols phases.Open last names = word (codes "(") ∷ word (codes "type") ∷ kind (length names + 1) ∷ under names
 symbols phases.Type last names = word (codes "type") ∷ kind (length names + 1) ∷ under names
 symbols phases.Kind last names = kind (length names + 1) ∷ under names
@@ -24,10 +25,12 @@ symbols phases.Target last names = word (codes "target") ∷ any ∷ word (codes
 symbols phases.Data last names = any ∷ word (codes ")") ∷ under names
 symbols phases.Close last names = word (codes ")") ∷ under names
 symbols phases.Entries last names = entries (length names + 1) last ∷ under names
-symbols phases.EntryOpen last names = word (codes "(") ∷ word (codes "name") ∷ entry_name (length names + 1) last ∷ under names
+symbols phases.EntryOpen last names =
+    word (codes "(") ∷ word (codes "name") ∷ entry_name (length names + 1) last ∷ under names
 symbols phases.NameWord last names = word (codes "name") ∷ entry_name (length names + 1) last ∷ under names
 symbols phases.Name last names = entry_name (length names + 1) last ∷ under names
-symbols phases.NodeWord last names = node_word (length names + 1) ∷ word (codes "(") ∷ word (codes "type") ∷ kind (length names + 1) ∷ under names
+symbols phases.NodeWord last names =
+    node_word (length names + 1) ∷ word (codes "(") ∷ word (codes "type") ∷ kind (length names + 1) ∷ under names
 symbols phases.Under last names = under names
 
 -- whether the string of this length is counted there and not held: contents and targets, and what is longer than

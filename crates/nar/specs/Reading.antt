@@ -33,12 +33,14 @@ kind_word (symlink target) = codes "symlink"
 kind_word (directory es) = codes "directory"
 
 abbrev pub kind_rest : ℕ → Tree → List Part
-kind_rest depth (regular executable contents) = mark executable ++ other (codes "contents") ∷ other contents ∷ other (codes ")") ∷ []
+kind_rest depth (regular executable contents) =
+    mark executable ++ other (codes "contents") ∷ other contents ∷ other (codes ")") ∷ []
 kind_rest depth (symlink target) = other (codes "target") ∷ other target ∷ other (codes ")") ∷ []
 kind_rest depth (directory es) = entries_parts depth es ++ other (codes ")") ∷ []
 
 -- After the word of its kind came the tree, up to the bracket that closes the node.
-pub record ReadsKind (word : List ℕ) (depth : ℕ) (room : ℕ) (bytes : List ℕ) (t : Tree) (left : ℕ) (rest : List ℕ) : Type 0 where
+pub record ReadsKind (word : List ℕ) (depth : ℕ) (room : ℕ) (bytes : List ℕ) (t : Tree) (left : ℕ)
+    (rest : List ℕ) : Type 0 where
   pub is_kind : kind_word t ≡ word
   pub named : IsLegal t
   pub parts : Reads room bytes (kind_rest depth t) left rest
@@ -56,10 +58,13 @@ pub record ReadsNode (depth : ℕ) (room : ℕ) (bytes : List ℕ) (t : Tree) (l
 
 -- what follows the word `entry`
 abbrev pub entry_rest : ℕ → List ℕ × Tree → List Part
-entry_rest depth e = other (codes "(") ∷ other (codes "name") ∷ name e.0 ∷ node (depth + 1) ∷ (bracketed (kind_parts (depth + 1) e.1) ++ other (codes ")") ∷ [])
+entry_rest depth e =
+    other (codes "(") ∷ other (codes "name") ∷ name e.0 ∷ node (depth + 1)
+    ∷ (bracketed (kind_parts (depth + 1) e.1) ++ other (codes ")") ∷ [])
 
 -- The bytes begin with an entry, after its first word, that may come after the last name.
-pub record ReadsEntry (last : Option (List ℕ)) (depth : ℕ) (room : ℕ) (bytes : List ℕ) (e : List ℕ × Tree) (left : ℕ) (rest : List ℕ) : Type 0 where
+pub record ReadsEntry (last : Option (List ℕ)) (depth : ℕ) (room : ℕ) (bytes : List ℕ) (e : List ℕ × Tree) (left : ℕ)
+    (rest : List ℕ) : Type 0 where
   pub legal : IsTrue (is_name e.0)
   pub above : IsTrue (rises last e.0)
   pub named : IsLegal e.1

@@ -51,7 +51,9 @@ entries_next d last s =
 
 -- after the name of an entry
 abbrev pub after_name : ℕ → List ℕ → List Symbol
-after_name d n = node_word (d + 1) ∷ word (codes "(") ∷ word (codes "type") ∷ kind (d + 1) ∷ word (codes ")") ∷ entries d (Some n) ∷ []
+after_name d n =
+    node_word (d + 1) ∷ word (codes "(") ∷ word (codes "type") ∷ kind (d + 1) ∷ word (codes ")") ∷ entries d (Some n)
+    ∷ []
 
 -- after this part, where the symbol is; none where the part isn't allowed there
 abbrev pub consumed : Symbol → Part → Option (List Symbol)
@@ -87,9 +89,11 @@ check x s = cond (is_some (consumed x (other s))) (Ok (other s)) (Err BadTag)
 -- the fault of the bytes where these symbols are to come, and this number of bytes may be taken
 pub data FaultAt : List Symbol → ℕ → List ℕ → NarError → Type 0 where
   trails : {room : ℕ} {bytes : List ℕ} → bytes ≢ [] → FaultAt [] room bytes Trailing
-  stops : {x : Symbol} {κ : List Symbol} {room : ℕ} {bytes : List ℕ} {e : NarError} → string_at room bytes ≡ Err e → FaultAt (x ∷ κ) room bytes e
+  stops : {x : Symbol} {κ : List Symbol} {room : ℕ} {bytes : List ℕ} {e : NarError} → string_at room bytes ≡ Err e
+      → FaultAt (x ∷ κ) room bytes e
   refuses : {x : Symbol} {κ : List Symbol} {room : ℕ} {bytes s rest : List ℕ} {e : NarError}
       → string_at room bytes ≡ Ok (s, rest) → check x s ≡ Err e → FaultAt (x ∷ κ) room bytes e
   goes_on : {x : Symbol} {σ κ : List Symbol} {p : Part} {room : ℕ} {bytes s rest : List ℕ} {e : NarError}
-      → string_at room bytes ≡ Ok (s, rest) → check x s ≡ Ok p → consumed x p ≡ Some σ → FaultAt (σ ++ κ) (room - size_of (length s)) rest e
+      → string_at room bytes ≡ Ok (s, rest) → check x s ≡ Ok p → consumed x p ≡ Some σ
+      → FaultAt (σ ++ κ) (room - size_of (length s)) rest e
       → FaultAt (x ∷ κ) room bytes e

@@ -91,7 +91,8 @@ plain_contents (Err e) = None
 
 -- the digest is the stated one, and the path is made of it
 abbrev pub is_made_of : List ℕ → List ℕ → List ℕ → List ℕ → List ℕ → List (List ℕ) → Bool
-is_made_of kind stated inner dir path refs = bytes_eq stated inner && bytes_eq path (path_of kind dir (name_of path) refs inner)
+is_made_of kind stated inner dir path refs =
+    bytes_eq stated inner && bytes_eq path (path_of kind dir (name_of path) refs inner)
 
 abbrev pub text_verifies : List ℕ → List ℕ → List ℕ → List (List ℕ) → Option (List ℕ) → Bool
 text_verifies digest dir path refs None = false

@@ -14,7 +14,8 @@ hash_of (Some contents) = Some (sha256 contents)
 
 -- what is found of an archive, or of any other bytes
 abbrev pub facts_of : List ℕ → Facts
-facts_of nar = record { nar_hash = sha256 nar; nar_size = length nar; plain = hash_of (plain_contents (outcome_of nar)) }
+facts_of nar =
+    record { nar_hash = sha256 nar; nar_size = length nar; plain = hash_of (plain_contents (outcome_of nar)) }
 
 -- What an address of this method asks for is found of an archive: of a text's the digest of the contents, of a source's
 -- that of the archive.

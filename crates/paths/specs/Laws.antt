@@ -18,14 +18,19 @@ OnePathOrder = (refs ordered : List (List ℕ)) → InPathOrder refs ordered ↔
 
 -- an object has one path
 abbrev pub OnePath : Type 0
-OnePath = (kind dir name : List ℕ) (refs : List (List ℕ)) (inner base : List ℕ) → IsPathOf kind dir name refs inner base ↔ (base ≡ path_of kind dir name refs inner)
+OnePath = (kind dir name : List ℕ) (refs : List (List ℕ)) (inner base : List ℕ) → IsPathOf kind dir name refs inner base
+    ↔ (base ≡ path_of kind dir name refs inner)
 
 -- a computed path is a base name
 abbrev pub TextPathsAreBaseNames : Type 0
-TextPathsAreBaseNames = (dir name : List ℕ) (refs : List (List ℕ)) (contents : List ℕ) → is_store_name name ≡ true → is_base_name (text_path dir name refs contents) ≡ true
+TextPathsAreBaseNames =
+    (dir name : List ℕ) (refs : List (List ℕ)) (contents : List ℕ) → is_store_name name ≡ true
+    → is_base_name (text_path dir name refs contents) ≡ true
 
 abbrev pub SourcePathsAreBaseNames : Type 0
-SourcePathsAreBaseNames = (dir name : List ℕ) (refs : List (List ℕ)) (nar : List ℕ) → is_store_name name ≡ true → is_base_name (source_path dir name refs nar) ≡ true
+SourcePathsAreBaseNames =
+    (dir name : List ℕ) (refs : List (List ℕ)) (nar : List ℕ) → is_store_name name ≡ true
+    → is_base_name (source_path dir name refs nar) ≡ true
 
 -- a text is an address exactly where it is that address's text
 abbrev pub OneAddressText : Type 0
@@ -33,12 +38,18 @@ OneAddressText = (ca : ContentAddress) (text : List ℕ) → (address_of text �
 
 -- the test of an address is exact
 abbrev pub VerifyingIsExact : Type 0
-VerifyingIsExact = (ca : ContentAddress) (dir path : List ℕ) (refs : List (List ℕ)) (nar : List ℕ) → IsBytes nar → IsTrue (verifies ca dir path refs nar) ↔ Verifies ca dir path refs nar
+VerifyingIsExact =
+    (ca : ContentAddress) (dir path : List ℕ) (refs : List (List ℕ)) (nar : List ℕ) → IsBytes nar
+    → IsTrue (verifies ca dir path refs nar) ↔ Verifies ca dir path refs nar
 
 -- the address that a text or source object is given verifies at its computed path
 abbrev pub TextAddressesVerify : Type 0
-TextAddressesVerify = (dir name : List ℕ) (refs : List (List ℕ)) (contents nar : List ℕ) → IsArchive (regular false contents) nar → IsBytes nar
+TextAddressesVerify =
+    (dir name : List ℕ) (refs : List (List ℕ)) (contents nar : List ℕ) → IsArchive (regular false contents) nar
+    → IsBytes nar
     → IsTrue (verifies (text_address contents) dir (text_path dir name refs contents) refs nar)
 
 abbrev pub SourceAddressesVerify : Type 0
-SourceAddressesVerify = (dir name : List ℕ) (refs : List (List ℕ)) (nar : List ℕ) → IsTrue (verifies (source_address nar) dir (source_path dir name refs nar) refs nar)
+SourceAddressesVerify =
+    (dir name : List ℕ) (refs : List (List ℕ)) (nar : List ℕ)
+    → IsTrue (verifies (source_address nar) dir (source_path dir name refs nar) refs nar)

@@ -14,7 +14,8 @@ is_plain_byte b = is_letter_or_digit b || (b == 95) || (b == 46) || (b == 45)
 
 -- a plain name: 1 to 64 such bytes, the first not `-`
 abbrev pub is_plain_name : List ℕ → Bool
-is_plain_name text = nat_le 1 (length text) && nat_le (length text) 64 && not (slice_index text 0 == 45) && list_all is_plain_byte text
+is_plain_name text =
+    nat_le 1 (length text) && nat_le (length text) 64 && not (slice_index text 0 == 45) && list_all is_plain_byte text
 
 -- a byte of a store name: a letter, a digit, or one of `+ - . _ ? =`
 abbrev pub is_store_byte : ℕ → Bool
@@ -40,4 +41,6 @@ is_component text = nat_le 1 (length text) && list_all is_store_byte text && not
 
 -- a store directory: at most 200 bytes, one or more times `/` and a component
 abbrev pub is_store_dir : List ℕ → Bool
-is_store_dir text = nat_le (length text) 200 && (slice_index text 0 == 47) && list_all is_component (slice_split (λ b. b == 47) (drop 1 text))
+is_store_dir text =
+    nat_le (length text) 200 && (slice_index text 0 == 47)
+    && list_all is_component (slice_split (λ b. b == 47) (drop 1 text))

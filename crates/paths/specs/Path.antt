@@ -22,7 +22,8 @@ reference_part dir base = codes ":" ++ full_path dir base
 -- type ":sha256:" lower-hex(inner) ":" store-dir ":" name, where the type has a part for each reference
 abbrev pub fingerprint_of : List ℕ → List ℕ → List (List ℕ) → List ℕ → List ℕ → List ℕ
 fingerprint_of kind dir ordered inner name =
-    kind ++ flat_map (reference_part dir) ordered ++ codes ":sha256:" ++ encode_lower inner ++ codes ":" ++ dir ++ codes ":" ++ name
+    kind ++ flat_map (reference_part dir) ordered ++ codes ":sha256:" ++ encode_lower inner ++ codes ":" ++ dir
+        ++ codes ":" ++ name
 
 -- the base name of a fingerprint: the digits of its folded digest, `-`, the name
 pub record HasFingerprint (fingerprint name base : List ℕ) : Type 0 where

@@ -44,7 +44,8 @@ place temporary = 4
 
 -- the order of roots: by kind, then target, then label
 abbrev pub root_cmp : Root → Root → Ordering
-root_cmp = then_cmp (on (λ r. place r.kind) nat_cmp) (then_cmp (on (λ r. r.target) bytes_cmp) (on (λ r. r.label) bytes_cmp))
+root_cmp = then_cmp (on (λ r. place r.kind) nat_cmp)
+    (then_cmp (on (λ r. r.target) bytes_cmp) (on (λ r. r.label) bytes_cmp))
 
 -- the roots of a list, each once, in the order of roots
 unfoldable pub in_order : List Root → List Root
@@ -62,7 +63,8 @@ user_label owner name = codes "gcroots/per-user/" ++ owner ++ codes "/" ++ name
 
 -- the label of a generation of a profile, by its owner, its name and the number
 abbrev pub generation_label : List ℕ → List ℕ → ℕ → List ℕ
-generation_label owner name n = codes "profiles/per-user/" ++ owner ++ codes "/" ++ name ++ codes "-" ++ decimal n ++ codes "-link"
+generation_label owner name n =
+    codes "profiles/per-user/" ++ owner ++ codes "/" ++ name ++ codes "-" ++ decimal n ++ codes "-link"
 
 -- the label of a temporary root, by the number of its session
 abbrev pub temporary_label : ℕ → List ℕ

@@ -6,7 +6,8 @@ use Rattle.paths.specs.Base32.{all_digits}
 
 -- a base name: 32 digits of base 32, `-`, a store name
 abbrev pub is_base_name : List ℕ → Bool
-is_base_name text = nat_le 34 (length text) && all_digits (take 32 text) && (slice_index text 32 == 45) && is_store_name (drop 33 text)
+is_base_name text =
+    nat_le 34 (length text) && all_digits (take 32 text) && (slice_index text 32 == 45) && is_store_name (drop 33 text)
 
 -- the name in a base name
 abbrev pub name_of : List ℕ → List ℕ

@@ -34,4 +34,6 @@ matches groups c entries = list_any (admits groups c) entries
 
 -- trusted where the trusted list matches, else allowed where the allowed list does, else a stranger
 abbrev pub class_of : Settings → Caller → Class
-class_of s c = if matches s.groups c s.trusted_users then Trusted else if matches s.groups c s.allowed_users then Allowed else Stranger
+class_of s c =
+    if matches s.groups c s.trusted_users then Trusted else if matches s.groups c s.allowed_users then Allowed
+    else Stranger

@@ -11,15 +11,18 @@ use Rattle.policy.specs.declared.kinds.Rule.TheVariants.{Connect, TrustedImport,
 -- The world is asked last, and only of a deletion by name: it changes no verdict but that nothing forbids.
 abbrev pub LiveIsAskedLast : Type 0
 LiveIsAskedLast = (class : Class) (c : Caller) (op : Operation) (names_live : Bool)
-    → verdict class c op names_live ≡ option_or (first_broken class c op) (if names_live && deletes op then Some Live else None)
+    → verdict class c op names_live
+    ≡ option_or (first_broken class c op) (if names_live && deletes op then Some Live else None)
 
 -- whatever a stranger asks, the denial is `Connect`
 abbrev pub StrangersMayNotConnect : Type 0
-StrangersMayNotConnect = (c : Caller) (op : Operation) (names_live : Bool) → verdict Stranger c op names_live ≡ Some Connect
+StrangersMayNotConnect =
+    (c : Caller) (op : Operation) (names_live : Bool) → verdict Stranger c op names_live ≡ Some Connect
 
 -- an operation with nothing that a rule asks about is denied to strangers alone
 abbrev pub PlainIsForAllOthers : Type 0
-PlainIsForAllOthers = (class : Class) (c : Caller) → first_broken class c plain ≡ (if is_stranger class then Some Connect else None)
+PlainIsForAllOthers =
+    (class : Class) (c : Caller) → first_broken class c plain ≡ (if is_stranger class then Some Connect else None)
 
 -- two users
 abbrev pub ann : Caller

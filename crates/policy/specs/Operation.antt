@@ -37,7 +37,8 @@ owner_of (add_temp owner) = Some owner
 owner_of (end_session owner) = Some owner
 owner_of _ = None
 
--- whether it drops what has an owner, a user root, a generation or a session's roots: a trusted caller may do so for another
+-- whether it drops what has an owner, a user root, a generation or a session's roots: a trusted caller may do so for
+-- another
 abbrev pub drops_owned : Operation → Bool
 drops_owned (drop_user_root owner) = true
 drops_owned (delete_generation owner) = true

@@ -23,8 +23,8 @@ abbrev pub is_own : Caller → Option (List ℕ) → Bool
 is_own c None = true
 is_own c (Some owner) = bytes_eq owner c.name
 
--- Whether a rule allows what a caller of a class asks. `names_live` is the world's answer: a path that the request names
--- is live.
+-- Whether a rule allows what a caller of a class asks. `names_live` is the world's answer: a path that the request
+-- names is live.
 abbrev pub allows : Class → Caller → Operation → Bool → Rule → Bool
 allows class c op names_live Connect = not (is_stranger class)
 allows class c op names_live TrustedImport = not (imports_without_address op) || is_trusted class

@@ -64,7 +64,8 @@ group_of name value = if is_plain_name name then users_of value else None
 -- the groups, and one for each pair of a table, where each gives one
 abbrev pub with_groups : Groups → Members → Option Groups
 with_groups groups no_members = Some groups
-with_groups groups (member name value rest) = option_and_then (λ users. with_groups (insert groups name users) rest) (group_of name value)
+with_groups groups (member name value rest) =
+    option_and_then (λ users. with_groups (insert groups name users) rest) (group_of name value)
 
 -- the groups that a table holds
 abbrev pub groups_of : Data → Option Groups
@@ -118,7 +119,8 @@ settings_of t = if not (has_only_keys t) then Err UnknownKey else
     need KeepOutputs (keep_outputs_in t) (λ outputs.
     need KeepDerivations (keep_derivations_in t) (λ derivations.
     need InGroups (groups_in t) (λ groups.
-    Ok (record { store_dir = dir; allowed_users = allowed; trusted_users = trusted; keep_outputs = outputs; keep_derivations = derivations; groups = groups })))))))
+    Ok (record { store_dir = dir; allowed_users = allowed; trusted_users = trusted; keep_outputs = outputs;
+        keep_derivations = derivations; groups = groups })))))))
 
 -- the document's table: a text of at most 1,048,576 bytes, all UTF-8, that is a TOML document
 abbrev pub document_of : List ℕ → Option Members

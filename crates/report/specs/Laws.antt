@@ -102,8 +102,10 @@ are_plain roots = list_all (λ r. lacks 32 r.0 && lacks 10 r.1) roots
 
 -- lists of paths or of roots with one text are the same
 pub record ListingsDiffer (dir : List ℕ) : Type 0 where
-  pub paths : (a b : List Path) → IsTrue (are_unbroken a) → IsTrue (are_unbroken b) → paths_text dir a ≡ paths_text dir b → a ≡ b
-  pub roots : (a b : List Pair) → IsTrue (are_plain a) → IsTrue (are_plain b) → roots_text dir a ≡ roots_text dir b → a ≡ b
+  pub paths : (a b : List Path) → IsTrue (are_unbroken a) → IsTrue (are_unbroken b)
+      → paths_text dir a ≡ paths_text dir b → a ≡ b
+  pub roots : (a b : List Pair) → IsTrue (are_plain a) → IsTrue (are_plain b) → roots_text dir a ≡ roots_text dir b
+      → a ≡ b
 
 -- ---- a store that was just made
 

@@ -5,7 +5,8 @@ use Rattle.streams.specs.Sends.{AppendsPrefix}
 use Rattle.report.specs.declared.failures.Failure.TheVariants.{Memory, Output}
 use Rattle.report.specs.Failures.{failure_line}
 
--- a stream before a call and after it: the bytes that a reader has left, or those that a writer was given, where it says them
+-- a stream before a call and after it: the bytes that a reader has left, or those that a writer was given, where it
+-- says them
 pub record Stream : Type 0 where
   pub old : Option (List ℕ)
   pub new : Option (List ℕ)

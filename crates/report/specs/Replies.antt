@@ -37,7 +37,8 @@ answer_text dir changed = codes "done\n"
 answer_text dir (generation n) = codes "generation " ++ decimal n ++ codes "\n"
 answer_text dir (runtime_count n) = codes "runtime roots " ++ decimal n ++ codes "\n"
 answer_text dir (temporary_count n) = codes "temporary roots " ++ decimal n ++ codes "\n"
-answer_text dir (freed ps n) = paths_text dir ps ++ codes "freed " ++ decimal (length ps) ++ codes " paths " ++ decimal n ++ codes " bytes\n"
+answer_text dir (freed ps n) =
+    paths_text dir ps ++ codes "freed " ++ decimal (length ps) ++ codes " paths " ++ decimal n ++ codes " bytes\n"
 answer_text dir (usage live dead total) = usage_text live dead total
 
 -- the text of a reply

@@ -11,7 +11,8 @@ right_in width text = replicate (width - length text) 32 ++ text
 
 -- a word in 6 places, a number of paths in 10 and one of bytes in 16, with a space between
 abbrev pub columns : List ℕ → List ℕ → List ℕ → List ℕ
-columns word paths bytes = left_in 6 word ++ codes " " ++ right_in 10 paths ++ codes " " ++ right_in 16 bytes ++ codes "\n"
+columns word paths bytes =
+    left_in 6 word ++ codes " " ++ right_in 10 paths ++ codes " " ++ right_in 16 bytes ++ codes "\n"
 
 abbrev pub usage_line : List ℕ → Usage → List ℕ
 usage_line word u = columns word (decimal u.paths) (decimal u.bytes)

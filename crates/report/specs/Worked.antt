@@ -25,22 +25,28 @@ x = codes "11111111111111111111111111111111-x"
 -- a rule; a live path, to a caller who sees no runtime label and to one who does
 pub record HasWorkedDenials : Type 0 where
   pub connect : reply_text dir (denied Connect None) ≡ codes "denied: connect\n"
-  pub hidden : reply_text dir (denied Live (Some (codes "{censored}", x))) ≡ codes "denied: live {censored} /nix/store/11111111111111111111111111111111-x\n"
-  pub seen : reply_text dir (denied Live (Some (codes "/proc/2/exe", x))) ≡ codes "denied: live /proc/2/exe /nix/store/11111111111111111111111111111111-x\n"
+  pub hidden : reply_text dir (denied Live (Some (codes "{censored}", x)))
+      ≡ codes "denied: live {censored} /nix/store/11111111111111111111111111111111-x\n"
+  pub seen : reply_text dir (denied Live (Some (codes "/proc/2/exe", x)))
+      ≡ codes "denied: live /proc/2/exe /nix/store/11111111111111111111111111111111-x\n"
 
--- what is wrong with an archive and with a derivation, the other refusals of a request, some of other kinds, and the failures
+-- what is wrong with an archive and with a derivation, the other refusals of a request, some of other kinds, and the
+-- failures
 pub record HasWorkedRefusals : Type 0 where
   pub truncated : option_map refusal_line (archive_refusal archives.Truncated) ≡ Some (codes "refused: 1 truncated\n")
   pub bad_tag : option_map refusal_line (archive_refusal archives.BadTag) ≡ Some (codes "refused: 2 bad-tag\n")
-  pub bad_padding : option_map refusal_line (archive_refusal archives.BadPadding) ≡ Some (codes "refused: 3 bad-padding\n")
+  pub bad_padding : option_map refusal_line (archive_refusal archives.BadPadding)
+      ≡ Some (codes "refused: 3 bad-padding\n")
   pub bad_name : option_map refusal_line (archive_refusal archives.BadName) ≡ Some (codes "refused: 4 bad-name\n")
   pub not_sorted : option_map refusal_line (archive_refusal archives.NotSorted) ≡ Some (codes "refused: 5 not-sorted\n")
   pub too_deep : option_map refusal_line (archive_refusal archives.TooDeep) ≡ Some (codes "refused: 6 too-deep\n")
   pub trailing : option_map refusal_line (archive_refusal archives.Trailing) ≡ Some (codes "refused: 7 trailing\n")
   pub too_large : option_map refusal_line (archive_refusal archives.TooLarge) ≡ Some (codes "refused: 8 too-large\n")
   pub ca_mismatch : reply_text dir (refused CaMismatch) ≡ codes "refused: 16 ca-mismatch\n"
-  pub malformed : option_map refusal_line (derivation_refusal derivations.BadDerivation) ≡ Some (codes "refused: 17 bad-derivation\n")
-  pub doubled : option_map refusal_line (derivation_refusal derivations.DoubleOutput) ≡ Some (codes "refused: 18 double-output\n")
+  pub malformed : option_map refusal_line (derivation_refusal derivations.BadDerivation)
+      ≡ Some (codes "refused: 17 bad-derivation\n")
+  pub doubled : option_map refusal_line (derivation_refusal derivations.DoubleOutput)
+      ≡ Some (codes "refused: 18 double-output\n")
   pub not_valid : reply_text dir (refused NotValid) ≡ codes "refused: 23 not-valid\n"
   pub reference : reply_text dir (refused MissingReference) ≡ codes "refused: 24 missing-reference\n"
   pub hash : reply_text dir (refused NarHashMismatch) ≡ codes "refused: 25 nar-hash-mismatch\n"
@@ -65,8 +71,10 @@ pub record HasWorkedRefusals : Type 0 where
 pub record HasWorkedAnswers : Type 0 where
   pub path : reply_text dir (done (path p)) ≡ codes "/nix/store/00000000000000000000000000000000-p\n"
   pub none : reply_text dir (done (paths [])) ≡ []
-  pub two : reply_text dir (done (paths (p ∷ x ∷ []))) ≡ codes "/nix/store/00000000000000000000000000000000-p\n/nix/store/11111111111111111111111111111111-x\n"
-  pub roots : reply_text dir (done (roots ((codes "a", p) ∷ (codes "b", p) ∷ []))) ≡ codes "a /nix/store/00000000000000000000000000000000-p\nb /nix/store/00000000000000000000000000000000-p\n"
+  pub two : reply_text dir (done (paths (p ∷ x ∷ [])))
+      ≡ codes "/nix/store/00000000000000000000000000000000-p\n/nix/store/11111111111111111111111111111111-x\n"
+  pub roots : reply_text dir (done (roots ((codes "a", p) ∷ (codes "b", p) ∷ [])))
+      ≡ codes "a /nix/store/00000000000000000000000000000000-p\nb /nix/store/00000000000000000000000000000000-p\n"
   pub archive : reply_text dir (done (archive_of (13 ∷ 0 ∷ 255 ∷ []))) ≡ 13 ∷ 0 ∷ 255 ∷ []
   pub listing : reply_text dir (done (listing_of (codes "r 10 .\n"))) ≡ codes "r 10 .\n"
   pub changed : reply_text dir (done changed) ≡ codes "done\n"
@@ -78,20 +86,34 @@ pub record HasWorkedAnswers : Type 0 where
 
 -- a live path of 112 bytes next to a dead one of 208; numbers wider than their columns
 pub record HasWorkedUsage : Type 0 where
-  pub two : reply_text dir (done (usage (record { paths = 1; bytes = 112 }) (record { paths = 1; bytes = 208 }) (record { paths = 2; bytes = 320 })))
+  pub two : reply_text dir
+      (done (usage (record { paths = 1; bytes = 112 }) (record { paths = 1; bytes = 208 })
+      (record { paths = 2; bytes = 320 })))
       ≡ codes "class       paths            bytes\nlive            1              112\ndead            1              208\ntotal           2              320\n"
-  pub wide : reply_text dir (done (usage (record { paths = 12345678901; bytes = 12345678901234567 }) (record { paths = 0; bytes = 0 }) (record { paths = 12345678901; bytes = 12345678901234567 })))
+  pub wide : reply_text dir
+      (done (usage (record { paths = 12345678901; bytes = 12345678901234567 }) (record { paths = 0; bytes = 0 })
+      (record { paths = 12345678901; bytes = 12345678901234567 })))
       ≡ codes "class       paths            bytes\nlive   12345678901 12345678901234567\ndead            0                0\ntotal  12345678901 12345678901234567\n"
 
 -- the digest of the archive of a file with the contents `mycontent` and a line feed
 abbrev pub digest : List ℕ
-digest = 43 ∷ 254 ∷ 246 ∷ 125 ∷ 232 ∷ 115 ∷ 197 ∷ 69 ∷ 81 ∷ 216 ∷ 132 ∷ 253 ∷ 171 ∷ 48 ∷ 85 ∷ 216 ∷ 77 ∷ 87 ∷ 62 ∷ 101 ∷ 78 ∷ 250 ∷ 121 ∷ 219 ∷ 60 ∷ 13 ∷ 123 ∷ 152 ∷ 136 ∷ 63 ∷ 158 ∷ 227 ∷ []
+digest = 43 ∷ 254 ∷ 246 ∷ 125 ∷ 232 ∷ 115 ∷ 197 ∷ 69 ∷ 81 ∷ 216 ∷ 132 ∷ 253 ∷ 171 ∷ 48 ∷ 85 ∷ 216 ∷ 77 ∷ 87 ∷ 62 ∷ 101
+    ∷ 78 ∷ 250 ∷ 121 ∷ 219 ∷ 60 ∷ 13 ∷ 123 ∷ 152 ∷ 136 ∷ 63 ∷ 158 ∷ 227 ∷ []
 
--- that file as a source object named `myfile`; at another path, with references and a deriver; and with a deriver and an address
+-- that file as a source object named `myfile`; at another path, with references and a deriver; and with a deriver and
+-- an address
 pub record HasWorkedNarinfo : Type 0 where
-  pub source : narinfo dir (record { path = codes "xv2iccirbrvklck36f1g7vldn5v58vck-myfile"; hash = digest; size = 128; references = []; deriver = None; ca = Some (record { method = Source; digest = digest }) })
+  pub source : narinfo dir
+      (record { path = codes "xv2iccirbrvklck36f1g7vldn5v58vck-myfile"; hash = digest; size = 128; references = [];
+      deriver = None; ca = Some (record { method = Source; digest = digest }) })
       ≡ codes "StorePath: /nix/store/xv2iccirbrvklck36f1g7vldn5v58vck-myfile\nURL: nar/xv2iccirbrvklck36f1g7vldn5v58vck-myfile\nCompression: none\nFileHash: sha256:1qwy7y49hyqd7kdpkyjfclz5fkfqalqapzc4v18lbibkx1yzdzib\nFileSize: 128\nNarHash: sha256:1qwy7y49hyqd7kdpkyjfclz5fkfqalqapzc4v18lbibkx1yzdzib\nNarSize: 128\nReferences: \nCA: fixed:r:sha256:1qwy7y49hyqd7kdpkyjfclz5fkfqalqapzc4v18lbibkx1yzdzib\n"
-  pub derived : narinfo dir (record { path = x; hash = digest; size = 128; references = p ∷ x ∷ []; deriver = Some (codes "22222222222222222222222222222222-y.drv"); ca = None })
+  pub derived : narinfo dir
+      (record { path = x; hash = digest; size = 128; references = p ∷ x ∷ [];
+      deriver = Some (codes "22222222222222222222222222222222-y.drv"); ca = None })
       ≡ codes "StorePath: /nix/store/11111111111111111111111111111111-x\nURL: nar/11111111111111111111111111111111-x\nCompression: none\nFileHash: sha256:1qwy7y49hyqd7kdpkyjfclz5fkfqalqapzc4v18lbibkx1yzdzib\nFileSize: 128\nNarHash: sha256:1qwy7y49hyqd7kdpkyjfclz5fkfqalqapzc4v18lbibkx1yzdzib\nNarSize: 128\nReferences: 00000000000000000000000000000000-p 11111111111111111111111111111111-x\nDeriver: 22222222222222222222222222222222-y.drv\n"
-  pub both : reply_text dir (done (record_of (record { path = x; hash = digest; size = 128; references = p ∷ []; deriver = Some (codes "22222222222222222222222222222222-y.drv"); ca = Some (record { method = Text; digest = digest }) })))
+  pub both : reply_text dir
+      (done (record_of
+      (record { path = x; hash = digest; size = 128; references = p ∷ [];
+      deriver = Some (codes "22222222222222222222222222222222-y.drv"); ca =
+      Some (record { method = Text; digest = digest }) })))
       ≡ codes "StorePath: /nix/store/11111111111111111111111111111111-x\nURL: nar/11111111111111111111111111111111-x\nCompression: none\nFileHash: sha256:1qwy7y49hyqd7kdpkyjfclz5fkfqalqapzc4v18lbibkx1yzdzib\nFileSize: 128\nNarHash: sha256:1qwy7y49hyqd7kdpkyjfclz5fkfqalqapzc4v18lbibkx1yzdzib\nNarSize: 128\nReferences: 00000000000000000000000000000000-p\nDeriver: 22222222222222222222222222222222-y.drv\nCA: text:sha256:1qwy7y49hyqd7kdpkyjfclz5fkfqalqapzc4v18lbibkx1yzdzib\n"

@@ -19,8 +19,11 @@ module _ {S : Type 0} (g : Ghosts S) where
   -- a caller's request had this reply
   pub record Calls (c : Caller) (q : Request) (reply : Reply) (old new : StoreView S) : Type 0 where
     pub settings : new.settings ≡ old.settings
-    -- of each world of the tables before, a step to one of the tables now; an answer from the disk is right if that is clean
-    pub step : (w : World) → HasWorld g old.tables w → (next : World) × StepOver (HasCleanDisk (state g new.tables.connection)) old.settings w c q reply next × HasWorld g new.tables next
+    -- of each world of the tables before, a step to one of the tables now; an answer from the disk is right if that is
+    -- clean
+    pub step : (w : World) → HasWorld g old.tables w
+        → (next : World) × StepOver (HasCleanDisk (state g new.tables.connection)) old.settings w c q reply next
+        × HasWorld g new.tables next
     -- a failure has its cause
     pub cause : (w : World) → HasWorld g old.tables w → HasCause g q reply old.tables new.tables
     -- a denial or a refusal leaves the store as it was
@@ -30,5 +33,6 @@ module _ {S : Type 0} (g : Ghosts S) where
     -- what is done outlives a crash
     pub lasts : IsDone reply → StaysDurable g old.tables new.tables
     -- at any exit a crash leaves what it could leave before, or the tables of the done case, if there is one
-    pub survives : (w : World) → HasWorld g old.tables w → Survives (state g old.tables.connection) (state g new.tables.connection)
+    pub survives : (w : World) → HasWorld g old.tables w
+        → Survives (state g old.tables.connection) (state g new.tables.connection)
         (λ db. LeavesDone old.tables.dir (state g old.tables.connection).now db old.settings w c q)

@@ -16,10 +16,11 @@ use Rattle.model.specs.Step.{Step}
 abbrev pub denial_by_rules : Settings → Caller → Request → Option Reply
 denial_by_rules s c q = option_map (λ rule. denied rule None) (first_broken (class_of s c) c (operation_of q))
 
--- The reply to a request that is not done: a denial or out of memory, a step that leaves the world as it is. There is none where no rule
--- forbids the request, and nothing that it deletes by name lives.
+-- The reply to a request that is not done: a denial or out of memory, a step that leaves the world as it is. There is
+-- none where no rule forbids the request, and nothing that it deletes by name lives.
 abbrev pub IsForbidden : Settings → World → Caller → Request → Option Reply → Type 0
-IsForbidden s w c q None = (first_broken (class_of s c) c (operation_of q) ≡ None) × (list_any (lives s w) (named_in q) ≡ false)
+IsForbidden s w c q None =
+    (first_broken (class_of s c) c (operation_of q) ≡ None) × (list_any (lives s w) (named_in q) ≡ false)
 IsForbidden s w c q (Some (denied rule root)) = Step s w c q (denied rule root) w
 IsForbidden s w c q (Some (failed f)) = (f ≡ memory) × Step s w c q (failed f) w
 IsForbidden s w c q (Some _) = ⊥

@@ -20,14 +20,18 @@ module _ {S : Type 0} (g : Ghosts S) where
   -- over a clean disk a step over the disk is a step, and so it is over any where the answer isn't from it
   abbrev pub AreSteps : Type 0
   AreSteps = (h : Held S) (s : Settings) (w : World) (c : Caller) (q : Request) (reply : Reply) (next : World)
-      → (IsTrue (reads_disk q) → HasCleanDisk (state g h)) → StepOver (HasCleanDisk (state g h)) s w c q reply next → Step s w c q reply next
+      → (IsTrue (reads_disk q) → HasCleanDisk (state g h)) → StepOver (HasCleanDisk (state g h)) s w c q reply next
+      → Step s w c q reply next
 
   -- what a run promises where none of the answers is from the disk
   abbrev pub AreRuns : Type 0
-  AreRuns = (h : Held S) (s : Settings) (w : World) (calls : List (Caller × Request)) (replies : List Reply) (next : World)
-      → (IsTrue (read_disk calls) → HasCleanDisk (state g h)) → RunOver (HasCleanDisk (state g h)) s w calls replies next → Run s w calls replies next
+  AreRuns = (h : Held S) (s : Settings) (w : World) (calls : List (Caller × Request)) (replies : List Reply)
+      (next : World)
+      → (IsTrue (read_disk calls) → HasCleanDisk (state g h))
+      → RunOver (HasCleanDisk (state g h)) s w calls replies next → Run s w calls replies next
 
   -- where the disk is always clean, each run over it is a run
   abbrev pub AreAllRuns : Type 0
-  AreAllRuns = (h : Held S) (s : Settings) (w : World) (calls : List (Caller × Request)) (replies : List Reply) (next : World)
+  AreAllRuns =
+      (h : Held S) (s : Settings) (w : World) (calls : List (Caller × Request)) (replies : List Reply) (next : World)
       → RunOver (HasCleanDisk (state g h)) s w calls replies next → Run s w calls replies next

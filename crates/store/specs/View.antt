@@ -11,7 +11,9 @@ pub record StoreView (S : Type 0) : Type 0 where
   pub settings : Settings
 
 abbrev pub store_view_code : {S : Type 0} → Coded S → Coded (StoreView S)
-store_view_code {S} store = code_by (Kept S × Settings) (coded× (kept_code store) settings_code) (λ k. (k.tables, k.settings)) (λ p. record { tables = p.0; settings = p.1 }) (λ _. refl)
+store_view_code {S} store =
+    code_by (Kept S × Settings) (coded× (kept_code store) settings_code) (λ k. (k.tables, k.settings))
+    (λ p. record { tables = p.0; settings = p.1 }) (λ _. refl)
 
 -- a reply that leaves the store as it was: a denial or a refusal
 abbrev pub IsStill : Reply → Type 0

@@ -18,7 +18,8 @@ use Rattle.store_steps.specs.Durability.{LeavesOthers, StaysDurable}
 use Rattle.store_steps.specs.Meets.{IsAnswered, IsRefused, reply_to}
 
 module _ {S : Type 0} (g : Ghosts S) where
-  -- its path is answered, and the tables have a world with it; or the call failed, and they have the worlds that they had
+  -- its path is answered, and the tables have a world with it; or the call failed, and they have the worlds that they
+  -- had
   abbrev pub Adds : Added → Result Answer Stop → World → Kept S → Type 0
   Adds a (Ok x) w new = (answer_view x ≡ path a.path) × HasWorld g new (with_object w a)
   Adds a (Err (Failed f)) w new = HasWorld g new w

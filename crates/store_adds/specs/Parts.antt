@@ -21,4 +21,5 @@ added_view a = record { path = a.path; object = with_archive a.nar a.object }
 
 -- each reference is a path of the outline, the path itself apart; not asked of a path that the outline has
 abbrev pub is_complete_in : OutlineValue → Path → List Path → Bool
-is_complete_in o p refs = finite.contains_key o.objects p || list_all (λ r. finite.contains_key o.objects r || same r p) refs
+is_complete_in o p refs =
+    finite.contains_key o.objects p || list_all (λ r. finite.contains_key o.objects r || same r p) refs

@@ -23,5 +23,6 @@ deletes _ = false
 
 -- where a path that a request names lives, what a denial shows; else nothing
 abbrev pub IsDenial : Settings → World → Caller → Request → Option (String Global × Path) → Type 0
-IsDenial s w c q (Some root) = (list_any (lives s w) (named_in q) ≡ true) × (shown s w c q Live ≡ Some (labelled_bytes root))
+IsDenial s w c q (Some root) =
+    (list_any (lives s w) (named_in q) ≡ true) × (shown s w c q Live ≡ Some (labelled_bytes root))
 IsDenial s w c q None = list_any (lives s w) (named_in q) ≡ false

@@ -9,4 +9,6 @@ use Rattle.tables_listing.specs.Gaining.{has_tied}
 
 -- To a caller who gets each pair once, these keys are the pairs that are shown.
 abbrev pub AreListed : Class → List (String Global × List ℕ) → List (String Global × List ℕ) → Type 0
-AreListed class keys shown = is_trusted class ≡ false → (q : Pair) → has_tied pair_cmp q (map labelled_bytes keys) ≡ has_tied pair_cmp q (map labelled_bytes shown)
+AreListed class keys shown =
+    is_trusted class ≡ false → (q : Pair)
+    → has_tied pair_cmp q (map labelled_bytes keys) ≡ has_tied pair_cmp q (map labelled_bytes shown)

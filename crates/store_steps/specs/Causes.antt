@@ -11,7 +11,8 @@ use Rattle.model.specs.Reply.{Failure, Reply, failed, memory, size, disk}
 use Rattle.tables.specs.Reasons.{IsWithin}
 use Rattle.tables.specs.Kept.{Kept}
 
--- whether a request touches the disk: with an archive or its listing it is answered from it, and a change is written to it
+-- whether a request touches the disk: with an archive or its listing it is answered from it, and a change is written to
+-- it
 abbrev pub touches_disk : Request → Bool
 touches_disk (info p) = false
 touches_disk list = false
@@ -38,16 +39,20 @@ puts_rows q = touches_disk q
 abbrev pub LacksRowid : Database → Type 0
 LacksRowid old = (db : Database) × IsWithin old db × (t : Table) × HasNoRowidLeft db t
 
--- Why something was not read of the disk, or a change not written: a size is named for a row that is put, over an open connection. The disk is named for
--- a fault of it in this call or an earlier one, for a limit on steps, or where no rowid is left for a row that is put.
+-- Why something was not read of the disk, or a change not written: a size is named for a row that is put, over an open
+-- connection. The disk is named for a fault of it in this call or an earlier one, for a limit on steps, or where no
+-- rowid is left for a row that is put.
 abbrev pub IsDiskReason : Request → Failure → State → State → Type 0
 IsDiskReason q memory old new = Unit {0}
 IsDiskReason q size old new = IsTrue (puts_rows q) × IsTrue old.is_open
-IsDiskReason q disk old new = HasDiskCause old new ⊎ (IsSome old.step_limit ⊎ (IsTrue (puts_rows q) × LacksRowid old.now))
+IsDiskReason q disk old new =
+    HasDiskCause old new ⊎ (IsSome old.step_limit ⊎ (IsTrue (puts_rows q) × LacksRowid old.now))
 
 module _ {S : Type 0} (g : Ghosts S) where
   -- a failed call ran out of memory; or it touched the disk, and over a clean one there is a reason that it failed
   abbrev pub HasCause : Request → Reply → Kept S → Kept S → Type 0
   HasCause q (failed memory) old new = Unit {0}
-  HasCause q (failed f) old new = IsTrue (touches_disk q) × (HasCleanDisk (state g new.connection) → IsDiskReason q f (state g old.connection) (state g new.connection))
+  HasCause q (failed f) old new =
+      IsTrue (touches_disk q)
+      × (HasCleanDisk (state g new.connection) → IsDiskReason q f (state g old.connection) (state g new.connection))
   HasCause q _ old new = Unit {0}

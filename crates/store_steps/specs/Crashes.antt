@@ -13,9 +13,10 @@ use Rattle.model.specs.Answers.{answer}
 use Rattle.model.specs.Step.{Step}
 use Rattle.tables.specs.Kept.{LeavesWorld}
 
--- Sound rows of a world to which the call leads where it is done. There is none where a rule denies the request or one of its tests
--- fails.
-pub record LeavesDone (dir : List ℕ) (old : Database) (left : Remains) (s : Settings) (w : World) (c : Caller) (q : Request) : Type 0 where
+-- Sound rows of a world to which the call leads where it is done. There is none where a rule denies the request or one
+-- of its tests fails.
+pub record LeavesDone (dir : List ℕ) (old : Database) (left : Remains) (s : Settings) (w : World) (c : Caller)
+    (q : Request) : Type 0 where
   pub next : World
   pub step : Step s w c q (done (answer s w c q)) next
   pub rows : LeavesWorld dir old left next

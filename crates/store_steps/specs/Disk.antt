@@ -15,16 +15,18 @@ reads_disk (nar p) = true
 reads_disk (ls p) = true
 reads_disk _ = false
 
--- A step. An answer from the disk is the right one if the disk is clean: so far it has given back what it was given. All else holds in
--- any case: the rules, the tests, the failures, and what becomes of the world.
+-- A step. An answer from the disk is the right one if the disk is clean: so far it has given back what it was given.
+-- All else holds in any case: the rules, the tests, the failures, and what becomes of the world.
 abbrev pub StepOver : Type 0 → Settings → World → Caller → Request → Reply → World → Type 0
-StepOver is_clean s w c q (done a) next = Step s w c q (done (answer s w c q)) next × ((IsTrue (reads_disk q) → is_clean) → a ≡ answer s w c q)
+StepOver is_clean s w c q (done a) next =
+    Step s w c q (done (answer s w c q)) next × ((IsTrue (reads_disk q) → is_clean) → a ≡ answer s w c q)
 StepOver is_clean s w c q reply next = Step s w c q reply next
 
 -- a run of such steps
 abbrev pub RunOver : Type 0 → Settings → World → List (Caller × Request) → List Reply → World → Type 0
 RunOver is_clean s w [] [] new = new ≡ w
-RunOver is_clean s w (call ∷ calls) (reply ∷ replies) new = (mid : World) × StepOver is_clean s w call.0 call.1 reply mid × RunOver is_clean s mid calls replies new
+RunOver is_clean s w (call ∷ calls) (reply ∷ replies) new =
+    (mid : World) × StepOver is_clean s w call.0 call.1 reply mid × RunOver is_clean s mid calls replies new
 RunOver is_clean s w [] (reply ∷ replies) new = ⊥
 RunOver is_clean s w (call ∷ calls) [] new = ⊥
 

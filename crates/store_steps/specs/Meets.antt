@@ -24,7 +24,9 @@ use Rattle.store_steps.specs.Causes.{HasCause}
 
 -- what becomes of it in a world: an answer from the disk is the right one if that is clean
 abbrev pub MeetsOver : Type 0 → Settings → World → Caller → Request → Result Answer Stop → World → Type 0
-MeetsOver is_clean s w c q (Ok a) new = (refusal s w q ≡ None) × ((IsTrue (reads_disk q) → is_clean) → answer_view a ≡ answer s w c q) × (new ≡ effect s w q)
+MeetsOver is_clean s w c q (Ok a) new =
+    (refusal s w q ≡ None) × ((IsTrue (reads_disk q) → is_clean) → answer_view a ≡ answer s w c q)
+    × (new ≡ effect s w q)
 MeetsOver is_clean s w c q (Err (Refused r)) new = (refusal s w q ≡ Some r) × (new ≡ w)
 MeetsOver is_clean s w c q (Err (Failed f)) new = new ≡ w
 
@@ -47,7 +49,8 @@ module _ {S : Type 0} (g : Ghosts S) where
   pub record IsMet (s : Settings) (c : Caller) (q : Request) (r : Result Answer Stop) (old new : Kept S) : Type 0 where
     pub dir : new.dir ≡ old.dir
     -- of each world of the tables before, what becomes of it is a world of them now
-    pub world : (w : World) → HasWorld g old w → (next : World) × MeetsOver (HasCleanDisk (state g new.connection)) s w c q r next × HasWorld g new next
+    pub world : (w : World) → HasWorld g old w
+        → (next : World) × MeetsOver (HasCleanDisk (state g new.connection)) s w c q r next × HasWorld g new next
     -- a failure has its cause
     pub cause : (w : World) → HasWorld g old w → HasCause g q (reply_to r) old new
     -- whether it is done or not, what other programs have in the database is as it was

@@ -20,7 +20,8 @@ is_spent _ = false
 
 -- the reply to such a request: the denial of the first rule that forbids it, or out of memory, ahead of all tests
 abbrev pub spent_reply : Settings → Caller → asked.Request → Reply
-spent_reply s c q = option_map_or (λ rule. denied rule None) (first_broken (class_of s c) c (operation_of q)) (failed memory)
+spent_reply s c q =
+    option_map_or (λ rule. denied rule None) (first_broken (class_of s c) c (operation_of q)) (failed memory)
 
 -- of some calls each of a spent request had that reply
 abbrev pub SpentAreAnswered : Settings → List (Caller × Request) → List Reply → Type 0

@@ -19,7 +19,9 @@ use Rattle.store_types.specs.declared.replies.Reply.TheVariants.{Done, Denied, R
 
 -- what is passed with its path; without bytes if its intake is spent (`Spent`)
 abbrev pub import_view : Imported → asked.Imported
-import_view i = record { path = i.path; nar_hash = i.nar_hash; refs = i.refs.items; deriver = i.deriver; ca = i.ca; nar = bytes_in i.nar }
+import_view i =
+    record { path = i.path; nar_hash = i.nar_hash; refs = i.refs.items; deriver = i.deriver; ca = i.ca;
+    nar = bytes_in i.nar }
 
 abbrev pub request_view : Request → asked.Request
 request_view (AddText name refs contents) = asked.add_text name refs.items contents.items
@@ -44,7 +46,9 @@ request_view (AddTemp owner session p) = asked.add_temp (string_bytes owner) ses
 request_view (EndSession owner session) = asked.end_session (string_bytes owner) session
 request_view (ReplaceRuntime pairs) = asked.replace_runtime (map labelled_bytes pairs.items)
 request_view (AddSource name refs nar) = asked.add_source name refs.items (bytes_in nar)
-request_view (Import p hash refs deriver ca nar) = asked.import_object (record { path = p; nar_hash = hash; refs = refs.items; deriver = deriver; ca = ca; nar = bytes_in nar })
+request_view (Import p hash refs deriver ca nar) =
+    asked.import_object
+    (record { path = p; nar_hash = hash; refs = refs.items; deriver = deriver; ca = ca; nar = bytes_in nar })
 request_view (Collect ignores limit) = asked.collect ignores limit
 request_view (Delete named ignores) = asked.delete named.items ignores
 
@@ -54,7 +58,9 @@ call_view call = (call.0, request_view call.1)
 
 -- the record of an object
 abbrev pub info_view : Info → replied.Info
-info_view i = record { path = i.path; hash = i.hash; size = i.size; references = i.references.items; deriver = i.deriver; ca = i.ca }
+info_view i =
+    record { path = i.path; hash = i.hash; size = i.size; references = i.references.items; deriver = i.deriver;
+    ca = i.ca }
 
 -- a number of paths and the sum of their bytes
 abbrev pub usage_view : Usage → replied.Usage

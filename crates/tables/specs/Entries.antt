@@ -1,4 +1,5 @@
--- Entries as callers give them and get them: roots by their names, generations by their numbers, objects with their archives.
+-- Entries as callers give them and get them: roots by their names, generations by their numbers, objects with their
+-- archives.
 use Rattle.std.specs.Prelude.{ℕ, List, Option, Some, None}
 use Rattle.std.specs.FinMap as finite
 use Rattle.model.specs.World.{Path, Pair, Profile, World}

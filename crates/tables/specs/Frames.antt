@@ -16,21 +16,25 @@ use Rattle.tables.specs.Others.{KeepsOthers}
 module _ {S : Type 0} (g : Ghosts S) where
   -- ---- a write of rows, over a connection
 
-  -- no transaction is under way, and unless a fault has shut the connection all of the store's tables are there and committed
+  -- no transaction is under way, and unless a fault has shut the connection all of the store's tables are there and
+  -- committed
   pub record MayCommit (old : Held S) : Type 0 where
     pub alone : old.in_transaction ≡ false
     pub ready : HasCleanDisk (state g old) → IsTrue (state g old).is_open → IsReady (state g old)
     pub whole : HasCleanDisk (state g old) → IsTrue (state g old).is_open → IsWhole (state g old).now
 
   -- The change is committed in one transaction, or nothing is. It ends outside a transaction.
-  pub record CommitsRows {T E : Type 0} (old new : Held S) (result : Result T E) (change : Contents → Contents) : Type 0 where
+  pub record CommitsRows {T E : Type 0} (old new : Held S) (result : Result T E)
+      (change : Contents → Contents) : Type 0 where
     pub alone : new.in_transaction ≡ false
     pub done : HasCleanDisk (state g new) → OnOk result (IsWritten (state g old) (state g new) change)
     pub others : HasCleanDisk (state g new) → OnOk result (KeepsOthers (state g old).now (state g new).now)
     pub failed : HasCleanDisk (state g new) → OnErr result (KeepsShown (state g old) (state g new))
     pub durable : OnOk result (IsTrue (state g new).is_open → IsDurable (state g new))
-    pub was_open : HasCleanDisk (state g new) → OnOk result (IsTrue (state g old).is_open × IsTrue (state g new).is_open)
-    pub survives : Survives (state g old) (state g new) (λ db. IsTrue (state g old).is_open × LeavesRows (state g old).now db (change (contents_of (state g old).now)))
+    pub was_open : HasCleanDisk (state g new)
+        → OnOk result (IsTrue (state g old).is_open × IsTrue (state g new).is_open)
+    pub survives : Survives (state g old) (state g new)
+        (λ db. IsTrue (state g old).is_open × LeavesRows (state g old).now db (change (contents_of (state g old).now)))
 
   -- ---- a write, over tables
 
@@ -39,21 +43,25 @@ module _ {S : Type 0} (g : Ghosts S) where
   StaysSound old change = (w : World) → HasWorld g old w → IsSound old.dir (change w)
 
   -- The change is made in one transaction and in memory, or not at all.
-  pub record CommitsChange {T E : Type 0} (old new : Kept S) (result : Result T E) (change : World → World) : Type 0 where
+  pub record CommitsChange {T E : Type 0} (old new : Kept S) (result : Result T E)
+      (change : World → World) : Type 0 where
     -- the store directory stays
     pub dir : new.dir ≡ old.dir
     -- each world that the tables had is changed
     pub done : OnOk result ((w : World) → HasWorld g old w → HasWorld g new (change w))
     -- tables of other programs are as they were
-    pub others : HasCleanDisk (state g new.connection) → OnOk result (KeepsOthers (state g old.connection).now (state g new.connection).now)
+    pub others : HasCleanDisk (state g new.connection)
+        → OnOk result (KeepsOthers (state g old.connection).now (state g new.connection).now)
     -- a write that fails changes nothing
     pub failed : OnErr result ((w : World) → HasWorld g old w → HasWorld g new w)
     -- and the connection shows what it showed, tables of other programs included
-    pub shown : HasCleanDisk (state g new.connection) → OnErr result (KeepsShown (state g old.connection) (state g new.connection))
+    pub shown : HasCleanDisk (state g new.connection)
+        → OnErr result (KeepsShown (state g old.connection) (state g new.connection))
     -- after one that is done, a crash leaves nothing else while the connection is open
     pub durable : OnOk result (IsTrue (state g new.connection).is_open → IsDurable (state g new.connection))
     -- once a fault has shut the connection, no write is done
-    pub was_open : HasCleanDisk (state g new.connection) → OnOk result (IsTrue (state g old.connection).is_open × IsTrue (state g new.connection).is_open)
+    pub was_open : HasCleanDisk (state g new.connection)
+        → OnOk result (IsTrue (state g old.connection).is_open × IsTrue (state g new.connection).is_open)
     -- a crash leaves what it could leave before, or sound rows of the changed world
     pub survives : (w : World) → HasWorld g old w → Survives (state g old.connection) (state g new.connection)
         (λ db. LeavesWorld old.dir (state g old.connection).now db (change w))

@@ -1,4 +1,5 @@
--- When tables of other programs are in the way of the store's: then a database isn't opened, though the store's tables may be there soundly, or none of them.
+-- When tables of other programs are in the way of the store's: then a database isn't opened, though the store's tables
+-- may be there soundly, or none of them.
 use Rattle.std.specs.Prelude.{Bool, not, ◌||◌, ◌&&◌, is_some}
 use Rattle.std.specs.List.{list_any}
 use Rattle.sqlite_schema.specs.declared.schema.Schema.{Schema}
@@ -21,9 +22,13 @@ is_name_used s t = is_present s t || (is_some (index_named s t.name) || is_some 
 abbrev pub has_store_tables : Schema → Bool
 has_store_tables s = list_any (is_name_used s) all_tables
 
--- a table exists, and something acts on it: a foreign key refers to it, a table of another name has its tree, or a unique index other than that of its key keeps rows out of it
+-- a table exists, and something acts on it: a foreign key refers to it, a table of another name has its tree, or a
+-- unique index other than that of its key keeps rows out of it
 abbrev pub is_acted_on : Schema → Table → Bool
-is_acted_on s t = is_present s t && not (is_unreferred s (tree_named s t.name) && (is_alone s t.name (tree_named s t.name) && is_unguarded s (tree_named s t.name) t.primary))
+is_acted_on s t =
+    is_present s t
+    && not (is_unreferred s (tree_named s t.name)
+    && (is_alone s t.name (tree_named s t.name) && is_unguarded s (tree_named s t.name) t.primary))
 
 -- a table is missing, and a foreign key waits for it
 abbrev pub is_awaited : Schema → Table → Bool

@@ -22,7 +22,8 @@ pub record Kept (S : Type 0) : Type 0 where
 abbrev pub kept_code : {S : Type 0} → Coded S → Coded (Kept S)
 kept_code {S} store =
     code_by (Held S × (List ℕ × OutlineValue)) (coded× (held_code store) (coded× bytes_code outline_code))
-    (λ k. (k.connection, (k.dir, k.outline))) (λ p. record { connection = p.0; dir = p.1.0; outline = p.1.1 }) (λ _. refl)
+    (λ k. (k.connection, (k.dir, k.outline))) (λ p. record { connection = p.0; dir = p.1.0; outline = p.1.1 })
+    (λ _. refl)
 
 -- sound rows of all eleven tables, of which this is the outline
 pub record AreOutlined (s : State) (dir : List ℕ) (outline : OutlineValue) : Type 0 where
@@ -35,21 +36,26 @@ module _ {S : Type 0} (g : Ghosts S) where
   -- between calls: no transaction, and unless a fault has shut the connection its rows are sound and outlined
   pub record Agrees (k : Kept S) : Type 0 where
     pub alone : k.connection.in_transaction ≡ false
-    pub rows : HasCleanDisk (state g k.connection) → IsTrue (state g k.connection).is_open → AreOutlined (state g k.connection) k.dir k.outline
+    pub rows : HasCleanDisk (state g k.connection) → IsTrue (state g k.connection).is_open
+        → AreOutlined (state g k.connection) k.dir k.outline
 
   -- A world of the tables: the one of the rows; or, once a fault has shut the connection, any with the outline.
   pub record HasWorld (k : Kept S) (w : World) : Type 0 where
     pub outline : outline_of w ≡ k.outline
-    pub rows : HasCleanDisk (state g k.connection) → IsTrue (state g k.connection).is_open → world_in (contents_of (state g k.connection).now) ≡ w
+    pub rows : HasCleanDisk (state g k.connection) → IsTrue (state g k.connection).is_open
+        → world_in (contents_of (state g k.connection).now) ≡ w
     pub sound : IsSound k.dir w
 
   -- Tables that are open over a clean disk have a world.
   abbrev pub HaveAWorld : Type 0
-  HaveAWorld = (k : Kept S) → Agrees k → HasCleanDisk (state g k.connection) → IsTrue (state g k.connection).is_open → (w : World) × HasWorld k w
+  HaveAWorld =
+      (k : Kept S) → Agrees k → HasCleanDisk (state g k.connection) → IsTrue (state g k.connection).is_open
+      → (w : World) × HasWorld k w
 
 -- ---- what a write does to the connection
 
--- The change was committed: the schema is as it was, all of the store's tables are there and hold what it makes, the others hold the rows that they had, and the connection is ready again.
+-- The change was committed: the schema is as it was, all of the store's tables are there and hold what it makes, the
+-- others hold the rows that they had, and the connection is ready again.
 pub record IsWritten (old new : State) (change : Contents → Contents) : Type 0 where
   pub was_open : IsTrue old.is_open
   pub is_open : IsTrue new.is_open

@@ -30,7 +30,8 @@ module _ {D : Type 0} {g : disk.Ghosts D} where
     pub durable : IsTrue (file_state t.connection).is_open → IsDurable (file_state t.connection)
     pub survives : Survives (file_state conn) (file_state t.connection) (LeavesOpening dir (file_state conn).now)
 
-  -- The files held this, a connection opened over them, and it isn't opened as the store of a directory, for this cause: it shows what it showed.
+  -- The files held this, a connection opened over them, and it isn't opened as the store of a directory, for this
+  -- cause: it shows what it showed.
   pub record IsRefused (held : Image) (dir : List ℕ) (left : Held (FileStore D g)) (cause : Cause) : Type 0 where
     pub was : Held (FileStore D g)
     pub conn : Held (FileStore D g)
@@ -43,7 +44,9 @@ module _ {D : Type 0} {g : disk.Ghosts D} where
     pub survives : Survives (file_state conn) (file_state left) (LeavesOpening dir (file_state conn).now)
 
 module _ {S : Type 0} {c : calls.Ghosts Host} {start : Ghosts S} {g : disk.Ghosts (Modelled Host S c start)} where
-  -- Why files that held this aren't opened as a store: no connection is opened over them, or one is and the store isn't.
-  abbrev pub IsUnopened : Image → List ℕ → Unopened (FileStore (Modelled Host S c start) g) (Modelled Host S c start) g → Type 0
+  -- Why files that held this aren't opened as a store: no connection is opened over them, or one is and the store
+  -- isn't.
+  abbrev pub IsUnopened : Image → List ℕ → Unopened (FileStore (Modelled Host S c start) g) (Modelled Host S c start) g
+      → Type 0
   IsUnopened held dir (File e) = FailsToOpenFile held e
   IsUnopened held dir (Store e) = IsRefused held dir e.conn e.cause

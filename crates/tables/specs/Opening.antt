@@ -48,7 +48,8 @@ HasTablesOf V1 s = HasFirst s
 HasTablesOf V2 s = HasSecond s
 HasTablesOf V3 s = HasThird s
 
--- the tables of a schema are there, and of no other, and their texts can be read; the further ones too, as the schema has them
+-- the tables of a schema are there, and of no other, and their texts can be read; the further ones too, as the schema
+-- has them
 pub record IsFoundBy (schema : Schema) (db : Database) : Type 0 where
   pub tables : HasTablesOf schema db.schema
   pub only : (other : Schema) → HasTablesOf other db.schema → other ≡ schema
@@ -56,7 +57,8 @@ pub record IsFoundBy (schema : Schema) (db : Database) : Type 0 where
   pub readable : AreReadable (contents_of db)
   pub further : HasFurtherOf schema db
 
--- the tables of a schema are there, their texts can be read, and their rows are those of a database of this store directory
+-- the tables of a schema are there, their texts can be read, and their rows are those of a database of this store
+-- directory
 pub record HoldsBy (schema : Schema) (dir : List ℕ) (db : Database) : Type 0 where
   pub tables : HasTablesOf schema db.schema
   pub readable : AreReadable (contents_of db)
@@ -68,10 +70,12 @@ HoldsStore dir db = (schema : Schema) × HoldsBy schema dir db
 
 -- the rows are sound by a schema, and have this outline
 abbrev pub AreRead : Schema → List ℕ → Database → OutlineValue → Type 0
-AreRead schema dir db outline = IsSoundBy schema dir (contents_of db) × (outline_of (world_in (contents_of db)) ≡ outline)
+AreRead schema dir db outline =
+    IsSoundBy schema dir (contents_of db) × (outline_of (world_in (contents_of db)) ≡ outline)
 
 module _ {S : Type 0} (g : Ghosts S) where
-  -- A store of the third schema was there: nothing changed, the connection is open, and the tables have the world of its rows.
+  -- A store of the third schema was there: nothing changed, the connection is open, and the tables have the world of
+  -- its rows.
   pub record OpensExisting (dir : List ℕ) (db : Database) (t : Kept S) : Type 0 where
     pub holds : HoldsBy V3 dir db
     pub is_open : IsTrue (state g t.connection).is_open
@@ -87,7 +91,8 @@ module _ {S : Type 0} (g : Ghosts S) where
     pub frozen : SparesFrozen db (state g t.connection).now
     pub reported : HasWorld g t no_world
 
-  -- A store of an earlier schema was there: what it held was brought to the third, next to the tables of other programs, and the tables have the world of the rows that it had.
+  -- A store of an earlier schema was there: what it held was brought to the third, next to the tables of other
+  -- programs, and the tables have the world of the rows that it had.
   pub record OpensMigrated (from : Schema) (dir : List ℕ) (db : Database) (t : Kept S) : Type 0 where
     pub holds : HoldsBy from dir db
     pub is_open : IsTrue (state g t.connection).is_open
@@ -99,17 +104,20 @@ module _ {S : Type 0} (g : Ghosts S) where
 
   -- one of these
   abbrev pub OpensStore : List ℕ → Database → Kept S → Type 0
-  OpensStore dir db t = OpensNew db t ⊎ (OpensExisting dir db t ⊎ (OpensMigrated V1 dir db t ⊎ OpensMigrated V2 dir db t))
+  OpensStore dir db t =
+      OpensNew db t ⊎ (OpensExisting dir db t ⊎ (OpensMigrated V1 dir db t ⊎ OpensMigrated V2 dir db t))
 
 -- none of our tables was there, and this is what a crash may leave of making them, if it leaves any of it
 abbrev pub LeavesNew : List ℕ → Database → Remains → Type 0
 LeavesNew dir db left = HasNone db.schema × LeavesMade dir db left
 
--- a store of an earlier schema was there, and this is what a crash may leave of bringing it to the third, if it leaves any of it
+-- a store of an earlier schema was there, and this is what a crash may leave of bringing it to the third, if it leaves
+-- any of it
 abbrev pub LeavesMigration : Schema → List ℕ → Database → Remains → Type 0
 LeavesMigration from dir db left = HoldsBy from dir db × LeavesMigrated from dir db left
 
--- What a crash may leave of opening a database, besides what it could leave before: the new tables, or those that were brought to the third schema.
+-- What a crash may leave of opening a database, besides what it could leave before: the new tables, or those that were
+-- brought to the third schema.
 abbrev pub LeavesOpening : List ℕ → Database → Remains → Type 0
 LeavesOpening dir db left = LeavesNew dir db left ⊎ (LeavesMigration V1 dir db left ⊎ LeavesMigration V2 dir db left)
 
@@ -119,11 +127,13 @@ HasItsForm s t = (at : ℕ) × IsKnown s t.name at (record t { tree = tree_named
 
 -- our tables are there by a schema, each in exactly its form, and nothing has the name of one that it lacks
 abbrev pub HasFormsOf : Schema → Shown → Type 0
-HasFormsOf V1 s = AllByRecursion (HasItsForm s) our_tables × (is_name_used s piece ≡ false) × (is_name_used s temp_root ≡ false)
+HasFormsOf V1 s =
+    AllByRecursion (HasItsForm s) our_tables × (is_name_used s piece ≡ false) × (is_name_used s temp_root ≡ false)
 HasFormsOf V2 s = AllByRecursion (HasItsForm s) our_tables × HasItsForm s piece × (is_name_used s temp_root ≡ false)
 HasFormsOf V3 s = AllByRecursion (HasItsForm s) our_tables × HasItsForm s piece × HasItsForm s temp_root
 
--- the store's tables are there by a schema, their texts can be read, and their rows are those of a database of this store directory, whatever is next to them
+-- the store's tables are there by a schema, their texts can be read, and their rows are those of a database of this
+-- store directory, whatever is next to them
 pub record IsPresentBy (schema : Schema) (dir : List ℕ) (db : Database) : Type 0 where
   pub forms : HasFormsOf schema db.schema
   pub readable : AreReadable (contents_of db)
@@ -133,16 +143,21 @@ pub record IsPresentBy (schema : Schema) (dir : List ℕ) (db : Database) : Type
 abbrev pub IsPresent : List ℕ → Database → Type 0
 IsPresent dir db = (schema : Schema) × IsPresentBy schema dir db
 
--- Why a store isn't opened for a failure: what its tables are or hold can't be read, or rowids are shared or no integers (FailsToOpen); where there are none, they aren't made; or those of an earlier schema aren't brought to the third.
+-- Why a store isn't opened for a failure: what its tables are or hold can't be read, or rowids are shared or no
+-- integers (FailsToOpen); where there are none, they aren't made; or those of an earlier schema aren't brought to the
+-- third.
 abbrev pub FailsToAdopt : List ℕ → State → State → Failure → Type 0
 FailsToAdopt dir old new f =
     FailsToOpen old new f
     ⊎ ((HasNone old.now.schema × FailsToMake dir old new f)
-    ⊎ ((HasFirst old.now.schema × FailsToMigrate V1 old new f) ⊎ (HasSecond old.now.schema × FailsToMigrate V2 old new f)))
+    ⊎ ((HasFirst old.now.schema × FailsToMigrate V1 old new f)
+    ⊎ (HasSecond old.now.schema × FailsToMigrate V2 old new f)))
 
--- Why a database isn't opened: the store's tables are there soundly by no schema and for no directory, though some of them are there; or tables of other programs are in their way; or the store of another directory is there.
+-- Why a database isn't opened: the store's tables are there soundly by no schema and for no directory, though some of
+-- them are there; or tables of other programs are in their way; or the store of another directory is there.
 abbrev pub IsRefusal : List ℕ → Database → Cause → Type 0
-IsRefusal dir db BadSchema = (IsTrue (has_store_tables db.schema) × ((d : List ℕ) → ¬ IsPresent d db)) ⊎ IsTrue (are_others_in_the_way db.schema)
+IsRefusal dir db BadSchema =
+    (IsTrue (has_store_tables db.schema) × ((d : List ℕ) → ¬ IsPresent d db)) ⊎ IsTrue (are_others_in_the_way db.schema)
 IsRefusal dir db OtherStoreDir = (d : List ℕ) × HoldsStore d db × (d ≢ dir)
 IsRefusal dir db (Failed f) = ⊥
 
@@ -155,6 +170,7 @@ IsCause dir old new refusal = IsRefusal dir old.now refusal
 abbrev pub IsNoStore : Database → Type 0
 IsNoStore db = ¬ HasNone db.schema × ((d : List ℕ) → ¬ HoldsStore d db)
 
--- By the definitions, a database is refused as no store exactly where it is neither opened as the store of some directory nor given new tables.
+-- By the definitions, a database is refused as no store exactly where it is neither opened as the store of some
+-- directory nor given new tables.
 abbrev pub RefusesTheRest : Type 0
 RefusesTheRest = (dir : List ℕ) (db : Database) → IsRefusal dir db BadSchema ↔ IsNoStore db

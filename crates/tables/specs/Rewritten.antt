@@ -17,7 +17,8 @@ put_references p [] m = m
 put_references p (r ∷ rs) m = put_references p rs (finite.insert m (p, r) tt)
 
 -- entries whose keys begin with a path, and some of this path
-abbrev pub put_part : {L X : Type 0} {R : Path × L → Path × L → Ordering} → Path → List (L × X) → finite.FinMap R X → finite.FinMap R X
+abbrev pub put_part : {L X : Type 0} {R : Path × L → Path × L → Ordering} → Path → List (L × X) → finite.FinMap R X
+    → finite.FinMap R X
 put_part p [] m = m
 put_part p (e ∷ es) m = put_part p es (finite.insert m (p, e.0) e.1)
 
@@ -26,7 +27,8 @@ abbrev pub put_outputs : Path → List (List ℕ × Path) → finite.FinMap pair
 put_outputs = put_part
 
 -- pieces, and some of this path's archive
-abbrev pub put_pieces : Path → List (ℤ × List ℕ) → finite.FinMap numbered_cmp (List ℕ) → finite.FinMap numbered_cmp (List ℕ)
+abbrev pub put_pieces : Path → List (ℤ × List ℕ) → finite.FinMap numbered_cmp (List ℕ)
+    → finite.FinMap numbered_cmp (List ℕ)
 put_pieces = put_part
 
 -- the rows of an object: its own, and those of its references, its outputs and the further pieces of its archive
@@ -62,7 +64,9 @@ put_pairs (p ∷ ps) m = put_pairs ps (finite.insert m p tt)
 
 -- the rows of a profile with a path at a number, and with this current number
 abbrev pub put_generation : world.Pair → ℕ → Path → ℕ → Contents → Contents
-put_generation owned n t current c = record c { profiles = finite.insert c.profiles owned (pos current); generations = finite.insert c.generations (owned.0, owned.1, pos n) t }
+put_generation owned n t current c =
+    record c { profiles = finite.insert c.profiles owned (pos current);
+    generations = finite.insert c.generations (owned.0, owned.1, pos n) t }
 
 -- the rows without those of one path's object
 abbrev pub without_object : Path → Contents → Contents
@@ -82,9 +86,12 @@ without_objects ps c = record c {
   pieces = finite.retain_keys c.pieces (λ k. not (holds ps k.0));
 }
 
--- What rows have besides those of objects, an outline lists: each reference, output or further piece is an object's that has this
--- reference, this output, or more bytes of its archive than its row holds.
+-- What rows have besides those of objects, an outline lists: each reference, output or further piece is an object's
+-- that has this reference, this output, or more bytes of its archive than its row holds.
 pub record Covers (outline : OutlineValue) (c : Contents) : Type 0 where
-  pub references : (p r : Path) → IsTrue (finite.contains_key c.refs (p, r)) → (x : Outlined) × (finite.get outline.objects p ≡ Some x) × IsTrue (finite.contains_key x.references r)
-  pub outputs : (p : Path) (name : List ℕ) → IsTrue (finite.contains_key c.outs (p, name)) → (x : Outlined) × (finite.get outline.objects p ≡ Some x) × IsTrue (finite.contains_key x.outputs name)
-  pub pieces : (p : Path) (n : ℤ) → IsTrue (finite.contains_key c.pieces (p, n)) → (x : Outlined) × (finite.get outline.objects p ≡ Some x) × (piece_size < x.size)
+  pub references : (p r : Path) → IsTrue (finite.contains_key c.refs (p, r))
+      → (x : Outlined) × (finite.get outline.objects p ≡ Some x) × IsTrue (finite.contains_key x.references r)
+  pub outputs : (p : Path) (name : List ℕ) → IsTrue (finite.contains_key c.outs (p, name))
+      → (x : Outlined) × (finite.get outline.objects p ≡ Some x) × IsTrue (finite.contains_key x.outputs name)
+  pub pieces : (p : Path) (n : ℤ) → IsTrue (finite.contains_key c.pieces (p, n))
+      → (x : Outlined) × (finite.get outline.objects p ≡ Some x) × (piece_size < x.size)

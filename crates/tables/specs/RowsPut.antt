@@ -43,7 +43,9 @@ ProfileRow owned current = IsRow profile (Text owned.0 ∷ Text owned.1 ∷ Int 
 
 -- a profile, and a path at a number of it
 abbrev pub GenerationRows : Pair → ℕ → Path → ℕ → Rows
-GenerationRows owned n target current t row = ProfileRow owned current t row ⊎ IsRow generation (Text owned.0 ∷ Text owned.1 ∷ Int (pos n) ∷ Text target ∷ []) t row
+GenerationRows owned n target current t row =
+    ProfileRow owned current t row
+    ⊎ IsRow generation (Text owned.0 ∷ Text owned.1 ∷ Int (pos n) ∷ Text target ∷ []) t row
 
 -- a profile, and a path at a number of it, if one is given
 abbrev pub NumberedRows : Pair → Option (ℕ × Path) → ℕ → Rows
@@ -63,10 +65,12 @@ OutputRow p e = IsRow outs (Text p ∷ Text e.0 ∷ Text e.1 ∷ [])
 abbrev pub ObjectRows : Path → Stored → List Path → List (List ℕ × Path) → List (ℤ × List ℕ) → Rows
 ObjectRows p o references outputs pieces t row =
     ObjectRow p o t row
-    ⊎ (RowsOf (ReferenceRow p) references t row ⊎ (RowsOf (OutputRow p) outputs t row ⊎ RowsOf (PieceRow p) pieces t row))
+    ⊎ (RowsOf (ReferenceRow p) references t row
+    ⊎ (RowsOf (OutputRow p) outputs t row ⊎ RowsOf (PieceRow p) pieces t row))
 
 -- the rows of an archive and its summary, with a text of the content address
 abbrev pub AddedRows : Path → List ℕ → Outlined → Rows
 AddedRows p nar o t row =
     (ca : Option (List ℕ)) × (address_in ca ≡ o.ca)
-    × ObjectRows p (record { nar = row_part nar; hash = o.hash; deriver = o.deriver; ca = ca }) (finite.keys o.references) (finite.entries o.outputs) (further_pieces nar) t row
+    × ObjectRows p (record { nar = row_part nar; hash = o.hash; deriver = o.deriver; ca = ca })
+    (finite.keys o.references) (finite.entries o.outputs) (further_pieces nar) t row

@@ -1,4 +1,5 @@
--- What the making of the store's tables leaves: they come after all that was there, and hold no row, but `meta` its two settings. And why it fails.
+-- What the making of the store's tables leaves: they come after all that was there, and hold no row, but `meta` its two
+-- settings. And why it fails.
 use Rattle.std.specs.Prelude.{◌≡◌, ◌≢◌, ◌⊎◌, ℕ, ◌+◌, ◌*◌, ◌^◌, ◌<◌, Bool, true, false, not, ◌&&◌, List, [], ◌∷◌, ◌++◌, length, None, IsSome, IsTrue, IsUtf8, ⊤, codes}
 use Rattle.std.specs.Fmt.{decimal}
 use Rattle.std.specs.List.{AllByRecursion, list_all, list_any}
@@ -30,16 +31,34 @@ use Rattle.tables_sql.specs.declared.failure.Failure.TheVariants.{Memory, Size, 
 -- the text that makes a table
 abbrev pub making_text : OurTable → List ℕ
 making_text Meta = codes "CREATE TABLE meta (word TEXT NOT NULL, val TEXT NOT NULL, PRIMARY KEY (word)) STRICT"
-making_text Object = codes "CREATE TABLE object (base TEXT NOT NULL, nar BLOB NOT NULL, hash BLOB NOT NULL, deriver TEXT, ca TEXT, PRIMARY KEY (base)) STRICT"
-making_text Refs = codes "CREATE TABLE refs (base TEXT NOT NULL, target TEXT NOT NULL, PRIMARY KEY (base, target)) STRICT"
-making_text Outs = codes "CREATE TABLE outs (base TEXT NOT NULL, name TEXT NOT NULL, target TEXT NOT NULL, PRIMARY KEY (base, name)) STRICT"
-making_text Permanent = codes "CREATE TABLE permanent (name TEXT NOT NULL, target TEXT NOT NULL, PRIMARY KEY (name)) STRICT"
-making_text UserRoot = codes "CREATE TABLE user_root (owner TEXT NOT NULL, name TEXT NOT NULL, target TEXT NOT NULL, PRIMARY KEY (owner, name)) STRICT"
-making_text Profile = codes "CREATE TABLE profile (owner TEXT NOT NULL, name TEXT NOT NULL, cur INTEGER NOT NULL, PRIMARY KEY (owner, name)) STRICT"
-making_text Generation = codes "CREATE TABLE generation (owner TEXT NOT NULL, name TEXT NOT NULL, num INTEGER NOT NULL, target TEXT NOT NULL, PRIMARY KEY (owner, name, num)) STRICT"
-making_text Runtime = codes "CREATE TABLE runtime (label TEXT NOT NULL, target TEXT NOT NULL, PRIMARY KEY (label, target)) STRICT"
-making_text Piece = codes "CREATE TABLE piece (base TEXT NOT NULL, num INTEGER NOT NULL, bytes BLOB NOT NULL, PRIMARY KEY (base, num)) STRICT"
-making_text TempRoot = codes "CREATE TABLE temp_root (owner TEXT NOT NULL, session INTEGER NOT NULL, target TEXT NOT NULL, PRIMARY KEY (owner, session, target)) STRICT"
+making_text Object =
+    codes "CREATE TABLE object
+    (base TEXT NOT NULL, nar BLOB NOT NULL, hash BLOB NOT NULL, deriver TEXT, ca TEXT, PRIMARY KEY (base)) STRICT"
+making_text Refs =
+    codes "CREATE TABLE refs (base TEXT NOT NULL, target TEXT NOT NULL, PRIMARY KEY (base, target)) STRICT"
+making_text Outs =
+    codes "CREATE TABLE outs
+    (base TEXT NOT NULL, name TEXT NOT NULL, target TEXT NOT NULL, PRIMARY KEY (base, name)) STRICT"
+making_text Permanent =
+    codes "CREATE TABLE permanent (name TEXT NOT NULL, target TEXT NOT NULL, PRIMARY KEY (name)) STRICT"
+making_text UserRoot =
+    codes "CREATE TABLE user_root
+    (owner TEXT NOT NULL, name TEXT NOT NULL, target TEXT NOT NULL, PRIMARY KEY (owner, name)) STRICT"
+making_text Profile =
+    codes "CREATE TABLE profile
+    (owner TEXT NOT NULL, name TEXT NOT NULL, cur INTEGER NOT NULL, PRIMARY KEY (owner, name)) STRICT"
+making_text Generation =
+    codes "CREATE TABLE generation
+    (owner TEXT NOT NULL, name TEXT NOT NULL, num INTEGER NOT NULL, target TEXT NOT NULL, PRIMARY KEY
+    (owner, name, num)) STRICT"
+making_text Runtime =
+    codes "CREATE TABLE runtime (label TEXT NOT NULL, target TEXT NOT NULL, PRIMARY KEY (label, target)) STRICT"
+making_text Piece =
+    codes "CREATE TABLE piece
+    (base TEXT NOT NULL, num INTEGER NOT NULL, bytes BLOB NOT NULL, PRIMARY KEY (base, num)) STRICT"
+making_text TempRoot =
+    codes "CREATE TABLE temp_root
+    (owner TEXT NOT NULL, session INTEGER NOT NULL, target TEXT NOT NULL, PRIMARY KEY (owner, session, target)) STRICT"
 
 -- the name of the index that `sqlite` makes for a table's key
 abbrev pub index_of : Bytes → Bytes
@@ -77,7 +96,8 @@ others_placed s = placed (created s meta) other_tables
 
 -- the two settings of a store directory
 abbrev pub first_settings : Bytes → finite.FinMap texts_cmp Bytes
-first_settings dir = finite.insert (finite.insert (finite.from_entries []) (codes "schema") (codes "3")) (codes "store-dir") dir
+first_settings dir =
+    finite.insert (finite.insert (finite.from_entries []) (codes "schema") (codes "3")) (codes "store-dir") dir
 
 -- what our tables hold once they are made: the two settings, and nothing else
 abbrev pub first_contents : Bytes → Contents
@@ -109,7 +129,8 @@ pub record IsMadeOf (dir : Bytes) (db : Database) (trees : Trees) : Type 0 where
   pub empty : AllByRecursion (λ t. trees t.tree ≡ []) (others_placed db.schema)
   pub frozen : IsDatabase db → KeepsFrozen db trees
 
--- All eleven were made at once, and the connection is ready: ours hold the settings alone, and theirs the rows that they had, also where the schema doesn't show them.
+-- All eleven were made at once, and the connection is ready: ours hold the settings alone, and theirs the rows that
+-- they had, also where the schema doesn't show them.
 pub record IsMade (dir : Bytes) (old new : State) : Type 0 where
   pub was_open : IsTrue old.is_open
   pub is_open : IsTrue new.is_open
@@ -121,7 +142,8 @@ pub record IsMade (dir : Bytes) (old new : State) : Type 0 where
   pub readable : AreReadable (contents_of new.now)
   pub ready : IsReady new
 
--- What a crash may leave of the making, if it leaves any of it: all eleven tables are there, hold the settings alone, and can be read, and those of other programs have the rows that they had.
+-- What a crash may leave of the making, if it leaves any of it: all eleven tables are there, hold the settings alone,
+-- and can be read, and those of other programs have the rows that they had.
 pub record LeavesMade (dir : Bytes) (db : Database) (trees : Trees) : Type 0 where
   pub whole : IsWhole (record { schema = store_tables_created db.schema; trees = trees })
   pub readable : AreReadable (contents_of (record { schema = store_tables_created db.schema; trees = trees }))
@@ -136,7 +158,8 @@ pub record IsMadeIn (dir : Bytes) (old new : State) : Type 0 where
   pub made : IsMadeOf dir old.now new.now.trees
   pub settled : new.now ≡ new.committed
 
--- A transaction is under way over a schema that has none of these tables, and in which no foreign key waits for one. The database obeys it.
+-- A transaction is under way over a schema that has none of these tables, and in which no foreign key waits for one.
+-- The database obeys it.
 pub record IsMaking (tables : List Table) (s : State) : Type 0 where
   pub sound : IsTrue s.is_open → IsDatabase s.now
   pub free : IsTrue s.is_open → AllByRecursion (λ t. IsFree s.now.schema t.name) tables
@@ -172,11 +195,14 @@ pub record IsPut (word value : Bytes) (old new : List Row) : Type 0 where
   pub is : new ≡ put_row (Int (next_rowid old) ∷ Text word ∷ Text value ∷ []) old
   pub keyed : IsKeyed old → IsKeyed new
   pub readable : IsUtf8 word → IsUtf8 value → AreReadableRows meta old → AreReadableRows meta new
-  pub put : finite.get (map_of texts_cmp is_pair pair_of old) word ≡ None → map_of texts_cmp is_pair pair_of new ≡ finite.insert (map_of texts_cmp is_pair pair_of old) word value
+  pub put : finite.get (map_of texts_cmp is_pair pair_of old) word ≡ None
+      → map_of texts_cmp is_pair pair_of new ≡ finite.insert (map_of texts_cmp is_pair pair_of old) word value
 
 -- a transaction is under way over a schema in which `meta` is found by its name
 pub record HasMeta (s : State) : Type 0 where
-  pub named : IsTrue s.is_open → (at : ℕ) × IsNamed s.now.schema (codes "meta") at (record meta { tree = tree_named s.now.schema (codes "meta") })
+  pub named : IsTrue s.is_open
+      → (at : ℕ) × IsNamed s.now.schema (codes "meta") at
+      (record meta { tree = tree_named s.now.schema (codes "meta") })
   pub mode : s.in_transaction ≡ true
 
 -- Inside a transaction, which goes on: `meta` has one row more.
@@ -186,7 +212,9 @@ pub record Puts (word value : Bytes) (old new : State) : Type 0 where
   pub sound : IsDatabase new.now
   pub schema : new.now.schema ≡ old.now.schema
   pub rows : IsPut word value (rows_named old.now (codes "meta")) (rows_named new.now (codes "meta"))
-  pub others : AllByRecursion (λ t. t.tree ≢ tree_named old.now.schema (codes "meta") → new.now.trees t.tree ≡ old.now.trees t.tree) old.now.schema.tables
+  pub others : AllByRecursion
+      (λ t. t.tree ≢ tree_named old.now.schema (codes "meta")
+      → new.now.trees t.tree ≡ old.now.trees t.tree) old.now.schema.tables
   pub frozen : IsDatabase old.now → SparesFrozen old.now new.now
   pub committed : new.committed ≡ old.committed
   pub mode : new.in_transaction ≡ true
@@ -203,11 +231,13 @@ pub record MakesAll (dir : Bytes) (old new : State) : Type 0 where
 
 -- ---- why it fails
 
--- the directory is too long to be stored: the row of the setting would have more than a billion bytes, those of its two texts and 18 for each of its three values
+-- the directory is too long to be stored: the row of the setting would have more than a billion bytes, those of its two
+-- texts and 18 for each of its three values
 abbrev pub IsTooLong : Bytes → Type 0
 IsTooLong dir = 10 ^ 9 < length dir + 63
 
--- The trees of these tables have no numbers: there are 65536, and each table takes two, one for itself and one for its key's index.
+-- The trees of these tables have no numbers: there are 65536, and each table takes two, one for itself and one for its
+-- key's index.
 abbrev pub LacksNumbers : Schema → List Table → Type 0
 LacksNumbers s tables = 65536 < next_tree s + 2 * length tables
 
@@ -215,12 +245,16 @@ LacksNumbers s tables = 65536 < next_tree s + 2 * length tables
 abbrev pub LacksNames : Schema → List Table → Type 0
 LacksNames s tables = list_any (λ t. is_used s (index_of t.name)) tables ≡ true
 
--- Why these tables aren't made. A size is named for a row too large, where there may be one, and never of a connection that an earlier fault had shut. The disk is named for a fault in this call, or that earlier one, and where a statement is refused: for want of numbers or names, or for a further reason, if there is one.
+-- Why these tables aren't made. A size is named for a row too large, where there may be one, and never of a connection
+-- that an earlier fault had shut. The disk is named for a fault in this call, or that earlier one, and where a
+-- statement is refused: for want of numbers or names, or for a further reason, if there is one.
 abbrev pub FailsToMakeThese : List Table → (large refused : Type 0) → State → State → Failure → Type 0
 FailsToMakeThese tables large refused old new Memory = ⊤
 FailsToMakeThese tables large refused old new Size = large × IsTrue old.is_open
-FailsToMakeThese tables large refused old new Disk = HasDiskCause old new ⊎ (refused ⊎ (LacksNumbers old.now.schema tables ⊎ LacksNames old.now.schema tables))
+FailsToMakeThese tables large refused old new Disk =
+    HasDiskCause old new ⊎ (refused ⊎ (LacksNumbers old.now.schema tables ⊎ LacksNames old.now.schema tables))
 
--- Why all eleven aren't made: the store directory may be too long, and a limit on steps may stop the statement that stores a setting.
+-- Why all eleven aren't made: the store directory may be too long, and a limit on steps may stop the statement that
+-- stores a setting.
 abbrev pub FailsToMake : Bytes → State → State → Failure → Type 0
 FailsToMake dir old new = FailsToMakeThese all_tables (IsTooLong dir) (IsSome old.step_limit) old new

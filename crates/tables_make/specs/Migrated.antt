@@ -40,8 +40,9 @@ lacking V1 = piece ∷ temp_root ∷ []
 lacking V2 = temp_root ∷ []
 lacking V3 = []
 
--- Inside a transaction, which goes on: these tables were made after all that was there, and ours were left with these contents. All eleven
--- are there, and other tables have the rows that they had, also where the schema doesn't show them.
+-- Inside a transaction, which goes on: these tables were made after all that was there, and ours were left with these
+-- contents. All eleven are there, and other tables have the rows that they had, also where the schema doesn't show
+-- them.
 pub record Grows (tables : List Table) (contents : Contents) (old new : State) : Type 0 where
   pub was_open : IsTrue old.is_open
   pub is_open : IsTrue new.is_open
@@ -53,8 +54,9 @@ pub record Grows (tables : List Table) (contents : Contents) (old new : State) :
   pub committed : new.committed ≡ old.committed
   pub mode : new.in_transaction ≡ true
 
--- A transaction was committed that made these tables after all that was there, and left the store's with these contents: all eleven are there and the
--- connection is ready, and other tables have the rows that they had, also where the schema doesn't show them.
+-- A transaction was committed that made these tables after all that was there, and left the store's with these
+-- contents: all eleven are there and the connection is ready, and other tables have the rows that they had, also where
+-- the schema doesn't show them.
 pub record IsGrown (tables : List Table) (contents : Contents) (old new : State) : Type 0 where
   pub was_open : IsTrue old.is_open
   pub is_open : IsTrue new.is_open

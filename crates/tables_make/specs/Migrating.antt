@@ -33,7 +33,8 @@ SettingRow = IsRow meta (Text (codes "schema") ∷ Text (schema_text V3) ∷ [])
 
 -- an object with the first part of its archive, and the pieces of the rest
 abbrev pub CutRows : Path → Stored → Rows
-CutRows p o t row = ObjectRow p (record o { nar = row_part o.nar }) t row ⊎ RowsOf (PieceRow p) (further_pieces o.nar) t row
+CutRows p o t row =
+    ObjectRow p (record o { nar = row_part o.nar }) t row ⊎ RowsOf (PieceRow p) (further_pieces o.nar) t row
 
 -- the rows of an object whose archive is longer than a row takes
 abbrev pub LongRows : Path → Stored → Rows
@@ -50,7 +51,9 @@ MigratedRows _ c t row = SettingRow t row
 
 -- no archive that is longer than a row takes was cut yet
 abbrev pub IsUncut : Contents → Type 0
-IsUncut c = (p : Path) (o : Stored) → finite.get c.objects p ≡ Some o → piece_size < length o.nar → (n : ℤ) → finite.get c.pieces (p, n) ≡ None
+IsUncut c =
+    (p : Path) (o : Stored) → finite.get c.objects p ≡ Some o → piece_size < length o.nar → (n : ℤ)
+    → finite.get c.pieces (p, n) ≡ None
 
 -- ---- why it fails
 
@@ -58,7 +61,9 @@ IsUncut c = (p : Path) (o : Stored) → finite.get c.objects p ≡ Some o → pi
 abbrev pub with_lacking : Schema → State → State
 with_lacking from s = record s { now = grown (lacking from) s.now }
 
--- Why the tables of a schema aren't brought to the third: those that it lacks aren't made, or next to them the rows aren't put.
+-- Why the tables of a schema aren't brought to the third: those that it lacks aren't made, or next to them the rows
+-- aren't put.
 abbrev pub FailsToMigrate : Schema → State → State → Failure → Type 0
 FailsToMigrate from old new f =
-    FailsToMakeThese (lacking from) ⊥ ⊥ old new f ⊎ IsReason (MigratedRows from (contents_of old.now)) (with_lacking from old) new f
+    FailsToMakeThese (lacking from) ⊥ ⊥ old new f
+        ⊎ IsReason (MigratedRows from (contents_of old.now)) (with_lacking from old) new f

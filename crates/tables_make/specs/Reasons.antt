@@ -28,21 +28,25 @@ abbrev pub RowsOf : {X : Type 0} → (X → Rows) → List X → Rows
 RowsOf rows [] t row = ⊥
 RowsOf rows (x ∷ xs) t row = rows x t row ⊎ RowsOf rows xs t row
 
--- a database that a transaction over the first one may show: the schema and the tables of other programs are as they were
+-- a database that a transaction over the first one may show: the schema and the tables of other programs are as they
+-- were
 pub record IsWithin (old db : Database) : Type 0 where
   pub schema : db.schema ≡ old.schema
   pub theirs : KeepsTheirs old db
 
 -- there, one of the rows, or its entry in an index, is larger than the store takes
 abbrev pub HasLargeRow : Rows → Database → Type 0
-HasLargeRow rows old = (db : Database) × IsWithin old db × (t : Table) × (values : Row) × rows t values × IsTooLarge db t values
+HasLargeRow rows old =
+    (db : Database) × IsWithin old db × (t : Table) × (values : Row) × rows t values × IsTooLarge db t values
 
 -- there, no rowid is left for one of the rows
 abbrev pub LacksRowid : Rows → Database → Type 0
-LacksRowid rows old = (db : Database) × IsWithin old db × (t : Table) × (values : Row) × rows t values × HasNoRowidLeft db t
+LacksRowid rows old =
+    (db : Database) × IsWithin old db × (t : Table) × (values : Row) × rows t values × HasNoRowidLeft db t
 
--- Why a call that puts these rows failed. A size is named for one of them alone, over an open connection. The disk is named for a fault of it in this call,
--- for an earlier one that had shut the connection, for a limit on steps, or where no rowid is left; never since an entry was there already.
+-- Why a call that puts these rows failed. A size is named for one of them alone, over an open connection. The disk is
+-- named for a fault of it in this call, for an earlier one that had shut the connection, for a limit on steps, or where
+-- no rowid is left; never since an entry was there already.
 abbrev pub IsReason : Rows → State → State → Failure → Type 0
 IsReason rows old new Memory = ⊤
 IsReason rows old new Size = IsTrue old.is_open × HasLargeRow rows old.now

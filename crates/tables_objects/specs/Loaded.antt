@@ -25,7 +25,8 @@ pub record IsSoundOne (schema : Schema) (dir : List ℕ) (c : Contents) (p : Pat
   pub stored : Stored
   pub found : finite.get c.objects p ≡ Some stored
   pub cut : IsCutBy schema stored.nar (finite.entries (pieces_in (rows_of c) p))
-  pub row : IsSoundRow dir p stored (archive_in (rows_of c) p stored) (references_in (rows_of c) p) (outputs_in (rows_of c) p)
+  pub row : IsSoundRow dir p stored (archive_in (rows_of c) p stored) (references_in (rows_of c) p)
+      (outputs_in (rows_of c) p)
 
 -- the objects with one more, if it is there
 abbrev pub with_stored : Contents → Path → Option Stored → Objects → Objects
@@ -58,9 +59,11 @@ is_output objects e = is_object objects e.0.0
 abbrev pub is_owned : Objects → Numbered → Bool
 is_owned objects k = is_object objects k.0
 
--- The objects are sound with their references and outputs; each archive is cut the right way, where there is a table of pieces, and
--- each piece is one of an object's archive.
+-- The objects are sound with their references and outputs; each archive is cut the right way, where there is a table of
+-- pieces, and each piece is one of an object's archive.
 pub record AreSoundInPieces (schema : Schema) (dir : List ℕ) (c : Rows) : Type 0 where
   pub objects : AreSoundObjects dir c
-  pub cut : IsTrue (has_pieces schema) → (p : Path) (o : Stored) → finite.get c.objects p ≡ Some o → IsCut o.nar (finite.entries (pieces_in c p))
-  pub pieces : (p : Path) (n : ℤ) → IsTrue (finite.contains_key c.pieces (p, n)) → IsTrue (finite.contains_key c.objects p)
+  pub cut : IsTrue (has_pieces schema) → (p : Path) (o : Stored) → finite.get c.objects p ≡ Some o
+      → IsCut o.nar (finite.entries (pieces_in c p))
+  pub pieces : (p : Path) (n : ℤ) → IsTrue (finite.contains_key c.pieces (p, n))
+      → IsTrue (finite.contains_key c.objects p)

@@ -102,7 +102,8 @@ fits_address None dir p refs nar = true
 fits_address (Some a) dir p refs nar = not (list_any (bytes_eq p) refs) && verifies a dir p refs nar
 
 -- the digest, the address and the outputs of an object are those of its archive
-pub record IsSoundArchive (dir : List ℕ) (p : Path) (nar hash : List ℕ) (ca : Option ContentAddress) (refs : List Path) (outputs : List (List ℕ × Path)) : Type 0 where
+pub record IsSoundArchive (dir : List ℕ) (p : Path) (nar hash : List ℕ) (ca : Option ContentAddress) (refs : List Path)
+    (outputs : List (List ℕ × Path)) : Type 0 where
   pub digest : hash ≡ sha256 nar
   pub recorded : IsRecorded dir p nar
   pub address : IsTrue (fits_address ca dir p refs nar)
@@ -111,7 +112,8 @@ pub record IsSoundArchive (dir : List ℕ) (p : Path) (nar hash : List ℕ) (ca 
 -- ---- objects
 
 -- one object with what it refers to and its outputs, each list in order
-pub record IsSoundAt (dir : List ℕ) (p : Path) (o : Stored) (refs : List Path) (outputs : List (List ℕ × Path)) : Type 0 where
+pub record IsSoundAt (dir : List ℕ) (p : Path) (o : Stored) (refs : List Path)
+    (outputs : List (List ℕ × Path)) : Type 0 where
   pub path : IsTrue (is_base_name p)
   pub deriver : IsTrue (is_base_if_any o.deriver)
   pub address_text : IsTrue (is_address_if_any o.ca)
@@ -121,4 +123,6 @@ pub record IsSoundAt (dir : List ℕ) (p : Path) (o : Stored) (refs : List Path)
 
 -- what is kept of it
 abbrev pub kept_of : List ℕ → Path → Stored → List Path → Outlined
-kept_of dir p o refs = record { size = length o.nar; hash = sha256 o.nar; references = set_of bytes_cmp refs; deriver = o.deriver; ca = address_in o.ca; outputs = outputs_at dir p o.nar }
+kept_of dir p o refs =
+    record { size = length o.nar; hash = sha256 o.nar; references = set_of bytes_cmp refs; deriver = o.deriver;
+    ca = address_in o.ca; outputs = outputs_at dir p o.nar }

@@ -42,13 +42,15 @@ use Rattle.tables_sql.specs.Texts.{AreReadable}
 use Rattle.tables_sql.specs.Calls.{IsKeyed, IsWhole, HasFurther, IsReady, KeepsShown}
 use Rattle.tables_sql.specs.Failures.{opening_failure, FailsToTest}
 
--- Which error of `sqlite` one of the host's is at opening: out of memory where it says so, busy where somebody else has the file open, else that the file can't be opened.
+-- Which error of `sqlite` one of the host's is at opening: out of memory where it says so, busy where somebody else has
+-- the file open, else that the file can't be opened.
 abbrev pub IsOpeningError : OpenError → Error → Type 0
 IsOpeningError host.OutOfMemory e = e ≡ SqliteFailure OutOfMemory
 IsOpeningError host.Busy e = e ≡ SqliteFailure DatabaseBusy
 IsOpeningError host.HotJournal e = e ≡ SqliteFailure CannotOpen
 IsOpeningError (host.Io fault) e =
-    ((error_kind fault ≡ kind.OutOfMemory) × (e ≡ SqliteFailure OutOfMemory)) ⊎ ((error_kind fault ≢ kind.OutOfMemory) × (e ≡ SqliteFailure CannotOpen))
+    ((error_kind fault ≡ kind.OutOfMemory) × (e ≡ SqliteFailure OutOfMemory))
+        ⊎ ((error_kind fault ≢ kind.OutOfMemory) × (e ≡ SqliteFailure CannotOpen))
 
 -- by which schema the store's tables are there, if they are
 pub record IsRecognised (r : Recognised) (s : Schema) : Type 0 where
@@ -57,14 +59,16 @@ pub record IsRecognised (r : Recognised) (s : Schema) : Type 0 where
   pub second : r ≡ Tables V2 ↔ HasSecond s
   pub third : r ≡ Tables V3 ↔ HasThird s
 
--- by which schema the database has our tables, with texts that can be read; or it has none of them, or is something else
+-- by which schema the database has our tables, with texts that can be read; or it has none of them, or is something
+-- else
 pub record IsBySchema (r : Recognised) (db : Database) : Type 0 where
   pub nothing : r ≡ Nothing ↔ HasNone db.schema
   pub first : r ≡ Tables V1 ↔ HasFirst db.schema × AreReadable (contents_of db)
   pub second : r ≡ Tables V2 ↔ HasSecond db.schema × AreReadable (contents_of db)
   pub third : r ≡ Tables V3 ↔ HasThird db.schema × AreReadable (contents_of db)
 
--- where the store's tables are there by a schema the connection is ready, and the further tables of that schema can be read and written too
+-- where the store's tables are there by a schema the connection is ready, and the further tables of that schema can be
+-- read and written too
 abbrev pub IsReadyBy : Recognised → State → Type 0
 IsReadyBy Nothing s = ⊤
 IsReadyBy (Tables V1) s = IsReady s
@@ -82,10 +86,12 @@ pub record IsFound (r : Recognised) (s : State) : Type 0 where
 abbrev pub ShowIds : List Row → Type 0
 ShowIds rows = (ids : List ℤ) × (map (λ row. column row 0) rows ≡ map Int ids) × IsDistinct (eq_by_cmp int_cmp) ids
 
--- the store's tables are there by one of the schemas, and in one of those that are there two rows share a rowid or a rowid is no integer
+-- the store's tables are there by one of the schemas, and in one of those that are there two rows share a rowid or a
+-- rowid is no integer
 abbrev pub HasUnkeyed : Database → Type 0
 HasUnkeyed db =
-    (HasFirst db.schema ⊎ (HasSecond db.schema ⊎ HasThird db.schema)) × ¬ AllByRecursion (λ t. IsIntact db.schema t → IsKeyed (rows_named db t.name)) all_tables
+    (HasFirst db.schema ⊎ (HasSecond db.schema ⊎ HasThird db.schema))
+        × ¬ AllByRecursion (λ t. IsIntact db.schema t → IsKeyed (rows_named db t.name)) all_tables
 
 -- Why opening failed. That is what its test may have found.
 abbrev pub FailsToOpen : State → State → Failure → Type 0
@@ -112,9 +118,15 @@ module _ {S : Type 0} {c : calls.Ghosts Host} {start : Ghosts S} {g : disk.Ghost
   abbrev pub Refuses : Error → Option (Leftover (Modelled Host S c start) g) → Type 0
   Refuses e None = (e ≡ SqliteFailure CannotOpen) ⊎ ((e ≡ SqliteFailure OutOfMemory) ⊎ (e ≡ SqliteFailure DatabaseBusy))
   Refuses e (Some left) =
-      IsTrue (is_open_error e) × ((files : _) × IsFresh true files.log × IsFresh false files.db × (IsCleanLeft left → FailsToOpenFiles files left e × LeavesFiles files left))
+      IsTrue (is_open_error e)
+          × ((files : _) × IsFresh true files.log × IsFresh false files.db
+          × (IsCleanLeft left → FailsToOpenFiles files left e × LeavesFiles files left))
 
-  -- Why files that held this weren't opened: `sqlite` refused them for an error, of which this is the failure; or it opened them, and what they hold of the store's tables can't be read.
-  abbrev pub FailsToOpenFile : Image → Unopened (FileStore (Modelled Host S c start) g) (Modelled Host S c start) g → Type 0
+  -- Why files that held this weren't opened: `sqlite` refused them for an error, of which this is the failure; or it
+  -- opened them, and what they hold of the store's tables can't be read.
+  abbrev pub FailsToOpenFile : Image → Unopened (FileStore (Modelled Host S c start) g) (Modelled Host S c start) g
+      → Type 0
   FailsToOpenFile held (Refused failure left) = (e : Error) × (failure ≡ opening_failure e) × Refuses e left
-  FailsToOpenFile held (Unreadable it) = (was : _) × IsAsOpened held was it.conn × (HasCleanDisk (file_state it.conn) → FailsToOpen (file_state was) (file_state it.conn) it.failure)
+  FailsToOpenFile held (Unreadable it) =
+      (was : _) × IsAsOpened held was it.conn
+      × (HasCleanDisk (file_state it.conn) → FailsToOpen (file_state was) (file_state it.conn) it.failure)

@@ -9,7 +9,8 @@ abbrev pub with_number : ℕ → Path → Profile → Profile
 with_number n t p = record p { generations = finite.insert p.generations n t }
 
 -- profiles in which this one was found
-abbrev pub with_found : Pair → ℕ → Path → finite.FinMap pair_cmp Profile → Option Profile → finite.FinMap pair_cmp Profile
+abbrev pub with_found : Pair → ℕ → Path → finite.FinMap pair_cmp Profile → Option Profile
+    → finite.FinMap pair_cmp Profile
 with_found owned n t m None = m
 with_found owned n t m (Some p) = finite.insert m owned (with_number n t p)
 

@@ -15,7 +15,8 @@ use Rattle.tables_outline.specs.Outline.{Outlined, OutlineValue}
 use Rattle.tables_outline.specs.Filling.{has_currents}
 
 -- each row passes with the outline with all rows before it
-abbrev pub all_pass : {X : Type 0} → (X → OutlineValue → Bool) → (X → OutlineValue → OutlineValue) → List X → OutlineValue → Bool
+abbrev pub all_pass : {X : Type 0} → (X → OutlineValue → Bool) → (X → OutlineValue → OutlineValue) → List X
+    → OutlineValue → Bool
 all_pass passes put [] o = true
 all_pass passes put (x ∷ xs) o = passes x o && all_pass passes put xs (put x o)
 
@@ -24,8 +25,10 @@ abbrev pub all_put : {X : Type 0} → (X → OutlineValue → OutlineValue) → 
 all_put put [] o = o
 all_put put (x ∷ xs) o = all_put put xs (put x o)
 
--- tested and put one after another, beginning with this outline, all rows pass exactly if the answer is true, and then make the other outline
-pub record LoadAs {X : Type 0} (passes : X → OutlineValue → Bool) (put : X → OutlineValue → OutlineValue) (rows : List X) (from : OutlineValue) (answer : Bool) (to : OutlineValue) : Type 0 where
+-- tested and put one after another, beginning with this outline, all rows pass exactly if the answer is true, and then
+-- make the other outline
+pub record LoadAs {X : Type 0} (passes : X → OutlineValue → Bool) (put : X → OutlineValue → OutlineValue)
+    (rows : List X) (from : OutlineValue) (answer : Bool) (to : OutlineValue) : Type 0 where
   pub reported : all_pass passes put rows from ≡ answer
   pub loaded : IsTrue answer → all_put put rows from ≡ to
 
@@ -72,7 +75,8 @@ is_profile e = is_plain_name e.0.0 && (is_plain_name e.0.1 && is_number e.1)
 
 -- a generation has such a number, its owner and name are a profile's, and its target is an object
 abbrev pub is_generation : {X : Type 0} → Objects → finite.FinMap pair_cmp X → Triple × Path → Bool
-is_generation objects profiles e = is_number e.0.2 && (is_target objects e.1 && finite.contains_key profiles (e.0.0, e.0.1))
+is_generation objects profiles e =
+    is_number e.0.2 && (is_target objects e.1 && finite.contains_key profiles (e.0.0, e.0.1))
 
 -- a profile that has no generations yet
 abbrev pub bare : ℤ → Profile
@@ -86,13 +90,16 @@ bare_profiles m = finite.from_entries (map (λ e. (e.0, bare e.1)) (finite.entri
 abbrev pub are_profiles : Objects → Contents → Bool
 are_profiles objects c =
     list_all is_profile (finite.entries c.profiles)
-    && (list_all (is_generation objects c.profiles) (finite.entries c.generations) && has_currents (world_in c).profiles)
+    && (list_all (is_generation objects c.profiles) (finite.entries c.generations)
+    && has_currents (world_in c).profiles)
 
 -- ---- all roots
 
 -- the permanent roots are sound with these objects, and the user roots
 abbrev pub are_fixed : Objects → Contents → Bool
-are_fixed objects c = list_all (is_permanent_root objects) (finite.entries c.permanent) && list_all (is_user_root objects) (finite.entries c.user_roots)
+are_fixed objects c =
+    list_all (is_permanent_root objects) (finite.entries c.permanent)
+    && list_all (is_user_root objects) (finite.entries c.user_roots)
 
 -- so are the profiles and the runtime roots
 abbrev pub are_moving : Objects → Contents → Bool
@@ -108,7 +115,9 @@ are_temporary objects c = list_all (is_temporary_root objects) (finite.entries c
 
 -- an outline, and all roots of the rows but the temporary ones
 abbrev pub with_explicit : OutlineValue → Contents → OutlineValue
-with_explicit o c = record o { permanent = c.permanent; user_roots = c.user_roots; profiles = (world_in c).profiles; runtime = c.runtime }
+with_explicit o c =
+    record o { permanent = c.permanent; user_roots = c.user_roots; profiles = (world_in c).profiles;
+    runtime = c.runtime }
 
 -- an outline, and all roots of the rows
 abbrev pub with_roots : OutlineValue → Contents → OutlineValue

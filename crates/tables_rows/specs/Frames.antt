@@ -1,4 +1,5 @@
--- What each call on the tables requires of a connection, and what it keeps of it, by whichever table it reads or writes.
+-- What each call on the tables requires of a connection, and what it keeps of it, by whichever table it reads or
+-- writes.
 use Rattle.std.specs.Prelude.{◌≡◌, false, Option, None, Result, IsSome, IsTrue, IfOk, IfErr, OnOk, OnErr}
 use Rattle.std.specs.Borrow.{MutBor}
 use Rattle.sqlite_value.specs.Order.{Row}
@@ -19,7 +20,8 @@ module _ {S : Type 0} (g : Ghosts S) where
     pub alone : old.in_transaction ≡ false
     pub ready : HasCleanDisk (state g old) → IsTrue (state g old).is_open → IsReady (state g old)
 
-  -- A read ends outside a transaction, whether it succeeds or fails. The connection shows what it showed, unless a fault has shut it, and is as ready as before. A crash leaves what it could leave before.
+  -- A read ends outside a transaction, whether it succeeds or fails. The connection shows what it showed, unless a
+  -- fault has shut it, and is as ready as before. A crash leaves what it could leave before.
   pub record LeftAsItWas (old new : Held S) : Type 0 where
     pub alone : new.in_transaction ≡ false
     pub same : HasCleanDisk (state g new) → KeepsShown (state g old) (state g new)
@@ -36,7 +38,8 @@ module _ {S : Type 0} (g : Ghosts S) where
   abbrev pub IsInside : MutBor (Held S) → Type 0
   IsInside old = HasCleanDisk (state g old.now) → IsUnderWay (state g old.now)
 
-  -- A write stays in its transaction, and where it fails nothing is committed. A crash leaves what it could leave before.
+  -- A write stays in its transaction, and where it fails nothing is committed. A crash leaves what it could leave
+  -- before.
   pub record StaysInside {T E : Type 0} (old new : MutBor (Held S)) (result : Result T E) : Type 0 where
     pub same_reference : new.ghost_name ≡ old.ghost_name
     pub failed : HasCleanDisk (state g new.now) → OnErr result (KeepsCommit (state g old.now) (state g new.now))
@@ -46,11 +49,15 @@ module _ {S : Type 0} (g : Ghosts S) where
 
   -- an answer is this of the contents, which stay as they are
   abbrev pub Reads : {T E : Type 0} (old new : Held S) (result : Result T E) (shows : Contents → T → Type 0) → Type 0
-  Reads old new result shows = HasCleanDisk (state g new) → IfOk result (λ it. IsUnchanged (state g old) (state g new) × shows (contents_of (state g old).now) it)
+  Reads old new result shows =
+      HasCleanDisk (state g new)
+      → IfOk result (λ it. IsUnchanged (state g old) (state g new) × shows (contents_of (state g old).now) it)
 
   -- where it succeeds, the contents are what the change makes of them
-  abbrev pub Makes : {T E : Type 0} (old new : MutBor (Held S)) (result : Result T E) (change : Contents → Contents) → Type 0
-  Makes old new result change = HasCleanDisk (state g new.now) → OnOk result (Changes (state g old.now) (state g new.now) change)
+  abbrev pub Makes : {T E : Type 0} (old new : MutBor (Held S)) (result : Result T E) (change : Contents → Contents)
+      → Type 0
+  Makes old new result change =
+      HasCleanDisk (state g new.now) → OnOk result (Changes (state g old.now) (state g new.now) change)
 
   -- an error comes of memory, of a fault of the disk or of a limit on steps
   abbrev pub FailsAlone : {T : Type 0} (old new : Held S) (result : Result T Failure) → Type 0
@@ -61,9 +68,15 @@ module _ {S : Type 0} (g : Ghosts S) where
   FailsInReads old new result = HasCleanDisk (state g new) → IfErr result (FailsToRead (state g old) (state g new))
 
   -- where it succeeds, there was no such entry
-  abbrev pub WasFree : {T E X : Type 0} (old new : MutBor (Held S)) (result : Result T E) (find : Contents → Option X) → Type 0
-  WasFree old new result find = HasCleanDisk (state g new.now) → OnOk result (find (contents_of (state g old.now).now) ≡ None)
+  abbrev pub WasFree : {T E X : Type 0} (old new : MutBor (Held S)) (result : Result T E) (find : Contents → Option X)
+      → Type 0
+  WasFree old new result find =
+      HasCleanDisk (state g new.now) → OnOk result (find (contents_of (state g old.now).now) ≡ None)
 
   -- an error of an insert of this row may also come of its size, of want of a rowid, or of such an entry
-  abbrev pub FailsToPut : {T X : Type 0} (old new : MutBor (Held S)) (result : Result T Failure) (table : Table) (row : Row) (find : Contents → Option X) → Type 0
-  FailsToPut old new result table row find = HasCleanDisk (state g new.now) → IfErr result (FailsToInsert table row (IsSome (find (contents_of (state g old.now).now))) (state g old.now) (state g new.now))
+  abbrev pub FailsToPut : {T X : Type 0} (old new : MutBor (Held S)) (result : Result T Failure) (table : Table)
+      (row : Row) (find : Contents → Option X) → Type 0
+  FailsToPut old new result table row find =
+      HasCleanDisk (state g new.now)
+      → IfErr result
+      (FailsToInsert table row (IsSome (find (contents_of (state g old.now).now))) (state g old.now) (state g new.now))

@@ -8,7 +8,8 @@ use Rattle.sqlite.specs.Does.{lacks_sequence}
 use Rattle.tables_schema.specs.Forms.{our_tables, further_tables, piece, temp_root}
 use Rattle.tables_schema.specs.Intact.{IsIntact, HasTables, is_unreferred, is_alone, is_unguarded}
 
--- the table has the form, and is found by its tree too, which is below the numbers that a query gives to tables of its own
+-- the table has the form, and is found by its tree too, which is below the numbers that a query gives to tables of its
+-- own
 pub record HasForm (tables : List Table) (form found : Table) : Type 0 where
   pub same : found ≡ record form { tree = found.tree }
   pub by_tree : find (λ t. t.tree == found.tree) tables ≡ Some (record form { tree = found.tree })
@@ -42,7 +43,8 @@ pub record HasNone (s : Schema) : Type 0 where
   pub further : AllByRecursion (λ t. IsFree s t.name) further_tables
   pub counted : lacks_sequence s ≡ false
 
--- the tables are those of the first schema, of the second, or of the third; the name of a table that the schema lacks is free, and a table that counts its rowids has its counter, so that the rest can be made
+-- the tables are those of the first schema, of the second, or of the third; the name of a table that the schema lacks
+-- is free, and a table that counts its rowids has its counter, so that the rest can be made
 abbrev pub HasFirst : Schema → Type 0
 HasFirst s = HasTables s × IsFree s piece.name × IsFree s temp_root.name × (lacks_sequence s ≡ false)
 

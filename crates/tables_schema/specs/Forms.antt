@@ -11,7 +11,8 @@ use Rattle.sqlite_schema.specs.declared.schema.Table.{Table}
 
 -- a column of a STRICT table: its type, and whether it is NOT NULL
 abbrev pub col : List ℕ → Kind → Bool → Column
-col name kind required = record { name = name; kind = kind; is_strict = true; not_null = required; default = Null; collation = Binary }
+col name kind required =
+    record { name = name; kind = kind; is_strict = true; not_null = required; default = Null; collation = Binary }
 
 -- a STRICT table with these columns and this PRIMARY KEY, and nothing else; columns are counted from 1
 abbrev pub strict : List ℕ → List Column → List ℕ → Table
@@ -34,13 +35,16 @@ abbrev pub meta : Table
 meta = strict (codes "meta") (col (codes "word") Text true ∷ col (codes "val") Text true ∷ []) (1 ∷ [])
 
 abbrev pub object : Table
-object = strict (codes "object") (col (codes "base") Text true ∷ col (codes "nar") Blob true ∷ col (codes "hash") Blob true ∷ col (codes "deriver") Text false ∷ col (codes "ca") Text false ∷ []) (1 ∷ [])
+object = strict (codes "object")
+    (col (codes "base") Text true ∷ col (codes "nar") Blob true ∷ col (codes "hash") Blob true
+    ∷ col (codes "deriver") Text false ∷ col (codes "ca") Text false ∷ []) (1 ∷ [])
 
 abbrev pub refs : Table
 refs = strict (codes "refs") (col (codes "base") Text true ∷ col (codes "target") Text true ∷ []) (1 ∷ 2 ∷ [])
 
 abbrev pub outs : Table
-outs = strict (codes "outs") (col (codes "base") Text true ∷ col (codes "name") Text true ∷ col (codes "target") Text true ∷ []) (1 ∷ 2 ∷ [])
+outs = strict (codes "outs")
+    (col (codes "base") Text true ∷ col (codes "name") Text true ∷ col (codes "target") Text true ∷ []) (1 ∷ 2 ∷ [])
 
 abbrev pub permanent : Table
 permanent = strict (codes "permanent") (col (codes "name") Text true ∷ col (codes "target") Text true ∷ []) (1 ∷ [])
@@ -49,19 +53,27 @@ abbrev pub user_root : Table
 user_root = strict (codes "user_root") (col (codes "owner") Text true ∷ col (codes "name") Text true ∷ col (codes "target") Text true ∷ []) (1 ∷ 2 ∷ [])
 
 abbrev pub profile : Table
-profile = strict (codes "profile") (col (codes "owner") Text true ∷ col (codes "name") Text true ∷ col (codes "cur") Integer true ∷ []) (1 ∷ 2 ∷ [])
+profile = strict (codes "profile")
+    (col (codes "owner") Text true ∷ col (codes "name") Text true ∷ col (codes "cur") Integer true ∷ []) (1 ∷ 2 ∷ [])
 
 abbrev pub generation : Table
-generation = strict (codes "generation") (col (codes "owner") Text true ∷ col (codes "name") Text true ∷ col (codes "num") Integer true ∷ col (codes "target") Text true ∷ []) (1 ∷ 2 ∷ 3 ∷ [])
+generation =
+    strict (codes "generation")
+    (col (codes "owner") Text true ∷ col (codes "name") Text true ∷ col (codes "num") Integer true
+    ∷ col (codes "target") Text true ∷ []) (1 ∷ 2 ∷ 3 ∷ [])
 
 abbrev pub runtime : Table
 runtime = strict (codes "runtime") (col (codes "label") Text true ∷ col (codes "target") Text true ∷ []) (1 ∷ 2 ∷ [])
 
 abbrev pub piece : Table
-piece = strict (codes "piece") (col (codes "base") Text true ∷ col (codes "num") Integer true ∷ col (codes "bytes") Blob true ∷ []) (1 ∷ 2 ∷ [])
+piece = strict (codes "piece")
+    (col (codes "base") Text true ∷ col (codes "num") Integer true ∷ col (codes "bytes") Blob true ∷ []) (1 ∷ 2 ∷ [])
 
 abbrev pub temp_root : Table
-temp_root = strict (codes "temp_root") (col (codes "owner") Text true ∷ col (codes "session") Integer true ∷ col (codes "target") Text true ∷ []) (1 ∷ 2 ∷ 3 ∷ [])
+temp_root =
+    strict (codes "temp_root")
+    (col (codes "owner") Text true ∷ col (codes "session") Integer true ∷ col (codes "target") Text true ∷ [])
+    (1 ∷ 2 ∷ 3 ∷ [])
 
 -- the nine that every schema has, in the order in which they are made
 abbrev pub our_tables : List Table
@@ -73,7 +85,8 @@ further_tables = piece ∷ temp_root ∷ []
 
 -- all eleven, in the order in which they are made in a new database
 abbrev pub all_tables : List Table
-all_tables = meta ∷ object ∷ refs ∷ outs ∷ permanent ∷ user_root ∷ profile ∷ generation ∷ runtime ∷ piece ∷ temp_root ∷ []
+all_tables =
+    meta ∷ object ∷ refs ∷ outs ∷ permanent ∷ user_root ∷ profile ∷ generation ∷ runtime ∷ piece ∷ temp_root ∷ []
 
 -- one of the eleven has this name
 abbrev pub is_our_name : List ℕ → Bool

@@ -19,7 +19,8 @@ pub record IsKnown (s : Schema) (name : List ℕ) (at : ℕ) (table : Table) : T
 
 -- the reference finds a table with this tree
 abbrev pub points_at : Schema → ℕ → Reference → Bool
-points_at s tree r = unwrap_or (option_map (λ p. p.tree == tree) (option_and_then (slice_get s.tables) (table_named s r.parent))) false
+points_at s tree r =
+    unwrap_or (option_map (λ p. p.tree == tree) (option_and_then (slice_get s.tables) (table_named s r.parent))) false
 
 -- no foreign key refers to the table
 abbrev pub is_unreferred : Schema → ℕ → Bool
@@ -31,7 +32,9 @@ is_alone s name tree = list_all (λ t. not (t.tree == tree) || bytes_eq t.name n
 
 -- no unique index keeps rows out of the table but that of the key, which compares bytes
 abbrev pub is_unguarded : Schema → ℕ → List ℕ → Bool
-is_unguarded s tree key = list_all (λ i. not (i.is_unique && (i.table == tree)) || (bytes_eq i.columns key && (i.order.digits == 0))) s.indexes
+is_unguarded s tree key =
+    list_all (λ i. not (i.is_unique && (i.table == tree))
+    || (bytes_eq i.columns key && (i.order.digits == 0))) s.indexes
 
 -- the tree of the first table of a name; 0, which is none of theirs, where there is no such table
 abbrev pub tree_named : Schema → List ℕ → ℕ

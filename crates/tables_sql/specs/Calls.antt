@@ -64,20 +64,24 @@ pub record IsUnderWay (s : State) : Type 0 where
 
 -- each table with a name that is none of the store's has the rows that it had
 abbrev pub KeepsTheirs : Database → Database → Type 0
-KeepsTheirs old new = AllByRecursion (λ t. is_our_name t.name ≡ false → new.trees t.tree ≡ old.trees t.tree) old.schema.tables
+KeepsTheirs old new =
+    AllByRecursion (λ t. is_our_name t.name ≡ false → new.trees t.tree ≡ old.trees t.tree) old.schema.tables
 
--- what a crash may leave, or a commit: our tables hold this, each other table has the rows that it had, and what the schema doesn't show is kept
+-- what a crash may leave, or a commit: our tables hold this, each other table has the rows that it had, and what the
+-- schema doesn't show is kept
 pub record Leaves (old : Database) (left : Remains) (contents : Contents) : Type 0 where
   pub ours : contents_of (after_crash old left) ≡ contents
   pub theirs : KeepsTheirs old (after_crash old left)
   pub frozen : SparesFrozen old (after_crash old left)
 
--- what a crash may leave of a write of rows: the same, and the list of objects is as it was, so that no table, index, view or trigger was made or dropped
+-- what a crash may leave of a write of rows: the same, and the list of objects is as it was, so that no table, index,
+-- view or trigger was made or dropped
 pub record LeavesRows (old : Database) (left : Remains) (contents : Contents) : Type 0 where
   pub rows : Leaves old left contents
   pub listed : left catalog_tree ≡ old.trees catalog_tree
 
--- Inside a transaction, which goes on: our tables hold what the change makes of what they held, each other table has the rows that it had, what the schema doesn't show is as it was, and so are the savepoints.
+-- Inside a transaction, which goes on: our tables hold what the change makes of what they held, each other table has
+-- the rows that it had, what the schema doesn't show is as it was, and so are the savepoints.
 pub record Changes (old new : State) (change : Contents → Contents) : Type 0 where
   pub was_open : IsTrue old.is_open
   pub is_open : IsTrue new.is_open
@@ -91,7 +95,8 @@ pub record Changes (old new : State) (change : Contents → Contents) : Type 0 w
   pub mode : new.in_transaction ≡ true
   pub marks : new.marks ≡ old.marks
 
--- All nine tables are there and nothing is uncommitted, unless a fault has shut the connection. Rowids and texts aren't tested yet.
+-- All nine tables are there and nothing is uncommitted, unless a fault has shut the connection. Rowids and texts aren't
+-- tested yet.
 pub record HasSettledTables (s : State) : Type 0 where
   pub has : IsTrue s.is_open → HasTables s.now.schema
   pub settled : IsTrue s.is_open → s.now ≡ s.committed

@@ -95,7 +95,8 @@ pub record Contents : Type 0 where
   -- a user, the number of a session and a target; none, where there is no such table
   pub temp_roots : finite.FinMap kept_cmp (Unit {0})
 
--- ---- how they are read off the rows, whose first column is the rowid; a row of another kind, which STRICT keeps out, says nothing
+-- ---- how they are read off the rows, whose first column is the rowid; a row of another kind, which STRICT keeps out,
+-- says nothing
 
 abbrev pub is_text : Value → Bool
 is_text (Text t) = true
@@ -130,10 +131,14 @@ abbrev pub is_triple : Row → Bool
 is_triple row = is_pair row && is_text (column row 3)
 
 abbrev pub is_object : Row → Bool
-is_object row = is_text (column row 1) && is_blob (column row 2) && is_blob (column row 3) && is_text_or_null (column row 4) && is_text_or_null (column row 5)
+is_object row =
+    is_text (column row 1) && is_blob (column row 2) && is_blob (column row 3) && is_text_or_null (column row 4)
+    && is_text_or_null (column row 5)
 
 abbrev pub object_of : Row → Bytes × Stored
-object_of row = (bytes (column row 1), record { nar = bytes (column row 2); hash = bytes (column row 3); deriver = text_if_any (column row 4); ca = text_if_any (column row 5) })
+object_of row =
+    (bytes (column row 1), record { nar = bytes (column row 2); hash = bytes (column row 3);
+    deriver = text_if_any (column row 4); ca = text_if_any (column row 5) })
 
 -- a pair, and a text that belongs to it
 abbrev pub target_of : Row → Pair × Bytes
@@ -164,7 +169,8 @@ abbrev pub kept_of : Row → Kept × Unit {0}
 kept_of row = ((bytes (column row 1), id_in (column row 2), bytes (column row 3)), tt)
 
 -- the map that the rows of one kind make
-unfoldable pub map_of : {K X : Type 0} (R : K → K → Ordering) → (Row → Bool) → (Row → K × X) → List Row → finite.FinMap R X
+unfoldable pub map_of : {K X : Type 0} (R : K → K → Ordering) → (Row → Bool) → (Row → K × X) → List Row
+    → finite.FinMap R X
 map_of R kind entry rows = finite.from_entries (map entry (filter kind rows))
 
 -- the rows of the table of a name
@@ -173,7 +179,8 @@ rows_named db name = db.trees (tree_named db.schema name)
 
 -- the rows of a table that may be missing
 unfoldable pub rows_if_any : Database → Bytes → List Row
-rows_if_any db name = unwrap_or (option_map (λ t. db.trees t.tree) (find (λ t. same_name t.name name) db.schema.tables)) []
+rows_if_any db name =
+    unwrap_or (option_map (λ t. db.trees t.tree) (find (λ t. same_name t.name name) db.schema.tables)) []
 
 -- what tables hold that have these rows by their names; the further two, of which there may be none, by themselves
 abbrev pub contents_with : (Bytes → List Row) → (pieces temp_roots : List Row) → Contents

@@ -24,7 +24,8 @@ use Rattle.tables_sql.specs.Reading.{IsLegible}
 
 -- what is stored of an object that is passed
 abbrev pub stored : List ℕ → List ℕ → Option (String Global) → Option (String Global) → Stored
-stored nar hash deriver ca = record { nar = nar; hash = hash; deriver = option_map string_bytes deriver; ca = option_map string_bytes ca }
+stored nar hash deriver ca =
+    record { nar = nar; hash = hash; deriver = option_map string_bytes deriver; ca = option_map string_bytes ca }
 
 -- a text that may be missing, as a row holds it
 abbrev pub text_or_null : Option (String Global) → Value
@@ -45,16 +46,24 @@ stored_of e = (string_bytes e.base, stored e.nar.items e.hash.items e.deriver e.
 
 -- the object of this path, if there is one
 abbrev pub IsStored : finite.FinMap texts_cmp Stored → Bytes → Option Object → Type 0
-IsStored objects base o = MatchOption o (finite.get objects base ≡ None) (λ e. ((stored_of e).0 ≡ base) × (finite.get objects base ≡ Some (stored_of e).1))
+IsStored objects base o =
+    MatchOption o (finite.get objects base ≡ None)
+    (λ e. ((stored_of e).0 ≡ base) × (finite.get objects base ≡ Some (stored_of e).1))
 
 abbrev pub ShowsObject : Row → Object → Type 0
-ShowsObject row e = (column row 0 ≡ Text (string_bytes e.base)) × (column row 1 ≡ Blob e.nar.items) × (column row 2 ≡ Blob e.hash.items) × ShowsOptional (column row 3) e.deriver × ShowsOptional (column row 4) e.ca
+ShowsObject row e =
+    (column row 0 ≡ Text (string_bytes e.base)) × (column row 1 ≡ Blob e.nar.items) × (column row 2 ≡ Blob e.hash.items)
+    × ShowsOptional (column row 3) e.deriver × ShowsOptional (column row 4) e.ca
 
 abbrev pub listed_of : Listed → Bytes × Described
-listed_of e = (string_bytes e.base, record { hash = e.hash.items; deriver = option_map string_bytes e.deriver; ca = option_map string_bytes e.ca })
+listed_of e =
+    (string_bytes e.base, record { hash = e.hash.items; deriver = option_map string_bytes e.deriver;
+    ca = option_map string_bytes e.ca })
 
 abbrev pub ShowsListed : Row → Listed → Type 0
-ShowsListed row e = (column row 0 ≡ Text (string_bytes e.base)) × (column row 1 ≡ Blob e.hash.items) × ShowsOptional (column row 2) e.deriver × ShowsOptional (column row 3) e.ca
+ShowsListed row e =
+    (column row 0 ≡ Text (string_bytes e.base)) × (column row 1 ≡ Blob e.hash.items)
+    × ShowsOptional (column row 2) e.deriver × ShowsOptional (column row 3) e.ca
 
 abbrev pub reference_of : Reference → Pair × Unit {0}
 reference_of e = ((string_bytes e.base, string_bytes e.target), tt)
@@ -66,7 +75,9 @@ abbrev pub output_of : Output → Pair × Bytes
 output_of e = ((string_bytes e.base, string_bytes e.name), string_bytes e.target)
 
 abbrev pub ShowsOutput : Row → Output → Type 0
-ShowsOutput row e = (column row 0 ≡ Text (string_bytes e.base)) × (column row 1 ≡ Text (string_bytes e.name)) × (column row 2 ≡ Text (string_bytes e.target))
+ShowsOutput row e =
+    (column row 0 ≡ Text (string_bytes e.base)) × (column row 1 ≡ Text (string_bytes e.name))
+    × (column row 2 ≡ Text (string_bytes e.target))
 
 abbrev pub permanent_of : PermanentRoot → Bytes × Bytes
 permanent_of e = (string_bytes e.name, string_bytes e.target)
@@ -78,19 +89,25 @@ abbrev pub user_root_of : UserRoot → Pair × Bytes
 user_root_of e = ((string_bytes e.owner, string_bytes e.name), string_bytes e.target)
 
 abbrev pub ShowsUserRoot : Row → UserRoot → Type 0
-ShowsUserRoot row e = (column row 0 ≡ Text (string_bytes e.owner)) × (column row 1 ≡ Text (string_bytes e.name)) × (column row 2 ≡ Text (string_bytes e.target))
+ShowsUserRoot row e =
+    (column row 0 ≡ Text (string_bytes e.owner)) × (column row 1 ≡ Text (string_bytes e.name))
+    × (column row 2 ≡ Text (string_bytes e.target))
 
 abbrev pub current_of : Profile → Pair × ℤ
 current_of e = ((string_bytes e.owner, string_bytes e.name), e.current)
 
 abbrev pub ShowsProfile : Row → Profile → Type 0
-ShowsProfile row e = (column row 0 ≡ Text (string_bytes e.owner)) × (column row 1 ≡ Text (string_bytes e.name)) × (column row 2 ≡ Int e.current)
+ShowsProfile row e =
+    (column row 0 ≡ Text (string_bytes e.owner)) × (column row 1 ≡ Text (string_bytes e.name))
+    × (column row 2 ≡ Int e.current)
 
 abbrev pub generation_in : Generation → Triple × Bytes
 generation_in e = ((string_bytes e.owner, string_bytes e.name, e.number), string_bytes e.target)
 
 abbrev pub ShowsGeneration : Row → Generation → Type 0
-ShowsGeneration row e = (column row 0 ≡ Text (string_bytes e.owner)) × (column row 1 ≡ Text (string_bytes e.name)) × (column row 2 ≡ Int e.number) × (column row 3 ≡ Text (string_bytes e.target))
+ShowsGeneration row e =
+    (column row 0 ≡ Text (string_bytes e.owner)) × (column row 1 ≡ Text (string_bytes e.name))
+    × (column row 2 ≡ Int e.number) × (column row 3 ≡ Text (string_bytes e.target))
 
 abbrev pub runtime_of : RuntimeRoot → Pair × Unit {0}
 runtime_of e = ((string_bytes e.label, string_bytes e.target), tt)
@@ -102,7 +119,8 @@ abbrev pub piece_in : Piece → Numbered × Bytes
 piece_in e = ((string_bytes e.base, e.number), e.bytes.items)
 
 abbrev pub ShowsPiece : Row → Piece → Type 0
-ShowsPiece row e = (column row 0 ≡ Text (string_bytes e.base)) × (column row 1 ≡ Int e.number) × (column row 2 ≡ Blob e.bytes.items)
+ShowsPiece row e =
+    (column row 0 ≡ Text (string_bytes e.base)) × (column row 1 ≡ Int e.number) × (column row 2 ≡ Blob e.bytes.items)
 
 abbrev pub numbered_in : PieceKey → Numbered
 numbered_in e = (string_bytes e.base, e.number)
@@ -114,7 +132,9 @@ abbrev pub temp_root_of : TempRoot → Kept × Unit {0}
 temp_root_of e = ((string_bytes e.owner, e.session, string_bytes e.target), tt)
 
 abbrev pub ShowsTempRoot : Row → TempRoot → Type 0
-ShowsTempRoot row e = (column row 0 ≡ Text (string_bytes e.owner)) × (column row 1 ≡ Int e.session) × (column row 2 ≡ Text (string_bytes e.target))
+ShowsTempRoot row e =
+    (column row 0 ≡ Text (string_bytes e.owner)) × (column row 1 ≡ Int e.session)
+    × (column row 2 ≡ Text (string_bytes e.target))
 
 -- ---- which rows of an answer can be read as an entry: its columns are counted from 0, and none is the rowid
 
@@ -137,14 +157,20 @@ abbrev pub IsProfileRow : Row → Type 0
 IsProfileRow row = (length row ≡ 3) × IsLegible (column row 0) × IsLegible (column row 1) × IsInt (column row 2)
 
 abbrev pub IsGenerationRow : Row → Type 0
-IsGenerationRow row = (length row ≡ 4) × IsLegible (column row 0) × IsLegible (column row 1) × IsInt (column row 2) × IsLegible (column row 3)
+IsGenerationRow row =
+    (length row ≡ 4) × IsLegible (column row 0) × IsLegible (column row 1) × IsInt (column row 2)
+    × IsLegible (column row 3)
 
 abbrev pub IsObjectRow : Row → Type 0
-IsObjectRow row = (length row ≡ 5) × IsLegible (column row 0) × IsBlob (column row 1) × IsBlob (column row 2) × IsLegibleIfAny (column row 3) × IsLegibleIfAny (column row 4)
+IsObjectRow row =
+    (length row ≡ 5) × IsLegible (column row 0) × IsBlob (column row 1) × IsBlob (column row 2)
+    × IsLegibleIfAny (column row 3) × IsLegibleIfAny (column row 4)
 
 -- an object without its archive
 abbrev pub IsListedRow : Row → Type 0
-IsListedRow row = (length row ≡ 4) × IsLegible (column row 0) × IsBlob (column row 1) × IsLegibleIfAny (column row 2) × IsLegibleIfAny (column row 3)
+IsListedRow row =
+    (length row ≡ 4) × IsLegible (column row 0) × IsBlob (column row 1) × IsLegibleIfAny (column row 2)
+    × IsLegibleIfAny (column row 3)
 
 abbrev pub IsPieceRow : Row → Type 0
 IsPieceRow row = (length row ≡ 3) × IsLegible (column row 0) × IsInt (column row 1) × IsBlob (column row 2)

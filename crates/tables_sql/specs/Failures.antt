@@ -41,7 +41,8 @@ IsQueryFailure text params old new f = (e : Error) × (f ≡ failure_of e) × Fa
 abbrev pub IsWriteFailure : List ℕ → Row → State → State → Failure → Type 0
 IsWriteFailure text params old new f = (e : Error) × (f ≡ failure_of e) × ExecutesInside 0 text params old new (Err e)
 
--- what a delete says of a failure: it writes no row that may be too large, so a size comes of a shut connection alone, if at all
+-- what a delete says of a failure: it writes no row that may be too large, so a size comes of a shut connection alone,
+-- if at all
 abbrev pub without_size : Failure → Failure
 without_size Memory = Memory
 without_size Size = Disk
@@ -51,7 +52,9 @@ without_size Disk = Disk
 abbrev pub HasDiskCause : State → State → Type 0
 HasDiskCause old new = MoreFaults old.faults new.faults ⊎ (old.is_open ≡ false)
 
--- Why a call failed. Out of memory, the transaction is undone, or nothing changes. A row too large, where there can be one, undoes it, and so does a fault of the disk. Where there is a reason to refuse the call, the answer is the disk too, and nothing changes.
+-- Why a call failed. Out of memory, the transaction is undone, or nothing changes. A row too large, where there can be
+-- one, undoes it, and so does a fault of the disk. Where there is a reason to refuse the call, the answer is the disk
+-- too, and nothing changes.
 abbrev pub FailsWith : State → State → (large refused : Type 0) → Failure → Type 0
 FailsWith old new large refused Memory = IsRolledBack old new ⊎ IsUnchanged old new
 FailsWith old new large refused Size = large × IsRolledBack old new
@@ -61,22 +64,31 @@ FailsWith old new large refused Disk = (HasDiskCause old new × IsRolledBack old
 abbrev pub FailsFor : State → State → Failure → Type 0
 FailsFor old new = FailsWith old new ⊥ (IsSome old.step_limit)
 
--- The row that these values make in the table, whose rowid is the one after the last, is larger than the store takes, or its entry in an index is.
+-- The row that these values make in the table, whose rowid is the one after the last, is larger than the store takes,
+-- or its entry in an index is.
 unfoldable pub IsTooLarge : Database → Table → Row → Type 0
-IsTooLarge db table values = IsOversized db.schema (record table { tree = tree_named db.schema table.name }) (Int (next_rowid (rows_named db table.name)) ∷ values)
+IsTooLarge db table values =
+    IsOversized db.schema (record table { tree = tree_named db.schema table.name })
+    (Int (next_rowid (rows_named db table.name)) ∷ values)
 
 -- no rowid is left for one more row: the one after the last is beyond 64 bits, or taken
 unfoldable pub HasNoRowidLeft : Database → Table → Type 0
 HasNoRowidLeft db table =
-    let rows = rows_named db table.name in (fits_i64 (next_rowid rows) ≡ false) ⊎ (list_any (has_rowid (next_rowid rows)) rows ≡ true)
+    let rows = rows_named db table.name in (fits_i64 (next_rowid rows) ≡ false)
+        ⊎ (list_any (has_rowid (next_rowid rows)) rows ≡ true)
 
--- An insert of this text failed. It is the failure of the write, which names a size of an open connection alone; or, where the write named a size, that of the question whether the connection is open.
+-- An insert of this text failed. It is the failure of the write, which names a size of an open connection alone; or,
+-- where the write named a size, that of the question whether the connection is open.
 abbrev pub IsAdditionFailure : List ℕ → Row → State → State → Failure → Type 0
-IsAdditionFailure text params old new f = (IsWriteFailure text params old new f × (f ≡ Size → IsTrue old.is_open)) ⊎ FailsWith old new ⊥ ⊥ f
+IsAdditionFailure text params old new f =
+    (IsWriteFailure text params old new f × (f ≡ Size → IsTrue old.is_open)) ⊎ FailsWith old new ⊥ ⊥ f
 
--- An insert of these values into a table: the row may be too large, which is reported of an open connection alone, and the call refused for a limit on steps, for want of a rowid, or since the entry is there, where that may be.
+-- An insert of these values into a table: the row may be too large, which is reported of an open connection alone, and
+-- the call refused for a limit on steps, for want of a rowid, or since the entry is there, where that may be.
 abbrev pub FailsToInsert : Table → Row → (is_there : Type 0) → State → State → Failure → Type 0
-FailsToInsert table values is_there old new = FailsWith old new (IsTooLarge old.now table values × IsTrue old.is_open) (IsSome old.step_limit ⊎ (HasNoRowidLeft old.now table ⊎ is_there))
+FailsToInsert table values is_there old new =
+    FailsWith old new (IsTooLarge old.now table values × IsTrue old.is_open)
+    (IsSome old.step_limit ⊎ (HasNoRowidLeft old.now table ⊎ is_there))
 
 -- The store failed at a commit, which no size does, and the transaction is undone.
 abbrev pub FailsToCommit : State → State → Failure → Type 0
@@ -84,7 +96,8 @@ FailsToCommit old new Memory = IsRolledBack old new
 FailsToCommit old new Size = ⊥
 FailsToCommit old new Disk = HasDiskCause old new × IsRolledBack old new
 
--- Why a test of the store's tables failed: out of memory, never for a size, and with the disk named only for a fault of it in this call, for an earlier one that had shut the connection, for a limit on steps, or for what the test found.
+-- Why a test of the store's tables failed: out of memory, never for a size, and with the disk named only for a fault of
+-- it in this call, for an earlier one that had shut the connection, for a limit on steps, or for what the test found.
 abbrev pub FailsToTest : State → State → (found : Type 0) → Failure → Type 0
 FailsToTest old new found Memory = ⊤
 FailsToTest old new found Size = ⊥

@@ -1,4 +1,5 @@
--- What a schema doesn't show: the tables that SQL here doesn't understand, which are in the file and in the list of objects.
+-- What a schema doesn't show: the tables that SQL here doesn't understand, which are in the file and in the list of
+-- objects.
 use Rattle.std.specs.Prelude.{◌≡◌, ◌≢◌, ℕ, false, IsSome}
 use Rattle.std.specs.List.{AllByRecursion}
 use Rattle.sqlite_trees.specs.Tree.{Trees}
@@ -13,7 +14,8 @@ use Rattle.sqlite.specs.Effect.{Database}
 abbrev pub IsUnshown : Schema → ℕ → Type 0
 IsUnshown s tree = AllByRecursion (λ t. t.tree ≢ tree) s.tables × AllByRecursion (λ i. i.tree ≢ tree) s.indexes
 
--- Each tree that the schema doesn't show is as it was: those of frozen tables and of all their indexes, the list of objects, and the user version.
+-- Each tree that the schema doesn't show is as it was: those of frozen tables and of all their indexes, the list of
+-- objects, and the user version.
 abbrev pub KeepsUnshown : Database → Trees → Type 0
 KeepsUnshown old trees = (tree : ℕ) → IsUnshown old.schema tree → trees tree ≡ old.trees tree
 
@@ -25,7 +27,8 @@ pub record IsFrozen (s : Schema) (tree : ℕ) : Type 0 where
   pub aside : AllByRecursion (λ w. w.tree ≡ tree → IsSome w.foreign × (w.binds ≡ false)) s.views
   pub unshown : IsUnshown s tree
 
--- Frozen tables keep their rows, the list of objects still has them and the triggers with their texts, and the user version is as it was.
+-- Frozen tables keep their rows, the list of objects still has them and the triggers with their texts, and the user
+-- version is as it was.
 pub record KeepsFrozen (old : Database) (trees : Trees) : Type 0 where
   pub rows : (tree : ℕ) → IsFrozen old.schema tree → trees tree ≡ old.trees tree
   pub texts : KeepsForeign (old.trees catalog_tree) (trees catalog_tree)

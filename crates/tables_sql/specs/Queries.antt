@@ -9,11 +9,14 @@ use Rattle.sqlite_resolve.specs.Compile.{first}
 use Rattle.sqlite.specs.State.{State, Shown, Begins, IsUnchanged}
 
 abbrev pub parsed : List Name → (start end tail : ℕ) → Select → Parsed
-parsed names start end tail select = record { statement = written.Select select; names = names; formats = []; start = start; end = end; tail = tail }
+parsed names start end tail select =
+    record { statement = written.Select select; names = names; formats = []; start = start; end = end; tail = tail }
 
 -- the text is a SELECT, whatever the schema
 abbrev pub IsSelect : List ℕ → Type 0
-IsSelect text = (names : List Name) × (start : ℕ) × (end : ℕ) × (tail : ℕ) × (select : Select) × (first text ≡ Ok (parsed names start end tail select))
+IsSelect text =
+    (names : List Name) × (start : ℕ) × (end : ℕ) × (tail : ℕ) × (select : Select)
+    × (first text ≡ Ok (parsed names start end tail select))
 
 -- The answer begins with these rows, and nothing changed: so far came a query that was then given up.
 abbrev pub HasBegunWith : List ℕ → Row → State → State → List Row → Type 0

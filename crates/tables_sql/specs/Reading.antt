@@ -1,4 +1,5 @@
--- Which rows of an answer can be read as entries of one kind, in order. Columns are counted from 0, and none is the rowid.
+-- Which rows of an answer can be read as entries of one kind, in order. Columns are counted from 0, and none is the
+-- rowid.
 use Rattle.std.specs.Prelude.{◌≡◌, ◌⊎◌, true, Bool, List, length, String, string_bytes, IsUtf8}
 use Rattle.std.specs.List.{AllByRecursion, AllZip, AllAdjacentBelow}
 use Rattle.std.specs.declared.alloc.Global.{Global}
@@ -21,4 +22,6 @@ ShowsText row e = column row 0 ≡ Text (string_bytes e)
 
 -- some row can't be read as an entry, or the entries that the rows show don't rise
 abbrev pub IsAmiss : {T : Type 0} → (Row → Type 0) → (Row → T → Type 0) → (T → T → Bool) → List Row → Type 0
-IsAmiss {T} is_legible is_shown is_below rows = (¬ AllByRecursion is_legible rows) ⊎ ((all : List T) × AllZip is_shown rows all × (¬ AllAdjacentBelow (λ x y. true ≡ is_below x y) all (length all)))
+IsAmiss {T} is_legible is_shown is_below rows =
+    (¬ AllByRecursion is_legible rows)
+    ⊎ ((all : List T) × AllZip is_shown rows all × (¬ AllAdjacentBelow (λ x y. true ≡ is_below x y) all (length all)))

@@ -14,16 +14,22 @@ use Rattle.tables_sql.specs.Contents.{Bytes, Stored, Contents, rows_named}
 -- each text in our tables is UTF-8
 pub record AreReadable (c : Contents) : Type 0 where
   pub meta : (word value : Bytes) → finite.get c.meta word ≡ Some value → IsUtf8 word × IsUtf8 value
-  pub objects : (base : Bytes) (o : Stored) → finite.get c.objects base ≡ Some o → IsUtf8 base × IfSome o.deriver IsUtf8 × IfSome o.ca IsUtf8
+  pub objects : (base : Bytes) (o : Stored) → finite.get c.objects base ≡ Some o
+      → IsUtf8 base × IfSome o.deriver IsUtf8 × IfSome o.ca IsUtf8
   pub refs : (base target : Bytes) → finite.get c.refs (base, target) ≡ Some tt → IsUtf8 base × IsUtf8 target
-  pub outs : (base name target : Bytes) → finite.get c.outs (base, name) ≡ Some target → IsUtf8 base × IsUtf8 name × IsUtf8 target
+  pub outs : (base name target : Bytes) → finite.get c.outs (base, name) ≡ Some target
+      → IsUtf8 base × IsUtf8 name × IsUtf8 target
   pub permanent : (name target : Bytes) → finite.get c.permanent name ≡ Some target → IsUtf8 name × IsUtf8 target
-  pub user_roots : (owner name target : Bytes) → finite.get c.user_roots (owner, name) ≡ Some target → IsUtf8 owner × IsUtf8 name × IsUtf8 target
-  pub profiles : (owner name : Bytes) (n : ℤ) → finite.get c.profiles (owner, name) ≡ Some n → IsUtf8 owner × IsUtf8 name
-  pub generations : (owner name : Bytes) (n : ℤ) (target : Bytes) → finite.get c.generations (owner, name, n) ≡ Some target → IsUtf8 owner × IsUtf8 name × IsUtf8 target
+  pub user_roots : (owner name target : Bytes) → finite.get c.user_roots (owner, name) ≡ Some target
+      → IsUtf8 owner × IsUtf8 name × IsUtf8 target
+  pub profiles : (owner name : Bytes) (n : ℤ) → finite.get c.profiles (owner, name) ≡ Some n
+      → IsUtf8 owner × IsUtf8 name
+  pub generations : (owner name : Bytes) (n : ℤ) (target : Bytes)
+      → finite.get c.generations (owner, name, n) ≡ Some target → IsUtf8 owner × IsUtf8 name × IsUtf8 target
   pub runtime : (label target : Bytes) → finite.get c.runtime (label, target) ≡ Some tt → IsUtf8 label × IsUtf8 target
   pub pieces : (base : Bytes) (n : ℤ) (piece : Bytes) → finite.get c.pieces (base, n) ≡ Some piece → IsUtf8 base
-  pub temp_roots : (owner : Bytes) (n : ℤ) (target : Bytes) → finite.get c.temp_roots (owner, n, target) ≡ Some tt → IsUtf8 owner × IsUtf8 target
+  pub temp_roots : (owner : Bytes) (n : ℤ) (target : Bytes) → finite.get c.temp_roots (owner, n, target) ≡ Some tt
+      → IsUtf8 owner × IsUtf8 target
 
 -- ---- the same by the rows, as it is tested
 

@@ -17,8 +17,10 @@ use Rattle.tables_world.specs.Rows.{Rows, Kept, settings, pieces_in, archive_in,
 use Rattle.tables_schema.specs.declared.schema.Schema.{Schema}
 use Rattle.tables_schema.specs.Schemas.{has_pieces, has_temporary}
 
--- One object with its archive, its references and its outputs. That each reference is an object is asked of all rows of references.
-pub record IsSoundRow (dir : List ℕ) (p : Path) (o : Stored) (nar : List ℕ) (references : Set bytes_cmp) (outputs : finite.FinMap bytes_cmp Path) : Type 0 where
+-- One object with its archive, its references and its outputs. That each reference is an object is asked of all rows of
+-- references.
+pub record IsSoundRow (dir : List ℕ) (p : Path) (o : Stored) (nar : List ℕ) (references : Set bytes_cmp)
+    (outputs : finite.FinMap bytes_cmp Path) : Type 0 where
   pub path : IsTrue (is_base_name p)
   pub hash : o.hash ≡ sha256 nar
   pub tree : Tree
@@ -34,9 +36,12 @@ pub record IsSoundRow (dir : List ℕ) (p : Path) (o : Stored) (nar : List ℕ) 
 
 -- each object is sound, each reference is one of an object to an object, and each output one of an object
 pub record AreSoundObjects (dir : List ℕ) (c : Rows) : Type 0 where
-  pub objects : (p : Path) (o : Stored) → finite.get c.objects p ≡ Some o → IsSoundRow dir p o (archive_in c p o) (references_in c p) (outputs_in c p)
-  pub references : (p r : Path) → IsTrue (finite.contains_key c.refs (p, r)) → IsTrue (finite.contains_key c.objects p) × IsTrue (finite.contains_key c.objects r)
-  pub outputs : (p name : List ℕ) → IsTrue (finite.contains_key c.outs (p, name)) → IsTrue (finite.contains_key c.objects p)
+  pub objects : (p : Path) (o : Stored) → finite.get c.objects p ≡ Some o
+      → IsSoundRow dir p o (archive_in c p o) (references_in c p) (outputs_in c p)
+  pub references : (p r : Path) → IsTrue (finite.contains_key c.refs (p, r))
+      → IsTrue (finite.contains_key c.objects p) × IsTrue (finite.contains_key c.objects r)
+  pub outputs : (p name : List ℕ) → IsTrue (finite.contains_key c.outs (p, name))
+      → IsTrue (finite.contains_key c.objects p)
 
 -- a generation has a number of 1 to 9,999, belongs to a profile, and its target is an object
 pub record IsSoundGeneration (c : Rows) (owner name : List ℕ) (n : ℤ) (t : Path) : Type 0 where
@@ -47,13 +52,20 @@ pub record IsSoundGeneration (c : Rows) (owner name : List ℕ) (n : ℤ) (t : P
   pub profile : IsTrue (finite.contains_key c.profiles (owner, name))
   pub target : IsTrue (finite.contains_key c.objects t)
 
--- Every name is plain, every label a runtime label, every target an object; and the current generation of a profile is there.
+-- Every name is plain, every label a runtime label, every target an object; and the current generation of a profile is
+-- there.
 pub record AreSoundRoots (c : Rows) : Type 0 where
-  pub permanent : (name : List ℕ) (t : Path) → finite.get c.permanent name ≡ Some t → IsTrue (is_plain_name name) × IsTrue (finite.contains_key c.objects t)
-  pub user_roots : (owned : Pair) (t : Path) → finite.get c.user_roots owned ≡ Some t → IsTrue (is_plain_name owned.0) × IsTrue (is_plain_name owned.1) × IsTrue (finite.contains_key c.objects t)
-  pub runtime : (r : Pair) → IsTrue (finite.contains_key c.runtime r) → IsTrue (is_runtime_label r.0) × IsTrue (finite.contains_key c.objects r.1)
-  pub profiles : (owned : Pair) (n : ℤ) → finite.get c.profiles owned ≡ Some n → IsTrue (is_plain_name owned.0) × IsTrue (is_plain_name owned.1) × IsTrue (finite.contains_key c.generations (owned.0, owned.1, n))
-  pub generations : (owner name : List ℕ) (n : ℤ) (t : Path) → finite.get c.generations (owner, name, n) ≡ Some t → IsSoundGeneration c owner name n t
+  pub permanent : (name : List ℕ) (t : Path) → finite.get c.permanent name ≡ Some t
+      → IsTrue (is_plain_name name) × IsTrue (finite.contains_key c.objects t)
+  pub user_roots : (owned : Pair) (t : Path) → finite.get c.user_roots owned ≡ Some t
+      → IsTrue (is_plain_name owned.0) × IsTrue (is_plain_name owned.1) × IsTrue (finite.contains_key c.objects t)
+  pub runtime : (r : Pair) → IsTrue (finite.contains_key c.runtime r)
+      → IsTrue (is_runtime_label r.0) × IsTrue (finite.contains_key c.objects r.1)
+  pub profiles : (owned : Pair) (n : ℤ) → finite.get c.profiles owned ≡ Some n
+      → IsTrue (is_plain_name owned.0) × IsTrue (is_plain_name owned.1)
+      × IsTrue (finite.contains_key c.generations (owned.0, owned.1, n))
+  pub generations : (owner name : List ℕ) (n : ℤ) (t : Path) → finite.get c.generations (owner, name, n) ≡ Some t
+      → IsSoundGeneration c owner name n t
 
 -- what a session of an owner keeps: its number is 1 to 4,194,304, and the path an object
 pub record IsSoundSession (c : Rows) (k : Kept) : Type 0 where
@@ -68,8 +80,10 @@ pub record AreSoundParts (schema : Schema) (dir : List ℕ) (c : Rows) : Type 0 
   pub settings_are : c.meta ≡ settings schema dir
   pub no_pieces : IsFalse (has_pieces schema) → c.pieces ≡ finite.empty
   pub no_temporary : IsFalse (has_temporary schema) → c.temp_roots ≡ finite.empty
-  pub cut : IsTrue (has_pieces schema) → (p : Path) (o : Stored) → finite.get c.objects p ≡ Some o → IsCut o.nar (finite.entries (pieces_in c p))
-  pub pieces : (p : Path) (n : ℤ) → IsTrue (finite.contains_key c.pieces (p, n)) → IsTrue (finite.contains_key c.objects p)
+  pub cut : IsTrue (has_pieces schema) → (p : Path) (o : Stored) → finite.get c.objects p ≡ Some o
+      → IsCut o.nar (finite.entries (pieces_in c p))
+  pub pieces : (p : Path) (n : ℤ) → IsTrue (finite.contains_key c.pieces (p, n))
+      → IsTrue (finite.contains_key c.objects p)
   pub sessions : (k : Kept) → IsTrue (finite.contains_key c.temp_roots k) → IsSoundSession c k
   pub objects : AreSoundObjects dir c
   pub roots : AreSoundRoots c

@@ -49,7 +49,8 @@ pub record Rows : Type 0 where
 
 -- the two settings of a database of a store directory
 abbrev pub settings : Schema → List ℕ → finite.FinMap bytes_cmp (List ℕ)
-settings schema dir = finite.insert (finite.insert finite.empty (codes "schema") (schema_text schema)) (codes "store-dir") dir
+settings schema dir =
+    finite.insert (finite.insert finite.empty (codes "schema") (schema_text schema)) (codes "store-dir") dir
 
 -- the rows of a database that was just made
 abbrev pub new_rows : Schema → List ℕ → Rows
@@ -71,15 +72,18 @@ new_rows schema dir = record {
 
 -- the paths that a path refers to
 abbrev pub references_in : Rows → Path → Set bytes_cmp
-references_in c p = finite.from_entries (map (λ e. (e.0.1, e.1)) (filter (λ e. eq_by_cmp bytes_cmp p e.0.0) (finite.entries c.refs)))
+references_in c p =
+    finite.from_entries (map (λ e. (e.0.1, e.1)) (filter (λ e. eq_by_cmp bytes_cmp p e.0.0) (finite.entries c.refs)))
 
 -- the outputs of a path, by their names
 abbrev pub outputs_in : Rows → Path → finite.FinMap bytes_cmp Path
-outputs_in c p = finite.from_entries (map (λ e. (e.0.1, e.1)) (filter (λ e. eq_by_cmp bytes_cmp p e.0.0) (finite.entries c.outs)))
+outputs_in c p =
+    finite.from_entries (map (λ e. (e.0.1, e.1)) (filter (λ e. eq_by_cmp bytes_cmp p e.0.0) (finite.entries c.outs)))
 
 -- the further pieces of a path's archive, by their numbers
 abbrev pub pieces_in : Rows → Path → finite.FinMap int_cmp (List ℕ)
-pieces_in c p = finite.from_entries (map (λ e. (e.0.1, e.1)) (filter (λ e. eq_by_cmp bytes_cmp p e.0.0) (finite.entries c.pieces)))
+pieces_in c p =
+    finite.from_entries (map (λ e. (e.0.1, e.1)) (filter (λ e. eq_by_cmp bytes_cmp p e.0.0) (finite.entries c.pieces)))
 
 -- the archive of a path: what its object's row holds, and its pieces in their order
 abbrev pub archive_in : Rows → Path → Stored → List ℕ
@@ -92,7 +96,9 @@ address_in (Some text) = address_of text
 
 -- an object with its archive, its references, its outputs and its address
 abbrev pub object_in : Rows → Path → Stored → Object
-object_in c p o = record { nar = archive_in c p o; references = references_in c p; deriver = o.deriver; ca = address_in o.ca; outputs = outputs_in c p }
+object_in c p o =
+    record { nar = archive_in c p o; references = references_in c p; deriver = o.deriver; ca = address_in o.ca;
+    outputs = outputs_in c p }
 
 -- a number that isn't negative, as sound rows have it
 abbrev pub number_in : ℤ → ℕ
@@ -102,7 +108,8 @@ number_in (negsuc n) = 0
 -- the generations of a profile, by their numbers
 abbrev pub generations_in : Rows → Pair → finite.FinMap nat_cmp Path
 generations_in c owned = finite.from_entries (map (λ e. (number_in e.0.2, e.1))
-    (filter (λ e. eq_by_cmp bytes_cmp owned.0 e.0.0 && eq_by_cmp bytes_cmp owned.1 e.0.1) (finite.entries c.generations)))
+    (filter (λ e. eq_by_cmp bytes_cmp owned.0 e.0.0 && eq_by_cmp bytes_cmp owned.1 e.0.1)
+        (finite.entries c.generations)))
 
 -- a profile with its generations and the number of the current one
 abbrev pub profile_in : Rows → Pair → ℤ → Profile
@@ -112,7 +119,8 @@ profile_in c owned current = record { generations = generations_in c owned; curr
 abbrev pub temporary_in : Kept → Temporary
 temporary_in k = record { owner = k.0; session = number_in k.1; path = k.2 }
 
--- the world of the rows: each row of an object with its pieces, references and outputs, each row of a profile with its generations
+-- the world of the rows: each row of an object with its pieces, references and outputs, each row of a profile with its
+-- generations
 abbrev pub world_of : Rows → World
 world_of c = record {
   objects = finite.from_entries (map (λ e. (e.0, object_in c e.0 e.1)) (finite.entries c.objects));
@@ -134,16 +142,22 @@ pub record IsSoundRows (schema : Schema) (dir : List ℕ) (c : Rows) : Type 0 wh
   pub no_pieces : IsFalse (has_pieces schema) → c.pieces ≡ finite.empty
   pub no_temporary : IsFalse (has_temporary schema) → c.temp_roots ≡ finite.empty
   -- each archive is cut the right way, and each digest is that of the archive; what is recorded as an address is one
-  pub cut : IsTrue (has_pieces schema) → (p : Path) (o : Stored) → finite.get c.objects p ≡ Some o → IsCut o.nar (finite.entries (pieces_in c p))
+  pub cut : IsTrue (has_pieces schema) → (p : Path) (o : Stored) → finite.get c.objects p ≡ Some o
+      → IsCut o.nar (finite.entries (pieces_in c p))
   pub hash : (p : Path) (o : Stored) → finite.get c.objects p ≡ Some o → o.hash ≡ sha256 (archive_in c p o)
-  pub address : (p : Path) (o : Stored) (text : List ℕ) → finite.get c.objects p ≡ Some o → o.ca ≡ Some text → IsSome (address_of text)
+  pub address : (p : Path) (o : Stored) (text : List ℕ) → finite.get c.objects p ≡ Some o → o.ca ≡ Some text
+      → IsSome (address_of text)
   -- each piece, each reference and each output belongs to an object, and each generation to a profile
-  pub pieces : (p : Path) (n : ℤ) → IsTrue (finite.contains_key c.pieces (p, n)) → IsTrue (finite.contains_key c.objects p)
+  pub pieces : (p : Path) (n : ℤ) → IsTrue (finite.contains_key c.pieces (p, n))
+      → IsTrue (finite.contains_key c.objects p)
   pub references : (p r : Path) → IsTrue (finite.contains_key c.refs (p, r)) → IsTrue (finite.contains_key c.objects p)
-  pub outputs : (p : Path) (name : List ℕ) → IsTrue (finite.contains_key c.outs (p, name)) → IsTrue (finite.contains_key c.objects p)
-  pub generations : (owner name : List ℕ) (n : ℤ) → IsTrue (finite.contains_key c.generations (owner, name, n)) → IsTrue (finite.contains_key c.profiles (owner, name))
+  pub outputs : (p : Path) (name : List ℕ) → IsTrue (finite.contains_key c.outs (p, name))
+      → IsTrue (finite.contains_key c.objects p)
+  pub generations : (owner name : List ℕ) (n : ℤ) → IsTrue (finite.contains_key c.generations (owner, name, n))
+      → IsTrue (finite.contains_key c.profiles (owner, name))
   -- no number is negative
-  pub numbers : (owner name : List ℕ) (n : ℤ) → IsTrue (finite.contains_key c.generations (owner, name, n)) → (m : ℕ) × (n ≡ pos m)
+  pub numbers : (owner name : List ℕ) (n : ℤ) → IsTrue (finite.contains_key c.generations (owner, name, n))
+      → (m : ℕ) × (n ≡ pos m)
   pub current : (owned : Pair) (n : ℤ) → finite.get c.profiles owned ≡ Some n → (m : ℕ) × (n ≡ pos m)
   pub sessions : (k : Kept) → IsTrue (finite.contains_key c.temp_roots k) → (m : ℕ) × (k.1 ≡ pos m)
   -- the world that they have is sound
@@ -159,8 +173,8 @@ cut_row c p o = record o { nar = row_part (archive_in c p o) }
 abbrev pub cut_pieces : Rows → Path → Stored → List (Piece × List ℕ)
 cut_pieces c p o = map (λ e. ((p, e.0), e.1)) (further_pieces (archive_in c p o))
 
--- What a migration to the third schema makes of the rows of a store directory: from the first, each archive is cut; from the
--- second, all stay but the settings. There are no temporary roots.
+-- What a migration to the third schema makes of the rows of a store directory: from the first, each archive is cut;
+-- from the second, all stay but the settings. There are no temporary roots.
 abbrev pub migrated : Schema → List ℕ → Rows → Rows
 migrated V1 dir c = record c {
   meta = settings V3 dir;

@@ -26,7 +26,8 @@ rows_of c = record {
 abbrev pub world_in : Contents → World
 world_in c = world_of (rows_of c)
 
--- contents are sound in the form of a schema, for a store directory: what an opening asks of a file before it is migrated
+-- contents are sound in the form of a schema, for a store directory: what an opening asks of a file before it is
+-- migrated
 abbrev pub IsSoundBy : Schema → List ℕ → Contents → Type 0
 IsSoundBy schema dir c = IsSoundRows schema dir (rows_of c)
 

@@ -39,15 +39,18 @@ RefusesWords w = Keeps w.output.old w.output.new × ((text : List ℕ) × Prints
 
 -- `ls`, `text-path` and `source-path`, by the text of the configuration
 abbrev pub AnswersLs : List ℕ → Console → Type 0
-AnswersLs config console = AnswersUnder (config_of config) (λ s. AnswersTo None max_prefix ls_answer console) console.written
+AnswersLs config console =
+    AnswersUnder (config_of config) (λ s. AnswersTo None max_prefix ls_answer console) console.written
 
 abbrev pub AnswersTextPath : List ℕ → Text × List Text → Console → Type 0
 AnswersTextPath config o console = AnswersUnder (config_of config)
-    (λ s. AnswersTo (object_fault s.store_dir o.0 o.1) most_of_contents (text_path_answer s.store_dir o.0 (map (base_of s.store_dir) o.1)) console) console.written
+    (λ s. AnswersTo (object_fault s.store_dir o.0 o.1) most_of_contents
+    (text_path_answer s.store_dir o.0 (map (base_of s.store_dir) o.1)) console) console.written
 
 abbrev pub AnswersSourcePath : List ℕ → Text × List Text → Console → Type 0
 AnswersSourcePath config o console = AnswersUnder (config_of config)
-    (λ s. AnswersTo (object_fault s.store_dir o.0 o.1) max_prefix (source_path_answer s.store_dir o.0 (map (base_of s.store_dir) o.1)) console) console.written
+    (λ s. AnswersTo (object_fault s.store_dir o.0 o.1) max_prefix
+    (source_path_answer s.store_dir o.0 (map (base_of s.store_dir) o.1)) console) console.written
 
 -- Here and below the first argument says what is done with the store of a file.
 
@@ -56,16 +59,18 @@ abbrev pub AnswersAsking : Doing → List ℕ → Line → Ask → Console → T
 AnswersAsking of_file config line ask console = AnswersUnder (config_of config)
     (λ s. AnswersNamed (λ c. DoesWith of_file line.db s (calls c ask) console) line console.written) console.written
 
--- the store of a file, or one in memory where none is named, is served under the settings of the configuration; or memory gave out before
+-- the store of a file, or one in memory where none is named, is served under the settings of the configuration; or
+-- memory gave out before
 abbrev pub AnswersServing : Doing → List ℕ → Option Text → ServeArguments → Console → Type 0
 AnswersServing of_file config db a console = AnswersUnder (config_of config)
     (λ s. Answers (Err (Failed NoMemory)) console.written ⊎ DoesWith of_file db s (serves a) console) console.written
 
--- What a subcommand that makes no request of its own answers by the text of the configuration: `who`, all on standard output, `ls`, the two
--- paths, and `serve`. All others make one, and aren't answered so.
+-- What a subcommand that makes no request of its own answers by the text of the configuration: `who`, all on standard
+-- output, `ls`, the two paths, and `serve`. All others make one, and aren't answered so.
 abbrev pub AnswersAlone : Doing → List ℕ → Line → Asked → Console → Type 0
 AnswersAlone of_file config line who console =
-    AnswersWho (verdict_of config line.user line.group) (on_output console.written) × Keeps console.written.errors.old console.written.errors.new
+    AnswersWho (verdict_of config line.user line.group) (on_output console.written)
+        × Keeps console.written.errors.old console.written.errors.new
 AnswersAlone of_file config line ls console = AnswersLs config console
 AnswersAlone of_file config line (text_path o) console = AnswersTextPath config o console
 AnswersAlone of_file config line (source_path o) console = AnswersSourcePath config o console
@@ -75,7 +80,8 @@ AnswersAlone of_file config line _ console = ⊥
 -- what a command line answers by the text of its configuration: what its subcommand asks of a store, or its own answer
 abbrev pub AnswersLine : Doing → List ℕ → Line → Console → Type 0
 AnswersLine of_file config line console =
-    MatchOption (asks line.asked) (AnswersAlone of_file config line line.asked console) (λ ask. AnswersAsking of_file config line ask console)
+    MatchOption (asks line.asked) (AnswersAlone of_file config line line.asked console)
+        (λ ask. AnswersAsking of_file config line ask console)
 
 -- a stop before there is anything to answer by is said by `who` on standard output, and else on standard error
 abbrev pub Stops : Asked → Stop → Written → Type 0
@@ -89,10 +95,11 @@ AnswersRead of_file line (Err stop) console = Stops line.asked stop console.writ
 
 -- the answer by what came of the configuration file
 abbrev pub AnswersOpened : Doing → Line → Opened → Console → Type 0
-AnswersOpened of_file line opened console = (read : Result (List ℕ) Stop) × IsConfig opened read × AnswersRead of_file line read console
+AnswersOpened of_file line opened console =
+    (read : Result (List ℕ) Stop) × IsConfig opened read × AnswersRead of_file line read console
 
--- what running a command line does: it answers by what came of the file that it names, if it names one; or memory gave out while the words were
--- read. No contract says what a file holds, or why it can't be opened.
+-- what running a command line does: it answers by what came of the file that it names, if it names one; or memory gave
+-- out while the words were read. No contract says what a file holds, or why it can't be opened.
 abbrev pub RunsLine : Doing → Line → Console → Type 0
 RunsLine of_file line console = Answers (Err (Failed NoMemory)) console.written
     ⊎ ((opened : Opened) × (is_some opened ≡ is_some line.config) × AnswersOpened of_file line opened console)
@@ -110,7 +117,8 @@ Helps w = (text : List ℕ) × Answers (Ok text) w
 -- what is said of a fault that `clap` words: help, a usage fault, or out of memory
 abbrev pub ExplainsUsage : Error → Written → Type 0
 ExplainsUsage fault w =
-    Answers (Err (Failed NoMemory)) w ⊎ ((AsksHelp (Usage fault) → Helps w) × (¬ AsksHelp (Usage fault) → RefusesWords w))
+    Answers (Err (Failed NoMemory)) w
+        ⊎ ((AsksHelp (Usage fault) → Helps w) × (¬ AsksHelp (Usage fault) → RefusesWords w))
 
 -- what is said of words that are no command line, by their fault
 abbrev pub Explains : CommandError → Written → Type 0

@@ -16,7 +16,9 @@ use Rattle.tool_pure.specs.declared.stops.Stop.TheVariants.{Refused, Failed}
 
 -- a body passes this object
 abbrev pub IsImported : List ℕ → List ℕ → Request → Type 0
-IsImported dir body q = (head : ImportHead) × (nar : List ℕ) × IsImportBody dir body head nar × (q ≡ request.import_object (imported head nar))
+IsImported dir body q =
+    (head : ImportHead) × (nar : List ℕ) × IsImportBody dir body head nar
+    × (q ≡ request.import_object (imported head nar))
 
 -- a body names these runtime roots
 abbrev pub IsReplaced : List ℕ → List ℕ → Request → Type 0

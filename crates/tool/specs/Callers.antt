@@ -16,4 +16,5 @@ AnswersCalled answered (Some c) w = answered c
 
 -- the caller of the names is answered, or refused where they aren't plain; or memory gave out before
 abbrev pub AnswersNamed : (Caller → Type 0) → Line → Written → Type 0
-AnswersNamed answered line w = Answers (Err (Failed Memory)) w ⊎ AnswersCalled answered (caller_by line.user line.group) w
+AnswersNamed answered line w =
+    Answers (Err (Failed Memory)) w ⊎ AnswersCalled answered (caller_by line.user line.group) w

@@ -29,23 +29,27 @@ abbrev pub AnswersRequested : (Request → Type 0) → (Result Request Refusal �
 AnswersRequested answered asks w = (wanted : Result Request Refusal) × asks wanted × AnswersRequest answered wanted w
 
 -- what is asked by the input is answered, whose bytes are some, where it doesn't say them
-abbrev pub AnswersOver : (Request → Type 0) → (List ℕ → Result Request Refusal → Type 0) → Option (List ℕ) → Written → Type 0
+abbrev pub AnswersOver : (Request → Type 0) → (List ℕ → Result Request Refusal → Type 0) → Option (List ℕ) → Written
+    → Type 0
 AnswersOver answered ask None w = (bytes : List ℕ) × AnswersRequested answered (ask bytes) w
 AnswersOver answered ask (Some bytes) w = AnswersRequested answered (ask bytes) w
 
 -- what is asked of a store is answered; or memory gave out before there was a request, or the input where it is read
 abbrev pub AnswersIn : (Request → Type 0) → Ask → List ℕ → Caller → Stream → Written → Type 0
-AnswersIn answered ask dir c input w = GivesUp (LosesInput ask dir c input) w ⊎ AnswersOver answered (Demands ask dir c) input.old w
+AnswersIn answered ask dir c input w =
+    GivesUp (LosesInput ask dir c input) w ⊎ AnswersOver answered (Demands ask dir c) input.old w
 
 -- ---- how a request is answered
 
 -- a reply that a step of this world may give is written
 abbrev pub AnswersStep : Settings → World → Caller → Written → Request → Type 0
-AnswersStep s world c w q = (reply : Reply) × (next : World) × Step s world c q reply next × IsPrinted s.store_dir reply w
+AnswersStep s world c w q =
+    (reply : Reply) × (next : World) × Step s world c q reply next × IsPrinted s.store_dir reply w
 
--- A request is served over tables, and the reply is written: of each world of the tables before, a step to one of the tables then. What is
--- served may be another request whose every step is one of this request.
-pub record Serves {S : Type 0} (g : Ghosts S) (s : Settings) (t : Kept S) (c : Caller) (w : Written) (q : Request) : Type 0 where
+-- A request is served over tables, and the reply is written: of each world of the tables before, a step to one of the
+-- tables then. What is served may be another request whose every step is one of this request.
+pub record Serves {S : Type 0} (g : Ghosts S) (s : Settings) (t : Kept S) (c : Caller) (w : Written)
+    (q : Request) : Type 0 where
   pub made : Request
   pub same : StepsAs made q
   pub reply : Reply

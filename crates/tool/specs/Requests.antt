@@ -36,10 +36,12 @@ on_path dir text ask = if is_path_text dir text then Ok (ask (base_of dir text))
 
 -- a request on paths, where all texts are such
 abbrev pub on_paths : List ℕ → List Text → (List Path → Request) → Result Request Refusal
-on_paths dir texts ask = if list_all (is_path_text dir) texts then Ok (ask (map (base_of dir) texts)) else Err BadStorePath
+on_paths dir texts ask =
+    if list_all (is_path_text dir) texts then Ok (ask (map (base_of dir) texts)) else Err BadStorePath
 
 -- a request on a name, references and the bytes of the input, where the first two are such
-abbrev pub on_object : List ℕ → Text × List Text → (List ℕ → List Path → List ℕ → Request) → Result (List ℕ → Request) Refusal
+abbrev pub on_object : List ℕ → Text × List Text → (List ℕ → List Path → List ℕ → Request)
+    → Result (List ℕ → Request) Refusal
 on_object dir o ask = option_map_or Err (named_fault dir o.0 o.1) (Ok (ask o.0 (map (base_of dir) o.1)))
 
 -- whose a root is: the caller's, where nobody is named
@@ -57,8 +59,8 @@ abbrev pub drop_root : Unrooted → Caller → Text → Request
 drop_root unrooted.Permanent c name = request.drop_permanent name
 drop_root (unrooted.User owner) c name = request.drop_user_root (owner_of c (optional_text owner)) name
 
--- what happens to a profile: a path becomes its current generation, where the text is one; it is rolled back; or a generation of it
--- becomes current, or is deleted
+-- what happens to a profile: a path becomes its current generation, where the text is one; it is rolled back; or a
+-- generation of it becomes current, or is deleted
 abbrev pub change_profile : List ℕ → List ℕ → Text → OnProfile → Result Request Refusal
 change_profile dir owner name (asked.set text) = on_path dir text (request.set_profile owner name)
 change_profile dir owner name asked.rollback = Ok (request.rollback owner name)
@@ -92,8 +94,8 @@ Demands (with_input most ask) dir c bytes wanted = with_bytes bytes (ask dir c) 
 Demands import_body dir c bytes wanted = Imports dir bytes wanted
 Demands runtime_body dir c bytes wanted = Replaces dir bytes wanted
 
--- The input may have failed for that. It isn't read where nothing of it is asked, or where the arguments are refused; and where it is read to
--- a bound, fewer bytes came.
+-- The input may have failed for that. It isn't read where nothing of it is asked, or where the arguments are refused;
+-- and where it is read to a bound, fewer bytes came.
 abbrev pub LosesInput : Ask → List ℕ → Caller → Stream → Type 0
 LosesInput (at_once ask) dir c input = ⊥
 LosesInput (with_input most ask) dir c input = InputFails (is_ok (ask dir c)) most input
@@ -112,8 +114,10 @@ asks (delete ignores texts) = Some (at_once (λ dir c. on_paths dir texts (λ na
 asks (info text) = Some (at_once (λ dir c. on_path dir text request.info))
 asks (why text) = Some (at_once (λ dir c. on_path dir text request.list_roots_of))
 asks (cat_nar text) = Some (at_once (λ dir c. on_path dir text request.nar))
-asks (add_source o) = Some (with_input max_prefix (λ dir c. on_object dir o (λ name refs bytes. request.add_source name refs bytes)))
-asks (add_text o) = Some (with_input most_of_contents (λ dir c. on_object dir o (λ name refs bytes. request.add_text name refs bytes)))
+asks (add_source o) =
+    Some (with_input max_prefix (λ dir c. on_object dir o (λ name refs bytes. request.add_source name refs bytes)))
+asks (add_text o) =
+    Some (with_input most_of_contents (λ dir c. on_object dir o (λ name refs bytes. request.add_text name refs bytes)))
 asks (root kind name text) = Some (at_once (λ dir c. on_path dir text (set_root kind c name)))
 asks (unroot_permanent name) = Some (at_once (λ dir c. Ok (request.drop_permanent name)))
 asks (unroot_user owner name) = Some (at_once (λ dir c. Ok (request.drop_user_root (owner_of c owner) name)))
@@ -134,14 +138,16 @@ reads_all _ = false
 
 -- whatever the one request may be replied, and do, the other may
 abbrev pub StepsAs : Request → Request → Type 0
-StepsAs made wanted = (s : Settings) (w : World) (c : Caller) (reply : Reply) (next : World) → Step s w c made reply next → Step s w c wanted reply next
+StepsAs made wanted =
+    (s : Settings) (w : World) (c : Caller) (reply : Reply) (next : World) → Step s w c made reply next
+    → Step s w c wanted reply next
 
 -- just this is asked
 abbrev pub Gives : Result Request Refusal → Result Request Refusal → Type 0
 Gives said wanted = said ≡ wanted
 
--- A request was made of what is asked, or its refusal is reported; memory may have run out, or the input have failed where that may be. Of
--- contents that are too long a prefix is enough, for which they are refused.
+-- A request was made of what is asked, or its refusal is reported; memory may have run out, or the input have failed
+-- where that may be. Of contents that are too long a prefix is enough, for which they are refused.
 abbrev pub IsAsked : Type 0 → (Result Request Refusal → Type 0) → Result Made Stop → Type 0
 IsAsked fails asks (Ok q) = (r : Request) × asks (Ok r) × StepsAs (request_view q) r
 IsAsked fails asks (Err (Refused r)) = asks (Err r)
@@ -150,7 +156,8 @@ IsAsked fails asks (Err (Failed Input)) = fails
 IsAsked fails asks (Err (Failed _)) = ⊥
 
 -- what is asked by the bytes of the input: by some bytes, where it doesn't say them
-abbrev pub IsAskedOver : Type 0 → (List ℕ → Result Request Refusal → Type 0) → Option (List ℕ) → Result Made Stop → Type 0
+abbrev pub IsAskedOver : Type 0 → (List ℕ → Result Request Refusal → Type 0) → Option (List ℕ) → Result Made Stop
+    → Type 0
 IsAskedOver fails ask None made = (bytes : List ℕ) × IsAsked fails (ask bytes) made
 IsAskedOver fails ask (Some bytes) made = IsAsked fails (ask bytes) made
 

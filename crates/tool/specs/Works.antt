@@ -40,22 +40,26 @@ reads_whole (work.Serve a) = true
 
 -- work that is done over tables
 abbrev pub DoesOver : {S : Type 0} → Ghosts S → Settings → Kept S → OnStore → Console → Type 0
-DoesOver g s t (calls c ask) console = AnswersIn (Serves g s t c console.written) ask s.store_dir c console.input console.written
+DoesOver g s t (calls c ask) console =
+    AnswersIn (Serves g s t c console.written) ask s.store_dir c console.input console.written
 DoesOver g s t (serves a) console = ServesBy (message.Answers g) a console (record { tables = t; settings = s })
 
 -- work that is done in a world
 abbrev pub DoesIn : Settings → World → OnStore → Console → Type 0
-DoesIn s w (calls c ask) console = AnswersIn (AnswersStep s w c console.written) ask s.store_dir c console.input console.written
+DoesIn s w (calls c ask) console =
+    AnswersIn (AnswersStep s w c console.written) ask s.store_dir c console.input console.written
 DoesIn s w (serves a) console = ServesBy (AnswersFrom s) a console w
 
 -- how it is done with some store, under settings
 abbrev pub Doing : Type 1
 Doing = Settings → OnStore → Console → Type 0
 
--- in a store in memory there is nothing yet, and it is done over tables in memory; or memory ran out before there was a store
+-- in a store in memory there is nothing yet, and it is done over tables in memory; or memory ran out before there was a
+-- store
 abbrev pub DoesNew : Doing
 DoesNew s d console =
-    (DoesIn s no_world d console × ((t : Kept MemStore) × HasWorld over_memory t no_world × DoesOver over_memory s t d console))
+    (DoesIn s no_world d console
+        × ((t : Kept MemStore) × HasWorld over_memory t no_world × DoesOver over_memory s t d console))
     ⊎ IsPrinted s.store_dir (failed memory) console.written
 
 -- work that is done with the store of the file, if one is named, and else with one in memory

@@ -5,7 +5,8 @@ use Rattle.report.specs.declared.failures.Failure.TheVariants.{Memory, File}
 use Rattle.tool_pure.specs.declared.stops.Stop.{Stop}
 use Rattle.tool_pure.specs.declared.stops.Stop.TheVariants.{Failed}
 
--- what came of the configuration file: none is named; it wasn't opened; or it was, and has these bytes, where it says them
+-- what came of the configuration file: none is named; it wasn't opened; or it was, and has these bytes, where it says
+-- them
 abbrev pub Opened : Type 0
 Opened = Option (Result (Option (List ℕ)) Error)
 
@@ -19,11 +20,13 @@ opened_by remaining (Some (Err fault)) = Some (Err fault)
 abbrev pub most_of_config : ℕ
 most_of_config = 1048577
 
--- The text by that: the empty one where no file is named, and else the bytes of the file, no more of them than decide that they are too many; or
--- why there is none: the file wasn't opened or can't be read, or memory was refused for bytes that it has.
+-- The text by that: the empty one where no file is named, and else the bytes of the file, no more of them than decide
+-- that they are too many; or why there is none: the file wasn't opened or can't be read, or memory was refused for
+-- bytes that it has.
 abbrev pub IsConfig : Opened → Result (List ℕ) Stop → Type 0
 IsConfig None read = read ≡ Ok []
 IsConfig (Some (Err fault)) (Ok text) = ⊥
 IsConfig (Some (Err fault)) (Err stop) = stop ≡ Failed File
 IsConfig (Some (Ok known)) (Ok text) = IfSome known (λ all. text ≡ take most_of_config all)
-IsConfig (Some (Ok known)) (Err stop) = ((stop ≡ Failed Memory) × IfSome known (λ all. 0 < length all)) ⊎ (stop ≡ Failed File)
+IsConfig (Some (Ok known)) (Err stop) =
+    ((stop ≡ Failed Memory) × IfSome known (λ all. 0 < length all)) ⊎ (stop ≡ Failed File)

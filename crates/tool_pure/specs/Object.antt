@@ -55,4 +55,5 @@ text_path_answer dir name refs contents =
 
 -- what `source-path` answers to an input: the path of the source object, where it is an archive
 abbrev pub source_path_answer : List ℕ → List ℕ → List (List ℕ) → List ℕ → Result (List ℕ) Stop
-source_path_answer dir name refs bytes = by_outcome (outcome_of bytes) (λ tree. path_line dir (source_path dir name refs bytes))
+source_path_answer dir name refs bytes =
+    by_outcome (outcome_of bytes) (λ tree. path_line dir (source_path dir name refs bytes))

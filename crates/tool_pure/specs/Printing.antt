@@ -15,9 +15,13 @@ status_of (failed f) = 1
 -- the text of what is done goes to standard output, and that of any other reply to standard error
 abbrev pub PrintsReply : List ℕ → Reply → Written → Type 0
 PrintsReply dir (done a) w = Offers (answer_text dir a) w
-PrintsReply dir (denied rule root) w = Keeps w.output.old w.output.new × Prints (reply_text dir (denied rule root)) (status_of (denied rule root)) (on_errors w)
-PrintsReply dir (refused r) w = Keeps w.output.old w.output.new × Prints (reply_text dir (refused r)) (status_of (refused r)) (on_errors w)
-PrintsReply dir (failed f) w = Keeps w.output.old w.output.new × Prints (reply_text dir (failed f)) (status_of (failed f)) (on_errors w)
+PrintsReply dir (denied rule root) w =
+    Keeps w.output.old w.output.new
+    × Prints (reply_text dir (denied rule root)) (status_of (denied rule root)) (on_errors w)
+PrintsReply dir (refused r) w =
+    Keeps w.output.old w.output.new × Prints (reply_text dir (refused r)) (status_of (refused r)) (on_errors w)
+PrintsReply dir (failed f) w =
+    Keeps w.output.old w.output.new × Prints (reply_text dir (failed f)) (status_of (failed f)) (on_errors w)
 
 -- a reply was written; or there was no memory for its text
 abbrev pub IsPrinted : List ℕ → Reply → Written → Type 0

@@ -37,15 +37,15 @@ abbrev pub result_text : Result (String Global) Stop → Result (List ℕ) Stop
 result_text (Ok text) = Ok (string_bytes text)
 result_text (Err stop) = Err stop
 
--- The answer to an input was given: a fault that is there before it is read, or what its bytes say. Those are some bytes,
--- where the input doesn't say them.
+-- The answer to an input was given: a fault that is there before it is read, or what its bytes say. Those are some
+-- bytes, where the input doesn't say them.
 abbrev pub AnswersBy : Option Refusal → (List ℕ → Result (List ℕ) Stop) → Option (List ℕ) → Written → Type 0
 AnswersBy (Some fault) answer known w = Answers (Err (Refused fault)) w
 AnswersBy None answer None w = (bytes : List ℕ) × Answers (answer bytes) w
 AnswersBy None answer (Some bytes) w = Answers (answer bytes) w
 
--- the answer to an input, which is read to a bound, was given; or memory gave out before, or the input, which isn't read where a
--- fault is there before
+-- the answer to an input, which is read to a bound, was given; or memory gave out before, or the input, which isn't
+-- read where a fault is there before
 abbrev pub AnswersTo : Option Refusal → ℕ → (List ℕ → Result (List ℕ) Stop) → Console → Type 0
 AnswersTo fault most answer c =
     GivesUp (InputFails (is_none fault) most c.input) c.written ⊎ AnswersBy fault answer c.input.old c.written
@@ -56,8 +56,10 @@ IsFailure fails (Err (Failed Memory)) = ⊤
 IsFailure fails (Err (Failed Input)) = fails
 IsFailure fails _ = ⊥
 
--- a result by the fault that is there before the input is read, or by what its bytes say: some, where it doesn't say them
-abbrev pub IsResultOf : Option Refusal → (List ℕ → Result (List ℕ) Stop) → Option (List ℕ) → Result (List ℕ) Stop → Type 0
+-- a result by the fault that is there before the input is read, or by what its bytes say: some, where it doesn't say
+-- them
+abbrev pub IsResultOf : Option Refusal → (List ℕ → Result (List ℕ) Stop) → Option (List ℕ) → Result (List ℕ) Stop
+    → Type 0
 IsResultOf (Some fault) answer known result = result ≡ Err (Refused fault)
 IsResultOf None answer None result = (bytes : List ℕ) × (result ≡ answer bytes)
 IsResultOf None answer (Some bytes) result = result ≡ answer bytes

@@ -61,7 +61,8 @@ abbrev pub who_status : Result Verdict Stop → ℕ
 who_status (Ok verdict) = denial_status verdict.denial
 who_status (Err stop) = stop_status stop
 
--- the answer went to the writer and gave its status, or the writer failed; or memory gave out before there was an answer
+-- the answer went to the writer and gave its status, or the writer failed; or memory gave out before there was an
+-- answer
 abbrev pub AnswersWho : Result Verdict Stop → Printed → Type 0
 AnswersWho answer p = Prints (who_text answer) (who_status answer) p ⊎ Says (Failed Memory) p
 
@@ -71,4 +72,5 @@ StopsWho answer stop = (stop ≡ Failed Memory) ⊎ (answer ≡ Err stop)
 
 -- why a configuration gives no settings: out of memory, or its first key word
 abbrev pub StopsFor : Result Settings KeyWord → Stop → Type 0
-StopsFor outcome stop = (stop ≡ Failed Memory) ⊎ ((word : KeyWord) × (outcome ≡ Err word) × (stop ≡ Refused (BadConfig word)))
+StopsFor outcome stop =
+    (stop ≡ Failed Memory) ⊎ ((word : KeyWord) × (outcome ≡ Err word) × (stop ≡ Refused (BadConfig word)))

@@ -31,12 +31,14 @@ unroot_app = with_rule (with_rule (with_rule (plain_app Unroot)
 -- `profile [--owner USER] ACTION NAME [VALUE]`
 abbrev pub profile_app : App
 profile_app = with_rule (with_rule (with_rule (with_rule (plain_app Profile)
-    (option_named (codes "owner"))) (required_argument (codes "action"))) (required_argument (codes "name"))) (optional_argument (codes "value"))
+    (option_named (codes "owner"))) (required_argument (codes "action"))) (required_argument (codes "name")))
+        (optional_argument (codes "value"))
 
 -- `temp [--owner USER] ACTION SESSION [PATH]`
 abbrev pub temp_app : App
 temp_app = with_rule (with_rule (with_rule (with_rule (plain_app Temp)
-    (option_named (codes "owner"))) (required_argument (codes "action"))) (required_argument (codes "session"))) (optional_argument (codes "path"))
+    (option_named (codes "owner"))) (required_argument (codes "action"))) (required_argument (codes "session")))
+        (optional_argument (codes "path"))
 
 -- `gc [--ignore-liveness] [--max-freed N]`
 abbrev pub gc_app : App
@@ -48,12 +50,16 @@ delete_app = with_rule (with_rule (plain_app Delete) (flag_named (codes "ignore-
 
 -- `serve [--port N] [--connections K]`
 abbrev pub serve_app : App
-serve_app = with_rule (with_rule (plain_app Serve) (number_option (codes "port") 65535)) (number_option (codes "connections") 1000000)
+serve_app =
+    with_rule (with_rule (plain_app Serve) (number_option (codes "port") 65535))
+    (number_option (codes "connections") 1000000)
 
--- `nixkeep`, and the options that come before the subcommand: `[--db FILE] [--config FILE] [--user USER] [--group GROUP]`
+-- `nixkeep`, and the options that come before the subcommand: `[--db FILE] [--config FILE] [--user USER] [--group
+-- GROUP]`
 abbrev pub options_app : App
 options_app = with_rule (with_rule (with_rule (with_rule (new_app (codes "nixkeep"))
-    (option_named (codes "db"))) (option_named (codes "config"))) (option_named (codes "user"))) (option_named (codes "group"))
+    (option_named (codes "db"))) (option_named (codes "config"))) (option_named (codes "user")))
+        (option_named (codes "group"))
 
 -- a command line with one more subcommand
 abbrev pub adding : App → App → App
@@ -61,16 +67,20 @@ adding app subcommand = with_subcommand app subcommand.top
 
 -- the subcommands that have no arguments
 abbrev pub with_plain : App → App
-with_plain app = fold (λ a verb. adding a (plain_app verb)) app (Who ∷ Ls ∷ Import ∷ Runtime ∷ ListPaths ∷ Roots ∷ Live ∷ Dead ∷ Report ∷ [])
+with_plain app =
+    fold (λ a verb. adding a (plain_app verb)) app
+    (Who ∷ Ls ∷ Import ∷ Runtime ∷ ListPaths ∷ Roots ∷ Live ∷ Dead ∷ Report ∷ [])
 
 -- the subcommands that name an object
 abbrev pub with_objects : App → App
-with_objects app = fold adding app (object_app TextPath ∷ object_app SourcePath ∷ object_app AddText ∷ object_app AddSource
+with_objects app =
+    fold adding app (object_app TextPath ∷ object_app SourcePath ∷ object_app AddText ∷ object_app AddSource
     ∷ path_app Info ∷ path_app CatNar ∷ path_app Why ∷ [])
 
 -- the others
 abbrev pub with_changes : App → App
-with_changes app = fold adding app (root_app ∷ unroot_app ∷ profile_app ∷ temp_app ∷ gc_app ∷ delete_app ∷ serve_app ∷ [])
+with_changes app =
+    fold adding app (root_app ∷ unroot_app ∷ profile_app ∷ temp_app ∷ gc_app ∷ delete_app ∷ serve_app ∷ [])
 
 -- `nixkeep [OPTIONS] SUBCOMMAND ..`
 unfoldable pub nixkeep_app : App

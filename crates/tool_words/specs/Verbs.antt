@@ -32,7 +32,8 @@ verb_name Serve = codes "serve"
 
 -- all subcommands
 abbrev pub verbs : List Verb
-verbs = Who ∷ TextPath ∷ SourcePath ∷ Ls ∷ AddText ∷ AddSource ∷ Import ∷ Runtime ∷ Info ∷ CatNar ∷ Why ∷ ListPaths ∷ Roots ∷ Live ∷ Dead ∷ Report ∷ Root ∷ Unroot ∷ Profile ∷ Temp ∷ Gc ∷ Delete ∷ Serve ∷ []
+verbs = Who ∷ TextPath ∷ SourcePath ∷ Ls ∷ AddText ∷ AddSource ∷ Import ∷ Runtime ∷ Info ∷ CatNar ∷ Why ∷ ListPaths
+    ∷ Roots ∷ Live ∷ Dead ∷ Report ∷ Root ∷ Unroot ∷ Profile ∷ Temp ∷ Gc ∷ Delete ∷ Serve ∷ []
 
 -- the subcommand of this name
 abbrev pub verb_named : List ℕ → Option Verb

@@ -26,7 +26,8 @@ use Rattle.wire.specs.Lost.{AsksOfRules, lost_reply}
 use Rattle.wire.specs.declared.admission.Admission as code
 use Rattle.wire.specs.declared.admission.Admission.TheVariants as codes
 
--- What the head of a message decides: this is replied, whatever the body is; or a caller, who may connect, asks something of a kind.
+-- What the head of a message decides: this is replied, whatever the body is; or a caller, who may connect, asks
+-- something of a kind.
 pub data Admission : Type 0 where
   refuses : Replied → Admission
   admits : Caller → Kind → Admission
@@ -70,19 +71,22 @@ abbrev pub Reads : List ℕ → Caller → Kind → List ℕ → List ℕ → Co
 Reads dir c kind target body course =
     ((q : Request) × Asks dir kind target body q × (course ≡ calls c q))
     ⊎ (((has_bad_path kind target ≡ true) × (course ≡ replies (refused BadStorePath None)))
-    ⊎ ((has_bad_path kind target ≡ false) × ((q : Request) → Asks dir kind target body q → ⊥) × (course ≡ replies (refused BadBodyHead None))))
+    ⊎ ((has_bad_path kind target ≡ false) × ((q : Request) → Asks dir kind target body q → ⊥)
+    × (course ≡ replies (refused BadBodyHead None))))
 
 -- Memory was refused for the body: what is asked isn't known, and the store isn't asked.
 abbrev pub Loses : Settings → Caller → Kind → List ℕ → List ℕ → Course → Type 0
 Loses s c kind target body course =
-    (op : Operation) × AsksOfRules s.store_dir kind target body op × (course ≡ replies (response_to s.store_dir (lost_reply s c op)))
+    (op : Operation) × AsksOfRules s.store_dir kind target body op
+        × (course ≡ replies (response_to s.store_dir (lost_reply s c op)))
 
 abbrev pub Follows : Settings → List ℕ → List ℕ → Admission → Course → Type 0
 Follows s target body (refuses it) course = course ≡ replies it
-Follows s target body (admits c kind) course = Reads s.store_dir c kind target body course ⊎ Loses s c kind target body course
+Follows s target body (admits c kind) course =
+    Reads s.store_dir c kind target body course ⊎ Loses s c kind target body course
 
--- The course that a message takes: first what its head decides; then, if memory is there for its body, the path in its target and its
--- body.
+-- The course that a message takes: first what its head decides; then, if memory is there for its body, the path in its
+-- target and its body.
 abbrev pub HasCourse : Settings → RequestHead → List ℕ → Course → Type 0
 HasCourse s h body course = Follows s h.target body (admission_of s h) course
 

@@ -20,29 +20,41 @@ use Rattle.wire.specs.Worlds.{AnswersFrom, LeadsWorlds}
 -- The status is 1 where a connection failed; and where an accept failed, which is said.
 abbrev pub EndsOn : Result ℕ Error → Option (List ℕ) → Option (List ℕ) → ℕ → Type 0
 EndsOn (Ok failed) err err' status = Keeps err err' × (status ≡ min failed 1)
-EndsOn (Err fault) err err' status = Prints (codes "failed: input\n") 1 (record { writer = record { old = err; new = err' }; status = status })
+EndsOn (Err fault) err err' status =
+    Prints (codes "failed: input\n") 1 (record { writer = record { old = err; new = err' }; status = status })
 
 module _ {S : Type 0} where
-  -- one connection is served like this, and the status is 1 where it failed, which is said; or there was no memory to begin with
-  abbrev pub EndsStreams : (S → S → Result ℕ WireError → Type 0) → Option (List ℕ) → Option (List ℕ) → Option (List ℕ) → Option (List ℕ) → S → ℕ → Type 0
-  EndsStreams serving out out' err err' old status = LacksMemory (record { output = record { old = out; new = out' }; errors = record { old = err; new = err' }; status = status })
+  -- one connection is served like this, and the status is 1 where it failed, which is said; or there was no memory to
+  -- begin with
+  abbrev pub EndsStreams : (S → S → Result ℕ WireError → Type 0) → Option (List ℕ) → Option (List ℕ) → Option (List ℕ)
+      → Option (List ℕ) → S → ℕ → Type 0
+  EndsStreams serving out out' err err' old status =
+      LacksMemory
+      (record { output = record { old = out; new = out' }; errors = record { old = err; new = err' }; status = status })
       ⊎ ((end : End) × (new : S) × serving old new (result_of end) × Says end err err' × (status ≡ failure end))
 
-  -- connections of a port are served like this, with that on the errors; or there was no memory to begin with, or the port couldn't be bound
-  abbrev pub EndsPort : (Option (List ℕ) → S → S → Result ℕ Error → Type 0) → Option (List ℕ) → Option (List ℕ) → S → ℕ → Type 0
-  EndsPort serving err err' old status = Prints (codes "failed: memory\n") 1 (record { writer = record { old = err; new = err' }; status = status })
+  -- connections of a port are served like this, with that on the errors; or there was no memory to begin with, or the
+  -- port couldn't be bound
+  abbrev pub EndsPort : (Option (List ℕ) → S → S → Result ℕ Error → Type 0) → Option (List ℕ) → Option (List ℕ) → S → ℕ
+      → Type 0
+  EndsPort serving err err' old status =
+      Prints (codes "failed: memory\n") 1 (record { writer = record { old = err; new = err' }; status = status })
       ⊎ (Prints (codes "failed: input\n") 1 (record { writer = record { old = err; new = err' }; status = status })
-      ⊎ ((new : S) × (result : Result ℕ Error) × (said : Option (List ℕ)) × serving said old new result × EndsOn result said err' status))
+      ⊎ ((new : S) × (result : Result ℕ Error) × (said : Option (List ℕ)) × serving said old new result
+      × EndsOn result said err' status))
 
 module _ {S : Type 0} (answers : S → RequestHead → List ℕ → Replied → S → Type 0) where
   -- one connection is served
-  abbrev pub ServesStreams : Option (List ℕ) → Option (List ℕ) → Option (List ℕ) → Option (List ℕ) → Option (List ℕ) → S → ℕ → Type 0
+  abbrev pub ServesStreams : Option (List ℕ) → Option (List ℕ) → Option (List ℕ) → Option (List ℕ) → Option (List ℕ) → S
+      → ℕ → Type 0
   ServesStreams known out out' = EndsStreams (Served answers known out out') out out'
 
   -- a number of connections of a listener are served
-  abbrev pub ServesListener : ℕ → Option (List (List ℕ)) → Option (List (List ℕ)) → Option (List (List ℕ)) → Option (List (List ℕ)) → Option (List ℕ) → Option (List ℕ) → S → S → ℕ → Type 0
+  abbrev pub ServesListener : ℕ → Option (List (List ℕ)) → Option (List (List ℕ)) → Option (List (List ℕ))
+      → Option (List (List ℕ)) → Option (List ℕ) → Option (List ℕ) → S → S → ℕ → Type 0
   ServesListener n waiting waiting' closed closed' err err' old new status =
-      (result : Result ℕ Error) × (said : Option (List ℕ)) × ServesOn answers n waiting waiting' closed closed' err said old new result × EndsOn result said err' status
+      (result : Result ℕ Error) × (said : Option (List ℕ))
+          × ServesOn answers n waiting waiting' closed closed' err said old new result × EndsOn result said err' status
 
   -- a number of connections are served of a listener, of which nothing is known; or there was no memory to begin with
   abbrev pub ServesOver : ℕ → Option (List ℕ) → Option (List ℕ) → S → S → Result ℕ Error → Type 0
@@ -57,11 +69,14 @@ module _ {S : Type 0} (answers : S → RequestHead → List ℕ → Replied → 
 
 module _ {S : Type 0} (g : Ghosts S) where
   -- a connection, from the store before to that afterwards; and by worlds, if the disk is clean then
-  abbrev pub ServedByWorlds : Option (List ℕ) → Option (List ℕ) → Option (List ℕ) → StoreView S → StoreView S → Result ℕ WireError → Type 0
+  abbrev pub ServedByWorlds : Option (List ℕ) → Option (List ℕ) → Option (List ℕ) → StoreView S → StoreView S
+      → Result ℕ WireError → Type 0
   ServedByWorlds known out out' old new result = Served (Answers g) known out out' old new result
       × LeadsWorlds g old new (λ w next. Served (AnswersFrom old.settings) known out out' w next result)
 
   -- the connections of a listener, likewise
-  abbrev pub ServesByWorlds : ℕ → Option (List ℕ) → Option (List ℕ) → StoreView S → StoreView S → Result ℕ Error → Type 0
+  abbrev pub ServesByWorlds : ℕ → Option (List ℕ) → Option (List ℕ) → StoreView S → StoreView S → Result ℕ Error
+      → Type 0
   ServesByWorlds n err said old new result = ServesOn (Answers g) n None None None None err said old new result
-      × LeadsWorlds g old new (λ w next. ServesOn (AnswersFrom old.settings) n None None None None err said w next result)
+      × LeadsWorlds g old new
+      (λ w next. ServesOn (AnswersFrom old.settings) n None None None None err said w next result)

@@ -1,5 +1,5 @@
--- What is replied to a message for whose body memory was refused: the denial of the first rule that is known to forbid it, or out of
--- memory, ahead of all tests.
+-- What is replied to a message for whose body memory was refused: the denial of the first rule that is known to forbid
+-- it, or out of memory, ahead of all tests.
 use Rattle.std.specs.Prelude.{◌≡◌, ◌⊎◌, ℕ, true, false, List, None}
 use Rattle.std.specs.Option.{option_map_or}
 use Rattle.policy.specs.Settings.{Settings}
@@ -17,8 +17,8 @@ use Rattle.wire_requests.specs.Table.{at_user_root, at_profile, at_rollback, at_
 use Rattle.wire_requests.specs.declared.kind.Kind.{Kind}
 use Rattle.wire_requests.specs.declared.kind.Kind.TheVariants as kinds
 
--- What the rules ask of a request, as far as its kind and its target say: an import counts as one of an object with a content address,
--- and no flag to ignore liveness is set.
+-- What the rules ask of a request, as far as its kind and its target say: an import counts as one of an object with a
+-- content address, and no flag to ignore liveness is set.
 abbrev pub operation_at : Kind → List ℕ → Operation
 operation_at kinds.Import target = operations.import_object true
 operation_at kinds.SetPermanent target = operations.set_permanent
@@ -38,7 +38,8 @@ operation_at _ target = plain
 
 -- what the rules may be asked: by the whole body, or without it
 abbrev pub AsksOfRules : List ℕ → Kind → List ℕ → List ℕ → Operation → Type 0
-AsksOfRules dir kind target body op = ((q : Request) × Asks dir kind target body q × (op ≡ operation_of q)) ⊎ (op ≡ operation_at kind target)
+AsksOfRules dir kind target body op =
+    ((q : Request) × Asks dir kind target body q × (op ≡ operation_of q)) ⊎ (op ≡ operation_at kind target)
 
 -- the reply, by what the rules ask
 abbrev pub lost_reply : Settings → Caller → Operation → Reply

@@ -19,4 +19,5 @@ kind_of _ = codes "text/plain"
 
 -- the response, over a store directory
 abbrev pub response_to : List ℕ → Reply → Replied
-response_to dir reply = record { status = status_of reply; kind = kind_of reply; allow = None; text = reply_text dir reply }
+response_to dir reply =
+    record { status = status_of reply; kind = kind_of reply; allow = None; text = reply_text dir reply }

@@ -31,7 +31,8 @@ abbrev pub AnswersSome : Settings → Unit {0} → RequestHead → List ℕ → 
 AnswersSome s old h body r new = (course : Course) × HasCourse s h body course × IsSomeReply s course r
 
 module _ {S : Type 0} (g : Ghosts S) where
-  -- From each world of the tables before to one of the tables afterwards; and if the disk of the store is clean then, this leads from the one to the other.
+  -- From each world of the tables before to one of the tables afterwards; and if the disk of the store is clean then,
+  -- this leads from the one to the other.
   abbrev pub LeadsWorlds : StoreView S → StoreView S → (World → World → Type 0) → Type 0
   LeadsWorlds old new leads = (w : World) → HasWorld g old.tables w → (next : World) × HasWorld g new.tables next
       × (HasCleanDisk (state g new.tables.connection) → leads w next)

@@ -22,7 +22,8 @@ IsNamedBody dir body head contents = (es : List Entry) × Reads (spelled body) e
 
 -- the entries of an import
 pub record IsImport (dir : List ℕ) (es : List Entry) (head : ImportHead) : Type 0 where
-  pub known : are_known (codes "path" ∷ codes "nar-hash" ∷ codes "reference" ∷ codes "deriver" ∷ codes "ca" ∷ []) es ≡ true
+  pub known : are_known (codes "path" ∷ codes "nar-hash" ∷ codes "reference" ∷ codes "deriver" ∷ codes "ca" ∷ []) es
+      ≡ true
   pub path : single (path_text dir) (values (codes "path") es) ≡ Some head.path
   pub nar_hash : single hash_text (values (codes "nar-hash") es) ≡ Some head.nar_hash
   pub references : each (path_text dir) (values (codes "reference") es) ≡ Some head.references.items

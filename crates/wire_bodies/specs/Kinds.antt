@@ -25,7 +25,8 @@ hash_text text = if begins text (codes "sha256:") then digest_of (unbase32 (drop
 
 -- `true` or `false`
 abbrev pub flag_text : List ℕ → Option Bool
-flag_text text = cond (bytes_eq text (codes "true")) (Some true) (cond (bytes_eq text (codes "false")) (Some false) None)
+flag_text text =
+    cond (bytes_eq text (codes "true")) (Some true) (cond (bytes_eq text (codes "false")) (Some false) None)
 
 abbrev pub is_space : ℕ → Bool
 is_space b = b == 32

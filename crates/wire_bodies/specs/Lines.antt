@@ -52,7 +52,8 @@ entry_in line = (before_first is_colon line, drop 1 (after_first is_colon line))
 -- the entries of the lines of a text, of whose first line a prefix comes before it
 abbrev pub entries_from : List ℕ → List ℕ → List Entry
 entries_from front [] = []
-entries_from front (b ∷ text) = cond (b == 10) (entry_in front ∷ entries_from [] text) (entries_from (front ++ b ∷ []) text)
+entries_from front (b ∷ text) =
+    cond (b == 10) (entry_in front ∷ entries_from [] text) (entries_from (front ++ b ∷ []) text)
 
 -- the entries of the lines of a text
 abbrev pub entries_in : List ℕ → List Entry

@@ -8,17 +8,20 @@ use Rattle.wire_messages.specs.declared.keeping.Piece.{Piece}
 use Rattle.wire_messages.specs.declared.keeping.Piece.TheVariants as pieces
 
 -- Of a number of bytes that are missing of a body, all were read, or the input ended before.
-pub record ReadsRest (old new : Option (List ℕ)) (left : ℕ) (read : List ℕ) (result : Result Bool ReceiveError) : Type 0 where
+pub record ReadsRest (old new : Option (List ℕ)) (left : ℕ) (read : List ℕ)
+    (result : Result Bool ReceiveError) : Type 0 where
   pub consumed : Consumes old new read
   pub whole : result ≡ Ok true → length read ≡ left
   pub short : result ≡ Ok false → IsAtEnd new × (length read < left)
 
--- The body of this size that follows a head of `len` bytes came: what was held of it, and what was read, which is nothing beyond
--- it; or the input ended inside it.
-pub record ReadsBody (old new : Option (List ℕ)) (held : List ℕ) (len size : ℕ) (result : Result Bool ReceiveError) : Type 0 where
+-- The body of this size that follows a head of `len` bytes came: what was held of it, and what was read, which is
+-- nothing beyond it; or the input ended inside it.
+pub record ReadsBody (old new : Option (List ℕ)) (held : List ℕ) (len size : ℕ)
+    (result : Result Bool ReceiveError) : Type 0 where
   pub read : List ℕ
   pub consumed : Consumes old new read
-  pub whole : result ≡ Ok true → (len + size ≤ length (held ++ read)) × (drop (len + size) (held ++ read) ≡ drop (len + size) held)
+  pub whole : result ≡ Ok true
+      → (len + size ≤ length (held ++ read)) × (drop (len + size) (held ++ read) ≡ drop (len + size) held)
   pub short : result ≡ Ok false → IsAtEnd new × (length (held ++ read) < len + size)
 
 -- ---- bodies that are kept, or for which memory was refused
@@ -31,7 +34,8 @@ has_come (Ok Short) = Ok false
 has_come (Err e) = Err e
 
 -- A body was kept as it came; or memory was refused for it, and it may be that body by all that is still known.
-pub record KeepsBody (old new : Option (List ℕ)) (held : List ℕ) (len size : ℕ) (kept kept' : List ℕ) (may_be : List ℕ → Type 0) (result : Result Fate ReceiveError) : Type 0 where
+pub record KeepsBody (old new : Option (List ℕ)) (held : List ℕ) (len size : ℕ) (kept kept' : List ℕ)
+    (may_be : List ℕ → Type 0) (result : Result Fate ReceiveError) : Type 0 where
   pub came : ReadsBody old new held len size (has_come result)
   pub kept_all : result ≡ Ok Kept → kept' ≡ kept ++ take size (drop len (held ++ came.read))
   pub lost : result ≡ Ok Lost → may_be (kept ++ take size (drop len (held ++ came.read)))
@@ -39,7 +43,8 @@ pub record KeepsBody (old new : Option (List ℕ)) (held : List ℕ) (len size :
 -- ---- inside the crate
 
 -- the bytes that are missing of a body were kept, or memory was refused for them
-pub record KeepsRest (old new : Option (List ℕ)) (left : ℕ) (kept kept' : List ℕ) (may_be : List ℕ → Type 0) (result : Result Fate ReceiveError) : Type 0 where
+pub record KeepsRest (old new : Option (List ℕ)) (left : ℕ) (kept kept' : List ℕ) (may_be : List ℕ → Type 0)
+    (result : Result Fate ReceiveError) : Type 0 where
   pub read : List ℕ
   pub came : ReadsRest old new left read (has_come result)
   pub kept_all : result ≡ Ok Kept → kept' ≡ kept ++ read
@@ -51,7 +56,8 @@ ReadsSome room old new n read = Consumes old new read × (length read ≡ n) × 
 
 -- what one read brought
 abbrev pub KeepsOn : ℕ → Option (List ℕ) → Option (List ℕ) → List ℕ → List ℕ → (List ℕ → Type 0) → Piece → Type 0
-KeepsOn room old new kept kept' may_be (pieces.Kept n) = (read : List ℕ) × ReadsSome room old new n read × (kept' ≡ kept ++ read)
+KeepsOn room old new kept kept' may_be (pieces.Kept n) =
+    (read : List ℕ) × ReadsSome room old new n read × (kept' ≡ kept ++ read)
 KeepsOn room old new kept kept' may_be (pieces.Lost n) =
     (read : List ℕ) × ReadsSome room old new n read × ((more : List ℕ) → may_be ((kept ++ read) ++ more))
 KeepsOn room old new kept kept' may_be pieces.End = Consumes old new [] × IsAtEnd new × (kept' ≡ kept)

@@ -14,7 +14,8 @@ pub data Item : Type 0 where
 
 -- the connection is closed after this message
 abbrev pub closes : RequestHead → Bool
-closes h = (h.minor == 0) || list_any (λ v. str_eq_ignore_ascii_case v (codes "close")) (values (codes "connection") (fields_of h))
+closes h = (h.minor == 0)
+    || list_any (λ v. str_eq_ignore_ascii_case v (codes "close")) (values (codes "connection") (fields_of h))
 
 -- The input divides from its beginning into these, up to its end, the first that closes, or a fault.
 abbrev pub Divides : List ℕ → List Item → Type 0

@@ -21,12 +21,14 @@ pub record IsMessage (input : List ℕ) (h : RequestHead) (body rest : List ℕ)
 
 -- a head is there, and what its fields say of the body is this fault
 abbrev pub FaultOfHead : List ℕ → Fault → Type 0
-FaultOfHead input fault = (h : RequestHead) × (after : List ℕ) × IsHead input h after × (body_length (fields_of h) ≡ Err fault)
+FaultOfHead input fault =
+    (h : RequestHead) × (after : List ℕ) × IsHead input h after × (body_length (fields_of h) ≡ Err fault)
 
 -- a head is there, and the input ends inside its body
 abbrev pub EndsInside : List ℕ → Type 0
 EndsInside input =
-    (h : RequestHead) × (after : List ℕ) × (size : ℕ) × IsHead input h after × (body_length (fields_of h) ≡ Ok size) × (length after < size)
+    (h : RequestHead) × (after : List ℕ) × (size : ℕ) × IsHead input h after × (body_length (fields_of h) ≡ Ok size)
+        × (length after < size)
 
 -- The input begins with no message, for this fault.
 abbrev pub IsFault : List ℕ → Fault → Type 0
@@ -36,8 +38,10 @@ IsFault input TooLarge = FaultOfHead input TooLarge
 
 -- ---- reading
 
--- One more read: what it took is appended to what was held, at least a byte where there may be more; else the end was there.
-pub record ReadsMore (old new : Option (List ℕ)) (held held' : List ℕ) (result : Result Bool ReceiveError) : Type 0 where
+-- One more read: what it took is appended to what was held, at least a byte where there may be more; else the end was
+-- there.
+pub record ReadsMore (old new : Option (List ℕ)) (held held' : List ℕ)
+    (result : Result Bool ReceiveError) : Type 0 where
   pub consumed : (bs : List ℕ) × Consumes old new bs × OnOk result (held' ≡ held ++ bs)
   pub some : result ≡ Ok true → length held < length held'
   pub at_end : result ≡ Ok false → IsAtEnd new × (held' ≡ held)
@@ -65,9 +69,10 @@ Announces held rest End = (held ≡ []) × IsAtEnd rest
 Announces held rest (Message head size) = HoldsHead held head size
 Announces held rest (Faulty fault) = (0 < length held) × IfSome rest (λ more. IsFault (held ++ more) fault)
 
--- What was read is appended to what was held; and what is held and follows it is like that. A reader is silent only where nothing
--- is held of a message.
-abbrev pub Receives : {A : Type 0} → (List ℕ → Option (List ℕ) → A → Type 0) → Option (List ℕ) → Option (List ℕ) → List ℕ → List ℕ → Result A ReceiveError → Type 0
+-- What was read is appended to what was held; and what is held and follows it is like that. A reader is silent only
+-- where nothing is held of a message.
+abbrev pub Receives : {A : Type 0} → (List ℕ → Option (List ℕ) → A → Type 0) → Option (List ℕ) → Option (List ℕ)
+    → List ℕ → List ℕ → Result A ReceiveError → Type 0
 Receives is old new held held' result =
     ((bs : List ℕ) × Consumes old new bs × OnOk result (held' ≡ held ++ bs)) × IfOk result (is held' new)
     × (result ≡ Err Silent → (held ≡ []) × (held' ≡ []))

@@ -33,8 +33,11 @@ abbrev pub by_names : Kind → List ℕ → Option Request
 by_names kinds.DropPermanent target = Some (drop_permanent (name at_permanent target))
 by_names kinds.DropUserRoot target = Some (drop_user_root (user at_user_root target) (name at_user_root target))
 by_names kinds.Rollback target = Some (rollback (user at_rollback target) (name at_rollback target))
-by_names kinds.Switch target = Some (switch (user at_switch target) (name at_switch target) (generation_in (number at_switch target)))
-by_names kinds.DeleteGeneration target = Some (delete_generation (user at_generation target) (name at_generation target) (generation_in (number at_generation target)))
+by_names kinds.Switch target =
+    Some (switch (user at_switch target) (name at_switch target) (generation_in (number at_switch target)))
+by_names kinds.DeleteGeneration target =
+    Some (delete_generation (user at_generation target) (name at_generation target)
+    (generation_in (number at_generation target)))
 by_names kinds.EndSession target = Some (end_session (user at_temp target) (session_in (session at_temp target)))
 by_names _ target = None
 
@@ -55,22 +58,33 @@ OnPath base body on q = (is_base_name base ≡ true) × (is_blank body ≡ true)
 abbrev pub Naming : List ℕ → List ℕ → (Path → Request) → Request → Type 0
 Naming dir body with_path q = (p : Path) × Says (IsPath dir) body p × (q ≡ with_path p)
 
--- A message over a store directory, whose route and method stand for this kind, with this target and this body, asks this.
+-- A message over a store directory, whose route and method stand for this kind, with this target and this body, asks
+-- this.
 abbrev pub Asks : List ℕ → Kind → List ℕ → List ℕ → Request → Type 0
-Asks dir kinds.AddText target body q = (head : NamedHead) × (contents : List ℕ) × IsNamedBody dir body head contents × (q ≡ add_text head.name head.references.items contents)
-Asks dir kinds.AddSource target body q = (head : NamedHead) × (b : List ℕ) × IsNamedBody dir body head b × (q ≡ add_source head.name head.references.items b)
-Asks dir kinds.Import target body q = (head : ImportHead) × (b : List ℕ) × IsImportBody dir body head b × (q ≡ import_object (imported head b))
+Asks dir kinds.AddText target body q =
+    (head : NamedHead) × (contents : List ℕ) × IsNamedBody dir body head contents
+    × (q ≡ add_text head.name head.references.items contents)
+Asks dir kinds.AddSource target body q =
+    (head : NamedHead) × (b : List ℕ) × IsNamedBody dir body head b × (q ≡ add_source head.name head.references.items b)
+Asks dir kinds.Import target body q =
+    (head : ImportHead) × (b : List ℕ) × IsImportBody dir body head b × (q ≡ import_object (imported head b))
 Asks dir kinds.Info target body q = OnPath (path at_info target) body (λ p. info p) q
 Asks dir kinds.Nar target body q = OnPath (path at_nar target) body (λ p. nar p) q
 Asks dir kinds.Ls target body q = OnPath (path at_ls target) body (λ p. ls p) q
 Asks dir kinds.RootsOf target body q = OnPath (path at_roots_of target) body (λ p. list_roots_of p) q
 Asks dir kinds.SetPermanent target body q = Naming dir body (λ p. set_permanent (name at_permanent target) p) q
-Asks dir kinds.SetUserRoot target body q = Naming dir body (λ p. set_user_root (user at_user_root target) (name at_user_root target) p) q
-Asks dir kinds.SetProfile target body q = Naming dir body (λ p. set_profile (user at_profile target) (name at_profile target) p) q
-Asks dir kinds.AddTemp target body q = Naming dir body (λ p. add_temp (user at_temp target) (session_in (session at_temp target)) p) q
-Asks dir kinds.ReplaceRuntime target body q = (named : List Pair) × Says (IsRuntime dir) body named × (q ≡ replace_runtime named)
-Asks dir kinds.Collect target body q = (head : CollectHead) × Says IsCollect body head × (q ≡ collect (flag head.ignore_liveness) head.max_freed)
-Asks dir kinds.Delete target body q = (head : DeleteHead) × Says (IsDelete dir) body head × (q ≡ delete head.paths.items (flag head.ignore_liveness))
+Asks dir kinds.SetUserRoot target body q =
+    Naming dir body (λ p. set_user_root (user at_user_root target) (name at_user_root target) p) q
+Asks dir kinds.SetProfile target body q =
+    Naming dir body (λ p. set_profile (user at_profile target) (name at_profile target) p) q
+Asks dir kinds.AddTemp target body q =
+    Naming dir body (λ p. add_temp (user at_temp target) (session_in (session at_temp target)) p) q
+Asks dir kinds.ReplaceRuntime target body q =
+    (named : List Pair) × Says (IsRuntime dir) body named × (q ≡ replace_runtime named)
+Asks dir kinds.Collect target body q =
+    (head : CollectHead) × Says IsCollect body head × (q ≡ collect (flag head.ignore_liveness) head.max_freed)
+Asks dir kinds.Delete target body q =
+    (head : DeleteHead) × Says (IsDelete dir) body head × (q ≡ delete head.paths.items (flag head.ignore_liveness))
 Asks dir kind target body q = (is_blank body ≡ true) × (by_target kind target ≡ Some q)
 
 -- The target should name a path, and doesn't.

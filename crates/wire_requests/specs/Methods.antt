@@ -15,7 +15,8 @@ abbrev pub kind_of : Requests → List ℕ → Option Kind
 kind_of (Get kind) method = kind_where method (codes "GET") kind
 kind_of (Post kind) method = kind_where method (codes "POST") kind
 kind_of (Delete kind) method = kind_where method (codes "DELETE") kind
-kind_of (PostOrDelete kind other) method = cond (bytes_eq method (codes "POST")) (Some kind) (kind_where method (codes "DELETE") other)
+kind_of (PostOrDelete kind other) method =
+    cond (bytes_eq method (codes "POST")) (Some kind) (kind_where method (codes "DELETE") other)
 
 -- the methods that routes have, in the order in which a reply lists them
 abbrev pub methods : List (List ℕ)

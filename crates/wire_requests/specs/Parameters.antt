@@ -27,9 +27,12 @@ AreParameters kinds.DropUserRoot target p = AreOwned at_user_root target p
 AreParameters kinds.SetProfile target p = AreOwned at_profile target p
 AreParameters kinds.Rollback target p = AreOwned at_rollback target p
 AreParameters kinds.Switch target p = AreOwned at_switch target p × (string_bytes p.number ≡ number at_switch target)
-AreParameters kinds.DeleteGeneration target p = AreOwned at_generation target p × (string_bytes p.number ≡ number at_generation target)
-AreParameters kinds.AddTemp target p = (string_bytes p.user ≡ user at_temp target) × (string_bytes p.session ≡ session at_temp target)
-AreParameters kinds.EndSession target p = (string_bytes p.user ≡ user at_temp target) × (string_bytes p.session ≡ session at_temp target)
+AreParameters kinds.DeleteGeneration target p =
+    AreOwned at_generation target p × (string_bytes p.number ≡ number at_generation target)
+AreParameters kinds.AddTemp target p =
+    (string_bytes p.user ≡ user at_temp target) × (string_bytes p.session ≡ session at_temp target)
+AreParameters kinds.EndSession target p =
+    (string_bytes p.user ≡ user at_temp target) × (string_bytes p.session ≡ session at_temp target)
 AreParameters _ target p = ⊤
 
 -- parameters fit each kind of a route

@@ -20,7 +20,9 @@ part n text = before_first is_slash (after_slashes n text)
 -- how many slashes come before the part of a text that is a word, after some of its parts and the beginning of the next
 abbrev pub place_from : ℕ → List ℕ → List ℕ → List ℕ → ℕ
 place_from n part word [] = cond (bytes_eq part word) n (n + 1)
-place_from n part word (b ∷ text) = cond (is_slash b) (cond (bytes_eq part word) n (place_from (n + 1) [] word text)) (place_from n (part ++ b ∷ []) word text)
+place_from n part word (b ∷ text) =
+    cond (is_slash b) (cond (bytes_eq part word) n (place_from (n + 1) [] word text))
+    (place_from n (part ++ b ∷ []) word text)
 
 -- what a target has in place of a parameter of its route's text
 abbrev pub parameter : List ℕ → List ℕ → List ℕ → List ℕ

@@ -14,7 +14,8 @@ use Rattle.wire_requests.specs.Asks.{is_blank, by_target, Asks, has_bad_path}
 -- why a message asks nothing: a path in the target is tested before the body
 abbrev pub AsksNothing : List ℕ → Kind → List ℕ → List ℕ → AskError → Type 0
 AsksNothing dir kind target body BadPath = has_bad_path kind target ≡ true
-AsksNothing dir kind target body BadBodyHead = (has_bad_path kind target ≡ false) × ((q : asked.Request) → Asks dir kind target body q → ⊥)
+AsksNothing dir kind target body BadBodyHead =
+    (has_bad_path kind target ≡ false) × ((q : asked.Request) → Asks dir kind target body q → ⊥)
 AsksNothing dir kind target body Memory = ⊤
 
 -- what is asked, or why nothing is
@@ -24,7 +25,8 @@ Reads dir kind target body (Err e) = AsksNothing dir kind target body e
 
 -- what is read by the parameters of a kind: that of each target that has them
 abbrev pub ReadsBy : List ℕ → Kind → Parameters → List ℕ → Result Request AskError → Type 0
-ReadsBy dir kind parameters body result = (target : List ℕ) → AreParameters kind target parameters → Reads dir kind target body result
+ReadsBy dir kind parameters body result =
+    (target : List ℕ) → AreParameters kind target parameters → Reads dir kind target body result
 
 -- ---- inside the crate
 
@@ -32,7 +34,8 @@ ReadsBy dir kind parameters body result = (target : List ℕ) → AreParameters 
 abbrev pub ReadsTarget : Kind → List ℕ → List ℕ → Result Request AskError → Type 0
 ReadsTarget kind target body (Ok q) = (is_blank body ≡ true) × (by_target kind target ≡ Some (request_view q))
 ReadsTarget kind target body (Err BadPath) = ⊥
-ReadsTarget kind target body (Err BadBodyHead) = (q : asked.Request) → is_blank body ≡ true → by_target kind target ≡ Some q → ⊥
+ReadsTarget kind target body (Err BadBodyHead) =
+    (q : asked.Request) → is_blank body ≡ true → by_target kind target ≡ Some q → ⊥
 ReadsTarget kind target body (Err Memory) = ⊤
 
 -- the path that a base name in the target names, where the body is blank

@@ -34,7 +34,8 @@ rows = map row_of routes
 
 -- one more route after those of a table
 abbrev pub AddsRow : List ℕ → Requests → RowsOf (RouteOf Requests) → RowsOf (RouteOf Requests) → Type 0
-AddsRow text requests old new = (table : RowsOf (RouteOf Requests)) → AreRows old table → AreRows new (table ++ row_of (text, requests) ∷ [])
+AddsRow text requests old new =
+    (table : RowsOf (RouteOf Requests)) → AreRows old table → AreRows new (table ++ row_of (text, requests) ∷ [])
 
 -- the text of a route as it is lent, with its requests
 abbrev pub text_of : Bor (List ℕ) × Requests → List ℕ × Requests

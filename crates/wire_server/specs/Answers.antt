@@ -15,18 +15,21 @@ abbrev pub body_in : List ℕ → Head → ℕ → List ℕ
 body_in held head size = take size (drop head.spans.len held)
 
 -- answered with that response; or, where memory was refused, unanswered, or answered with a response that is lost
-abbrev pub Answered : {S : Type 0} → (S → RequestHead → List ℕ → Replied → S → Type 0) → S → RequestHead → List ℕ → Result Response AllocError → S → Type 0
+abbrev pub Answered : {S : Type 0} → (S → RequestHead → List ℕ → Replied → S → Type 0) → S → RequestHead → List ℕ
+    → Result Response AllocError → S → Type 0
 Answered answers old h body (Ok response) new = answers old h body (replied response) new
 Answered answers old h body (Err e) new = (new ≡ old) ⊎ ((r : Replied) × answers old h body r new)
 
-module _ {S C B : Type 0} (answers : S → RequestHead → List ℕ → Replied → S → Type 0) (decides : S → RequestHead → C → Type 0) (kept : B → List ℕ) where
-  -- A head decides this from a state: a course, and nothing of the body was kept yet; or the response, whatever the body is, which
-  -- leaves the state as it is.
+module _ {S C B : Type 0} (answers : S → RequestHead → List ℕ → Replied → S → Type 0)
+    (decides : S → RequestHead → C → Type 0) (kept : B → List ℕ) where
+  -- A head decides this from a state: a course, and nothing of the body was kept yet; or the response, whatever the
+  -- body is, which leaves the state as it is.
   abbrev pub IsBegun : S → RequestHead → Begun C B → Type 0
   IsBegun s h (Accepted course body) = decides s h course × (kept body ≡ [])
   IsBegun s h (Refused response) = (all : List ℕ) → answers s h all (replied response) s
 
-  -- What is ready once the body has come: it was kept; or memory was refused for it, and it may be that body by all that is still known.
+  -- What is ready once the body has come: it was kept; or memory was refused for it, and it may be that body by all
+  -- that is still known.
   abbrev pub IsReady : (B → List ℕ → Type 0) → S → RequestHead → List ℕ → Ready C B → Type 0
   IsReady may_be s h all (ready.Kept course body) = decides s h course × (kept body ≡ all)
   IsReady may_be s h all (ready.Lost course body) = decides s h course × may_be body all

@@ -18,7 +18,8 @@ IsRefusal fault x = (replied x.response ≡ refused (refusal_of fault) None) × 
 
 -- All the bytes, and what may follow them, begin with no message, and the fault is reported.
 abbrev pub HasFault : List ℕ → Option (List ℕ) → Exchange → Type 0
-HasFault all rest x = (fault : Fault) × (0 < length all) × IfSome rest (λ more. IsFault (all ++ more) fault) × IsRefusal fault x
+HasFault all rest x =
+    (fault : Fault) × (0 < length all) × IfSome rest (λ more. IsFault (all ++ more) fault) × IsRefusal fault x
 
 module _ {S : Type 0} (answers : S → RequestHead → List ℕ → Replied → S → Type 0) where
   -- The bytes begin with a message, to which that may be the response.
@@ -32,7 +33,8 @@ module _ {S : Type 0} (answers : S → RequestHead → List ℕ → Replied → 
   -- The exchange has the response, after which the rest is held.
   abbrev pub IsAnswered : List ℕ → List ℕ → S → Exchange → S → Type 0
   IsAnswered all held' s x s' =
-      (a : Answers all s (replied x.response) s') × (x.close ≡ closes a.h) × (held' ≡ drop (a.head.spans.len + a.size) all)
+      (a : Answers all s (replied x.response) s') × (x.close ≡ closes a.h)
+          × (held' ≡ drop (a.head.spans.len + a.size) all)
 
   -- nothing was answered, or the response is lost
   abbrev pub IsLost : List ℕ → S → S → Type 0
@@ -43,12 +45,14 @@ module _ {S : Type 0} (answers : S → RequestHead → List ℕ → Replied → 
   Responds all held' s s' (Ok x) = IsAnswered all held' s x s'
   Responds all held' s s' (Err e) = IsLost all s s'
 
-  -- what comes of all the bytes that were held and read: nothing at the end of an input; the response to a message, or to none; or
-  -- memory was refused
+  -- what comes of all the bytes that were held and read: nothing at the end of an input; the response to a message, or
+  -- to none; or memory was refused
   abbrev pub Comes : List ℕ → List ℕ → Option (List ℕ) → S → S → Result (Option Exchange) AllocError → Type 0
   Comes all held' rest s s' (Ok None) = (all ≡ []) × IsAtEnd rest × (s' ≡ s)
   Comes all held' rest s s' (Ok (Some x)) = IsAnswered all held' s x s' ⊎ (HasFault all rest x × (s' ≡ s))
   Comes all held' rest s s' (Err e) = IsLost all s s'
 
-  abbrev pub Exchanged : Option (List ℕ) → Option (List ℕ) → List ℕ → List ℕ → S → S → Result (Option Exchange) AllocError → Type 0
-  Exchanged old new held held' s s' result = (read : List ℕ) × Consumes old new read × Comes (held ++ read) held' new s s' result
+  abbrev pub Exchanged : Option (List ℕ) → Option (List ℕ) → List ℕ → List ℕ → S → S
+      → Result (Option Exchange) AllocError → Type 0
+  Exchanged old new held held' s s' result =
+      (read : List ℕ) × Consumes old new read × Comes (held ++ read) held' new s s' result

@@ -11,7 +11,8 @@ AcceptsPeers (Some all) (Some rest) inputs = (sent : List (List ℕ)) × (inputs
 abbrev pub ClosesPeers : Option (List (List ℕ)) → Option (List (List ℕ)) → List (Option (List ℕ)) → Type 0
 ClosesPeers None new outputs = ⊤
 ClosesPeers (Some all) None outputs = ⊥
-ClosesPeers (Some all) (Some more) outputs = (written : List (List ℕ)) × (outputs ≡ map Some written) × (more ≡ all ++ written)
+ClosesPeers (Some all) (Some more) outputs =
+    (written : List (List ℕ)) × (outputs ≡ map Some written) × (more ≡ all ++ written)
 
 -- nothing was written yet
 abbrev pub IsFresh : Option (List ℕ) → Type 0

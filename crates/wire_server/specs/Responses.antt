@@ -15,7 +15,8 @@ pub record Replied : Type 0 where
 
 -- a response as contracts see it
 abbrev pub replied : Response → Replied
-replied r = record { status = r.status; kind = r.kind.now; allow = option_map (λ methods. methods.now) r.allow; text = r.text }
+replied r =
+    record { status = r.status; kind = r.kind.now; allow = option_map (λ methods. methods.now) r.allow; text = r.text }
 
 -- its bytes: a head, which says whether the connection is closed and how many bytes the text has, and the text
 abbrev pub reply_bytes : Bool → Replied → List ℕ

@@ -5,7 +5,8 @@ use Rattle.streams.specs.Sends.{AppendsPrefix}
 use Rattle.wire_server.specs.declared.error.WireError.{WireError}
 use Rattle.wire_server.specs.declared.error.WireError.TheVariants.{Read, Write, Memory}
 
--- all of it; where the writer failed a prefix of it that isn't whole, and where memory was refused nothing; no reader has part in it
+-- all of it; where the writer failed a prefix of it that isn't whole, and where memory was refused nothing; no reader
+-- has part in it
 abbrev pub SendsReply : Option (List ℕ) → Option (List ℕ) → List ℕ → Result (Unit {0}) WireError → Type 0
 SendsReply old new reply (Ok u) = Appends old new reply
 SendsReply old new reply (Err Read) = ⊥

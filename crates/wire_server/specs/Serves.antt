@@ -26,7 +26,8 @@ fault_reply fault = reply_bytes true (refused (refusal_of fault) None)
 -- The input begins with these items; after the last of them anything may follow that nobody looked at.
 abbrev pub Begins : List ℕ → List Item → Type 0
 Begins input [] = ⊤
-Begins input (message h body ∷ items) = (rest : List ℕ) × IsMessage input h body rest × cond (closes h) (items ≡ []) (Begins rest items)
+Begins input (message h body ∷ items) =
+    (rest : List ℕ) × IsMessage input h body rest × cond (closes h) (items ≡ []) (Begins rest items)
 Begins input (faulty fault ∷ items) = (0 < length input) × IsFault input fault × (items ≡ [])
 
 -- an input that may show its bytes is divided into items, whole or not
@@ -42,13 +43,16 @@ BeginsWith (Some all) items = Begins all items
 abbrev pub joined : List (List ℕ) → List ℕ
 joined replies = flat_map (λ reply. reply) replies
 
--- What was written at an error. Where the reader failed, all of the replies. Where the writer failed, all but the last, and a prefix
--- of that one, which isn't whole. Where memory was refused, all, or all but the last.
+-- What was written at an error. Where the reader failed, all of the replies. Where the writer failed, all but the last,
+-- and a prefix of that one, which isn't whole. Where memory was refused, all, or all but the last.
 abbrev pub IsWritten : WireError → List (List ℕ) → List ℕ → Type 0
 IsWritten Read replies bytes = bytes ≡ joined replies
 IsWritten Write replies bytes =
-    (before : List (List ℕ)) × (last : List ℕ) × (n : ℕ) × (replies ≡ before ++ last ∷ []) × (n < length last) × (bytes ≡ joined before ++ take n last)
-IsWritten Memory replies bytes = (bytes ≡ joined replies) ⊎ ((before : List (List ℕ)) × (last : List ℕ) × (replies ≡ before ++ last ∷ []) × (bytes ≡ joined before))
+    (before : List (List ℕ)) × (last : List ℕ) × (n : ℕ) × (replies ≡ before ++ last ∷ []) × (n < length last)
+        × (bytes ≡ joined before ++ take n last)
+IsWritten Memory replies bytes =
+    (bytes ≡ joined replies)
+    ⊎ ((before : List (List ℕ)) × (last : List ℕ) × (replies ≡ before ++ last ∷ []) × (bytes ≡ joined before))
 
 -- a number of messages as it is reported: it stays at 2^64 - 1
 abbrev pub reported : ℕ → ℕ
@@ -59,13 +63,14 @@ module _ {S : Type 0} (answers : S → RequestHead → List ℕ → Replied → 
   abbrev pub Replies : S → List Item → List (List ℕ) → S → Type 0
   Replies s [] [] new = new ≡ s
   Replies s (message h body ∷ items) (reply ∷ replies) new =
-      (mid : S) × (r : Replied) × answers s h body r mid × (reply ≡ reply_bytes (closes h) r) × Replies mid items replies new
+      (mid : S) × (r : Replied) × answers s h body r mid × (reply ≡ reply_bytes (closes h) r)
+          × Replies mid items replies new
   Replies s (faulty fault ∷ items) (reply ∷ replies) new = (reply ≡ fault_reply fault) × Replies s items replies new
   Replies s [] (reply ∷ replies) new = ⊥
   Replies s (item ∷ items) [] new = ⊥
 
-  -- The input divides into this number of items, and what was written is all of their replies. (After 2^128 - 1 of them the connection is
-  -- left, whatever follows.)
+  -- The input divides into this number of items, and what was written is all of their replies. (After 2^128 - 1 of them
+  -- the connection is left, whatever follows.)
   pub record Serves (input output output' : Option (List ℕ)) (old new : S) (count : ℕ) : Type 0 where
     pub items : List Item
     pub replies : List (List ℕ)

@@ -25,18 +25,23 @@ module _ {S : Type 0} (answers : S → RequestHead → List ℕ → Replied → 
   Follow old err [] new err' = (new ≡ old) × Keeps err err'
   Follow old err (session ∷ sessions) new err' =
       (fresh : Option (List ℕ)) × (mid : S) × (said : Option (List ℕ)) × IsFresh fresh
-      × Closes answers session.input fresh session.output old mid session.close × Reports session.close err said × Follow mid said sessions new err'
+      × Closes answers session.input fresh session.output old mid session.close × Reports session.close err said
+      × Follow mid said sessions new err'
 
   -- connections were accepted from a listener, served, and closed
-  pub record Serves (waiting waiting' closed closed' : Option (List (List ℕ))) (err err' : Option (List ℕ)) (old new : S) (sessions : List Session) : Type 0 where
+  pub record Serves (waiting waiting' closed closed' : Option (List (List ℕ))) (err err' : Option (List ℕ))
+      (old new : S) (sessions : List Session) : Type 0 where
     pub accepted : AcceptsPeers waiting waiting' (map (λ session. session.input) sessions)
     pub left : ClosesPeers closed closed' (map (λ session. session.output) sessions)
     pub followed : Follow old err sessions new err'
 
   -- A number of connections was served, and those that failed are counted; or fewer were, and then an accept failed.
-  abbrev pub ServesOn : ℕ → Option (List (List ℕ)) → Option (List (List ℕ)) → Option (List (List ℕ)) → Option (List (List ℕ)) → Option (List ℕ) → Option (List ℕ) → S → S
+  abbrev pub ServesOn : ℕ → Option (List (List ℕ)) → Option (List (List ℕ)) → Option (List (List ℕ))
+      → Option (List (List ℕ)) → Option (List ℕ) → Option (List ℕ) → S → S
       → Result ℕ Error → Type 0
   ServesOn n waiting waiting' closed closed' err err' old new (Ok count) =
-      (sessions : List Session) × Serves waiting waiting' closed closed' err err' old new sessions × (length sessions ≡ n) × (count ≡ failures sessions)
+      (sessions : List Session) × Serves waiting waiting' closed closed' err err' old new sessions
+          × (length sessions ≡ n) × (count ≡ failures sessions)
   ServesOn n waiting waiting' closed closed' err err' old new (Err fault) =
-      (sessions : List Session) × Serves waiting waiting' closed closed' err err' old new sessions × (length sessions < n)
+      (sessions : List Session) × Serves waiting waiting' closed closed' err err' old new sessions
+          × (length sessions < n)

@@ -21,7 +21,8 @@ result_of (Served count) = Ok count
 result_of (Reported fault) = Err fault
 result_of (Unreported fault) = Err fault
 
--- nothing is said of one that was served to its end; of one that failed its line, or a prefix of it where that couldn't be written
+-- nothing is said of one that was served to its end; of one that failed its line, or a prefix of it where that couldn't
+-- be written
 abbrev pub Says : End → Option (List ℕ) → Option (List ℕ) → Type 0
 Says (Served count) err err' = Keeps err err'
 Says (Reported fault) err err' = Appends err err' (failure_line fault)
