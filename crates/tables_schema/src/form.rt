@@ -17,6 +17,24 @@ pub(crate) struct Expected<'a> {
     pub required: bool,
 }
 
+/// Columns in the words of SQL, their names as bytes: `b"hash" BLOB NOT NULL, b"deriver" TEXT`.
+macro_rules! columns {
+    (@kind TEXT) => { Kind::Text };
+    (@kind BLOB) => { Kind::Blob };
+    (@kind INTEGER) => { Kind::Integer };
+    (@column $name:literal $kind:ident) => {
+        Expected { name: $name, kind: columns!(@kind $kind), required: false }
+    };
+    (@column $name:literal $kind:ident NOT NULL) => {
+        Expected { name: $name, kind: columns!(@kind $kind), required: true }
+    };
+    ($($name:literal $($word:ident)+),+ $(,)?) => {
+        [$(columns!(@column $name $($word)+)),+]
+    };
+}
+
+pub(crate) use columns;
+
 pub(crate) fn same_text(a: &[u8], b: &[u8]) -> bool
     ensures same { IsTrue result ↔ a.now ≡ b.now }
     ensures value { result ≡ bytes_eq a.now b.now }

@@ -4,44 +4,20 @@ ghost use Rattle.std.specs.Prelude.{◌↔◌, IsTrue};
 ghost use Rattle.tables_schema.specs.Intact.{IsIntact};
 ghost use Rattle.tables_schema.specs.Forms.{piece, temp_root};
 
-use crate::form::Expected;
+use crate::form::{Expected, columns};
 use crate::intact::exists;
 use sqlite_schema::schema::{Kind, Schema};
 
-const PIECE: [Expected<'static>; 3] = [
-    Expected {
-        name: b"base",
-        kind: Kind::Text,
-        required: true,
-    },
-    Expected {
-        name: b"num",
-        kind: Kind::Integer,
-        required: true,
-    },
-    Expected {
-        name: b"bytes",
-        kind: Kind::Blob,
-        required: true,
-    },
+const PIECE: [Expected<'static>; 3] = columns![
+    b"base" TEXT NOT NULL,
+    b"num" INTEGER NOT NULL,
+    b"bytes" BLOB NOT NULL,
 ];
 
-const TEMP_ROOT: [Expected<'static>; 3] = [
-    Expected {
-        name: b"owner",
-        kind: Kind::Text,
-        required: true,
-    },
-    Expected {
-        name: b"session",
-        kind: Kind::Integer,
-        required: true,
-    },
-    Expected {
-        name: b"target",
-        kind: Kind::Text,
-        required: true,
-    },
+const TEMP_ROOT: [Expected<'static>; 3] = columns![
+    b"owner" TEXT NOT NULL,
+    b"session" INTEGER NOT NULL,
+    b"target" TEXT NOT NULL,
 ];
 
 pub(crate) fn piece_is_intact(schema: &Schema) -> bool

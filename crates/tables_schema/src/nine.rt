@@ -4,165 +4,61 @@ ghost use Rattle.std.specs.Prelude.{◌↔◌, IsTrue};
 ghost use Rattle.tables_schema.specs.Intact.{IsIntact};
 ghost use Rattle.tables_schema.specs.Forms.{meta, object, refs, outs, permanent, user_root, profile, generation, runtime};
 
-use crate::form::Expected;
+use crate::form::{Expected, columns};
 use crate::intact::exists;
 use sqlite_schema::schema::{Kind, Schema};
 
-const META: [Expected<'static>; 2] = [
-    Expected {
-        name: b"word",
-        kind: Kind::Text,
-        required: true,
-    },
-    Expected {
-        name: b"val",
-        kind: Kind::Text,
-        required: true,
-    },
+const META: [Expected<'static>; 2] = columns![
+    b"word" TEXT NOT NULL,
+    b"val" TEXT NOT NULL,
 ];
 
-const OBJECT: [Expected<'static>; 5] = [
-    Expected {
-        name: b"base",
-        kind: Kind::Text,
-        required: true,
-    },
-    Expected {
-        name: b"nar",
-        kind: Kind::Blob,
-        required: true,
-    },
-    Expected {
-        name: b"hash",
-        kind: Kind::Blob,
-        required: true,
-    },
-    Expected {
-        name: b"deriver",
-        kind: Kind::Text,
-        required: false,
-    },
-    Expected {
-        name: b"ca",
-        kind: Kind::Text,
-        required: false,
-    },
+const OBJECT: [Expected<'static>; 5] = columns![
+    b"base" TEXT NOT NULL,
+    b"nar" BLOB NOT NULL,
+    b"hash" BLOB NOT NULL,
+    b"deriver" TEXT,
+    b"ca" TEXT,
 ];
 
-const REFS: [Expected<'static>; 2] = [
-    Expected {
-        name: b"base",
-        kind: Kind::Text,
-        required: true,
-    },
-    Expected {
-        name: b"target",
-        kind: Kind::Text,
-        required: true,
-    },
+const REFS: [Expected<'static>; 2] = columns![
+    b"base" TEXT NOT NULL,
+    b"target" TEXT NOT NULL,
 ];
 
-const OUTS: [Expected<'static>; 3] = [
-    Expected {
-        name: b"base",
-        kind: Kind::Text,
-        required: true,
-    },
-    Expected {
-        name: b"name",
-        kind: Kind::Text,
-        required: true,
-    },
-    Expected {
-        name: b"target",
-        kind: Kind::Text,
-        required: true,
-    },
+const OUTS: [Expected<'static>; 3] = columns![
+    b"base" TEXT NOT NULL,
+    b"name" TEXT NOT NULL,
+    b"target" TEXT NOT NULL,
 ];
 
-const PERMANENT: [Expected<'static>; 2] = [
-    Expected {
-        name: b"name",
-        kind: Kind::Text,
-        required: true,
-    },
-    Expected {
-        name: b"target",
-        kind: Kind::Text,
-        required: true,
-    },
+const PERMANENT: [Expected<'static>; 2] = columns![
+    b"name" TEXT NOT NULL,
+    b"target" TEXT NOT NULL,
 ];
 
-const USER_ROOT: [Expected<'static>; 3] = [
-    Expected {
-        name: b"owner",
-        kind: Kind::Text,
-        required: true,
-    },
-    Expected {
-        name: b"name",
-        kind: Kind::Text,
-        required: true,
-    },
-    Expected {
-        name: b"target",
-        kind: Kind::Text,
-        required: true,
-    },
+const USER_ROOT: [Expected<'static>; 3] = columns![
+    b"owner" TEXT NOT NULL,
+    b"name" TEXT NOT NULL,
+    b"target" TEXT NOT NULL,
 ];
 
-const PROFILE: [Expected<'static>; 3] = [
-    Expected {
-        name: b"owner",
-        kind: Kind::Text,
-        required: true,
-    },
-    Expected {
-        name: b"name",
-        kind: Kind::Text,
-        required: true,
-    },
-    Expected {
-        name: b"cur",
-        kind: Kind::Integer,
-        required: true,
-    },
+const PROFILE: [Expected<'static>; 3] = columns![
+    b"owner" TEXT NOT NULL,
+    b"name" TEXT NOT NULL,
+    b"cur" INTEGER NOT NULL,
 ];
 
-const GENERATION: [Expected<'static>; 4] = [
-    Expected {
-        name: b"owner",
-        kind: Kind::Text,
-        required: true,
-    },
-    Expected {
-        name: b"name",
-        kind: Kind::Text,
-        required: true,
-    },
-    Expected {
-        name: b"num",
-        kind: Kind::Integer,
-        required: true,
-    },
-    Expected {
-        name: b"target",
-        kind: Kind::Text,
-        required: true,
-    },
+const GENERATION: [Expected<'static>; 4] = columns![
+    b"owner" TEXT NOT NULL,
+    b"name" TEXT NOT NULL,
+    b"num" INTEGER NOT NULL,
+    b"target" TEXT NOT NULL,
 ];
 
-const RUNTIME: [Expected<'static>; 2] = [
-    Expected {
-        name: b"label",
-        kind: Kind::Text,
-        required: true,
-    },
-    Expected {
-        name: b"target",
-        kind: Kind::Text,
-        required: true,
-    },
+const RUNTIME: [Expected<'static>; 2] = columns![
+    b"label" TEXT NOT NULL,
+    b"target" TEXT NOT NULL,
 ];
 
 pub(crate) fn meta_is_intact(schema: &Schema) -> bool
