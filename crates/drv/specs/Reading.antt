@@ -113,7 +113,7 @@ name_at text = string_at text >>= λ x. name_in x.0 >>= λ name. Some (name, x.1
 unfoldable pub base_in : List ℕ → List ℕ → Option (List ℕ)
 base_in dir text =
     if begins text (dir ++ codes "/") && is_base_name (drop (length dir + 1) text)
-        then Some (drop (length dir + 1) text) else None
+    then Some (drop (length dir + 1) text) else None
 
 -- the path of an output, if it has one
 abbrev pub path_in : List ℕ → List ℕ → Option (Option (List ℕ))
@@ -143,7 +143,7 @@ inputs_end = further (list_end input_end) >=> further (list_end string_end)
 unfoldable pub process_end : List ℕ → Option (List ℕ)
 process_end =
     further string_end >=> further string_end >=> further (list_end string_end) >=> further (list_end variable_end)
-        >=> after 41
+    >=> after 41
 
 abbrev pub if_ended : {A : Type 0} → A → List ℕ → Option A
 if_ended x [] = Some x
@@ -153,5 +153,5 @@ if_ended x (b ∷ rest) = None
 unfoldable pub listed : List ℕ → List ℕ → Option (List (List ℕ × Option (List ℕ)))
 listed dir text =
     after_derive text >>= λ t. list_at (output_at dir) t >>= λ outputs. inputs_end outputs.1 >>= λ t. process_end t
-        >>= λ rest.
+    >>= λ rest.
     if_ended outputs.0 rest

@@ -33,14 +33,24 @@ pub record Submitted : Type 0 where
 -- with a text: the archive of the file with these contents that isn't executable
 abbrev pub with_text : List ℕ → List ℕ → List Path → List ℕ → Submitted
 with_text dir name refs contents =
-    record { path = text_path dir name refs contents; references = refs; deriver = None;
-        ca = Some (text_address contents); nar = spelling (archive (regular false contents)) }
+    record {
+      path = text_path dir name refs contents;
+      references = refs;
+      deriver = None;
+      ca = Some (text_address contents);
+      nar = spelling (archive (regular false contents));
+    }
 
 -- with an archive
 abbrev pub with_source : List ℕ → List ℕ → List Path → List ℕ → Submitted
 with_source dir name refs nar =
-    record { path = source_path dir name refs nar; references = refs; deriver = None; ca = Some (source_address nar);
-    nar = nar }
+    record {
+      path = source_path dir name refs nar;
+      references = refs;
+      deriver = None;
+      ca = Some (source_address nar);
+      nar = nar;
+    }
 
 -- with an object: all that is given
 abbrev pub with_import : Imported → Submitted

@@ -11,8 +11,11 @@ pub record AreLabelled : Type 0 where
       → user_root ((owner, name), t)
       ≡ record { kind = user; target = t; label = codes "gcroots/per-user/" ++ owner ++ codes "/" ++ name }
   pub generation_ : (owner name : List ℕ) (n : ℕ) (t : Path) → generation_root (owner, name) (n, t)
-      ≡ record { kind = profile; target = t;
-      label = codes "profiles/per-user/" ++ owner ++ codes "/" ++ name ++ codes "-" ++ decimal n ++ codes "-link" }
+      ≡ record {
+        kind = profile;
+        target = t;
+        label = codes "profiles/per-user/" ++ owner ++ codes "/" ++ name ++ codes "-" ++ decimal n ++ codes "-link";
+      }
   pub runtime_ : (label : List ℕ) (t : Path)
       → runtime_root (label, t) ≡ record { kind = runtime; target = t; label = label }
   pub temporary_ : (t : Temporary)

@@ -29,7 +29,7 @@ abbrev pub AreFirsts : List Pair → List Pair → List Pair → Type 0
 AreFirsts before [] ys = ys ≡ []
 AreFirsts before (x ∷ xs) ys =
     (Contains before x × AreFirsts before xs ys)
-        ⊎ ((Contains before x → ⊥) × ((more : List Pair) × (ys ≡ x ∷ more) × AreFirsts (x ∷ before) xs more))
+    ⊎ ((Contains before x → ⊥) × ((more : List Pair) × (ys ≡ x ∷ more) × AreFirsts (x ∷ before) xs more))
 
 -- roots in the order given: a trusted caller sees each, and any other sees equal pairs once, at the place of the first
 pub record SeesRoots (class : Class) (roots : List Root) : Type 0 where

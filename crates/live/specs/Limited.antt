@@ -37,7 +37,7 @@ abbrev pub DeletesGroups : Graph → (Path → Bool) → (Path → ℕ) → List
 DeletesGroups g dead size left wanted [] = (wanted ≡ 0) ⊎ (next_group g dead left ≡ None)
 DeletesGroups g dead size left wanted (group ∷ groups) =
     (0 < wanted) × (next_group g dead left ≡ Some group)
-        × DeletesGroups g dead size (without group left) (wanted - sum_by size group) groups
+    × DeletesGroups g dead size (without group left) (wanted - sum_by size group) groups
 
 -- ---- the same by a function that computes
 
@@ -47,8 +47,8 @@ groups_by g dead size [] left wanted = []
 groups_by g dead size (turn ∷ turns) left wanted =
     if nat_lt 0 wanted
     then option_map_or
-        (λ group. group ∷ groups_by g dead size turns (without group left) (wanted - sum_by size group))
-        (next_group g dead left) []
+    (λ group. group ∷ groups_by g dead size turns (without group left) (wanted - sum_by size group))
+    (next_group g dead left) []
     else []
 
 -- the groups that go from a graph up to a limit; each takes a path, so there are no more than paths

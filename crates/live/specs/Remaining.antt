@@ -106,6 +106,6 @@ left_after g dead size [] left wanted = left
 left_after g dead size (turn ∷ turns) left wanted =
     if nat_lt 0 wanted
     then option_map_or
-        (λ group. left_after g dead size turns (without group left) (wanted - sum_by size group))
-        (next_group g dead left) left
+    (λ group. left_after g dead size turns (without group left) (wanted - sum_by size group))
+    (next_group g dead left) left
     else left

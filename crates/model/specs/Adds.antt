@@ -19,8 +19,13 @@ pub record Added : Type 0 where
 abbrev pub added_at : List ℕ → Path → List Path → Option Path → Option ContentAddress → List ℕ → Added
 added_at dir path refs deriver ca nar = record {
   path = path;
-  object = record { nar = nar; references = set_of bytes_cmp refs; deriver = deriver; ca = ca;
-      outputs = outputs_at dir path nar };
+  object = record {
+    nar = nar;
+    references = set_of bytes_cmp refs;
+    deriver = deriver;
+    ca = ca;
+    outputs = outputs_at dir path nar;
+  };
 }
 
 -- the archive of a text object: of the regular file with these contents that isn't executable

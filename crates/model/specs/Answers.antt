@@ -21,8 +21,14 @@ use Rattle.model.specs.Effects.{valid_pairs, of_session}
 -- the record of an object
 abbrev pub info_of : Path → Object → Info
 info_of p o =
-    record { path = p; hash = sha256 o.nar; size = length o.nar; references = finite.keys o.references;
-    deriver = o.deriver; ca = o.ca }
+    record {
+      path = p;
+      hash = sha256 o.nar;
+      size = length o.nar;
+      references = finite.keys o.references;
+      deriver = o.deriver;
+      ca = o.ca;
+    }
 
 -- of a path that isn't valid, which is refused, these three say something all the same
 abbrev pub record_at : Path → Option Object → Answer

@@ -60,8 +60,14 @@ pub record World : Type 0 where
 
 -- the world of a database that was just made
 abbrev pub no_world : World
-no_world = record { objects = finite.empty; permanent = finite.empty; user_roots = finite.empty;
-    profiles = finite.empty; runtime = finite.empty; temporary = finite.empty }
+no_world = record {
+  objects = finite.empty;
+  permanent = finite.empty;
+  user_roots = finite.empty;
+  profiles = finite.empty;
+  runtime = finite.empty;
+  temporary = finite.empty;
+}
 
 -- a path is valid if it is an object's
 abbrev pub has : World → Path → Bool

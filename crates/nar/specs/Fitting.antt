@@ -35,6 +35,6 @@ abbrev mutual
   entries_room depth last room (entry n t entries) =
       if may_enter depth last n
       then option_and_then
-          (λ left. option_and_then (λ more. entries_room depth (Some n) more entries) (room_after (depth + 1) left t))
-          (less room (80 + size_of (length n)))
+      (λ left. option_and_then (λ more. entries_room depth (Some n) more entries) (room_after (depth + 1) left t))
+      (less room (80 + size_of (length n)))
       else None

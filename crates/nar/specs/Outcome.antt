@@ -23,7 +23,7 @@ parts_from (suc steps) (x ∷ κ) room bytes =
     and_then (string_at room bytes) (λ next.
     and_then (check x next.0) (λ p.
     and_then (parts_from steps (unwrap_or (consumed x p) [] ++ κ) (room - size_of (length next.0)) next.1)
-        (λ ps. Ok (p ∷ ps))))
+    (λ ps. Ok (p ∷ ps))))
 
 -- the string of the part at this place
 abbrev pub at : ℕ → List Part → List ℕ
@@ -35,7 +35,7 @@ abbrev mutual
   kind_from zero ps = (symlink [], [])
   kind_from (suc steps) ps =
       if bytes_eq (at 0 ps) (codes "directory")
-          then (let inner = entries_from steps (drop 1 ps) in (directory inner.0, inner.1))
+      then (let inner = entries_from steps (drop 1 ps) in (directory inner.0, inner.1))
       else (if bytes_eq (at 0 ps) (codes "symlink") then (symlink (at 2 ps), drop 4 ps)
       else (if bytes_eq (at 1 ps) (codes "executable") then (regular true (at 4 ps), drop 6 ps)
       else (regular false (at 2 ps), drop 4 ps)))

@@ -16,7 +16,7 @@ has_no_leading_zero text = nat_lt (length text) 2 || not (slice_index text 0 == 
 abbrev pub decimal_of : List ℕ → Option ℕ
 decimal_of text =
     if is_digits text && (has_no_leading_zero text && nat_lt (digits_value 10 text) (2 ^ 64))
-        then Some (digits_value 10 text)
+    then Some (digits_value 10 text)
     else None
 
 -- the number of a text that writes one up to `most`; any other text stands for 0

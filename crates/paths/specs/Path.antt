@@ -23,7 +23,7 @@ reference_part dir base = codes ":" ++ full_path dir base
 abbrev pub fingerprint_of : List ℕ → List ℕ → List (List ℕ) → List ℕ → List ℕ → List ℕ
 fingerprint_of kind dir ordered inner name =
     kind ++ flat_map (reference_part dir) ordered ++ codes ":sha256:" ++ encode_lower inner ++ codes ":" ++ dir
-        ++ codes ":" ++ name
+    ++ codes ":" ++ name
 
 -- the base name of a fingerprint: the digits of its folded digest, `-`, the name
 pub record HasFingerprint (fingerprint name base : List ℕ) : Type 0 where

@@ -39,9 +39,15 @@ abbrev pub settings_code : Coded Settings
 settings_code =
     code_by (List ℕ × (List Entry × (List Entry × (Bool × (Bool × Groups)))))
     (coded× text_code
-        (coded× (coded_list entry_code)
-        (coded× (coded_list entry_code) (coded× coded_bool (coded× coded_bool groups_code)))))
+    (coded× (coded_list entry_code)
+    (coded× (coded_list entry_code) (coded× coded_bool (coded× coded_bool groups_code)))))
     (λ s. (s.store_dir, (s.allowed_users, (s.trusted_users, (s.keep_outputs, (s.keep_derivations, s.groups))))))
-    (λ p. record { store_dir = p.0; allowed_users = p.1.0; trusted_users = p.1.1.0; keep_outputs = p.1.1.1.0;
-    keep_derivations = p.1.1.1.1.0; groups = p.1.1.1.1.1 })
+    (λ p. record {
+      store_dir = p.0;
+      allowed_users = p.1.0;
+      trusted_users = p.1.1.0;
+      keep_outputs = p.1.1.1.0;
+      keep_derivations = p.1.1.1.1.0;
+      groups = p.1.1.1.1.1;
+    })
     (λ _. refl)

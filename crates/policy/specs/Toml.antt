@@ -119,8 +119,14 @@ settings_of t = if not (has_only_keys t) then Err UnknownKey else
     need KeepOutputs (keep_outputs_in t) (λ outputs.
     need KeepDerivations (keep_derivations_in t) (λ derivations.
     need InGroups (groups_in t) (λ groups.
-    Ok (record { store_dir = dir; allowed_users = allowed; trusted_users = trusted; keep_outputs = outputs;
-        keep_derivations = derivations; groups = groups })))))))
+    Ok (record {
+      store_dir = dir;
+      allowed_users = allowed;
+      trusted_users = trusted;
+      keep_outputs = outputs;
+      keep_derivations = derivations;
+      groups = groups;
+    })))))))
 
 -- the document's table: a text of at most 1,048,576 bytes, all UTF-8, that is a TOML document
 abbrev pub document_of : List ℕ → Option Members

@@ -104,16 +104,34 @@ digest = 43 ∷ 254 ∷ 246 ∷ 125 ∷ 232 ∷ 115 ∷ 197 ∷ 69 ∷ 81 ∷ 21
 -- an address
 pub record HasWorkedNarinfo : Type 0 where
   pub source : narinfo dir
-      (record { path = codes "xv2iccirbrvklck36f1g7vldn5v58vck-myfile"; hash = digest; size = 128; references = [];
-      deriver = None; ca = Some (record { method = Source; digest = digest }) })
+      (record {
+        path = codes "xv2iccirbrvklck36f1g7vldn5v58vck-myfile";
+        hash = digest;
+        size = 128;
+        references = [];
+        deriver = None;
+        ca = Some (record { method = Source; digest = digest });
+      })
       ≡ codes "StorePath: /nix/store/xv2iccirbrvklck36f1g7vldn5v58vck-myfile\nURL: nar/xv2iccirbrvklck36f1g7vldn5v58vck-myfile\nCompression: none\nFileHash: sha256:1qwy7y49hyqd7kdpkyjfclz5fkfqalqapzc4v18lbibkx1yzdzib\nFileSize: 128\nNarHash: sha256:1qwy7y49hyqd7kdpkyjfclz5fkfqalqapzc4v18lbibkx1yzdzib\nNarSize: 128\nReferences: \nCA: fixed:r:sha256:1qwy7y49hyqd7kdpkyjfclz5fkfqalqapzc4v18lbibkx1yzdzib\n"
   pub derived : narinfo dir
-      (record { path = x; hash = digest; size = 128; references = p ∷ x ∷ [];
-      deriver = Some (codes "22222222222222222222222222222222-y.drv"); ca = None })
+      (record {
+        path = x;
+        hash = digest;
+        size = 128;
+        references = p ∷ x ∷ [];
+        deriver = Some (codes "22222222222222222222222222222222-y.drv");
+        ca = None;
+      })
       ≡ codes "StorePath: /nix/store/11111111111111111111111111111111-x\nURL: nar/11111111111111111111111111111111-x\nCompression: none\nFileHash: sha256:1qwy7y49hyqd7kdpkyjfclz5fkfqalqapzc4v18lbibkx1yzdzib\nFileSize: 128\nNarHash: sha256:1qwy7y49hyqd7kdpkyjfclz5fkfqalqapzc4v18lbibkx1yzdzib\nNarSize: 128\nReferences: 00000000000000000000000000000000-p 11111111111111111111111111111111-x\nDeriver: 22222222222222222222222222222222-y.drv\n"
   pub both : reply_text dir
       (done (record_of
-      (record { path = x; hash = digest; size = 128; references = p ∷ [];
-      deriver = Some (codes "22222222222222222222222222222222-y.drv"); ca =
-      Some (record { method = Text; digest = digest }) })))
+      (record {
+        path = x;
+        hash = digest;
+        size = 128;
+        references = p ∷ [];
+        deriver = Some (codes "22222222222222222222222222222222-y.drv");
+        ca =
+            Some (record { method = Text; digest = digest });
+      })))
       ≡ codes "StorePath: /nix/store/11111111111111111111111111111111-x\nURL: nar/11111111111111111111111111111111-x\nCompression: none\nFileHash: sha256:1qwy7y49hyqd7kdpkyjfclz5fkfqalqapzc4v18lbibkx1yzdzib\nFileSize: 128\nNarHash: sha256:1qwy7y49hyqd7kdpkyjfclz5fkfqalqapzc4v18lbibkx1yzdzib\nNarSize: 128\nReferences: 00000000000000000000000000000000-p\nDeriver: 22222222222222222222222222222222-y.drv\nCA: text:sha256:1qwy7y49hyqd7kdpkyjfclz5fkfqalqapzc4v18lbibkx1yzdzib\n"

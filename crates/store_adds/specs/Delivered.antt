@@ -6,5 +6,11 @@ use Rattle.store_types.specs.declared.requests.Imported.{Imported}
 -- an import whose archive has come, as the request that it makes
 abbrev pub delivered_view : Delivered → asked.Imported
 delivered_view d =
-    record { path = d.path; nar_hash = d.nar_hash; refs = d.refs.items; deriver = d.deriver; ca = d.ca;
-    nar = d.nar.pieces }
+    record {
+      path = d.path;
+      nar_hash = d.nar_hash;
+      refs = d.refs.items;
+      deriver = d.deriver;
+      ca = d.ca;
+      nar = d.nar.pieces;
+    }

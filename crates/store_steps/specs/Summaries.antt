@@ -7,5 +7,11 @@ use Rattle.model.specs.Reply.{Info}
 -- its record
 abbrev pub info_in : Path → Outlined → Info
 info_in p o =
-    record { path = p; hash = o.hash; size = o.size; references = finite.keys o.references; deriver = o.deriver;
-    ca = o.ca }
+    record {
+      path = p;
+      hash = o.hash;
+      size = o.size;
+      references = finite.keys o.references;
+      deriver = o.deriver;
+      ca = o.ca;
+    }

@@ -20,8 +20,14 @@ use Rattle.store_types.specs.declared.replies.Reply.TheVariants.{Done, Denied, R
 -- what is passed with its path; without bytes if its intake is spent (`Spent`)
 abbrev pub import_view : Imported → asked.Imported
 import_view i =
-    record { path = i.path; nar_hash = i.nar_hash; refs = i.refs.items; deriver = i.deriver; ca = i.ca;
-    nar = bytes_in i.nar }
+    record {
+      path = i.path;
+      nar_hash = i.nar_hash;
+      refs = i.refs.items;
+      deriver = i.deriver;
+      ca = i.ca;
+      nar = bytes_in i.nar;
+    }
 
 abbrev pub request_view : Request → asked.Request
 request_view (AddText name refs contents) = asked.add_text name refs.items contents.items
@@ -59,8 +65,14 @@ call_view call = (call.0, request_view call.1)
 -- the record of an object
 abbrev pub info_view : Info → replied.Info
 info_view i =
-    record { path = i.path; hash = i.hash; size = i.size; references = i.references.items; deriver = i.deriver;
-    ca = i.ca }
+    record {
+      path = i.path;
+      hash = i.hash;
+      size = i.size;
+      references = i.references.items;
+      deriver = i.deriver;
+      ca = i.ca;
+    }
 
 -- a number of paths and the sum of their bytes
 abbrev pub usage_view : Usage → replied.Usage

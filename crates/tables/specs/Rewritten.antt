@@ -65,8 +65,10 @@ put_pairs (p ∷ ps) m = put_pairs ps (finite.insert m p tt)
 -- the rows of a profile with a path at a number, and with this current number
 abbrev pub put_generation : world.Pair → ℕ → Path → ℕ → Contents → Contents
 put_generation owned n t current c =
-    record c { profiles = finite.insert c.profiles owned (pos current);
-    generations = finite.insert c.generations (owned.0, owned.1, pos n) t }
+    record c {
+      profiles = finite.insert c.profiles owned (pos current);
+      generations = finite.insert c.generations (owned.0, owned.1, pos n) t;
+    }
 
 -- the rows without those of one path's object
 abbrev pub without_object : Path → Contents → Contents

@@ -5,5 +5,11 @@ use Rattle.tables_outline.specs.Outline.{OutlineValue}
 
 -- a world without objects that has the roots of an outline
 abbrev pub rooted : OutlineValue → World
-rooted o = record { objects = finite.empty; permanent = o.permanent; user_roots = o.user_roots; profiles = o.profiles;
-    runtime = o.runtime; temporary = o.temporary }
+rooted o = record {
+  objects = finite.empty;
+  permanent = o.permanent;
+  user_roots = o.user_roots;
+  profiles = o.profiles;
+  runtime = o.runtime;
+  temporary = o.temporary;
+}

@@ -16,8 +16,10 @@ put_pieces p (e ∷ es) m = put_pieces p es (finite.insert m (p, e.0) e.1)
 -- an object's row with the first part of its archive, and the rest in pieces
 abbrev pub cut_row : Path → Stored → Contents → Contents
 cut_row p o c =
-    record c { objects = finite.insert c.objects p (record o { nar = row_part o.nar });
-    pieces = put_pieces p (further_pieces o.nar) c.pieces }
+    record c {
+      objects = finite.insert c.objects p (record o { nar = row_part o.nar });
+      pieces = put_pieces p (further_pieces o.nar) c.pieces;
+    }
 
 -- the archive of an object cut in pieces, if there is such an object
 abbrev pub cut_found : Path → Option Stored → Contents → Contents

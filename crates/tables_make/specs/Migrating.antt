@@ -66,4 +66,4 @@ with_lacking from s = record s { now = grown (lacking from) s.now }
 abbrev pub FailsToMigrate : Schema → State → State → Failure → Type 0
 FailsToMigrate from old new f =
     FailsToMakeThese (lacking from) ⊥ ⊥ old new f
-        ⊎ IsReason (MigratedRows from (contents_of old.now)) (with_lacking from old) new f
+    ⊎ IsReason (MigratedRows from (contents_of old.now)) (with_lacking from old) new f

@@ -124,5 +124,11 @@ pub record IsSoundAt (dir : List ℕ) (p : Path) (o : Stored) (refs : List Path)
 -- what is kept of it
 abbrev pub kept_of : List ℕ → Path → Stored → List Path → Outlined
 kept_of dir p o refs =
-    record { size = length o.nar; hash = sha256 o.nar; references = set_of bytes_cmp refs; deriver = o.deriver;
-    ca = address_in o.ca; outputs = outputs_at dir p o.nar }
+    record {
+      size = length o.nar;
+      hash = sha256 o.nar;
+      references = set_of bytes_cmp refs;
+      deriver = o.deriver;
+      ca = address_in o.ca;
+      outputs = outputs_at dir p o.nar;
+    }

@@ -50,7 +50,7 @@ IsOpeningError host.Busy e = e ≡ SqliteFailure DatabaseBusy
 IsOpeningError host.HotJournal e = e ≡ SqliteFailure CannotOpen
 IsOpeningError (host.Io fault) e =
     ((error_kind fault ≡ kind.OutOfMemory) × (e ≡ SqliteFailure OutOfMemory))
-        ⊎ ((error_kind fault ≢ kind.OutOfMemory) × (e ≡ SqliteFailure CannotOpen))
+    ⊎ ((error_kind fault ≢ kind.OutOfMemory) × (e ≡ SqliteFailure CannotOpen))
 
 -- by which schema the store's tables are there, if they are
 pub record IsRecognised (r : Recognised) (s : Schema) : Type 0 where
@@ -91,7 +91,7 @@ ShowIds rows = (ids : List ℤ) × (map (λ row. column row 0) rows ≡ map Int 
 abbrev pub HasUnkeyed : Database → Type 0
 HasUnkeyed db =
     (HasFirst db.schema ⊎ (HasSecond db.schema ⊎ HasThird db.schema))
-        × ¬ AllByRecursion (λ t. IsIntact db.schema t → IsKeyed (rows_named db t.name)) all_tables
+    × ¬ AllByRecursion (λ t. IsIntact db.schema t → IsKeyed (rows_named db t.name)) all_tables
 
 -- Why opening failed. That is what its test may have found.
 abbrev pub FailsToOpen : State → State → Failure → Type 0
@@ -119,8 +119,8 @@ module _ {S : Type 0} {c : calls.Ghosts Host} {start : Ghosts S} {g : disk.Ghost
   Refuses e None = (e ≡ SqliteFailure CannotOpen) ⊎ ((e ≡ SqliteFailure OutOfMemory) ⊎ (e ≡ SqliteFailure DatabaseBusy))
   Refuses e (Some left) =
       IsTrue (is_open_error e)
-          × ((files : _) × IsFresh true files.log × IsFresh false files.db
-          × (IsCleanLeft left → FailsToOpenFiles files left e × LeavesFiles files left))
+      × ((files : _) × IsFresh true files.log × IsFresh false files.db
+      × (IsCleanLeft left → FailsToOpenFiles files left e × LeavesFiles files left))
 
   -- Why files that held this weren't opened: `sqlite` refused them for an error, of which this is the failure; or it
   -- opened them, and what they hold of the store's tables can't be read.

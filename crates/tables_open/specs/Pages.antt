@@ -10,4 +10,4 @@ all_pages len logged page = max (len / page) logged + 256
 abbrev pub kept_pages : ℕ → ℕ → ℕ → ℕ
 kept_pages len logged page =
     cond (nat_le (all_pages len logged page) (67108864 / page)) (max (all_pages len logged page) (8192000 / page))
-        (8192000 / page)
+    (8192000 / page)

@@ -23,8 +23,14 @@ pub record Outlined : Type 0 where
 
 abbrev pub outlined : Object → Outlined
 outlined o =
-    record { size = length o.nar; hash = sha256 o.nar; references = o.references; deriver = o.deriver; ca = o.ca;
-    outputs = o.outputs }
+    record {
+      size = length o.nar;
+      hash = sha256 o.nar;
+      references = o.references;
+      deriver = o.deriver;
+      ca = o.ca;
+      outputs = o.outputs;
+    }
 
 -- an object of which this is the outline, if the size and the digest are the archive's
 abbrev pub with_archive : List ℕ → Outlined → Object
@@ -81,13 +87,19 @@ abbrev pub outlined_code : Coded Outlined
 outlined_code =
     code_by (ℕ × (List ℕ × (Set bytes_cmp × (Option Path × (Option ContentAddress × finite.FinMap bytes_cmp Path)))))
     (coded× coded_ℕ
-        (coded× bytes_code
-        (coded× (finite.code bytes_code coded_unit)
-        (coded× (coded_option bytes_code)
-        (coded× (coded_option address.the_row.coded) (finite.code bytes_code bytes_code))))))
+    (coded× bytes_code
+    (coded× (finite.code bytes_code coded_unit)
+    (coded× (coded_option bytes_code)
+    (coded× (coded_option address.the_row.coded) (finite.code bytes_code bytes_code))))))
     (λ o. (o.size, (o.hash, (o.references, (o.deriver, (o.ca, o.outputs))))))
-    (λ p. record { size = p.0; hash = p.1.0; references = p.1.1.0; deriver = p.1.1.1.0; ca = p.1.1.1.1.0;
-    outputs = p.1.1.1.1.1 })
+    (λ p. record {
+      size = p.0;
+      hash = p.1.0;
+      references = p.1.1.0;
+      deriver = p.1.1.1.0;
+      ca = p.1.1.1.1.0;
+      outputs = p.1.1.1.1.1;
+    })
     (λ _. refl)
 
 abbrev pub profile_code : Coded Profile
@@ -103,16 +115,22 @@ temporary_code =
 abbrev pub outline_code : Coded OutlineValue
 outline_code =
     code_by (finite.FinMap bytes_cmp Outlined
-        × (finite.FinMap bytes_cmp Path
-        × (finite.FinMap pair_cmp Path × (finite.FinMap pair_cmp Profile × (Set pair_cmp × Set temporary_cmp)))))
+    × (finite.FinMap bytes_cmp Path
+    × (finite.FinMap pair_cmp Path × (finite.FinMap pair_cmp Profile × (Set pair_cmp × Set temporary_cmp)))))
     (coded× (finite.code bytes_code outlined_code)
-        (coded× (finite.code bytes_code bytes_code)
-        (coded× (finite.code pair_code bytes_code)
-        (coded× (finite.code pair_code profile_code)
-        (coded× (finite.code pair_code coded_unit) (finite.code temporary_code coded_unit))))))
+    (coded× (finite.code bytes_code bytes_code)
+    (coded× (finite.code pair_code bytes_code)
+    (coded× (finite.code pair_code profile_code)
+    (coded× (finite.code pair_code coded_unit) (finite.code temporary_code coded_unit))))))
     (λ o. (o.objects, (o.permanent, (o.user_roots, (o.profiles, (o.runtime, o.temporary))))))
-    (λ p. record { objects = p.0; permanent = p.1.0; user_roots = p.1.1.0; profiles = p.1.1.1.0; runtime = p.1.1.1.1.0;
-    temporary = p.1.1.1.1.1 })
+    (λ p. record {
+      objects = p.0;
+      permanent = p.1.0;
+      user_roots = p.1.1.0;
+      profiles = p.1.1.1.0;
+      runtime = p.1.1.1.1.0;
+      temporary = p.1.1.1.1.1;
+    })
     (λ _. refl)
 
 -- ---- lists in order

@@ -116,8 +116,12 @@ are_temporary objects c = list_all (is_temporary_root objects) (finite.entries c
 -- an outline, and all roots of the rows but the temporary ones
 abbrev pub with_explicit : OutlineValue → Contents → OutlineValue
 with_explicit o c =
-    record o { permanent = c.permanent; user_roots = c.user_roots; profiles = (world_in c).profiles;
-    runtime = c.runtime }
+    record o {
+      permanent = c.permanent;
+      user_roots = c.user_roots;
+      profiles = (world_in c).profiles;
+      runtime = c.runtime;
+    }
 
 -- an outline, and all roots of the rows
 abbrev pub with_roots : OutlineValue → Contents → OutlineValue

@@ -136,9 +136,15 @@ is_object row =
     && is_text_or_null (column row 5)
 
 abbrev pub object_of : Row → Bytes × Stored
-object_of row =
-    (bytes (column row 1), record { nar = bytes (column row 2); hash = bytes (column row 3);
-    deriver = text_if_any (column row 4); ca = text_if_any (column row 5) })
+object_of row = (
+  bytes (column row 1),
+  record {
+    nar = bytes (column row 2);
+    hash = bytes (column row 3);
+    deriver = text_if_any (column row 4);
+    ca = text_if_any (column row 5);
+  },
+)
 
 -- a pair, and a text that belongs to it
 abbrev pub target_of : Row → Pair × Bytes

@@ -56,9 +56,14 @@ ShowsObject row e =
     × ShowsOptional (column row 3) e.deriver × ShowsOptional (column row 4) e.ca
 
 abbrev pub listed_of : Listed → Bytes × Described
-listed_of e =
-    (string_bytes e.base, record { hash = e.hash.items; deriver = option_map string_bytes e.deriver;
-    ca = option_map string_bytes e.ca })
+listed_of e = (
+  string_bytes e.base,
+  record {
+    hash = e.hash.items;
+    deriver = option_map string_bytes e.deriver;
+    ca = option_map string_bytes e.ca;
+  },
+)
 
 abbrev pub ShowsListed : Row → Listed → Type 0
 ShowsListed row e =

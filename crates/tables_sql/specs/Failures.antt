@@ -75,7 +75,7 @@ IsTooLarge db table values =
 unfoldable pub HasNoRowidLeft : Database → Table → Type 0
 HasNoRowidLeft db table =
     let rows = rows_named db table.name in (fits_i64 (next_rowid rows) ≡ false)
-        ⊎ (list_any (has_rowid (next_rowid rows)) rows ≡ true)
+    ⊎ (list_any (has_rowid (next_rowid rows)) rows ≡ true)
 
 -- An insert of this text failed. It is the failure of the write, which names a size of an open connection alone; or,
 -- where the write named a size, that of the question whether the connection is open.

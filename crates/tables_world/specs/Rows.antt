@@ -97,8 +97,13 @@ address_in (Some text) = address_of text
 -- an object with its archive, its references, its outputs and its address
 abbrev pub object_in : Rows → Path → Stored → Object
 object_in c p o =
-    record { nar = archive_in c p o; references = references_in c p; deriver = o.deriver; ca = address_in o.ca;
-    outputs = outputs_in c p }
+    record {
+      nar = archive_in c p o;
+      references = references_in c p;
+      deriver = o.deriver;
+      ca = address_in o.ca;
+      outputs = outputs_in c p;
+    }
 
 -- a number that isn't negative, as sound rows have it
 abbrev pub number_in : ℤ → ℕ
@@ -109,7 +114,7 @@ number_in (negsuc n) = 0
 abbrev pub generations_in : Rows → Pair → finite.FinMap nat_cmp Path
 generations_in c owned = finite.from_entries (map (λ e. (number_in e.0.2, e.1))
     (filter (λ e. eq_by_cmp bytes_cmp owned.0 e.0.0 && eq_by_cmp bytes_cmp owned.1 e.0.1)
-        (finite.entries c.generations)))
+    (finite.entries c.generations)))
 
 -- a profile with its generations and the number of the current one
 abbrev pub profile_in : Rows → Pair → ℤ → Profile

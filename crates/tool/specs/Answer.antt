@@ -70,7 +70,7 @@ AnswersServing of_file config db a console = AnswersUnder (config_of config)
 abbrev pub AnswersAlone : Doing → List ℕ → Line → Asked → Console → Type 0
 AnswersAlone of_file config line who console =
     AnswersWho (verdict_of config line.user line.group) (on_output console.written)
-        × Keeps console.written.errors.old console.written.errors.new
+    × Keeps console.written.errors.old console.written.errors.new
 AnswersAlone of_file config line ls console = AnswersLs config console
 AnswersAlone of_file config line (text_path o) console = AnswersTextPath config o console
 AnswersAlone of_file config line (source_path o) console = AnswersSourcePath config o console
@@ -81,7 +81,7 @@ AnswersAlone of_file config line _ console = ⊥
 abbrev pub AnswersLine : Doing → List ℕ → Line → Console → Type 0
 AnswersLine of_file config line console =
     MatchOption (asks line.asked) (AnswersAlone of_file config line line.asked console)
-        (λ ask. AnswersAsking of_file config line ask console)
+    (λ ask. AnswersAsking of_file config line ask console)
 
 -- a stop before there is anything to answer by is said by `who` on standard output, and else on standard error
 abbrev pub Stops : Asked → Stop → Written → Type 0
@@ -118,7 +118,7 @@ Helps w = (text : List ℕ) × Answers (Ok text) w
 abbrev pub ExplainsUsage : Error → Written → Type 0
 ExplainsUsage fault w =
     Answers (Err (Failed NoMemory)) w
-        ⊎ ((AsksHelp (Usage fault) → Helps w) × (¬ AsksHelp (Usage fault) → RefusesWords w))
+    ⊎ ((AsksHelp (Usage fault) → Helps w) × (¬ AsksHelp (Usage fault) → RefusesWords w))
 
 -- what is said of words that are no command line, by their fault
 abbrev pub Explains : CommandError → Written → Type 0

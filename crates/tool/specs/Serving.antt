@@ -15,4 +15,4 @@ ServesBy answers Streams c old =
     ServesStreams answers c.input.old c.written.output.old c.written.output.new c.written.errors.old c.written.errors.new old c.written.status
 ServesBy answers (Port port n) c old =
     Keeps c.written.output.old c.written.output.new
-        × ServesPort answers n c.written.errors.old c.written.errors.new old c.written.status
+    × ServesPort answers n c.written.errors.old c.written.errors.new old c.written.status

@@ -59,7 +59,7 @@ Doing = Settings → OnStore → Console → Type 0
 abbrev pub DoesNew : Doing
 DoesNew s d console =
     (DoesIn s no_world d console
-        × ((t : Kept MemStore) × HasWorld over_memory t no_world × DoesOver over_memory s t d console))
+    × ((t : Kept MemStore) × HasWorld over_memory t no_world × DoesOver over_memory s t d console))
     ⊎ IsPrinted s.store_dir (failed memory) console.written
 
 -- work that is done with the store of the file, if one is named, and else with one in memory

@@ -32,13 +32,13 @@ unroot_app = with_rule (with_rule (with_rule (plain_app Unroot)
 abbrev pub profile_app : App
 profile_app = with_rule (with_rule (with_rule (with_rule (plain_app Profile)
     (option_named (codes "owner"))) (required_argument (codes "action"))) (required_argument (codes "name")))
-        (optional_argument (codes "value"))
+    (optional_argument (codes "value"))
 
 -- `temp [--owner USER] ACTION SESSION [PATH]`
 abbrev pub temp_app : App
 temp_app = with_rule (with_rule (with_rule (with_rule (plain_app Temp)
     (option_named (codes "owner"))) (required_argument (codes "action"))) (required_argument (codes "session")))
-        (optional_argument (codes "path"))
+    (optional_argument (codes "path"))
 
 -- `gc [--ignore-liveness] [--max-freed N]`
 abbrev pub gc_app : App
@@ -59,7 +59,7 @@ serve_app =
 abbrev pub options_app : App
 options_app = with_rule (with_rule (with_rule (with_rule (new_app (codes "nixkeep"))
     (option_named (codes "db"))) (option_named (codes "config"))) (option_named (codes "user")))
-        (option_named (codes "group"))
+    (option_named (codes "group"))
 
 -- a command line with one more subcommand
 abbrev pub adding : App → App → App

@@ -59,10 +59,10 @@ asked_of verb.Unroot rs =
     unrooted (is_given (codes "permanent") rs) (first_of (codes "owner") rs) (required (codes "name") rs)
 asked_of verb.Profile rs =
     with_value (profile (first_of (codes "owner") rs) (required (codes "name") rs))
-        (on_profile (required (codes "action") rs) (first_of (codes "value") rs))
+    (on_profile (required (codes "action") rs) (first_of (codes "value") rs))
 asked_of verb.Temp rs =
     with_value (temp (first_of (codes "owner") rs) (session (required (codes "session") rs)))
-        (on_session (required (codes "action") rs) (first_of (codes "path") rs))
+    (on_session (required (codes "action") rs) (first_of (codes "path") rs))
 asked_of verb.Gc rs = with_value (gc (is_given (codes "ignore-liveness") rs)) (limit (first_of (codes "max-freed") rs))
 asked_of verb.Delete rs = Ok (delete (is_given (codes "ignore-liveness") rs) (all_values (codes "path") rs))
 asked_of verb.Serve rs = with_value serve (served (number 16 (codes "port") rs) (number 32 (codes "connections") rs))

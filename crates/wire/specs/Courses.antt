@@ -78,7 +78,7 @@ Reads dir c kind target body course =
 abbrev pub Loses : Settings → Caller → Kind → List ℕ → List ℕ → Course → Type 0
 Loses s c kind target body course =
     (op : Operation) × AsksOfRules s.store_dir kind target body op
-        × (course ≡ replies (response_to s.store_dir (lost_reply s c op)))
+    × (course ≡ replies (response_to s.store_dir (lost_reply s c op)))
 
 abbrev pub Follows : Settings → List ℕ → List ℕ → Admission → Course → Type 0
 Follows s target body (refuses it) course = course ≡ replies it

@@ -54,7 +54,7 @@ module _ {S : Type 0} (answers : S → RequestHead → List ℕ → Replied → 
       → Option (List (List ℕ)) → Option (List ℕ) → Option (List ℕ) → S → S → ℕ → Type 0
   ServesListener n waiting waiting' closed closed' err err' old new status =
       (result : Result ℕ Error) × (said : Option (List ℕ))
-          × ServesOn answers n waiting waiting' closed closed' err said old new result × EndsOn result said err' status
+      × ServesOn answers n waiting waiting' closed closed' err said old new result × EndsOn result said err' status
 
   -- a number of connections are served of a listener, of which nothing is known; or there was no memory to begin with
   abbrev pub ServesOver : ℕ → Option (List ℕ) → Option (List ℕ) → S → S → Result ℕ Error → Type 0

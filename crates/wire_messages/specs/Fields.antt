@@ -50,7 +50,7 @@ is_number text = nat_lt 0 (length text) && list_all is_ascii_digit text
 abbrev pub stated : List ℕ → Result ℕ Fault
 stated text =
     cond (is_number text) (cond (nat_le (digits_value 10 text) max_body) (Ok (digits_value 10 text)) (Err TooLarge))
-        (Err BadLength)
+    (Err BadLength)
 
 -- by the values of `transfer-encoding` and of `content-length`
 abbrev pub length_by : List (List ℕ) → List (List ℕ) → Result ℕ Fault

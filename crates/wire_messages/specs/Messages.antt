@@ -28,7 +28,7 @@ FaultOfHead input fault =
 abbrev pub EndsInside : List ℕ → Type 0
 EndsInside input =
     (h : RequestHead) × (after : List ℕ) × (size : ℕ) × IsHead input h after × (body_length (fields_of h) ≡ Ok size)
-        × (length after < size)
+    × (length after < size)
 
 -- The input begins with no message, for this fault.
 abbrev pub IsFault : List ℕ → Fault → Type 0

@@ -34,7 +34,7 @@ module _ {S : Type 0} (answers : S → RequestHead → List ℕ → Replied → 
   abbrev pub IsAnswered : List ℕ → List ℕ → S → Exchange → S → Type 0
   IsAnswered all held' s x s' =
       (a : Answers all s (replied x.response) s') × (x.close ≡ closes a.h)
-          × (held' ≡ drop (a.head.spans.len + a.size) all)
+      × (held' ≡ drop (a.head.spans.len + a.size) all)
 
   -- nothing was answered, or the response is lost
   abbrev pub IsLost : List ℕ → S → S → Type 0

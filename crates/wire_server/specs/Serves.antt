@@ -49,7 +49,7 @@ abbrev pub IsWritten : WireError → List (List ℕ) → List ℕ → Type 0
 IsWritten Read replies bytes = bytes ≡ joined replies
 IsWritten Write replies bytes =
     (before : List (List ℕ)) × (last : List ℕ) × (n : ℕ) × (replies ≡ before ++ last ∷ []) × (n < length last)
-        × (bytes ≡ joined before ++ take n last)
+    × (bytes ≡ joined before ++ take n last)
 IsWritten Memory replies bytes =
     (bytes ≡ joined replies)
     ⊎ ((before : List (List ℕ)) × (last : List ℕ) × (replies ≡ before ++ last ∷ []) × (bytes ≡ joined before))
@@ -64,7 +64,7 @@ module _ {S : Type 0} (answers : S → RequestHead → List ℕ → Replied → 
   Replies s [] [] new = new ≡ s
   Replies s (message h body ∷ items) (reply ∷ replies) new =
       (mid : S) × (r : Replied) × answers s h body r mid × (reply ≡ reply_bytes (closes h) r)
-          × Replies mid items replies new
+      × Replies mid items replies new
   Replies s (faulty fault ∷ items) (reply ∷ replies) new = (reply ≡ fault_reply fault) × Replies s items replies new
   Replies s [] (reply ∷ replies) new = ⊥
   Replies s (item ∷ items) [] new = ⊥

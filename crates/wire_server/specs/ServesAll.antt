@@ -41,7 +41,7 @@ module _ {S : Type 0} (answers : S → RequestHead → List ℕ → Replied → 
       → Result ℕ Error → Type 0
   ServesOn n waiting waiting' closed closed' err err' old new (Ok count) =
       (sessions : List Session) × Serves waiting waiting' closed closed' err err' old new sessions
-          × (length sessions ≡ n) × (count ≡ failures sessions)
+      × (length sessions ≡ n) × (count ≡ failures sessions)
   ServesOn n waiting waiting' closed closed' err err' old new (Err fault) =
       (sessions : List Session) × Serves waiting waiting' closed closed' err err' old new sessions
-          × (length sessions < n)
+      × (length sessions < n)
