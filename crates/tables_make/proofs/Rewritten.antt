@@ -19,7 +19,7 @@ use Rattle.tables_schema.specs.declared.schema.Schema.TheVariants.{V1, V2, V3}
 use Rattle.tables_schema.specs.Schemas.{schema_text}
 use Rattle.tables_world.specs.Worlds.{rows_of, IsSoundBy}
 use Rattle.tables_world.proofs.Migrating.{rising, or_none, piece_of, get-migrated_piece, get-migrated_row}
-use Rattle.tables_world.proofs.Told.{whole}
+use Rattle.tables_world.proofs.Reported.{whole}
 use Rattle.tables_make.specs.Cutting.{cut_found, cut_object, cut_objects, renumbered}
 use Rattle.tables_make.specs.Migrated.{migrated_contents}
 use Rattle.tables_make.proofs.Cuts.{taken_once, none_further}

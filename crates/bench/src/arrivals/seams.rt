@@ -121,7 +121,7 @@ fn show_pieces(
     } else {
         "something else"
     };
-    println!(rt; "{len} bytes in pieces of {size}: {told}")
+    println!(rt; "{len} bytes in pieces of {size}: {reported}")
 }
 
 /// Says it of pieces of a byte, and of a byte less than those that are kept.
