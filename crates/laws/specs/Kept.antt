@@ -1,4 +1,4 @@
--- Laws of what settings keep, and of what goes up to a limit.
+-- Laws of what settings keep, and of collections up to a limit.
 use Rattle.std.specs.Prelude.{◌≡◌, ◌↔◌, ℕ, List, Some, IsTrue}
 use Rattle.std.specs.FinMap as finite
 use Rattle.live.specs.Graph.{IsEdge}
@@ -18,7 +18,7 @@ pub data KeepsPath (s : Settings) (w : World) (q p : Path) : Type 0 where
   deriver : (o : Object) → finite.get w.objects q ≡ Some o → IsTrue (has w p) → IsTrue s.keep_derivations
       → o.deriver ≡ Some p → KeepsPath s w q p
 
--- exactly so the edges go, along which roots reach
+-- these are exactly the edges along which roots reach
 abbrev pub EdgesAsSet : Type 0
 EdgesAsSet = (s : Settings) (w : World) (q p : Path) → IsEdge (keep_of s) (graph_of w) q p ↔ KeepsPath s w q p
 

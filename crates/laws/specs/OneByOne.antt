@@ -20,8 +20,8 @@ abbrev pub HasNoCycle : World → Type 0
 HasNoCycle w =
     (p q : Path) → Reaches references_alone (graph_of w) p q → Reaches references_alone (graph_of w) q p → p ≡ q
 
--- A path may go once these are gone: it is valid and dead, and isn't gone yet; all that refer to it are gone, but for
--- itself; and the archives of those that are gone have fewer bytes than the limit.
+-- A path may be deleted next if it is valid, dead and not deleted yet, all others that refer to it are deleted, and the
+-- archives deleted so far have fewer bytes than the limit.
 pub record MayGo (s : Settings) (w : World) (limit : ℕ) (gone : List Path) (p : Path) : Type 0 where
   pub present : IsTrue (has w p)
   pub dead : IsFalse (lives s w p)
@@ -30,8 +30,8 @@ pub record MayGo (s : Settings) (w : World) (limit : ℕ) (gone : List Path) (p 
       → IsTrue (finite.contains_key o.references p) → (q ≡ p → ⊥) → Contains gone q
   pub wanted : (bytes : ℕ) → Weigh w gone bytes → bytes < limit
 
--- What was deleted is what may be, one path after another, each the least of those that may; and at the end the
--- archives have as many bytes as the limit, or no dead path is left.
+-- Paths are deleted one by one, each the least that may be next. At the end the archives deleted have as many bytes as
+-- the limit, or no dead path is left.
 pub record CollectsOneByOne (s : Settings) (w : World) (limit : ℕ) (new : World) : Type 0 where
   pub order : List Path
   pub each : (front back : List Path) (p : Path) → order ≡ front ++ p ∷ back → MayGo s w limit front p

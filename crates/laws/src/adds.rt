@@ -9,7 +9,7 @@ ghost use Rattle.laws.specs.ReadOnly.{ArchivesAreTheObjects, RecordsAdds, Record
 ghost use Rattle.laws.specs.AddFaults.{DigestsComeFirst, MissingAreMissing, TextsAreMeasured};
 ghost use Rattle.laws.specs.AddOrder.{ImportFaultsInOrder, SourceFaultsInOrder, TextFaultsInOrder};
 
-/// An add answers the path and gains exactly the object that was passed, or nothing where its path was valid.
+/// An add answers its path, and adds exactly the object that was supplied, or nothing if the path was valid.
 pub fn adds_are_exact()
     ensures text { (s : Settings) (name : List ℕ) (refs : List Path) (contents : List ℕ) →
         AddsExactly s (add_text name refs contents) (with_text s.store_dir name refs contents) }

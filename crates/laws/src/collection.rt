@@ -11,8 +11,8 @@ ghost use Rattle.laws.specs.Kept.{EdgesAsSet, LivingKeep};
 ghost use Rattle.laws.specs.OneByOne.{ReferrersGoFirst};
 ghost use Rattle.laws.specs.Cycles.{CyclesGoByTheLeast};
 
-/// A collection keeps exactly what lives, and a second one frees nothing; with a limit some dead paths go, and no reference that is
-/// left points at one of them.
+/// A collection deletes exactly the dead paths, and a second one frees nothing. With a limit it deletes some of them, and no reference
+/// that is left leads to one.
 pub fn collection_is_exact()
     ensures all { Collects }
     ensures limited { CollectsUpToALimit }

@@ -3,7 +3,7 @@
 ghost use Rattle.model.specs.Collection.{LeavesNoReference};
 ghost use Rattle.laws.specs.Changes.{Deletes};
 
-/// A deletion takes exactly what reaches a named path by references.
+/// A deletion deletes exactly the paths that reach a named path by references.
 pub fn deletions_are_exact()
     ensures { Deletes }
 {}

@@ -23,13 +23,13 @@ pub fn faulty_settings_are_unsound()
     ensures { (c : Contents) → ExcludesFaultySettings c }
 {}
 
-/// An object isn't sound whose path or deriver is no base name, whose archive is none, whose digest is of other bytes, or whose address
-/// is none, that of other contents, or next to a reference to itself.
+/// Rows aren't sound if an object's path or deriver is no base name, its archive is none, its digest is of other bytes, or its address
+/// is none, is another object's, or comes with a reference to itself.
 pub fn faulty_objects_are_unsound()
     ensures { FaultyObjectsAreUnsound }
 {}
 
-/// References aren't sound that are of no object, to none, or to more than 4,096.
+/// Rows aren't sound if a reference belongs to no object or leads to none, or an object has more than 4,096.
 pub fn faulty_references_are_unsound()
     ensures { (c : Contents) (p : Path) → ExcludesFaultyReferences c p }
 {}
@@ -48,8 +48,8 @@ pub fn faulty_pieces_are_unsound()
     ensures rows { FaultyCutsAreUnsound }
 {}
 
-/// Permanent and user roots aren't sound whose owner or name isn't plain, runtime roots whose label isn't 1 to 256 bytes that print, and none
-/// whose target is no object.
+/// Rows aren't sound if a permanent or user root has an owner or name that isn't plain, a runtime label isn't 1 to 256 bytes that print,
+/// or a target is no object.
 pub fn faulty_roots_are_unsound()
     ensures permanent { FaultyPermanentAreUnsound }
     ensures user_roots { FaultyUserRootsAreUnsound }

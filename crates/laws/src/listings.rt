@@ -7,7 +7,7 @@ ghost use Rattle.laws.specs.Laws.{UsageAddsUp};
 ghost use Rattle.model.specs.Lives.{FirstIsShownFirst, HasExactLiveness, TargetsLive};
 ghost use Rattle.laws.specs.ReadOnly.{ListingsAreTheObjects, ListingsAreExact, ReportsAreExact, RootListingsAreExact, ReadingChangesNothing};
 
-/// A listing that is answered is that of the tree of which the object's archive is.
+/// The listing that is answered is that of the object's archive.
 pub fn listings_are_of_the_object()
     ensures { ListingsAreTheObjects }
 {}

@@ -2,7 +2,7 @@
 
 ghost use Rattle.laws.specs.Generations.{DeletesGenerations, RollsBackAsSpecified, SetsAsSpecified, SwitchesAsSpecified};
 
-/// A profile gets, goes to or loses the generation that the request says, and every other generation stays.
+/// A profile request sets, makes current or deletes exactly the generation it asks for, and every other generation stays.
 pub fn profiles_change_exactly()
     ensures set { SetsAsSpecified }
     ensures back { RollsBackAsSpecified }

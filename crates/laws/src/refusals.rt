@@ -33,8 +33,8 @@ pub fn first_faults_are_reported()
     ensures named { NamedAreValid }
 {}
 
-/// A request is refused for a fault that it has, what is said of a path is said of a valid one, and a deletion is denied for the first of
-/// the named that lives.
+/// A request is refused only for a fault that it has. Answers about a path are for a valid path. A deletion is denied for the first
+/// named path that is live.
 pub fn refusals_and_denials_have_reasons()
     ensures refusals { RefusalsHaveReasons }
     ensures reported { MentionedAreValid }

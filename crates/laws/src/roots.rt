@@ -31,8 +31,8 @@ pub fn roots_that_were_set_are_listed()
     ensures { RootsSetAreListed }
 {}
 
-/// A root that was dropped isn't told to whoever asks next, and each other root is as before; nor is its label, but of a runtime root
-/// that has the same.
+/// After a root was dropped, no listing has it, and each other root is listed as before. Its label is shown only to a trusted caller,
+/// for a runtime root with the same label.
 pub fn roots_that_were_dropped_are_not_listed()
     ensures roots { DropsAreListed }
     ensures labels { DroppedLabelsAreNotListed }

@@ -27,8 +27,8 @@ pub fn all_but_strangers_may_ask()
     ensures never { NobodyIgnoresLiveness }
 {}
 
-/// Whoever calls: what another owns only loses by it, and only by calls that drop, delete or end. A trusted caller is allowed these,
-/// and each caller but a stranger all that there is with what they own.
+/// A call by anyone else can only drop, delete or end what an owner has. The rules allow that to trusted callers, and to each caller but
+/// a stranger everything on what they own.
 pub fn owners_are_respected()
     ensures others { OthersOnlyLose }
     ensures trusted { TrustedMay }

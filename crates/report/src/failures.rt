@@ -5,7 +5,7 @@ ghost use Rattle.store_types.specs.View.{failure_view};
 
 use tables_sql::failure::Failure as StoreFailure;
 
-/// What gave out, so that there is neither a result nor a refusal. Users see its word.
+/// Why there is neither a result nor a refusal. Users see the word.
 #[derive(Clone, Copy, PartialEq, Eq, Debug)]
 pub enum Failure {
     /// Memory was refused.

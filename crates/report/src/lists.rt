@@ -83,7 +83,7 @@ pub fn path_line(alloc: Global, dir: &StoreDir, path: &StorePath) -> Result<Stri
     Ok(text)
 }
 
-/// A full path a line.
+/// The full paths of some paths, one on each line.
 ///
 /// ```rust
 /// use paths::{StoreDir, StorePath};
@@ -107,7 +107,7 @@ pub fn paths_text(alloc: Global, dir: &StoreDir, paths: &[StorePath]) -> Result<
     Ok(text)
 }
 
-/// A label and the full path of a target a line.
+/// The label and the full target of each root, one root on each line.
 ///
 /// ```rust
 /// use paths::{StoreDir, StorePath};

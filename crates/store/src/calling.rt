@@ -177,7 +177,8 @@ impl<S: Alter> Store<S> {
     /// ```
     pub fn call(&mut self, caller: &Caller, request: Request) -> Reply
         ensures settings { self.new.settings ≡ self.old.settings }
-        // Of each world that the tables told, a step to one that they tell now; an answer from the disk is right if that is clean.
+        // From each world that the tables described, a step to one that they describe now; an answer from the disk is right if that
+        // is clean.
         ensures step { (w : World) → HasWorld S.Store self.old.tables w → (next : World)
             × StepOver (HasCleanDisk (state S.Store self.new.tables.connection))
             self.old.settings w caller.now (request_view request) (reply_view result) next

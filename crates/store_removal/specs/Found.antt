@@ -1,4 +1,4 @@
--- Paths that go, or a denial that shows what keeps them.
+-- Paths that are removed, or a denial that shows what keeps them.
 use Rattle.std.specs.Prelude.{◌≡◌, ℕ, Bool, true, false, List, Option, Some, None, String}
 use Rattle.std.specs.List.{list_any}
 use Rattle.std.specs.declared.alloc.Global.{Global}

@@ -25,6 +25,6 @@ rows_in o = map row_in (finite.entries o.objects)
 abbrev pub lives_in : Settings → OutlineValue → Path → Bool
 lives_in s o p = is_live (keep_of s) (graph_of (rows_in o)) (roots_of (rooted o)) p
 
--- a path that lives where those are wanted, and one that is dead where these are
+-- whether a path is live, if live ones are asked for, or else dead
 abbrev pub is_wanted : Bool → Bool → Bool
 is_wanted wanted lives = if wanted then lives else not lives

@@ -1,4 +1,4 @@
--- Objects go.
+-- Removal of objects.
 use Rattle.std.specs.Prelude.{◌≡◌, ℕ, not, List, None}
 use Rattle.policy.specs.Settings.{Settings}
 use Rattle.policy.specs.Caller.{Caller}

@@ -110,7 +110,7 @@ pub fn collected_paths(
     }
 }
 
-/// The dead paths that go.
+/// The paths that a collection removes, and the sum of their bytes.
 pub fn find_collected(
     alloc: Global,
     config: &Config,
@@ -128,7 +128,7 @@ pub fn find_collected(
     Ok(Found { paths, bytes })
 }
 
-/// Dead objects go, if there are any: all, or with a limit as many as it takes.
+/// Deletes the dead objects: all, or with a limit as many groups as it takes.
 pub fn collect<S: Alter>(
     alloc: Global,
     config: &Config,

@@ -94,8 +94,8 @@ pub fn deleted_paths(
     referring(alloc, &rows, &places)
 }
 
-/// What a denial shows where a path that is to be deleted by name lives: the first root of the first that does, as the caller sees
-/// it.
+/// What denies a deletion of a live path: the first root of the first named path that is live, as the caller sees it. `None` if all
+/// are dead.
 pub fn denial(
     alloc: Global,
     config: &Config,
@@ -129,7 +129,7 @@ pub fn find_deleted(alloc: Global, outline: &Outline, named: &[StorePath]) -> Re
     Ok(Found { paths, bytes })
 }
 
-/// The named objects go, and all that refer to them. That the world is sound without these is the caller's condition.
+/// Deletes the named objects and all that reach one by references. The caller ensures that the world without them is sound.
 pub fn delete<S: Alter>(
     alloc: Global,
     tables: &mut Tables<S>,

@@ -16,7 +16,7 @@ reads_disk (ls p) = true
 reads_disk _ = false
 
 -- A step. An answer from the disk is the right one if the disk is clean: so far it has given back what it was given.
--- All else holds in any case: the rules, the tests, the failures, and what becomes of the world.
+-- All else is true over any disk: the rules, the tests, the failures, and what becomes of the world.
 abbrev pub StepOver : Type 0 → Settings → World → Caller → Request → Reply → World → Type 0
 StepOver is_clean s w c q (done a) next =
     Step s w c q (done (answer s w c q)) next × ((IsTrue (reads_disk q) → is_clean) → a ≡ answer s w c q)

@@ -92,7 +92,7 @@ answer_view (TemporaryCount n) = replied.temporary_count n
 answer_view (Freed ps n) = replied.freed ps.items n
 answer_view (UsageOf live dead total) = replied.usage (usage_view live) (usage_view dead) (usage_view total)
 
--- what a call wanted
+-- what a call ran out of, or what failed
 abbrev pub failure_view : Failure → replied.Failure
 failure_view Memory = replied.memory
 failure_view Size = replied.size

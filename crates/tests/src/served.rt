@@ -136,7 +136,7 @@ fn served_from_readers_that_fail(rt: HostRuntime) -> Result<(), Fail> {
     Ok(())
 }
 
-// What is written is a front of the replies, and the text is added where the first of them is whole.
+// What is written is a prefix of the replies, and the text is added if the first of them is whole.
 #[test]
 fn served_to_writers_that_fail(rt: HostRuntime) -> Result<(), Fail> {
     let alloc = rt.alloc();

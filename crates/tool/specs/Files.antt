@@ -29,7 +29,7 @@ AnswersCause dir BadSchema w = Answers (Err (Refused refusal.BadSchema)) w
 AnswersCause dir OtherStoreDir w = Answers (Err (Refused refusal.OtherStoreDir)) w
 AnswersCause dir (Lacks f) w = IsPrinted dir (failed (failure_view f)) w
 
--- By what the file held that is opened. Which that is no code reads, so what is said here holds whatever it was.
+-- `start` says what the file had. No code reads it, so these definitions are true for every value.
 module _ {S : Type 0} {host : calls.Ghosts Host} (start : Ghosts S) (g : disk.Ghosts (Modelled Host S host start)) where
   -- the file was opened as the store of the directory, and the work is done over its tables
   abbrev pub DoesOpened : Doing

@@ -21,9 +21,9 @@ use tool_words::{ServeArguments, Task};
 /// What a command line does with a store.
 #[derive(Drop)]
 pub(crate) enum Work<'a> {
-    /// Asks it for a caller what a subcommand says.
+    /// Makes the request of a subcommand, for a caller.
     Call(&'a Caller, &'a Task<'a>),
-    /// Serves it over HTTP.
+    /// Serves the store over HTTP.
     Serve(ServeArguments),
 }
 

@@ -25,7 +25,7 @@ pub fn serve<S: Alter, W: Write, E: Write>(
     output: &mut W,
     errors: &mut E,
 ) -> u8
-    // The store takes one step, and the reply of that step is what is told.
+    // The store takes one step, and the reply of that step is printed.
     ensures { (reply : replied.Reply) × Calls S.Store caller.now (request_view request) reply store.old store.new
         × IsPrinted store.old.settings.store_dir reply (record {
           output = change_of W.contents output.old output.new;

@@ -10,7 +10,7 @@ use streams::ReadError;
 pub enum Stop {
     /// What is asked can't be had: exit status 3.
     Refused(Refusal),
-    /// The world outside gave out: exit status 1.
+    /// Memory, the disk, a file or a stream failed: exit status 1.
     Failed(Failure),
 }
 

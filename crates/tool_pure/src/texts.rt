@@ -17,7 +17,7 @@ use std::io::{Read, Write};
 /// The longest contents whose archive isn't too large.
 const MAX_CONTENTS: usize = 16_777_104;
 
-/// One byte more.
+/// How many bytes of contents are read at most: one more than a text may have.
 pub const MOST_OF_CONTENTS: usize = 16_777_105;
 
 fn text_line(

@@ -78,9 +78,9 @@ pub struct ObjectArguments<'a> {
 /// A root that has a name.
 #[derive(Clone, Copy, PartialEq, Eq, Debug)]
 pub enum RootKind {
-    /// Nobody's own.
+    /// A permanent root.
     Permanent,
-    /// The caller's.
+    /// A root of the caller.
     User,
 }
 
@@ -98,7 +98,7 @@ pub struct RootArguments<'a> {
 /// Whose root is dropped.
 #[derive(Debug, Drop)]
 pub enum Unrooted<'a> {
-    /// Nobody's: a permanent root.
+    /// A permanent root, which has no owner.
     Permanent,
     /// A root of the user who is named, else of the caller.
     User(Option<&'a str>),
@@ -162,7 +162,7 @@ pub struct TempArguments<'a> {
 pub struct GcArguments {
     /// Whether liveness is to be ignored.
     pub ignore_liveness: bool,
-    /// After how many bytes it may stop.
+    /// The number of freed bytes at which the collection stops; none without a limit.
     pub max_freed: Option<u64>,
 }
 

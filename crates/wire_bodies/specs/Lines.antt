@@ -76,7 +76,7 @@ abbrev pub EntryOf : List ℕ → Option (Bor (List ℕ) × Bor (List ℕ)) → 
 EntryOf line None = (k v : List ℕ) → line ≡ entry_text (k, v) → Lacks 58 k → IsUtf8 line → ⊥
 EntryOf line (Some parts) = (line ≡ entry_text (parts.0.now, parts.1.now)) × Lacks 58 parts.0.now × IsUtf8 line
 
--- the first entry is passed, and told; or there is none
+-- the first entry is returned, and the lines begin after it; or there is none
 abbrev pub Passes : List Entry → List Entry → Option (Bor (List ℕ) × Bor (List ℕ)) → Type 0
 Passes old new None = old ≡ []
 Passes old new (Some parts) = old ≡ (parts.0.now, parts.1.now) ∷ new

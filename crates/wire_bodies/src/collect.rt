@@ -14,7 +14,7 @@ use paths::numbers::decimal;
 /// What a collection says.
 #[derive(Clone, Copy, Debug, PartialEq, Eq)]
 pub struct CollectHead {
-    /// How many bytes of archives are to go at most, but for the last paths that go.
+    /// The number of freed bytes at which the collection stops; none without a limit.
     pub max_freed: Option<u64>,
     pub ignore_liveness: Option<bool>,
 }

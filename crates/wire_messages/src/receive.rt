@@ -90,7 +90,7 @@ fn find_head<R: Read>(
     }
 }
 
-/// Reads until the buffer begins with a whole head, or can't, or nothing is left.
+/// Reads until the buffer begins with a whole head, no head can begin it, or the input ends.
 ///
 /// # Errors
 ///

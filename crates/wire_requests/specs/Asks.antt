@@ -28,7 +28,7 @@ generation_in text = number_up_to 9999 text
 abbrev pub session_in : List ℕ → ℕ
 session_in text = number_up_to 4194304 text
 
--- the request that names in a target say whole
+-- the request that the parameters of a target make without a body
 abbrev pub by_names : Kind → List ℕ → Option Request
 by_names kinds.DropPermanent target = Some (drop_permanent (name at_permanent target))
 by_names kinds.DropUserRoot target = Some (drop_user_root (user at_user_root target) (name at_user_root target))
@@ -41,7 +41,7 @@ by_names kinds.DeleteGeneration target =
 by_names kinds.EndSession target = Some (end_session (user at_temp target) (session_in (session at_temp target)))
 by_names _ target = None
 
--- the request of a kind that wants nothing else
+-- the request of a kind without a body, with parameters or none
 abbrev pub by_target : Kind → List ℕ → Option Request
 by_target kinds.List target = Some list
 by_target kinds.ListRoots target = Some list_roots

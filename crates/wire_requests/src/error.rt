@@ -7,7 +7,7 @@ pub enum AskError {
     /// The target names a path that is no base name.
     #[error("bad-store-path")]
     BadPath,
-    /// The body says nothing of the kind.
+    /// The body isn't one that the request takes.
     #[error("bad-body-head")]
     BadBodyHead,
     /// Memory was refused.

@@ -43,8 +43,7 @@ fn read_whole(
     }
 }
 
-/// What a message asks: by the kind that its route and its method stand for, the parameters of its target and its whole body. A text's contents
-/// stay in the buffer of the body, and an archive passes from the body into the request without a copy where the body keeps it apart.
+/// The request of a message, made of its kind, the parameters of its target and its whole body. A text's contents stay in the buffer of the body, and an archive passes from the body into the request without a copy where the body keeps it apart.
 ///
 /// # Errors
 ///

@@ -36,8 +36,8 @@ impl Requests {
         }
     }
 
-    /// The request that the method of a head stands for, if the route has it. What isn't a method is none of the route's, and neither is
-    /// one for which memory is refused: those of routes need none.
+    /// The request of the route for a method. `None` if the route doesn't have the method, also if memory is refused for its word, since
+    /// the routes' own methods take no memory.
     pub fn kind(self, alloc: Global, method: &[u8]) -> Option<Kind>
         ensures { result ≡ spec.kind_of self method.now }
     {
