@@ -1,4 +1,5 @@
 pub mod Bodies
+pub mod Faults
 pub mod Prefix
 pub mod Kinds
 pub mod Lines

@@ -25,9 +25,6 @@ pub fn named_body<'b>(
     let Some(parts) = body_of(body) else {
         return Err(BodyError::BadBodyHead);
     };
-    match named_head(alloc, dir, &parts.entries) {
-        Ok(head) => Ok((head, parts.payload)),
-        Err(BodyError::BadBodyHead) => Err(BodyError::BadBodyHead),
-        Err(BodyError::Memory) => Err(BodyError::Memory),
-    }
+    let head = named_head(alloc, dir, &parts.entries)?;
+    Ok((head, parts.payload))
 }

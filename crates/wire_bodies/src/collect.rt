@@ -45,15 +45,8 @@ pub fn collect_head(entries: &Lines<'_>) -> Result<CollectHead, BodyError>
     if !are_known(entries, &["max-freed", "ignore-liveness"]) {
         return Err(BodyError::BadBodyHead);
     }
-    let max_freed = match number_if_any(entries, "max-freed") {
-        Ok(max_freed) => max_freed,
-        Err(fault) => return Err(fault),
-    };
-    match flag_if_any(entries, "ignore-liveness") {
-        Ok(ignore_liveness) => Ok(CollectHead {
-            max_freed,
-            ignore_liveness,
-        }),
-        Err(fault) => Err(fault),
-    }
+    Ok(CollectHead {
+        max_freed: number_if_any(entries, "max-freed")?,
+        ignore_liveness: flag_if_any(entries, "ignore-liveness")?,
+    })
 }

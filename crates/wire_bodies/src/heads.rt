@@ -41,14 +41,10 @@ pub fn named_head(
     if !are_known(entries, &["name", "reference"]) {
         return Err(BodyError::BadBodyHead);
     }
-    let name = match one_name(alloc, entries, "name") {
-        Ok(name) => name,
-        Err(fault) => return Err(fault),
-    };
-    match each_path(alloc, dir, entries, "reference") {
-        Ok(references) => Ok(NamedHead { name, references }),
-        Err(fault) => Err(fault),
-    }
+    Ok(NamedHead {
+        name: one_name(alloc, entries, "name")?,
+        references: each_path(alloc, dir, entries, "reference")?,
+    })
 }
 
 /// The path that some entries name: `path`, once.
@@ -82,15 +78,8 @@ pub fn delete_head(
     if !are_known(entries, &["path", "ignore-liveness"]) {
         return Err(BodyError::BadBodyHead);
     }
-    let paths = match each_path(alloc, dir, entries, "path") {
-        Ok(paths) => paths,
-        Err(fault) => return Err(fault),
-    };
-    match flag_if_any(entries, "ignore-liveness") {
-        Ok(ignore_liveness) => Ok(DeleteHead {
-            paths,
-            ignore_liveness,
-        }),
-        Err(fault) => Err(fault),
-    }
+    Ok(DeleteHead {
+        paths: each_path(alloc, dir, entries, "path")?,
+        ignore_liveness: flag_if_any(entries, "ignore-liveness")?,
+    })
 }

@@ -38,32 +38,13 @@ pub fn import_head(
     if !are_known(entries, &["path", "nar-hash", "reference", "deriver", "ca"]) {
         return Err(BodyError::BadBodyHead);
     }
-    let path = match one_path(alloc, dir, entries, "path") {
-        Ok(path) => path,
-        Err(fault) => return Err(fault),
-    };
-    let nar_hash = match one_hash(alloc, entries, "nar-hash") {
-        Ok(hash) => hash,
-        Err(fault) => return Err(fault),
-    };
-    let references = match each_path(alloc, dir, entries, "reference") {
-        Ok(references) => references,
-        Err(fault) => return Err(fault),
-    };
-    let deriver = match path_if_any(alloc, dir, entries, "deriver") {
-        Ok(deriver) => deriver,
-        Err(fault) => return Err(fault),
-    };
-    match ca_if_any(alloc, entries, "ca") {
-        Ok(ca) => Ok(ImportHead {
-            path,
-            nar_hash,
-            references,
-            deriver,
-            ca,
-        }),
-        Err(fault) => Err(fault),
-    }
+    Ok(ImportHead {
+        path: one_path(alloc, dir, entries, "path")?,
+        nar_hash: one_hash(alloc, entries, "nar-hash")?,
+        references: each_path(alloc, dir, entries, "reference")?,
+        deriver: path_if_any(alloc, dir, entries, "deriver")?,
+        ca: ca_if_any(alloc, entries, "ca")?,
+    })
 }
 
 /// The import that a body is, and the archive after its empty line, lent and not looked at.
@@ -82,9 +63,6 @@ pub fn import_body<'b>(
     let Some(parts) = body_of(body) else {
         return Err(BodyError::BadBodyHead);
     };
-    match import_head(alloc, dir, &parts.entries) {
-        Ok(head) => Ok((head, parts.payload)),
-        Err(BodyError::BadBodyHead) => Err(BodyError::BadBodyHead),
-        Err(BodyError::Memory) => Err(BodyError::Memory),
-    }
+    let head = import_head(alloc, dir, &parts.entries)?;
+    Ok((head, parts.payload))
 }

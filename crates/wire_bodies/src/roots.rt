@@ -28,14 +28,9 @@ fn root_of(alloc: Global, dir: &StoreDir, text: &str) -> Result<(String, StorePa
     ensures { Answers (λ root. (string_bytes root.0, root.1)) (root_text dir.now text.now) result }
 {
     let (label, path) = parts_at_space(text);
-    let path = match path_of(alloc, dir, path) {
-        Ok(path) => path,
-        Err(fault) => return Err(fault),
-    };
-    match String::from_str(alloc, label) {
-        Ok(label) => Ok((label, path)),
-        Err(_) => Err(BodyError::Memory),
-    }
+    let path = path_of(alloc, dir, path)?;
+    let label = String::from_str(alloc, label)?;
+    Ok((label, path))
 }
 
 /// The roots of the entries of a key, in their order.
@@ -54,14 +49,7 @@ fn each_root(
             return Ok(roots);
         };
         if name == key {
-            match root_of(alloc, dir, value) {
-                Ok(root) => match roots.push(root) {
-                    Ok(()) => {}
-                    Err(_) => return Err(BodyError::Memory),
-                },
-                Err(BodyError::BadBodyHead) => return Err(BodyError::BadBodyHead),
-                Err(BodyError::Memory) => return Err(BodyError::Memory),
-            }
+            roots.push(root_of(alloc, dir, value)?)?;
         }
     }
 }

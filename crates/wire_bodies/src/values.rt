@@ -7,31 +7,21 @@ ghost use Rattle.paths.specs.ContentAddress.{address_of};
 use crate::entries::{Found, find_value};
 use crate::error::BodyError;
 use crate::lines::Lines;
-use paths::{
-    Base32Error, Ca, CaError, Name, NameError, StoreDir, StorePath, StorePathError, unbase32,
-};
+use paths::{Ca, Name, StoreDir, StorePath, unbase32};
 use std::alloc::Global;
 
 /// The path that a path text names.
 pub fn path_of(alloc: Global, dir: &StoreDir, text: &str) -> Result<StorePath, BodyError>
     ensures { Answers (λ p. p) (path_text dir.now text.now) result }
 {
-    match StorePath::parse(alloc, dir, text) {
-        Ok(path) => Ok(path),
-        Err(StorePathError::BadStorePath) => Err(BodyError::BadBodyHead),
-        Err(StorePathError::Memory) => Err(BodyError::Memory),
-    }
+    Ok(StorePath::parse(alloc, dir, text)?)
 }
 
 /// A store name.
 fn name_of(alloc: Global, text: &str) -> Result<Name, BodyError>
     ensures { Answers (λ n. n) (name_text text.now) result }
 {
-    match Name::parse(alloc, text) {
-        Ok(name) => Ok(name),
-        Err(NameError::BadStoreName) => Err(BodyError::BadBodyHead),
-        Err(NameError::Memory) => Err(BodyError::Memory),
-    }
+    Ok(Name::parse(alloc, text)?)
 }
 
 /// The digest that `sha256:` and 52 digits spell.
@@ -41,26 +31,17 @@ fn hash_of(alloc: Global, text: &str) -> Result<[u8; 32], BodyError>
     let Some(digits) = text.strip_prefix("sha256:") else {
         return Err(BodyError::BadBodyHead);
     };
-    match unbase32(alloc, digits, 32) {
-        Ok(bytes) => {
-            let mut hash = [0u8; 32];
-            hash.copy_from_slice(bytes.as_slice());
-            Ok(hash)
-        }
-        Err(Base32Error::Memory) => Err(BodyError::Memory),
-        Err(_) => Err(BodyError::BadBodyHead),
-    }
+    let bytes = unbase32(alloc, digits, 32)?;
+    let mut hash = [0u8; 32];
+    hash.copy_from_slice(bytes.as_slice());
+    Ok(hash)
 }
 
 /// A content address.
 fn ca_of(alloc: Global, text: &str) -> Result<Ca, BodyError>
     ensures { Answers (λ c. c) (address_of text.now) result }
 {
-    match Ca::parse(alloc, text) {
-        Ok(ca) => Ok(ca),
-        Err(CaError::BadCa) => Err(BodyError::BadBodyHead),
-        Err(CaError::Memory) => Err(BodyError::Memory),
-    }
+    Ok(Ca::parse(alloc, text)?)
 }
 
 /// `true` or `false`.
@@ -102,11 +83,7 @@ pub fn path_if_any(
     ensures { Answers (λ p. p) (optional (path_text dir.now) (values key.now entries.now)) result }
 {
     match find_value(entries, key) {
-        Found::One(text) => match path_of(alloc, dir, text) {
-            Ok(path) => Ok(Some(path)),
-            Err(BodyError::BadBodyHead) => Err(BodyError::BadBodyHead),
-            Err(BodyError::Memory) => Err(BodyError::Memory),
-        },
+        Found::One(text) => Ok(Some(path_of(alloc, dir, text)?)),
         Found::None => Ok(None),
         Found::More => Err(BodyError::BadBodyHead),
     }
@@ -128,14 +105,7 @@ pub fn each_path(
             return Ok(paths);
         };
         if name == key {
-            match path_of(alloc, dir, value) {
-                Ok(path) => match paths.push(path) {
-                    Ok(()) => {}
-                    Err(_) => return Err(BodyError::Memory),
-                },
-                Err(BodyError::BadBodyHead) => return Err(BodyError::BadBodyHead),
-                Err(BodyError::Memory) => return Err(BodyError::Memory),
-            }
+            paths.push(path_of(alloc, dir, value)?)?;
         }
     }
 }
@@ -167,10 +137,7 @@ pub fn ca_if_any(alloc: Global, entries: &Lines<'_>, key: &str) -> Result<Option
     ensures { Answers (λ c. c) (optional address_of (values key.now entries.now)) result }
 {
     match find_value(entries, key) {
-        Found::One(text) => match ca_of(alloc, text) {
-            Ok(ca) => Ok(Some(ca)),
-            Err(fault) => Err(fault),
-        },
+        Found::One(text) => Ok(Some(ca_of(alloc, text)?)),
         Found::None => Ok(None),
         Found::More => Err(BodyError::BadBodyHead),
     }
@@ -181,10 +148,7 @@ pub fn flag_if_any(entries: &Lines<'_>, key: &str) -> Result<Option<bool>, BodyE
     ensures { Answers (λ f. f) (optional flag_text (values key.now entries.now)) result }
 {
     match find_value(entries, key) {
-        Found::One(text) => match flag_of(text) {
-            Ok(flag) => Ok(Some(flag)),
-            Err(fault) => Err(fault),
-        },
+        Found::One(text) => Ok(Some(flag_of(text)?)),
         Found::None => Ok(None),
         Found::More => Err(BodyError::BadBodyHead),
     }

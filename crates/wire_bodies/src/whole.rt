@@ -48,10 +48,8 @@ pub fn path_body(alloc: Global, dir: &StoreDir, body: &[u8]) -> Result<StorePath
     ensures ok { IfOk result (λ path. Says (IsPath dir.now) body.now path) }
     ensures bad { result ≡ Err BodyError.BadBodyHead → (path : List ℕ) → Says (IsPath dir.now) body.now path → ⊥ }
 {
-    match entries_of(body) {
-        Ok(entries) => path_head(alloc, dir, &entries),
-        Err(fault) => Err(fault),
-    }
+    let entries = entries_of(body)?;
+    path_head(alloc, dir, &entries)
 }
 
 /// The deletion that a body is: any number of `path`, and `ignore-liveness` at most once.
@@ -63,10 +61,8 @@ pub fn delete_body(alloc: Global, dir: &StoreDir, body: &[u8]) -> Result<DeleteH
     ensures ok { IfOk result (λ head. Says (IsDelete dir.now) body.now head) }
     ensures bad { result ≡ Err BodyError.BadBodyHead → (head : DeleteOf) → Says (IsDelete dir.now) body.now head → ⊥ }
 {
-    match entries_of(body) {
-        Ok(entries) => delete_head(alloc, dir, &entries),
-        Err(fault) => Err(fault),
-    }
+    let entries = entries_of(body)?;
+    delete_head(alloc, dir, &entries)
 }
 
 /// The collection that a body is: `max-freed` and `ignore-liveness`, each at most once.
@@ -78,10 +74,8 @@ pub fn collect_body(alloc: Global, body: &[u8]) -> Result<CollectHead, BodyError
     ensures ok { IfOk result (λ head. Says IsCollect body.now head) }
     ensures bad { result ≡ Err BodyError.BadBodyHead → (head : CollectOf) → Says IsCollect body.now head → ⊥ }
 {
-    match entries_of(body) {
-        Ok(entries) => collect_head(&entries),
-        Err(fault) => Err(fault),
-    }
+    let entries = entries_of(body)?;
+    collect_head(&entries)
 }
 
 /// The labels and paths that a body names: any number of `root`, each a label, a space and a path text.
@@ -97,8 +91,6 @@ pub fn runtime_body(
     ensures ok { IfOk result (λ roots. Says (IsRuntime dir.now) body.now (labelled roots.items)) }
     ensures bad { result ≡ Err BodyError.BadBodyHead → (roots : List (List ℕ × List ℕ)) → Says (IsRuntime dir.now) body.now roots → ⊥ }
 {
-    match entries_of(body) {
-        Ok(entries) => runtime_head(alloc, dir, &entries),
-        Err(fault) => Err(fault),
-    }
+    let entries = entries_of(body)?;
+    runtime_head(alloc, dir, &entries)
 }

@@ -2,5 +2,5 @@ use Rattle.wire_bodies.specs.Bodies.{IsRuntime}
 use Rattle.wire_bodies.proofs.Alone.{says_none}
 use Rattle.wire_bodies.proofs.whole.runtime_body.Goals as goal
 
-pub returns-in-Ok-clause-bad : goal.returns-in-Ok-clause-bad
-returns-in-Ok-clause-bad c = λ same. says_none (IsRuntime c.args.dir.now) c.args.body.now c.in-Ok.entries c.in-Ok.ensures.ok (c.runtime_head.ensures.bad same)
+pub returns-clause-bad : goal.returns-clause-bad
+returns-clause-bad c = λ same. says_none (IsRuntime c.args.dir.now) c.args.body.now c.in_ok-entries.entries c.in_ok-entries.ensures.ok (c.runtime_head.ensures.bad same)
