@@ -4,6 +4,7 @@ pub mod Copied
 pub mod Fits
 pub mod Fronts
 pub mod Inserted
+pub mod Nothing
 pub mod Parting
 pub mod Payloads
 pub mod Placed

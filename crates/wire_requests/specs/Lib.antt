@@ -1,4 +1,5 @@
 pub mod Asks
+pub mod Faults
 pub mod Kept
 pub mod Left
 pub mod Methods

@@ -39,39 +39,29 @@ fn text_prefix(alloc: Global, dir: &StoreDir, body: &[u8]) -> Result<(NamedHead,
     ensures bad { result ≡ Err BodyError.BadBodyHead → (head : NamedOf) (contents : List ℕ)
         → IsNamedBody dir.now body.now head contents → ⊥ }
 {
-    match named_body(alloc, dir, body) {
-        Ok((head, contents)) => Ok((head, body.len().saturating_sub(contents.len()))),
-        Err(BodyError::BadBodyHead) => Err(BodyError::BadBodyHead),
-        Err(BodyError::Memory) => Err(BodyError::Memory),
-    }
+    let (head, contents) = named_body(alloc, dir, body)?;
+    Ok((head, body.len().saturating_sub(contents.len())))
 }
 
 /// A text, of a body in one buffer.
 fn read_text(alloc: Global, dir: &StoreDir, body: Vec<u8>) -> Result<Request, AskError>
     ensures { (target : List ℕ) → Reads dir.now kinds.AddText target body.items result }
 {
-    match text_prefix(alloc, dir, &body) {
-        Ok((head, start)) => {
-            let NamedHead { name, references } = head;
-            Ok(Request::AddText {
-                name,
-                refs: references,
-                contents: without_prefix(body, start),
-            })
-        }
-        Err(BodyError::BadBodyHead) => Err(AskError::BadBodyHead),
-        Err(BodyError::Memory) => Err(AskError::Memory),
-    }
+    let (head, start) = text_prefix(alloc, dir, &body)?;
+    let NamedHead { name, references } = head;
+    Ok(Request::AddText {
+        name,
+        refs: references,
+        contents: without_prefix(body, start),
+    })
 }
 
 /// A text. Its contents stay in the buffer of the body.
 pub(crate) fn add_text(alloc: Global, dir: &StoreDir, body: Body) -> Result<Request, AskError>
     ensures { (target : List ℕ) → Reads dir.now kinds.AddText target body result }
 {
-    match body.into_bytes(alloc) {
-        Ok(body) => read_text(alloc, dir, body),
-        Err(_) => Err(AskError::Memory),
-    }
+    let body = body.into_bytes(alloc)?;
+    read_text(alloc, dir, body)
 }
 
 /// The add that a body is, read of its lines before the payload.
@@ -80,11 +70,8 @@ fn named_prefix(alloc: Global, dir: &StoreDir, body: &Parted) -> Result<NamedHea
     ensures bad { result ≡ Err BodyError.BadBodyHead → (head : NamedOf) (nar : List ℕ)
         → IsNamedBody dir.now body.now head nar → ⊥ }
 {
-    match named_body(alloc, dir, body.front()) {
-        Ok((head, _)) => Ok(head),
-        Err(BodyError::BadBodyHead) => Err(BodyError::BadBodyHead),
-        Err(BodyError::Memory) => Err(BodyError::Memory),
-    }
+    let (head, _) = named_body(alloc, dir, body.front())?;
+    Ok(head)
 }
 
 /// The import that a body is, read of its lines before the archive.
@@ -93,32 +80,22 @@ fn import_prefix(alloc: Global, dir: &StoreDir, body: &Parted) -> Result<ImportH
     ensures bad { result ≡ Err BodyError.BadBodyHead → (head : ImportOf) (nar : List ℕ)
         → IsImportBody dir.now body.now head nar → ⊥ }
 {
-    match wire_bodies::import_body(alloc, dir, body.front()) {
-        Ok((head, _)) => Ok(head),
-        Err(BodyError::BadBodyHead) => Err(BodyError::BadBodyHead),
-        Err(BodyError::Memory) => Err(BodyError::Memory),
-    }
+    let (head, _) = wire_bodies::import_body(alloc, dir, body.front())?;
+    Ok(head)
 }
 
 /// An archive, at the path that it is given.
 pub(crate) fn add_source(alloc: Global, dir: &StoreDir, body: Body) -> Result<Request, AskError>
     ensures { (target : List ℕ) → Reads dir.now kinds.AddSource target body result }
 {
-    let Ok(body) = body.into_parted(alloc) else {
-        return Err(AskError::Memory);
-    };
-    match named_prefix(alloc, dir, &body) {
-        Ok(head) => {
-            let NamedHead { name, references } = head;
-            Ok(Request::AddSource {
-                name,
-                refs: references,
-                nar: body.into_archive(),
-            })
-        }
-        Err(BodyError::BadBodyHead) => Err(AskError::BadBodyHead),
-        Err(BodyError::Memory) => Err(AskError::Memory),
-    }
+    let body = body.into_parted(alloc)?;
+    let head = named_prefix(alloc, dir, &body)?;
+    let NamedHead { name, references } = head;
+    Ok(Request::AddSource {
+        name,
+        refs: references,
+        nar: body.into_archive(),
+    })
 }
 
 /// The import of a body's head and an archive.
@@ -153,14 +130,9 @@ pub fn read_import(alloc: Global, dir: &StoreDir, body: Body) -> Result<Request,
     ensures bad { result ≡ Err BodyError.BadBodyHead → (head : ImportOf) (nar : List ℕ) → IsImportBody dir.now body
         head nar → ⊥ }
 {
-    let Ok(body) = body.into_parted(alloc) else {
-        return Err(BodyError::Memory);
-    };
-    match import_prefix(alloc, dir, &body) {
-        Ok(head) => Ok(imported(head, body.into_archive())),
-        Err(BodyError::BadBodyHead) => Err(BodyError::BadBodyHead),
-        Err(BodyError::Memory) => Err(BodyError::Memory),
-    }
+    let body = body.into_parted(alloc)?;
+    let head = import_prefix(alloc, dir, &body)?;
+    Ok(imported(head, body.into_archive()))
 }
 
 /// The import that the whole body of `POST /import` asks for: its head, and the archive after its empty line.
@@ -186,19 +158,13 @@ pub fn import_body(alloc: Global, dir: &StoreDir, body: &[u8]) -> Result<Request
         body.now head nar → ⊥ }
 {
     let mut parted = Body::parted(alloc);
-    match parted.take(body) {
-        Ok(()) => read_import(alloc, dir, parted),
-        Err(_) => Err(BodyError::Memory),
-    }
+    parted.take(body)?;
+    read_import(alloc, dir, parted)
 }
 
 /// An object with its path.
 pub(crate) fn import(alloc: Global, dir: &StoreDir, body: Body) -> Result<Request, AskError>
     ensures { (target : List ℕ) → Reads dir.now kinds.Import target body result }
 {
-    match read_import(alloc, dir, body) {
-        Ok(request) => Ok(request),
-        Err(BodyError::BadBodyHead) => Err(AskError::BadBodyHead),
-        Err(BodyError::Memory) => Err(AskError::Memory),
-    }
+    Ok(read_import(alloc, dir, body)?)
 }

@@ -9,7 +9,6 @@ use crate::body::Body;
 use crate::error::AskError;
 use paths::StoreDir;
 use std::alloc::Global;
-use wire_bodies::BodyError;
 
 /// Whether an import is of an object with a content address, by the lines that are left of its body. Nothing where none is left.
 ///
@@ -26,9 +25,6 @@ pub fn left_address(alloc: Global, dir: &StoreDir, body: &Body) -> Result<Option
     if lines.is_empty() {
         return Ok(None);
     }
-    match wire_bodies::import_body(alloc, dir, lines) {
-        Ok((head, _)) => Ok(Some(head.ca.is_some())),
-        Err(BodyError::BadBodyHead) => Err(AskError::BadBodyHead),
-        Err(BodyError::Memory) => Err(AskError::Memory),
-    }
+    let (head, _) = wire_bodies::import_body(alloc, dir, lines)?;
+    Ok(Some(head.ca.is_some()))
 }

@@ -8,7 +8,7 @@ use paths::StoreDir;
 use paths::numbers::session;
 use std::alloc::Global;
 use store_types::Request;
-use wire_bodies::{BodyError, path_body};
+use wire_bodies::path_body;
 
 /// A permanent root.
 pub(crate) fn set_permanent(
@@ -19,14 +19,11 @@ pub(crate) fn set_permanent(
 ) -> Result<Request, AskError>
     ensures { ReadsBy dir.now kinds.SetPermanent parameters body.now result }
 {
-    match path_body(alloc, dir, body) {
-        Ok(path) => Ok(Request::SetPermanent {
-            name: parameters.name,
-            path,
-        }),
-        Err(BodyError::BadBodyHead) => Err(AskError::BadBodyHead),
-        Err(BodyError::Memory) => Err(AskError::Memory),
-    }
+    let path = path_body(alloc, dir, body)?;
+    Ok(Request::SetPermanent {
+        name: parameters.name,
+        path,
+    })
 }
 
 /// A root of a user.
@@ -38,15 +35,12 @@ pub(crate) fn set_user_root(
 ) -> Result<Request, AskError>
     ensures { ReadsBy dir.now kinds.SetUserRoot parameters body.now result }
 {
-    match path_body(alloc, dir, body) {
-        Ok(path) => Ok(Request::SetUserRoot {
-            user: parameters.user,
-            name: parameters.name,
-            path,
-        }),
-        Err(BodyError::BadBodyHead) => Err(AskError::BadBodyHead),
-        Err(BodyError::Memory) => Err(AskError::Memory),
-    }
+    let path = path_body(alloc, dir, body)?;
+    Ok(Request::SetUserRoot {
+        user: parameters.user,
+        name: parameters.name,
+        path,
+    })
 }
 
 /// A generation of a profile.
@@ -58,15 +52,12 @@ pub(crate) fn set_profile(
 ) -> Result<Request, AskError>
     ensures { ReadsBy dir.now kinds.SetProfile parameters body.now result }
 {
-    match path_body(alloc, dir, body) {
-        Ok(path) => Ok(Request::SetProfile {
-            user: parameters.user,
-            profile: parameters.name,
-            path,
-        }),
-        Err(BodyError::BadBodyHead) => Err(AskError::BadBodyHead),
-        Err(BodyError::Memory) => Err(AskError::Memory),
-    }
+    let path = path_body(alloc, dir, body)?;
+    Ok(Request::SetProfile {
+        user: parameters.user,
+        profile: parameters.name,
+        path,
+    })
 }
 
 /// A root of a session.
@@ -78,13 +69,10 @@ pub(crate) fn add_temp(
 ) -> Result<Request, AskError>
     ensures { ReadsBy dir.now kinds.AddTemp parameters body.now result }
 {
-    match path_body(alloc, dir, body) {
-        Ok(path) => Ok(Request::AddTemp {
-            session: session(parameters.session.as_str()),
-            owner: parameters.user,
-            path,
-        }),
-        Err(BodyError::BadBodyHead) => Err(AskError::BadBodyHead),
-        Err(BodyError::Memory) => Err(AskError::Memory),
-    }
+    let path = path_body(alloc, dir, body)?;
+    Ok(Request::AddTemp {
+        session: session(parameters.session.as_str()),
+        owner: parameters.user,
+        path,
+    })
 }

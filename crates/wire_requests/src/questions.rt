@@ -5,7 +5,7 @@ ghost use Rattle.wire_requests.specs.Reads.{ReadsBy, ReadsPath};
 
 use crate::error::AskError;
 use crate::parameters::Parameters;
-use paths::{StorePath, StorePathError};
+use paths::StorePath;
 use std::alloc::Global;
 use store_types::Request;
 use wire_bodies::is_blank;
@@ -14,16 +14,11 @@ use wire_bodies::is_blank;
 fn path_alone(alloc: Global, parameters: &Parameters, body: &[u8]) -> Result<StorePath, AskError>
     ensures { ReadsPath (string_bytes parameters.now.path) body.now result }
 {
-    match StorePath::from_base(alloc, parameters.path.as_str()) {
-        Ok(path) => {
-            if is_blank(body) {
-                Ok(path)
-            } else {
-                Err(AskError::BadBodyHead)
-            }
-        }
-        Err(StorePathError::BadStorePath) => Err(AskError::BadPath),
-        Err(StorePathError::Memory) => Err(AskError::Memory),
+    let path = StorePath::from_base(alloc, parameters.path.as_str())?;
+    if is_blank(body) {
+        Ok(path)
+    } else {
+        Err(AskError::BadBodyHead)
     }
 }
 
@@ -31,12 +26,7 @@ fn path_alone(alloc: Global, parameters: &Parameters, body: &[u8]) -> Result<Sto
 pub(crate) fn info(alloc: Global, parameters: &Parameters, body: &[u8]) -> Result<Request, AskError>
     ensures { (dir : List ℕ) → ReadsBy dir kinds.Info parameters.now body.now result }
 {
-    match path_alone(alloc, parameters, body) {
-        Ok(path) => Ok(Request::Info(path)),
-        Err(AskError::BadPath) => Err(AskError::BadPath),
-        Err(AskError::BadBodyHead) => Err(AskError::BadBodyHead),
-        Err(AskError::Memory) => Err(AskError::Memory),
-    }
+    Ok(Request::Info(path_alone(alloc, parameters, body)?))
 }
 
 /// The archive of a path.
@@ -47,12 +37,7 @@ pub(crate) fn archive(
 ) -> Result<Request, AskError>
     ensures { (dir : List ℕ) → ReadsBy dir kinds.Nar parameters.now body.now result }
 {
-    match path_alone(alloc, parameters, body) {
-        Ok(path) => Ok(Request::Nar(path)),
-        Err(AskError::BadPath) => Err(AskError::BadPath),
-        Err(AskError::BadBodyHead) => Err(AskError::BadBodyHead),
-        Err(AskError::Memory) => Err(AskError::Memory),
-    }
+    Ok(Request::Nar(path_alone(alloc, parameters, body)?))
 }
 
 /// The listing of a path.
@@ -63,12 +48,7 @@ pub(crate) fn listing(
 ) -> Result<Request, AskError>
     ensures { (dir : List ℕ) → ReadsBy dir kinds.Ls parameters.now body.now result }
 {
-    match path_alone(alloc, parameters, body) {
-        Ok(path) => Ok(Request::Ls(path)),
-        Err(AskError::BadPath) => Err(AskError::BadPath),
-        Err(AskError::BadBodyHead) => Err(AskError::BadBodyHead),
-        Err(AskError::Memory) => Err(AskError::Memory),
-    }
+    Ok(Request::Ls(path_alone(alloc, parameters, body)?))
 }
 
 /// The roots that reach it.
@@ -79,10 +59,5 @@ pub(crate) fn roots_of(
 ) -> Result<Request, AskError>
     ensures { (dir : List ℕ) → ReadsBy dir kinds.RootsOf parameters.now body.now result }
 {
-    match path_alone(alloc, parameters, body) {
-        Ok(path) => Ok(Request::RootsOf(path)),
-        Err(AskError::BadPath) => Err(AskError::BadPath),
-        Err(AskError::BadBodyHead) => Err(AskError::BadBodyHead),
-        Err(AskError::Memory) => Err(AskError::Memory),
-    }
+    Ok(Request::RootsOf(path_alone(alloc, parameters, body)?))
 }

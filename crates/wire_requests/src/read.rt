@@ -62,9 +62,9 @@ pub fn read_request(
         Kind::AddText => add_text(alloc, dir, body),
         Kind::AddSource => add_source(alloc, dir, body),
         Kind::Import => import(alloc, dir, body),
-        _ => match body.into_bytes(alloc) {
-            Ok(body) => read_whole(alloc, dir, kind, parameters, &body),
-            Err(_) => Err(AskError::Memory),
-        },
+        _ => {
+            let body = body.into_bytes(alloc)?;
+            read_whole(alloc, dir, kind, parameters, &body)
+        }
     }
 }

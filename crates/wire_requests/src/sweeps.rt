@@ -36,10 +36,8 @@ pub fn runtime_body(alloc: Global, dir: &StoreDir, body: &[u8]) -> Result<Reques
     ensures bad { result ≡ Err BodyError.BadBodyHead → (named : List Pair) → Says (IsRuntime dir.now) body.now named
         → ⊥ }
 {
-    match wire_bodies::runtime_body(alloc, dir, body) {
-        Ok(roots) => Ok(Request::ReplaceRuntime(roots)),
-        Err(fault) => Err(fault),
-    }
+    let roots = wire_bodies::runtime_body(alloc, dir, body)?;
+    Ok(Request::ReplaceRuntime(roots))
 }
 
 /// Runtime roots in place of all others.
@@ -50,43 +48,31 @@ pub(crate) fn replace_runtime(
 ) -> Result<Request, AskError>
     ensures { (target : List ℕ) → Reads dir.now kinds.ReplaceRuntime target body.now result }
 {
-    match runtime_body(alloc, dir, body) {
-        Ok(request) => Ok(request),
-        Err(BodyError::BadBodyHead) => Err(AskError::BadBodyHead),
-        Err(BodyError::Memory) => Err(AskError::Memory),
-    }
+    Ok(runtime_body(alloc, dir, body)?)
 }
 
 /// A collection.
 pub(crate) fn collect(alloc: Global, body: &[u8]) -> Result<Request, AskError>
     ensures { (dir target : List ℕ) → Reads dir kinds.Collect target body.now result }
 {
-    match collect_body(alloc, body) {
-        Ok(head) => Ok(Request::Collect {
-            ignore_liveness: head.ignore_liveness.unwrap_or(false),
-            max_freed: head.max_freed,
-        }),
-        Err(BodyError::BadBodyHead) => Err(AskError::BadBodyHead),
-        Err(BodyError::Memory) => Err(AskError::Memory),
-    }
+    let head = collect_body(alloc, body)?;
+    Ok(Request::Collect {
+        ignore_liveness: head.ignore_liveness.unwrap_or(false),
+        max_freed: head.max_freed,
+    })
 }
 
 /// A deletion.
 pub(crate) fn delete(alloc: Global, dir: &StoreDir, body: &[u8]) -> Result<Request, AskError>
     ensures { (target : List ℕ) → Reads dir.now kinds.Delete target body.now result }
 {
-    match delete_body(alloc, dir, body) {
-        Ok(head) => {
-            let DeleteHead {
-                paths,
-                ignore_liveness,
-            } = head;
-            Ok(Request::Delete {
-                paths,
-                ignore_liveness: ignore_liveness.unwrap_or(false),
-            })
-        }
-        Err(BodyError::BadBodyHead) => Err(AskError::BadBodyHead),
-        Err(BodyError::Memory) => Err(AskError::Memory),
-    }
+    let head = delete_body(alloc, dir, body)?;
+    let DeleteHead {
+        paths,
+        ignore_liveness,
+    } = head;
+    Ok(Request::Delete {
+        paths,
+        ignore_liveness: ignore_liveness.unwrap_or(false),
+    })
 }

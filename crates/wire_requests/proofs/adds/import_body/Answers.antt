@@ -7,12 +7,12 @@ use Rattle.store_types.specs.View.{request_view}
 use Rattle.wire_requests.specs.View.{imported}
 use Rattle.wire_requests.proofs.adds.import_body.Goals as goal
 
-pub returns-in-Ok-clause-ok : goal.returns-in-Ok-clause-ok
-returns-in-Ok-clause-ok c =
-    let all : c.take.new.self ≡ c.args.body.now = c.in-Ok.ensures ∙ ap (λ (t : List ℕ). t ++ c.args.body.now) c.parted-parted.ensures in
+pub returns-clause-ok : goal.returns-clause-ok
+returns-clause-ok c =
+    let all : c.take.new.self ≡ c.args.body.now = c.in_ok-take.ensures ∙ ap (λ (t : List ℕ). t ++ c.args.body.now) c.parted-parted.ensures in
     subst (λ (b : List ℕ). IfOk c.read_import.result (λ q. (head : ImportHead) × (nar : List ℕ) × IsImportBody c.args.dir.now b head nar × (request_view q ≡ import_object (imported head nar)))) all c.read_import.ensures.ok
 
-pub returns-in-Ok-clause-bad : goal.returns-in-Ok-clause-bad
-returns-in-Ok-clause-bad c = λ same head nar is.
-    let all : c.take.new.self ≡ c.args.body.now = c.in-Ok.ensures ∙ ap (λ (t : List ℕ). t ++ c.args.body.now) c.parted-parted.ensures in
+pub returns-clause-bad : goal.returns-clause-bad
+returns-clause-bad c = λ same head nar is.
+    let all : c.take.new.self ≡ c.args.body.now = c.in_ok-take.ensures ∙ ap (λ (t : List ℕ). t ++ c.args.body.now) c.parted-parted.ensures in
     c.read_import.ensures.bad same head nar (subst (λ (b : List ℕ). IsImportBody c.args.dir.now b head nar) (sym all) is)

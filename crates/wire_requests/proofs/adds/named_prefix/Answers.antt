@@ -1,17 +1,18 @@
-use Rattle.std.proofs.Common.{◌≡◌, Err, [], subst, sym, ap, ◌∙◌}
+use Rattle.std.proofs.Common.{[], subst, sym}
 use Rattle.wire_bodies.specs.declared.error.BodyError.TheVariants.{BadBodyHead}
 use Rattle.wire_bodies.specs.Bodies.{IsNamedBody}
+use Rattle.wire_bodies.proofs.Passed.{same_fault}
 use Rattle.wire_requests.proofs.Parting.{named_all, named_prefix}
 use Rattle.wire_requests.proofs.adds.named_prefix.Goals as goal
 
-pub returns-in-Ok-clause-ok : goal.returns-in-Ok-clause-ok
-returns-in-Ok-clause-ok c =
-    let head = c.in-Ok.head in
-    let said = subst (λ front. IsNamedBody c.args.dir.now front head c.in-Ok.field-0-1.now) c.front.ensures c.in-Ok.ensures.ok in
-    named_all c.args.dir.now c.args.body.now head c.in-Ok.field-0-1.now said
+pub returns-clause-ok : goal.returns-clause-ok
+returns-clause-ok c =
+    let head = c.in_ok-head.head in
+    let said = subst (λ front. IsNamedBody c.args.dir.now front head c.in_ok-head.field-0-1.now) c.front.ensures c.in_ok-head.ensures.ok in
+    named_all c.args.dir.now c.args.body.now head c.in_ok-head.field-0-1.now said
 
-pub returns-in-Err-BadBodyHead-clause-bad : goal.returns-in-Err-BadBodyHead-clause-bad
-returns-in-Err-BadBodyHead-clause-bad c = λ same head nar is.
-    let reported : c.named_body.result ≡ Err BadBodyHead = c.in-Err-BadBodyHead.is ∙ ap (λ e. Err e) c.in-Err-BadBodyHead.field-0-is in
+pub returns-in_err-head-clause-bad : goal.returns-in_err-head-clause-bad
+returns-in_err-head-clause-bad c = λ same head nar is.
+    let reported = same_fault c.named_body.result c.from_residual.result c.in_err-head.field-0.0 BadBodyHead c.from_residual.ensures.1 c.in_err-head.was same in
     let front = subst (λ front. IsNamedBody c.args.dir.now front head []) (sym c.front.ensures) (named_prefix c.args.dir.now c.args.body.now head nar is) in
     c.named_body.ensures.bad reported head [] front

@@ -1,8 +1,9 @@
-use Rattle.std.proofs.Common.{◌≡◌, Err, refl, ap, ◌∙◌}
-use Rattle.wire_bodies.specs.declared.error.BodyError.TheVariants.{BadBodyHead}
+use Rattle.std.proofs.Common.{refl}
+use Rattle.wire_requests.specs.declared.kind.Kind.TheVariants.{SetPermanent}
+use Rattle.wire_requests.proofs.Nothing.{reads_nothing}
 use Rattle.wire_requests.proofs.named.set_permanent.Goals as goal
 
-pub returns-in-Err-BadBodyHead : goal.returns-in-Err-BadBodyHead
-returns-in-Err-BadBodyHead c = λ target are.
-    let reported : c.path_body.result ≡ Err BadBodyHead = c.in-Err-BadBodyHead.is ∙ ap (λ e. Err e) c.in-Err-BadBodyHead.field-0-is in
-    (refl, λ q is. c.path_body.ensures.bad reported is.0 is.1)
+pub returns-in_err-path : goal.returns-in_err-path
+returns-in_err-path c = λ target are.
+    reads_nothing c.args.dir.now SetPermanent target c.args.body.now c.path_body.result c.in_err-path.field-0.0 c.from_residual.result c.from_residual.ensures.1 c.in_err-path.was refl
+    (λ reported q is. c.path_body.ensures.bad reported is.0 is.1)

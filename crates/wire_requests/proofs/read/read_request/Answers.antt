@@ -11,7 +11,7 @@ returns-in-AddSource c = λ target are. subst (λ k. Reads c.args.dir.now k targ
 pub returns-in-Import : goal.returns-in-Import
 returns-in-Import c = λ target are. subst (λ k. Reads c.args.dir.now k target c.args.body c.import.result) (sym c.in-Import.is) (c.import.ensures target)
 
-pub returns-in-Ok : goal.returns-in-Ok
-returns-in-Ok c = λ target are.
-    subst (λ body. Reads c.args.dir.now c.args.kind target body c.read_whole.result) (c.deref.ensures.value ∙ c.in-Ok.ensures)
+pub returns-in_ok-body-in_default : goal.returns-in_ok-body-in_default
+returns-in_ok-body-in_default c = λ target are.
+    subst (λ body. Reads c.args.dir.now c.args.kind target body c.read_whole.result) (c.deref.ensures.value ∙ c.in_ok-body-in_default.ensures)
     (c.read_whole.ensures c.in_default.not-AddText c.in_default.not-AddSource c.in_default.not-Import target are)

@@ -1,8 +1,9 @@
-use Rattle.std.proofs.Common.{◌≡◌, Err, refl, ap, ◌∙◌}
-use Rattle.wire_bodies.specs.declared.error.BodyError.TheVariants.{BadBodyHead}
+use Rattle.std.proofs.Common.{refl}
+use Rattle.wire_requests.specs.declared.kind.Kind.TheVariants.{Delete}
+use Rattle.wire_requests.proofs.Nothing.{reads_nothing}
 use Rattle.wire_requests.proofs.sweeps.delete.Goals as goal
 
-pub returns-in-Err-BadBodyHead : goal.returns-in-Err-BadBodyHead
-returns-in-Err-BadBodyHead c = λ target.
-    let reported : c.delete_body.result ≡ Err BadBodyHead = c.in-Err-BadBodyHead.is ∙ ap (λ e. Err e) c.in-Err-BadBodyHead.field-0-is in
-    (refl, λ q is. c.delete_body.ensures.bad reported is.0 is.1)
+pub returns-in_err-head : goal.returns-in_err-head
+returns-in_err-head c = λ target.
+    reads_nothing c.args.dir.now Delete target c.args.body.now c.delete_body.result c.in_err-head.field-0.0 c.from_residual.result c.from_residual.ensures.1 c.in_err-head.was refl
+    (λ reported q is. c.delete_body.ensures.bad reported is.0 is.1)
