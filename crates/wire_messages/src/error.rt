@@ -1,4 +1,8 @@
 //! Why an input begins with no message, and why none was received.
+ghost use Rattle.std.specs.Prelude.{◌≡◌};
+ghost use Rattle.wire_messages.specs.declared.error.ReceiveError.TheVariants.{Memory};
+
+use std::alloc::AllocError;
 use thiserror::Error;
 
 /// What is wrong with the beginning of an input.
@@ -27,4 +31,12 @@ pub enum ReceiveError {
     /// Memory was refused.
     #[error("memory")]
     Memory,
+}
+
+impl From<AllocError> for ReceiveError {
+    ghost from_gives = { λ _ e. e ≡ Memory };
+
+    fn from(_: AllocError) -> ReceiveError {
+        ReceiveError::Memory
+    }
 }

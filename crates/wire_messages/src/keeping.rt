@@ -58,10 +58,10 @@ fn pass_lost<R: Read>(input: &mut R, left: usize) -> Result<Fate, ReceiveError>
     ensures kept { result ≡ Ok Fate.Kept → ⊥ }
     ensures fault { IfErr result (λ e. e ≡ ReceiveError.Read) }
 {
-    match pass_rest(input, left) {
-        Ok(true) => Ok(Fate::Lost),
-        Ok(false) => Ok(Fate::Short),
-        Err(fault) => Err(fault),
+    if pass_rest(input, left)? {
+        Ok(Fate::Lost)
+    } else {
+        Ok(Fate::Short)
     }
 }
 

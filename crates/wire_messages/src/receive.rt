@@ -54,10 +54,10 @@ fn read_more<R: Read>(
     ensures { ReadsMore (R.remaining input.old) (R.remaining input.new) buffer.old.items buffer.new.items result }
 {
     match input.read(window) {
-        Ok(count) => match buffer.extend_from_slice(&window[..count]) {
-            Ok(()) => Ok(count > 0),
-            Err(_) => Err(ReceiveError::Memory),
-        },
+        Ok(count) => {
+            buffer.extend_from_slice(&window[..count])?;
+            Ok(count > 0)
+        }
         Err(fault) => Err(broken(&fault)),
     }
 }
@@ -107,10 +107,10 @@ pub fn receive_start<R: Read>(
     if !buffer.is_empty() {
         return find_head(input, window, buffer);
     }
-    match read_more(input, window, buffer) {
-        Ok(true) => find_head(input, window, buffer),
-        Ok(false) => Ok(Start::NoMore),
-        Err(fault) => Err(fault),
+    if read_more(input, window, buffer)? {
+        find_head(input, window, buffer)
+    } else {
+        Ok(Start::NoMore)
     }
 }
 
@@ -129,11 +129,10 @@ pub fn receive_head<R: Read>(
     ensures { Receives Announces (R.remaining input.old) (R.remaining input.new) buffer.old.items buffer.new.items
         result }
 {
-    let head = match receive_start(input, window, buffer) {
-        Ok(Start::Begun(head)) => head,
-        Ok(Start::NoMore) => return Ok(Received::End),
-        Ok(Start::NoHead) => return Ok(Received::Faulty(Fault::BadHead)),
-        Err(fault) => return Err(fault),
+    let head = match receive_start(input, window, buffer)? {
+        Start::Begun(head) => head,
+        Start::NoMore => return Ok(Received::End),
+        Start::NoHead => return Ok(Received::Faulty(Fault::BadHead)),
     };
     match length_of_body(buffer, &head) {
         Ok(size) => Ok(Received::Message(head, size)),

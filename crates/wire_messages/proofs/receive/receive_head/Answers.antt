@@ -5,12 +5,12 @@ use Rattle.wire_messages.proofs.Reading.{fault_of_head, is_fault, whatever}
 use Rattle.wire_messages.proofs.receive.receive_head.Goals as goal
 
 -- src/receive.rt:95:1
-pub returns-in-Err-length_of_body : goal.returns-in-Err-length_of_body
-returns-in-Err-length_of_body g c =
-    let start = rw c.in-Ok-Begun.field-0-is at c.in-Ok-Begun.ensures in
-    let fault = c.in-Err-length_of_body.fault in
+pub returns-in-Err : goal.returns-in-Err
+returns-in-Err g c =
+    let start = rw c.in-Begun.is at c.in_ok-head.ensures in
+    let fault = c.in-Err.fault in
     let held = c.receive_start.new.buffer.items in
-    let states : Err fault ≡ body_length (fields_at held c.in-Ok-Begun.head) =
-    sym c.in-Err-length_of_body.is ∙ (rw c.deref.ensures.value at c.length_of_body.ensures) in
-    let whole = λ (more : List ℕ). is_fault (held ++ more) fault (fault_of_head held c.in-Ok-Begun.head start.1.1.0 fault start.1.1.1 states more) in
+    let states : Err fault ≡ body_length (fields_at held c.in-Begun.head) =
+    sym c.in-Err.is ∙ (rw c.deref.ensures.value at c.length_of_body.ensures) in
+    let whole = λ (more : List ℕ). is_fault (held ++ more) fault (fault_of_head held c.in-Begun.head start.1.1.0 fault start.1.1.1 states more) in
     ((start.0.0, start.0.1, start.0.2), (start.1.0, whatever (λ t. IsFault t fault) held _ whole), λ e. absurd cc)
