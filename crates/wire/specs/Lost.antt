@@ -1,6 +1,6 @@
 -- What is replied to a message for whose body memory was refused: the denial of the first rule that is known to forbid
 -- it, or out of memory, ahead of all tests.
-use Rattle.std.specs.Prelude.{◌≡◌, ◌⊎◌, ℕ, true, false, List, None}
+use Rattle.std.specs.Prelude.{◌≡◌, ◌⊎◌, ℕ, true, false, List, [], None}
 use Rattle.std.specs.Option.{option_map_or}
 use Rattle.policy.specs.Settings.{Settings}
 use Rattle.policy.specs.Caller.{Caller}
@@ -12,6 +12,7 @@ use Rattle.model.specs.Request.{Request}
 use Rattle.model.specs.Reply.{Reply, denied, failed, memory}
 use Rattle.model.specs.Verdict.{operation_of}
 use Rattle.wire_requests.specs.Asks.{Asks}
+use Rattle.wire_requests.specs.Left.{IsLeftOf}
 use Rattle.wire_requests.specs.Parts.{user}
 use Rattle.wire_requests.specs.Table.{at_user_root, at_profile, at_rollback, at_switch, at_generation, at_temp}
 use Rattle.wire_requests.specs.declared.kind.Kind.{Kind}
@@ -40,6 +41,11 @@ operation_at _ target = plain
 abbrev pub AsksOfRules : List ℕ → Kind → List ℕ → List ℕ → Operation → Type 0
 AsksOfRules dir kind target body op =
     ((q : Request) × Asks dir kind target body q × (op ≡ operation_of q)) ⊎ (op ≡ operation_at kind target)
+
+-- What the rules ask of an import, where any lines are left of its body: what these say, and nothing else.
+abbrev pub AsksByLines : List ℕ → List ℕ → List ℕ → Operation → Type 0
+AsksByLines dir target left op = (left ≡ [] → ⊥) → (body : List ℕ) → IsLeftOf left body
+    → (q : Request) × Asks dir kinds.Import target body q × (op ≡ operation_of q)
 
 -- the reply, by what the rules ask
 abbrev pub lost_reply : Settings → Caller → Operation → Reply

@@ -1,5 +1,5 @@
 //! Messages for whose body memory was refused.
-ghost use Rattle.std.specs.Prelude.{◌≡◌, IfOk, IfSome, List, ℕ, None};
+ghost use Rattle.std.specs.Prelude.{◌≡◌, Err, IfOk, IfSome, List, ℕ, None};
 ghost use Rattle.policy.specs.Operation.{operation_of};
 ghost use Rattle.store_types.specs.View.{reply_view};
 ghost use Rattle.wire_server.specs.Responses.{replied};
@@ -46,6 +46,31 @@ pub(crate) fn operation_at<'t>(kind: Kind, target: &'t str) -> Op<'t>
     }
 }
 
+/// What the rules ask of an import, by the lines that are left of its body. Where any are left, these decide.
+///
+/// # Errors
+///
+/// `BadBodyHead` where lines are left and no import begins with them; `Memory` where it was refused for reading them.
+fn import_left<'t>(
+    alloc: Global,
+    dir: &StoreDir,
+    target: &'t str,
+    body: &Body,
+) -> Result<Op<'t>, AskError>
+    ensures ok { IfOk result (λ op. (all : List ℕ) → IsLeftOf body.now all
+        → spec.AsksOfRules dir.now Kind.Import target.now all (operation_of op)) }
+    ensures lines { IfOk result (λ op. spec.AsksByLines dir.now target.now body.now (operation_of op)) }
+    ensures bad { result ≡ Err AskError.BadBodyHead → (all : List ℕ) → IsLeftOf body.now all
+        → AsksNothing dir.now Kind.Import target.now all BadBodyHead }
+{
+    match left_address(alloc, dir, body) {
+        Ok(Some(has_address)) => Ok(Op::Import { has_address }),
+        Ok(None) => Ok(operation_at(Kind::Import, target)),
+        Err(AskError::BadBodyHead) => Err(AskError::BadBodyHead),
+        Err(_) => Err(AskError::Memory),
+    }
+}
+
 /// What the rules ask of a request by its kind, its target, and the lines that are left of its body. `None` if lines are left and no
 /// request begins with them.
 pub(crate) fn operation_left<'t>(
@@ -63,10 +88,10 @@ pub(crate) fn operation_left<'t>(
     let Kind::Import = kind else {
         return Some(operation_at(kind, target));
     };
-    match left_address(alloc, dir, body) {
-        Ok(Some(has_address)) => Some(Op::Import { has_address }),
+    match import_left(alloc, dir, target, body) {
+        Ok(op) => Some(op),
         Err(AskError::BadBodyHead) => None,
-        _ => Some(operation_at(kind, target)),
+        Err(_) => Some(operation_at(kind, target)),
     }
 }
 

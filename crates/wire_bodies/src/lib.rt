@@ -21,6 +21,6 @@ pub use heads::{DeleteHead, NamedHead, delete_head, named_head, path_head};
 pub use import::{ImportHead, import_body, import_head};
 pub use lines::Lines;
 pub use parts::{Body, body_of};
-pub use prefix::Prefix;
+pub use prefix::{Prefix, lines_of};
 pub use roots::runtime_head;
 pub use whole::{collect_body, delete_body, is_blank, path_body, runtime_body};

@@ -1,6 +1,7 @@
 //! The lines before the payload of a body that comes in pieces.
 ghost use Rattle.std.specs.Prelude.{◌≡◌, ◌++◌, ◌≤◌, [], IfOk, OnErr, length, take, drop};
 ghost use Rattle.wire_bodies.specs.Prefix.{next, place_after, prefix_from, rest_from, prefix_of, rest_of};
+ghost use Rattle.wire_bodies.specs.declared.prefix.Place.TheVariants.{BeginsLine, AfterPrefix};
 
 use std::alloc::{AllocError, Global};
 use std::marker::Model;
@@ -75,6 +76,14 @@ fn prefix_in(place: Place, piece: &[u8]) -> (usize, Place)
     (piece.len(), behind)
 }
 
+/// The lines of a body up to and with the first empty one, lent. It looks at no byte after them.
+pub fn lines_of(body: &[u8]) -> &[u8]
+    ensures { result.now ≡ prefix_of body.now }
+{
+    let (count, _) = prefix_in(Place::BeginsLine, body);
+    &body[..count]
+}
+
 impl Prefix {
     /// No bytes yet. It takes no memory.
     pub fn new(alloc: Global) -> Prefix
@@ -91,12 +100,16 @@ impl Prefix {
     ///
     /// # Errors
     ///
-    /// Memory was refused. The lines are then as before.
+    /// Memory was refused, which is never asked for after the empty line. The lines are then as before.
     pub fn take<'a>(&mut self, piece: &'a [u8]) -> Result<&'a [u8], AllocError>
         ensures front { IfOk result (λ rest. self.new ≡ prefix_of (self.old ++ piece.now)) }
         ensures rest { IfOk result (λ rest. rest.now ≡ rest_of (self.old ++ piece.now)) }
         ensures refused { OnErr result (self.new ≡ self.old) }
+        ensures whole { OnErr result (place_after BeginsLine self.old ≡ AfterPrefix → ⊥) }
     {
+        if let Place::AfterPrefix = self.place {
+            return Ok(piece);
+        }
         let (count, place) = prefix_in(self.place, piece);
         self.bytes.extend_from_slice(&piece[..count])?;
         self.place = place;

@@ -1,5 +1,5 @@
 -- Bodies whose payload is kept apart.
-use Rattle.std.proofs.Common.{◌≡◌, ◌⊎◌, ◌<◌, ℕ, List, [], ◌∷◌, ◌++◌, length, refl, sym, ap, ◌∙◌, arith, append_assoc, append-nil, length-append, subst, inl, inr}
+use Rattle.std.proofs.Common.{◌≡◌, ◌<◌, ℕ, List, [], ◌∷◌, ◌++◌, length, refl, sym, ap, ◌∙◌, arith, append_assoc, append-nil, length-append, subst, inl, inr}
 use Rattle.std.proofs.lemmas.List.{append_cancel_left, nil_from_length}
 use Rattle.std.specs.Prelude.{Option, Some, None, IsSome, Result, Ok, Err, OnErr, true, false}
 use Rattle.intake.specs.Arriving.{appended, bytes_in}
@@ -135,17 +135,34 @@ refused_lines all front piece next rest more archive after view whole is rest_is
     ∙ sym is ∙ sym (append-nil next) ∙ ap (λ t. next ++ bytes_in t) (sym spent)
     )
 
+-- the lines that bytes of an archive follow are at their end
+pub ended : (front archive : List ℕ) → prefix_of (front ++ archive) ≡ front → (rest_of (front ++ archive) ≡ [] → ⊥) → place_after BeginsLine front ≡ AfterPrefix
+ended front [] is some = absurd (some (sym (archive_is front [] is)))
+ended front (b ∷ archive) is some = closed front b archive is
+
+-- the lines stay where a piece after them is refused
+pub lines_stay : (all front piece next : List ℕ) (archive after : Option (List ℕ)) → front ++ bytes_in archive ≡ all → prefix_of (front ++ bytes_in archive) ≡ front
+    → next ≡ prefix_of (front ++ piece) → after ≡ None → (rest_of all ≡ [] → ⊥) → next ++ bytes_in after ≡ prefix_of all
+lines_stay all front piece next archive after view whole is spent some =
+    let end = ended front (bytes_in archive) whole (subst (λ t. rest_of t ≡ [] → ⊥) (sym view) some) in
+    ap (λ t. next ++ bytes_in t) spent ∙ append-nil next ∙ is
+    ∙ closed_front front piece (front_whole front (bytes_in archive) whole) end ∙ sym whole ∙ ap prefix_of view
+
 -- what is true is true where there is an error
 pub on_err : {A E : Type 0} (P : Type 0) (r : Result A E) → P → OnErr r P
 on_err P (Ok x) p = tt
 on_err P (Err e) p = p
 
 -- lines that are read of what is left are those of the body
-pub read_of_left : (lines left body : List ℕ) → (lines ≡ []) ⊎ (lines ≡ prefix_of left) → 0 < length lines → IsLeftOf left body → lines ≡ prefix_of body
-read_of_left lines left body (inl none) some is = absurd (let h : 0 < length {A = ℕ} [] = subst (λ t. 0 < length t) none some in omega (arith, h))
-read_of_left lines left body (inr read) some (inl none) =
+pub read_of_left : (lines left body : List ℕ) → lines ≡ prefix_of left → 0 < length lines → IsLeftOf left body → lines ≡ prefix_of body
+read_of_left lines left body read some (inl none) =
     absurd (let h : 0 < length {A = ℕ} [] = subst (λ t. 0 < length t) (read ∙ ap prefix_of none) some in omega (arith, h))
-read_of_left lines left body (inr read) some (inr is) = read ∙ ap prefix_of (sym is) ∙ front_again BeginsLine body
+read_of_left lines left body read some (inr is) = read ∙ ap prefix_of (sym is) ∙ front_again BeginsLine body
+
+-- a text without lines is empty
+pub none_left : (left : List ℕ) → length (prefix_of left) ≡ 0 → left ≡ []
+none_left [] none = refl
+none_left (b ∷ left) none = absurd (omega (arith, none))
 
 -- ---- what a front says
 

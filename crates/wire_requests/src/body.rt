@@ -1,5 +1,5 @@
 //! The body of a message, as it comes.
-ghost use Rattle.std.specs.Prelude.{◌≡◌, ◌⊎◌, ◌++◌, List, ℕ, [], IfOk, OnOk, OnErr};
+ghost use Rattle.std.specs.Prelude.{◌≡◌, ◌++◌, List, ℕ, [], IfOk, OnOk, OnErr};
 ghost use Rattle.wire_bodies.specs.Prefix.{prefix_of};
 ghost use Rattle.wire_requests.specs.Asks as spec;
 ghost use Rattle.wire_requests.specs.Left.{IsLeftOf};
@@ -10,6 +10,7 @@ use crate::parted::Parted;
 use std::alloc::{AllocError, Global};
 use std::marker::Model;
 use streams::Sink;
+use wire_bodies::lines_of;
 
 /// How a body is kept.
 #[derive(Drop)]
@@ -80,12 +81,12 @@ impl Body {
         }
     }
 
-    /// The lines of a body whose payload is an archive, up to and with the first empty one; none of another body.
+    /// Its lines up to and with the first empty one.
     pub(crate) fn lines(&self) -> &[u8]
-        ensures { (result.now ≡ []) ⊎ (result.now ≡ prefix_of self.now) }
+        ensures { result.now ≡ prefix_of self.now }
     {
         match &self.kept {
-            Kept::Whole(_) => &[],
+            Kept::Whole(held) => lines_of(held.bytes()),
             Kept::Parted(parted) => parted.front(),
         }
     }

@@ -1,5 +1,5 @@
 //! What is still known of a body for which memory was refused.
-ghost use Rattle.std.specs.Prelude.{◌≡◌, Err, IfOk, IfSome, List, ℕ, is_some};
+ghost use Rattle.std.specs.Prelude.{◌≡◌, Err, Ok, None, [], IfOk, IfSome, List, ℕ, is_some};
 ghost use Rattle.wire_bodies.specs.Bodies.{IsImportBody};
 ghost use Rattle.wire_bodies.specs.Prefix.{rest_of};
 ghost use Rattle.wire_bodies.specs.declared.import.ImportHead.{ImportHead as ImportOf};
@@ -18,6 +18,8 @@ use std::alloc::Global;
 pub fn left_address(alloc: Global, dir: &StoreDir, body: &Body) -> Result<Option<bool>, AskError>
     ensures ok { IfOk result (λ reported. IfSome reported (λ has. (all : List ℕ) → IsLeftOf body.now all
         → (head : ImportOf) × IsImportBody dir.now all head (rest_of all) × (is_some head.ca ≡ has))) }
+    // Only where no lines are left nothing is known.
+    ensures none { result ≡ Ok None → body.now ≡ [] }
     ensures bad { result ≡ Err AskError.BadBodyHead → (all : List ℕ) → IsLeftOf body.now all
         → (head : ImportOf) (nar : List ℕ) → IsImportBody dir.now all head nar → ⊥ }
 {

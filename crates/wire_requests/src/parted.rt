@@ -72,6 +72,8 @@ impl Parted {
     pub(crate) fn push(&mut self, piece: &[u8]) -> Result<(), AllocError>
         ensures ok { OnOk result (self.new ≡ self.old ++ piece.now) }
         ensures err { OnErr result ((more : List ℕ) → IsLeftOf self.new ((self.old ++ piece.now) ++ more)) }
+        // Once bytes of the archive have come, the lines before it stay.
+        ensures lines { OnErr result ((rest_of self.old ≡ [] → ⊥) → self.new ≡ prefix_of self.old) }
     {
         let Ok(rest) = self.front.take(piece) else {
             *self = Parted::new(self.alloc);

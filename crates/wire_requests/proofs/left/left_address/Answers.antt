@@ -1,8 +1,13 @@
-use Rattle.std.proofs.Common.{◌<◌, [], length, subst, sym, refl, rules}
+use Rattle.std.proofs.Common.{◌≡◌, ◌<◌, [], length, subst, sym, refl, rules}
 use Rattle.wire_bodies.specs.Bodies.{IsImportBody}
 use Rattle.wire_requests.proofs.Nothing.{body_bad}
-use Rattle.wire_requests.proofs.Parting.{import_all, import_prefix, read_of_left}
+use Rattle.wire_requests.proofs.Parting.{import_all, import_prefix, none_left, read_of_left}
 use Rattle.wire_requests.proofs.left.left_address.Goals as goal
+
+pub returns-then-is_empty-clause-none : goal.returns-then-is_empty-clause-none
+returns-then-is_empty-clause-none c = λ same.
+    let none : length c.lines-lines.result.now ≡ 0 = search rules in
+    none_left c.args.body.now (subst (λ t. length t ≡ 0) c.lines-lines.ensures none)
 
 pub returns-clause-ok : goal.returns-clause-ok
 returns-clause-ok c = λ all left.

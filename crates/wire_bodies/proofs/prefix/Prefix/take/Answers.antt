@@ -1,8 +1,21 @@
-use Rattle.std.proofs.Common.{◌≡◌, ◌++◌, ap, sym, ◌∙◌, subst}
+use Rattle.std.proofs.Common.{◌≡◌, ◌++◌, ap, sym, ◌∙◌, subst, append-nil}
 use Rattle.std.proofs.lemmas.List.{take_rest}
-use Rattle.wire_bodies.specs.Prefix.{prefix_from, prefix_of, rest_of, IsPrefix}
+use Rattle.wire_bodies.specs.Prefix.{prefix_from, rest_from, prefix_of, rest_of, IsPrefix}
 use Rattle.wire_bodies.proofs.Fronts.{front_more, rest_more, is_front_more}
 use Rattle.wire_bodies.proofs.prefix.Prefix.take.Goals as goal
+
+pub returns-in-AfterPrefix-clause-front : goal.returns-in-AfterPrefix-clause-front
+returns-in-AfterPrefix-clause-front c =
+    let old = c.self.inside in
+    sym c.self.view_is ∙ sym (append-nil old.bytes.items)
+    ∙ ap (λ p. old.bytes.items ++ prefix_from p c.args.piece.now) (sym c.in-AfterPrefix.is)
+    ∙ front_more old.bytes.items c.args.piece.now old.place c.self.invariant ∙ ap (λ t. prefix_of (t ++ c.args.piece.now)) c.self.view_is
+
+pub returns-in-AfterPrefix-clause-rest : goal.returns-in-AfterPrefix-clause-rest
+returns-in-AfterPrefix-clause-rest c =
+    let old = c.self.inside in
+    ap (λ p. rest_from p c.args.piece.now) (sym c.in-AfterPrefix.is)
+    ∙ rest_more old.bytes.items c.args.piece.now old.place c.self.invariant ∙ ap (λ t. rest_of (t ++ c.args.piece.now)) c.self.view_is
 
 pub invariant_of-self-2 : goal.invariant_of-self-2
 invariant_of-self-2 c =
