@@ -1,4 +1,7 @@
 //! What a peer still sends where a connection is closed.
+ghost use Rattle.std.specs.Prelude.{◌≤◌, ◌<◌, IfOk, IfSome};
+ghost use Rattle.std.specs.Duration.{as_nanos};
+
 use std::io;
 use std::io::Read;
 use std::net::TcpStream;
@@ -14,8 +17,11 @@ const SILENCE: u64 = 1;
 /// How many seconds it takes in all, whatever the peer does.
 const TIME: u64 = 5;
 
-/// How long the next read may wait, of the time that is left. Nothing where none is left.
-fn patience<C: Clock>(clock: &C, start: Instant) -> io::Result<Option<Duration>> {
+/// How long the next read may wait: a second at most, and no longer than the time that is left. Nothing where none is left.
+fn patience<C: Clock>(clock: &C, start: Instant) -> io::Result<Option<Duration>>
+    ensures silent { IfOk result (λ o. IfSome o (λ d. as_nanos d ≤ 1_000_000_000)) }
+    ensures some { IfOk result (λ o. IfSome o (λ d. 0 < as_nanos d)) }
+{
     let silence = Duration::from_secs(SILENCE);
     let Some(left) = Duration::from_secs(TIME).checked_sub(start.elapsed(clock)?) else {
         return Ok(None);
