@@ -8,7 +8,7 @@ use std::io::Read;
 
 const USAGE: &str = "usage: bench derivations [outputs | time ROUNDS]";
 
-/// The most bytes that are taken: 64 MiB.
+/// The most bytes that are read: 64 MiB.
 const LIMIT: usize = 67_108_864;
 
 /// What comes on standard input; nothing where that is more than `LIMIT` bytes.

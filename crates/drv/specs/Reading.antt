@@ -61,8 +61,8 @@ with_item x None = None
 
 -- with items before it
 abbrev pub with_items : {A : Type 0} → List A → Option (List A × List ℕ) → Option (List A × List ℕ)
-with_items front (Some y) = Some (front ++ y.0, y.1)
-with_items front None = None
+with_items before (Some y) = Some (before ++ y.0, y.1)
+with_items before None = None
 
 -- the items that come with a comma before each, up to the closing bracket; at most as many as are counted
 unfoldable pub more_at : {A : Type 0} → (List ℕ → Option (A × List ℕ)) → ℕ → List ℕ → Option (List A × List ℕ)

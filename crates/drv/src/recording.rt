@@ -70,12 +70,12 @@ pub fn outputs(
 ) -> Result<Vec<(String, StorePath)>, DrvError>
     // What is given are the recorded outputs of the text, all of whose outputs have names of their own.
     ensures found { IfOk result (λ v. Records dir.now text.now (pairs v.items)) }
-    // A fault that is told is the text's.
+    // A fault that is returned is the text's.
     ensures fault { IfErr result (λ e. e ≢ memory → IsFault dir.now text.now e) }
     // Recorded outputs are given, unless memory is refused.
     ensures each_found { (xs : List (List ℕ × List ℕ)) → Records dir.now text.now xs
         → MatchResult result (λ v. pairs v.items ≡ xs) (λ e. e ≡ memory) }
-    // The text's fault is told, unless memory is refused.
+    // The text's fault is returned, unless memory is refused.
     ensures each_fault { (f : Fault) → IsFault dir.now text.now f
         → MatchResult result (λ _. ⊥) (λ e. e ≢ memory → e ≡ f) }
     // So it answers the function in specs/.

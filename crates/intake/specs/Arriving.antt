@@ -1,4 +1,4 @@
--- What an intake knows of the bytes that it has taken, and what it says of them.
+-- What an intake knows of the bytes that it has received, and what it reports of them.
 use Rattle.std.specs.Prelude.{List, ℕ, [], ◌++◌, ◌*◌, ◌/◌, length, take, Option, Some, None, Result, Ok, Err, ⊤}
 use Rattle.sha2.specs.declared.Sha256.{Sha256}
 use Rattle.sha2.specs.Hashers.{Holds256}
@@ -14,7 +14,7 @@ abbrev pub MayHold : Option Sha256 → List ℕ → Type 0
 MayHold None bytes = ⊤
 MayHold (Some hasher) bytes = Holds256 hasher bytes
 
--- The checker has taken these bytes, and wanted no memory. Of them each whole piece is hashed, and what it has of a
+-- The checker has received these bytes, and was refused no memory. Of them each whole piece is hashed, and what it has of a
 -- file's contents, where they are asked for.
 pub record HasAccepted (checker : Checker) (hasher : Sha256) (contents : Option Sha256) (bytes : List ℕ) : Type 0 where
   pub fed : HasBeenFed checker bytes

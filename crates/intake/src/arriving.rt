@@ -73,7 +73,7 @@ fn accept_piece(
     piece: &[u8],
 ) -> Result<(), AllocError>
     ensures pieces { OnOk result (pieces.new ≡ pieces.old ++ piece.now) }
-    ensures taken { OnOk result (HasAccepted checker.old hasher.old contents.old pieces.old
+    ensures accepted { OnOk result (HasAccepted checker.old hasher.old contents.old pieces.old
         → HasAccepted checker.new hasher.new contents.new pieces.new) }
 {
     let whole = pieces.len() / SIZE;

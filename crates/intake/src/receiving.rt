@@ -163,7 +163,7 @@ impl Intake {
 }
 
 impl Sink for Intake {
-    ghost taken = { bytes_in };
+    ghost received = { bytes_in };
 
     fn take(&mut self, piece: &[u8]) -> Result<(), AllocError> {
         self.push(piece)

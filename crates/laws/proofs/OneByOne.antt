@@ -11,7 +11,7 @@ use Rattle.std.proofs.lemmas.List.Kept.{IsStrictlySortedBy-filter}
 use Rattle.std.proofs.lemmas.List.Sums.{sum_by-append, sum_by-cons}
 use Rattle.std.proofs.lemmas.List.Elements.{Contains-append_left, Contains-append_right, Contains-append_cases}
 use Rattle.live.specs.Graph.{same, holds, references_alone, is_valid, is_edge}
-use Rattle.live.specs.Limited.{refers, is_referred_to, without, DeletesGroups, is_taken}
+use Rattle.live.specs.Limited.{refers, is_referred_to, without, DeletesGroups, is_among}
 use Rattle.live.proofs.Groups.{in_filter, filter_in, held_is, is_held}
 use Rattle.live.proofs.Members.{at_head, behind, cases, no_member, any_from, some_of_any}
 use Rattle.live.proofs.Reach.{same_is, same_itself}
@@ -102,7 +102,7 @@ module _ (s : Settings) (w : World) (limit : ℕ) (size : Path → ℕ) (bytes :
     order : List Path
     each : (front back : List Path) (p : Path) → order ≡ front ++ p ∷ back → MayGo s w limit (gone ++ front) p
     least : (front back : List Path) (p : Path) → order ≡ front ++ p ∷ back → (q : Path) → MayGo s w limit (gone ++ front) q → bytes_cmp q p ≡ Less → ⊥
-    taken : (p : Path) → IsTrue (is_taken groups p) ↔ Contains order p
+    taken : (p : Path) → IsTrue (is_among groups p) ↔ Contains order p
     enough : (n : ℕ) → Weigh w (gone ++ order) n → (limit ≤ n) ⊎ ((p : Path) → Contains left p → IsTrue (dead p) → Contains order p)
 
   left_valid : (left : List Path) → ((p : Path) → Contains left p → IsTrue (has w p)) → (p : Path) → Contains left p → IsTrue (is_valid (graph_of w) p)
@@ -127,13 +127,13 @@ module _ (s : Settings) (w : World) (limit : ℕ) (size : Path → ℕ) (bytes :
     each = each;
     least = least;
     taken = λ q. (
-      (λ h. elim (or_cases (holds (p ∷ []) q) (is_taken groups q) h) as (λ _. Contains (p ∷ rest.order) q) [
+      (λ h. elim (or_cases (holds (p ∷ []) q) (is_among groups q) h) as (λ _. Contains (p ∷ rest.order) q) [
         | inl here ↦ subst (λ x. Contains (p ∷ rest.order) x) (is_it q here) (at_head p rest.order)
         | inr later ↦ behind p q rest.order ((rest.taken q).0 later)
       ]),
-      (λ c. elim (cases p q rest.order c) as (λ _. IsTrue (holds (p ∷ []) q || is_taken groups q)) [
-        | inl is ↦ or_left (holds (p ∷ []) q) (is_taken groups q) (is_held (p ∷ []) q (subst (λ x. Contains (p ∷ []) x) is (at_head p [])))
-        | inr later ↦ or_right (holds (p ∷ []) q) (is_taken groups q) ((rest.taken q).1 later)
+      (λ c. elim (cases p q rest.order c) as (λ _. IsTrue (holds (p ∷ []) q || is_among groups q)) [
+        | inl is ↦ or_left (holds (p ∷ []) q) (is_among groups q) (is_held (p ∷ []) q (subst (λ x. Contains (p ∷ []) x) is (at_head p [])))
+        | inr later ↦ or_right (holds (p ∷ []) q) (is_among groups q) ((rest.taken q).1 later)
       ]),
     );
     enough = λ n k. elim (rest.enough n (subst (λ ps. Weigh w ps n) (sym (append_assoc gone (p ∷ []) rest.order)) k)) as (λ _. (limit ≤ n) ⊎ ((q : Path) → Contains left q → IsTrue (dead q) → Contains (p ∷ rest.order) q)) [

@@ -9,7 +9,7 @@ use Rattle.paths.specs.Root.{Root}
 use Rattle.live.specs.Graph.{Path, Graph, Keep, holds, references_alone}
 use Rattle.live.specs.Reach.{Reaches, reaches}
 use Rattle.live.specs.Live.{IsLive, is_live}
-use Rattle.live.specs.Limited.{is_referred_to, is_taken, next_group, without, groups_by, limited_groups, limited_paths}
+use Rattle.live.specs.Limited.{is_referred_to, is_among, next_group, without, groups_by, limited_groups, limited_paths}
 use Rattle.live.proofs.Groups.{IsGroup, alone, round, is_group, member, in_filter, filter_in, held_is, is_held, taken_dead}
 use Rattle.live.proofs.Live.{live_decided}
 use Rattle.live.proofs.Members.{at_head, behind, cases, no_member, found, not_found}
@@ -101,21 +101,21 @@ module _ (g : Graph) (dead : Path → Bool) (size : Path → ℕ) (dies : (q x :
           some_none xs f = cc
 
   pub all_go : (turns left : List Path) (wanted : ℕ) → AreValid g left → length left ≤ length turns → sum_by size (filter dead left) < wanted → (p : Path) → Contains left p → IsTrue (dead p)
-      → IsTrue (is_taken (groups_by g dead size turns left wanted) p)
+      → IsTrue (is_among (groups_by g dead size turns left wanted) p)
   unfolding groups_by
   all_go [] [] wanted v h s p c d = absurd (no_member p c)
   all_go [] (x ∷ left) wanted v h s p c d = absurd (omega arith)
   all_go (turn ∷ turns) left wanted v h s p c d =
-      subst (λ (b : Bool). IsTrue (is_taken (if b then option_map_or (λ group. group ∷ groups_by g dead size turns (without group left) (wanted - sum_by size group)) (next_group g dead left) [] else []) p)) (sym (lt-ltb 0 wanted (omega arith)))
+      subst (λ (b : Bool). IsTrue (is_among (if b then option_map_or (λ group. group ∷ groups_by g dead size turns (without group left) (wanted - sum_by size group)) (next_group g dead left) [] else []) p)) (sym (lt-ltb 0 wanted (omega arith)))
       (by (next_group g dead left) refl (λ group i out.
       (let l = less_dead left group i in let k = shrinks g dead left group v i in
       all_go turns (without group left) (wanted - sum_by size group) (valid_left g group left v) (omega arith) (omega (arith, s, l)) p (filter_in (λ y. not (holds group y)) left p c (ap not out)) d)))
     where
       by : (o : Option (List Path)) → next_group g dead left ≡ o
-          → ((group : List Path) → IsGroup g dead left group → holds group p ≡ false → IsTrue (is_taken (groups_by g dead size turns (without group left) (wanted - sum_by size group)) p))
-          → IsTrue (is_taken (option_map_or (λ group. group ∷ groups_by g dead size turns (without group left) (wanted - sum_by size group)) o []) p)
+          → ((group : List Path) → IsGroup g dead left group → holds group p ≡ false → IsTrue (is_among (groups_by g dead size turns (without group left) (wanted - sum_by size group)) p))
+          → IsTrue (is_among (option_map_or (λ group. group ∷ groups_by g dead size turns (without group left) (wanted - sum_by size group)) o []) p)
       by None e rest = absurd (not_found dead left p (none_dead left e) c d)
-      by (Some group) e rest = elim (cases_Bool (holds group p)) as (λ _. IsTrue (holds group p || is_taken (groups_by g dead size turns (without group left) (wanted - sum_by size group)) p)) [
+      by (Some group) e rest = elim (cases_Bool (holds group p)) as (λ _. IsTrue (holds group p || is_among (groups_by g dead size turns (without group left) (wanted - sum_by size group)) p)) [
         | inl in_it ↦ or_left (holds group p) _ in_it
         | inr out ↦ or_right (holds group p) _ (rest group (is_group g dead left group e) out)
       ]
@@ -123,8 +123,8 @@ module _ (g : Graph) (dead : Path → Bool) (size : Path → ℕ) (dies : (q x :
 pub all_removed : (keep : Keep) (g : Graph) (roots : List Root) (size : Path → ℕ) (limit : ℕ) → sum_by size (filter (λ x. not (is_live keep g roots x)) (finite.keys g)) < limit
     → limited_paths g (λ x. not (is_live keep g roots x)) size limit ≡ filter (λ x. not (is_live keep g roots x)) (finite.keys g)
 all_removed keep g roots size limit less =
-    same_filter (is_taken (limited_groups g (λ x. not (is_live keep g roots x)) size limit)) (λ x. not (is_live keep g roots x)) (finite.keys g) (λ y c. same_bools
-    (is_taken (limited_groups g (λ x. not (is_live keep g roots x)) size limit) y) (not (is_live keep g roots y))
+    same_filter (is_among (limited_groups g (λ x. not (is_live keep g roots x)) size limit)) (λ x. not (is_live keep g roots x)) (finite.keys g) (λ y c. same_bools
+    (is_among (limited_groups g (λ x. not (is_live keep g roots x)) size limit) y) (not (is_live keep g roots y))
     (λ t. (let m = (taken_dead g (λ x. not (is_live keep g roots x)) size (finite.keys g) (finite.keys g) limit y t).1 in
     elim m.2 as (λ _. IsTrue (not (is_live keep g roots y))) [
       | inl is ↦ subst (λ x. IsTrue (not (is_live keep g roots x))) (sym is) m.1

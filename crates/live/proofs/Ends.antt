@@ -13,7 +13,7 @@ use Rattle.std.proofs.lemmas.Bool.{cases_Bool, false≢true, false_from_ne_true}
 use Rattle.paths.specs.Root.{Root, bytes_cmp}
 use Rattle.live.specs.Graph.{Path, Keep, Graph, same, holds}
 use Rattle.live.specs.Live.{IsLive, IsFirstRoot, is_live, first_root}
-use Rattle.live.specs.Limited.{is_taken, limited_groups, limited_paths, groups_by}
+use Rattle.live.specs.Limited.{is_among, limited_groups, limited_paths, groups_by}
 use Rattle.live.specs.Numbering.{Row, Rise, graph_of, path_at, paths_of, root_at}
 use Rattle.live.specs.Marking.{Marking, first_of}
 use Rattle.live.specs.Exact.{IsExact}
@@ -64,10 +64,10 @@ module _ (rows : List Row) (rise : Rise (paths_of rows)) where
   pub went : (dead : Path → Bool) (size : Path → ℕ) (limit : ℕ) (left : List Bool) → length left ≡ length rows
       → map (path_at rows) (places_left left) ≡ left_after (graph_of rows) dead size (paths_of rows) (paths_of rows) limit
       → (v : List ℕ) → v ≡ filter (λ i. not (is_in left i)) (range_with_len 0 (length left))
-      → v ≡ filter (λ i. is_taken (limited_groups (graph_of rows) dead size limit) (path_at rows i)) (range_with_len 0 (length rows))
+      → v ≡ filter (λ i. is_among (limited_groups (graph_of rows) dead size limit) (path_at rows i)) (range_with_len 0 (length rows))
   went dead size limit left n after v is =
       is ∙ ap (λ k. filter (λ i. not (is_in left i)) (range_with_len 0 k)) n
-      ∙ same_passing (λ i. not (is_in left i)) (λ i. is_taken (limited_groups (graph_of rows) dead size limit) (path_at rows i)) (length rows) agree
+      ∙ same_passing (λ i. not (is_in left i)) (λ i. is_among (limited_groups (graph_of rows) dead size limit) (path_at rows i)) (length rows) agree
     where
       groups : List (List Path)
       groups = groups_by (graph_of rows) dead size (paths_of rows) (paths_of rows) limit
@@ -75,23 +75,23 @@ module _ (rows : List Row) (rise : Rise (paths_of rows)) where
       same_groups : groups ≡ limited_groups (graph_of rows) dead size limit
       same_groups = ap (λ ps. groups_by (graph_of rows) dead size ps ps limit) (sym (keys_are rows rise))
 
-      both : map (path_at rows) (filter (is_in left) (range_with_len 0 (length rows))) ≡ map (path_at rows) (filter (λ i. not (is_taken groups (path_at rows i))) (range_with_len 0 (length rows)))
+      both : map (path_at rows) (filter (is_in left) (range_with_len 0 (length rows))) ≡ map (path_at rows) (filter (λ i. not (is_among groups (path_at rows i))) (range_with_len 0 (length rows)))
       both =
           ap (λ k. map (path_at rows) (filter (is_in left) (range_with_len 0 k))) (sym n) ∙ after ∙ left_is (graph_of rows) dead size (paths_of rows) (paths_of rows) limit
-          ∙ sym (paths_passing rows (λ p. not (is_taken groups p)) (filter (λ i. not (is_taken groups (path_at rows i))) (range_with_len 0 (length rows))) refl)
+          ∙ sym (paths_passing rows (λ p. not (is_among groups p)) (filter (λ i. not (is_among groups (path_at rows i))) (range_with_len 0 (length rows))) refl)
 
       twice : (b : Bool) → not (not b) ≡ b
       twice true = refl
       twice false = refl
 
-      agree : (i : ℕ) → i < length rows → not (is_in left i) ≡ is_taken (limited_groups (graph_of rows) dead size limit) (path_at rows i)
+      agree : (i : ℕ) → i < length rows → not (is_in left i) ≡ is_among (limited_groups (graph_of rows) dead size limit) (path_at rows i)
       agree i h =
-          ap not (sym (holds_at (is_in left) i h) ∙ ap (λ ps. holds ps (path_at rows i)) both ∙ holds_at (λ j. not (is_taken groups (path_at rows j))) i h)
-          ∙ twice (is_taken groups (path_at rows i)) ∙ ap (λ gs. is_taken gs (path_at rows i)) same_groups
+          ap not (sym (holds_at (is_in left) i h) ∙ ap (λ ps. holds ps (path_at rows i)) both ∙ holds_at (λ j. not (is_among groups (path_at rows j))) i h)
+          ∙ twice (is_among groups (path_at rows i)) ∙ ap (λ gs. is_among gs (path_at rows i)) same_groups
 
-  pub paths_went : (dead : Path → Bool) (size : Path → ℕ) (limit : ℕ) (v : List ℕ) → v ≡ filter (λ i. is_taken (limited_groups (graph_of rows) dead size limit) (path_at rows i)) (range_with_len 0 (length rows))
+  pub paths_went : (dead : Path → Bool) (size : Path → ℕ) (limit : ℕ) (v : List ℕ) → v ≡ filter (λ i. is_among (limited_groups (graph_of rows) dead size limit) (path_at rows i)) (range_with_len 0 (length rows))
       → map (path_at rows) v ≡ limited_paths (graph_of rows) dead size limit
-  paths_went dead size limit v is = paths_passing rows (is_taken (limited_groups (graph_of rows) dead size limit)) v is ∙ ap (filter (is_taken (limited_groups (graph_of rows) dead size limit))) (sym (keys_are rows rise))
+  paths_went dead size limit v is = paths_passing rows (is_among (limited_groups (graph_of rows) dead size limit)) v is ∙ ap (filter (is_among (limited_groups (graph_of rows) dead size limit))) (sym (keys_are rows rise))
 
 -- ---- dead paths have no mark
 

@@ -10,7 +10,7 @@ use Rattle.live.specs.Graph.{Path, Graph, Keep, Links, references_alone, same, h
 use Rattle.live.specs.Reach.{Reaches, reaches}
 use Rattle.live.specs.Live.{IsLive, IsDead, is_live}
 use Rattle.live.specs.Limited.{refers, is_referred_to, next_group, without, groups_by, limited_groups, limited_paths}
-use Rattle.live.specs.Limited.{is_taken}
+use Rattle.live.specs.Limited.{is_among}
 use Rattle.live.proofs.Live.{live_decided}
 use Rattle.live.proofs.Members.{at_head, behind, cases, no_member, any_from, some_of_any, found}
 use Rattle.live.proofs.Reach.{decided, goes_on, reach_kept, same_is, same_itself, closed}
@@ -107,7 +107,7 @@ referrer g dead left group (round x e is) q p c r h =
 -- ---- all groups
 
 -- whatever is taken was left, and reaches a dead path
-pub taken_dead : (g : Graph) (dead : Path → Bool) (size : Path → ℕ) (turns left : List Path) (wanted : ℕ) (p : Path) → IsTrue (is_taken (groups_by g dead size turns left wanted) p)
+pub taken_dead : (g : Graph) (dead : Path → Bool) (size : Path → ℕ) (turns left : List Path) (wanted : ℕ) (p : Path) → IsTrue (is_among (groups_by g dead size turns left wanted) p)
     → Contains left p × ((x : Path) × IsTrue (dead x) × ((p ≡ x) ⊎ Reaches references_alone g p x))
 unfolding groups_by
 taken_dead g dead size [] left wanted p h = absurd (false≢true h)
@@ -115,13 +115,13 @@ taken_dead g dead size (turn ∷ turns) left wanted p h =
     by (nat_lt 0 wanted) (next_group g dead left) refl h (λ group. taken_dead g dead size turns (without group left) (wanted - sum_by size group) p)
   where
     by : (b : Bool) (o : Option (List Path)) → next_group g dead left ≡ o
-        → IsTrue (is_taken (if b then option_map_or (λ group. group ∷ groups_by g dead size turns (without group left) (wanted - sum_by size group)) o [] else []) p)
-        → ((group : List Path) → IsTrue (is_taken (groups_by g dead size turns (without group left) (wanted - sum_by size group)) p)
+        → IsTrue (is_among (if b then option_map_or (λ group. group ∷ groups_by g dead size turns (without group left) (wanted - sum_by size group)) o [] else []) p)
+        → ((group : List Path) → IsTrue (is_among (groups_by g dead size turns (without group left) (wanted - sum_by size group)) p)
         → Contains (without group left) p × ((x : Path) × IsTrue (dead x) × ((p ≡ x) ⊎ Reaches references_alone g p x)))
         → Contains left p × ((x : Path) × IsTrue (dead x) × ((p ≡ x) ⊎ Reaches references_alone g p x))
     by false o e d rest = absurd (false≢true d)
     by true None e d rest = absurd (false≢true d)
-    by true (Some group) e d rest = elim (or_cases (holds group p) (is_taken (groups_by g dead size turns (without group left) (wanted - sum_by size group)) p) d)
+    by true (Some group) e d rest = elim (or_cases (holds group p) (is_among (groups_by g dead size turns (without group left) (wanted - sum_by size group)) p) d)
         as (λ _. Contains left p × ((x : Path) × IsTrue (dead x) × ((p ≡ x) ⊎ Reaches references_alone g p x))) [
           | inl here ↦ member g dead left group (is_group g dead left group e) p here
           | inr later ↦ (let r = rest group later in ((in_filter (λ y. not (holds group y)) left p r.0).0, r.1))
@@ -129,27 +129,27 @@ taken_dead g dead size (turn ∷ turns) left wanted p h =
 
 -- what is left and refers to what is taken is taken
 pub taken_referrer : (g : Graph) (dead : Path → Bool) (size : Path → ℕ) (turns left : List Path) (wanted : ℕ) (q p : Path) → Contains left q → IsTrue (refers g q p)
-    → IsTrue (is_taken (groups_by g dead size turns left wanted) p) → IsTrue (is_taken (groups_by g dead size turns left wanted) q)
+    → IsTrue (is_among (groups_by g dead size turns left wanted) p) → IsTrue (is_among (groups_by g dead size turns left wanted) q)
 unfolding groups_by
 taken_referrer g dead size [] left wanted q p c r h = absurd (false≢true h)
 taken_referrer g dead size (turn ∷ turns) left wanted q p c r h =
     by (nat_lt 0 wanted) (next_group g dead left) refl h (λ group d. taken_referrer g dead size turns (without group left) (wanted - sum_by size group) q p d r)
   where
     by : (b : Bool) (o : Option (List Path)) → next_group g dead left ≡ o
-        → IsTrue (is_taken (if b then option_map_or (λ group. group ∷ groups_by g dead size turns (without group left) (wanted - sum_by size group)) o [] else []) p)
-        → ((group : List Path) → Contains (without group left) q → IsTrue (is_taken (groups_by g dead size turns (without group left) (wanted - sum_by size group)) p)
-        → IsTrue (is_taken (groups_by g dead size turns (without group left) (wanted - sum_by size group)) q))
-        → IsTrue (is_taken (if b then option_map_or (λ group. group ∷ groups_by g dead size turns (without group left) (wanted - sum_by size group)) o [] else []) q)
+        → IsTrue (is_among (if b then option_map_or (λ group. group ∷ groups_by g dead size turns (without group left) (wanted - sum_by size group)) o [] else []) p)
+        → ((group : List Path) → Contains (without group left) q → IsTrue (is_among (groups_by g dead size turns (without group left) (wanted - sum_by size group)) p)
+        → IsTrue (is_among (groups_by g dead size turns (without group left) (wanted - sum_by size group)) q))
+        → IsTrue (is_among (if b then option_map_or (λ group. group ∷ groups_by g dead size turns (without group left) (wanted - sum_by size group)) o [] else []) q)
     by false o e d rest = absurd (false≢true d)
     by true None e d rest = absurd (false≢true d)
     by true (Some group) e d rest =
         let more = groups_by g dead size turns (without group left) (wanted - sum_by size group) in
-        elim (or_cases (holds group p) (is_taken (groups_by g dead size turns (without group left) (wanted - sum_by size group)) p) d)
-        as (λ _. IsTrue (holds group q || is_taken (groups_by g dead size turns (without group left) (wanted - sum_by size group)) q)) [
-          | inl here ↦ or_left (holds group q) (is_taken more q) (referrer g dead left group (is_group g dead left group e) q p c r here)
-          | inr later ↦ elim (cases_Bool (holds group q)) as (λ _. IsTrue (holds group q || is_taken (groups_by g dead size turns (without group left) (wanted - sum_by size group)) q)) [
-            | inl in_it ↦ or_left (holds group q) (is_taken more q) in_it
-            | inr out ↦ or_right (holds group q) (is_taken more q) (rest group (filter_in (λ y. not (holds group y)) left q c (ap not out)) later)
+        elim (or_cases (holds group p) (is_among (groups_by g dead size turns (without group left) (wanted - sum_by size group)) p) d)
+        as (λ _. IsTrue (holds group q || is_among (groups_by g dead size turns (without group left) (wanted - sum_by size group)) q)) [
+          | inl here ↦ or_left (holds group q) (is_among more q) (referrer g dead left group (is_group g dead left group e) q p c r here)
+          | inr later ↦ elim (cases_Bool (holds group q)) as (λ _. IsTrue (holds group q || is_among (groups_by g dead size turns (without group left) (wanted - sum_by size group)) q)) [
+            | inl in_it ↦ or_left (holds group q) (is_among more q) in_it
+            | inr out ↦ or_right (holds group q) (is_among more q) (rest group (filter_in (λ y. not (holds group y)) left q c (ap not out)) later)
           ]
         ]
 
@@ -163,17 +163,17 @@ none_for_nothing g dead size = by (finite.keys g) (finite.keys g)
     no_groups [] left = refl
     no_groups (turn ∷ turns) left = refl
 
-    nothing : (xs : List Path) → filter (λ p. is_taken [] p) xs ≡ []
+    nothing : (xs : List Path) → filter (λ p. is_among [] p) xs ≡ []
     nothing [] = refl
     nothing (x ∷ xs) = nothing xs
 
-    by : (turns xs : List Path) → filter (λ p. is_taken (groups_by g dead size turns turns 0) p) xs ≡ []
-    by turns xs = ap (λ gs. filter (λ p. is_taken gs p) xs) (no_groups turns turns) ∙ nothing xs
+    by : (turns xs : List Path) → filter (λ p. is_among (groups_by g dead size turns turns 0) p) xs ≡ []
+    by turns xs = ap (λ gs. filter (λ p. is_among gs p) xs) (no_groups turns turns) ∙ nothing xs
 
 pub removed_are_dead : (keep : Keep) (g : Graph) (roots : List Root) (size : Path → ℕ) (limit : ℕ) (p : Path)
     → Contains (limited_paths g (λ x. not (is_live keep g roots x)) size limit) p → IsDead keep g roots p
 removed_are_dead keep g roots size limit p c =
-    let f = in_filter (λ x. is_taken (limited_groups g (λ y. not (is_live keep g roots y)) size limit) x) (finite.keys g) p c in
+    let f = in_filter (λ x. is_among (limited_groups g (λ y. not (is_live keep g roots y)) size limit) x) (finite.keys g) p c in
     let t = taken_dead g (λ y. not (is_live keep g roots y)) size (finite.keys g) (finite.keys g) limit p f.1 in
     record {
       valid = finite.contains_key-keys g p ∙ is_held (finite.keys g) p f.0;
@@ -189,16 +189,16 @@ removed_are_dead keep g roots size limit p c =
 pub nothing_refers : (g : Graph) (dead : Path → Bool) (size : Path → ℕ) (limit : ℕ) (q p : Path) → IsTrue (is_valid g q) → (Contains (limited_paths g dead size limit) q → ⊥)
     → IsTrue (is_edge references_alone g q p) → Contains (limited_paths g dead size limit) p → ⊥
 nothing_refers g dead size limit q p valid stays edge went =
-    let f = in_filter (λ x. is_taken (limited_groups g dead size limit) x) (finite.keys g) p went in
+    let f = in_filter (λ x. is_among (limited_groups g dead size limit) x) (finite.keys g) p went in
     let listed = held_is (finite.keys g) q (sym (finite.contains_key-keys g q) ∙ valid) in
     let other : same q p ≡ false = false_from_ne_true (same q p) (λ e. stays (subst (Contains (limited_paths g dead size limit)) (sym (same_is q p e)) went)) in
     let r = and_from (not (same q p)) (is_edge references_alone g q p) (ap not other) edge in
-    stays (filter_in (λ x. is_taken (limited_groups g dead size limit) x) (finite.keys g) q listed
+    stays (filter_in (λ x. is_among (limited_groups g dead size limit) x) (finite.keys g) q listed
     (taken_referrer g dead size (finite.keys g) (finite.keys g) limit q p listed r f.1))
 
 -- what refers to a member of a group goes with it or before
 pub ordered : (g : Graph) (dead : Path → Bool) (size : Path → ℕ) (turns left : List Path) (wanted k : ℕ) (q p : Path) → Contains left q → IsTrue (refers g q p)
-    → IsTrue (holds (slice_index_or (groups_by g dead size turns left wanted) k []) p) → IsTrue (is_taken (take (suc k) (groups_by g dead size turns left wanted)) q)
+    → IsTrue (holds (slice_index_or (groups_by g dead size turns left wanted) k []) p) → IsTrue (is_among (take (suc k) (groups_by g dead size turns left wanted)) q)
 unfolding groups_by
 ordered g dead size [] left wanted k q p c r h = absurd (false≢true h)
 ordered g dead size (turn ∷ turns) left wanted k q p c r h =
@@ -207,18 +207,18 @@ ordered g dead size (turn ∷ turns) left wanted k q p c r h =
     by : (b : Bool) (o : Option (List Path)) → next_group g dead left ≡ o → (i : ℕ)
         → IsTrue (holds (slice_index_or (if b then option_map_or (λ group. group ∷ groups_by g dead size turns (without group left) (wanted - sum_by size group)) o [] else []) i []) p)
         → ((group : List Path) (j : ℕ) → Contains (without group left) q → IsTrue (holds (slice_index_or (groups_by g dead size turns (without group left) (wanted - sum_by size group)) j []) p)
-        → IsTrue (is_taken (take (suc j) (groups_by g dead size turns (without group left) (wanted - sum_by size group))) q))
-        → IsTrue (is_taken (take (suc i) (if b then option_map_or (λ group. group ∷ groups_by g dead size turns (without group left) (wanted - sum_by size group)) o [] else [])) q)
+        → IsTrue (is_among (take (suc j) (groups_by g dead size turns (without group left) (wanted - sum_by size group))) q))
+        → IsTrue (is_among (take (suc i) (if b then option_map_or (λ group. group ∷ groups_by g dead size turns (without group left) (wanted - sum_by size group)) o [] else [])) q)
     by false o e i d rest = absurd (false≢true d)
     by true None e i d rest = absurd (false≢true d)
     by true (Some group) e zero d rest = or_left (holds group q) _ (referrer g dead left group (is_group g dead left group e) q p c r d)
     by true (Some group) e (suc j) d rest = elim (cases_Bool (holds group q))
-        as (λ _. IsTrue (holds group q || is_taken (take (suc j) (groups_by g dead size turns (without group left) (wanted - sum_by size group))) q)) [
+        as (λ _. IsTrue (holds group q || is_among (take (suc j) (groups_by g dead size turns (without group left) (wanted - sum_by size group))) q)) [
           | inl in_it ↦ or_left (holds group q) _ in_it
           | inr out ↦ or_right (holds group q) _ (rest group j (filter_in (λ y. not (holds group y)) left q c (ap not out)) d)
         ]
 
 pub referrers_first : (g : Graph) (dead : Path → Bool) (size : Path → ℕ) (limit k : ℕ) (q p : Path) → IsTrue (is_valid g q) → IsTrue (refers g q p)
-    → IsTrue (holds (slice_index_or (limited_groups g dead size limit) k []) p) → IsTrue (is_taken (take (suc k) (limited_groups g dead size limit)) q)
+    → IsTrue (holds (slice_index_or (limited_groups g dead size limit) k []) p) → IsTrue (is_among (take (suc k) (limited_groups g dead size limit)) q)
 referrers_first g dead size limit k q p valid r h =
     ordered g dead size (finite.keys g) (finite.keys g) limit k q p (held_is (finite.keys g) q (sym (finite.contains_key-keys g q) ∙ valid)) r h

@@ -5,7 +5,7 @@ use Rattle.std.specs.Option.{option_map_or}
 use Rattle.std.proofs.lemmas.Bool.{lt-ltb, le-ltb}
 use Rattle.live.specs.Graph.{Path, Graph, holds}
 use Rattle.live.specs.Remaining.{left_after}
-use Rattle.live.specs.Limited.{is_taken}
+use Rattle.live.specs.Limited.{is_among}
 use Rattle.live.specs.Limited.{groups_by, next_group, without}
 
 pub all_kept : (xs : List Path) → filter (λ p. true) xs ≡ xs
@@ -24,18 +24,18 @@ both_kept p q (x ∷ xs) = by (p x) (q x) refl refl (both_kept p q xs)
     by false false e f rest = ap (λ c. cond (not c) (x ∷ filter (λ y. not (q y)) (filter (λ y. not (p y)) xs)) (filter (λ y. not (q y)) (filter (λ y. not (p y)) xs))) f ∙ ap (λ ys. x ∷ ys) rest
 
 -- what is left is what no group took
-pub left_is : (g : Graph) (dead : Path → Bool) (size : Path → ℕ) (turns left : List Path) (wanted : ℕ) → left_after g dead size turns left wanted ≡ filter (λ p. not (is_taken (groups_by g dead size turns left wanted) p)) left
+pub left_is : (g : Graph) (dead : Path → Bool) (size : Path → ℕ) (turns left : List Path) (wanted : ℕ) → left_after g dead size turns left wanted ≡ filter (λ p. not (is_among (groups_by g dead size turns left wanted) p)) left
 unfolding left_after groups_by
 left_is g dead size [] left wanted = sym (all_kept left)
 left_is g dead size (turn ∷ turns) left wanted = by (nat_lt 0 wanted) (next_group g dead left) (λ group. left_is g dead size turns (without group left) (wanted - sum_by size group))
   where
     by : (b : Bool) (o : Option (List Path))
-        → ((group : List Path) → left_after g dead size turns (without group left) (wanted - sum_by size group) ≡ filter (λ p. not (is_taken (groups_by g dead size turns (without group left) (wanted - sum_by size group)) p)) (without group left))
+        → ((group : List Path) → left_after g dead size turns (without group left) (wanted - sum_by size group) ≡ filter (λ p. not (is_among (groups_by g dead size turns (without group left) (wanted - sum_by size group)) p)) (without group left))
         → (if b then option_map_or (λ group. left_after g dead size turns (without group left) (wanted - sum_by size group)) o left else left)
-        ≡ filter (λ p. not (is_taken (if b then option_map_or (λ group. group ∷ groups_by g dead size turns (without group left) (wanted - sum_by size group)) o [] else []) p)) left
+        ≡ filter (λ p. not (is_among (if b then option_map_or (λ group. group ∷ groups_by g dead size turns (without group left) (wanted - sum_by size group)) o [] else []) p)) left
     by false o more = sym (all_kept left)
     by true None more = sym (all_kept left)
-    by true (Some group) more = more group ∙ both_kept (holds group) (is_taken (groups_by g dead size turns (without group left) (wanted - sum_by size group))) left
+    by true (Some group) more = more group ∙ both_kept (holds group) (is_among (groups_by g dead size turns (without group left) (wanted - sum_by size group))) left
 
 -- one turn, where a group goes
 pub one_turn : (g : Graph) (dead : Path → Bool) (size : Path → ℕ) (turn : Path) (turns left : List Path) (wanted : ℕ) (group : List Path) → 0 < wanted → next_group g dead left ≡ Some group

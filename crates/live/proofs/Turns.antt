@@ -6,7 +6,7 @@ use Rattle.std.proofs.lemmas.List.{length-map, drop_all}
 use Rattle.paths.specs.Root.{Root}
 use Rattle.live.specs.Graph.{Path, Keep}
 use Rattle.live.specs.Live.{is_live}
-use Rattle.live.specs.Limited.{is_taken, limited_groups, next_group, without}
+use Rattle.live.specs.Limited.{is_among, limited_groups, next_group, without}
 use Rattle.live.specs.Places.{Entries}
 use Rattle.live.specs.Marking.{Marking, first_of}
 use Rattle.live.specs.Exact.{IsExact}
@@ -71,7 +71,7 @@ taken_turn es s t sizes rows is_dead size stands group inside cs ct went wanted 
 pub over : (es : List Entries) (m : Marking) (sizes : List ℕ) (limit turn : ℕ) (s : Remaining) (w : ℕ) → length es ≤ turn → IsUnder es m sizes limit turn s w
     → (v : List ℕ) → v ≡ filter (λ i. not (is_in s.left i)) (range_with_len 0 (length s.left))
     → (keep : Keep) (rows : List Row) (given : List Root) (size : Path → ℕ) → Rise (paths_of rows) → es ≡ numbered rows → IsExact keep rows given m → ((i : ℕ) → i < length rows → size (path_at rows i) ≡ slice_index sizes i)
-    → v ≡ filter (λ i. is_taken (limited_groups (graph_of rows) (λ p. not (is_live keep (graph_of rows) given p)) size limit) (path_at rows i)) (range_with_len 0 (length rows))
+    → v ≡ filter (λ i. is_among (limited_groups (graph_of rows) (λ p. not (is_live keep (graph_of rows) given p)) size limit) (path_at rows i)) (range_with_len 0 (length rows))
 over es m sizes limit turn s w h u v is keep rows given size rise same exact sized =
     let n = count es rows same in
     let l = length-map rows (λ (x : Row). x.0) in

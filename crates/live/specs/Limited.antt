@@ -56,9 +56,9 @@ abbrev pub limited_groups : Graph → (Path → Bool) → (Path → ℕ) → ℕ
 limited_groups g dead size limit = groups_by g dead size (finite.keys g) (finite.keys g) limit
 
 -- whether some group takes a path
-abbrev pub is_taken : List (List Path) → Path → Bool
-is_taken groups p = list_any (λ group. holds group p) groups
+abbrev pub is_among : List (List Path) → Path → Bool
+is_among groups p = list_any (λ group. holds group p) groups
 
 -- the paths that a collection up to a limit removes, in path order
 abbrev pub limited_paths : Graph → (Path → Bool) → (Path → ℕ) → ℕ → List Path
-limited_paths g dead size limit = filter (is_taken (limited_groups g dead size limit)) (finite.keys g)
+limited_paths g dead size limit = filter (is_among (limited_groups g dead size limit)) (finite.keys g)

@@ -69,7 +69,7 @@ impl Walk {
         Ok(())
     }
 
-    /// An object is taken: its entries that count are looked at.
+    /// Visits an object: its entries that count are looked at.
     pub(crate) fn take(
         &mut self,
         walker: &mut Walker,

@@ -5,7 +5,7 @@ ghost use Rattle.std.specs.FinMap as finite;
 ghost use Rattle.paths.specs.Root.{Root};
 ghost use Rattle.live.specs.Graph.{Graph, Keep, Path, holds, is_edge, is_valid, references_alone};
 ghost use Rattle.live.specs.Live.{IsDead, is_live};
-ghost use Rattle.live.specs.Limited.{DeletesGroups, is_taken, limited_groups, limited_paths, refers};
+ghost use Rattle.live.specs.Limited.{DeletesGroups, is_among, limited_groups, limited_paths, refers};
 
 /// A collection up to a limit has one answer: the groups that it takes are those that are computed.
 pub fn limited_collections_have_one_answer()
@@ -36,7 +36,7 @@ pub fn referrers_go_with_it_or_before()
     ensures { (g : Graph) (dead : Path → Bool) (size : Path → ℕ) (limit k : ℕ) (q p : Path) → IsTrue (is_valid g q)
         → IsTrue (refers g q p) →
         IsTrue (holds (slice_index_or (limited_groups g dead size limit) k []) p)
-        → IsTrue (is_taken (take (suc k) (limited_groups g dead size limit)) q) }
+        → IsTrue (is_among (take (suc k) (limited_groups g dead size limit)) q) }
 {}
 
 /// A limit beyond the bytes of all dead paths removes what no limit removes.

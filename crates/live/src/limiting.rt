@@ -4,7 +4,7 @@ ghost use Rattle.std.specs.List.{filter, range_with_len, slice_index};
 ghost use Rattle.paths.specs.Root.{Root};
 ghost use Rattle.live.specs.Graph.{Keep as Keeps, Path};
 ghost use Rattle.live.specs.Live.{is_live};
-ghost use Rattle.live.specs.Limited.{is_taken, limited_groups, limited_paths};
+ghost use Rattle.live.specs.Limited.{is_among, limited_groups, limited_paths};
 ghost use Rattle.live.specs.Numbering.{Rise, Row, graph_of, numbered, path_at, paths_of};
 ghost use Rattle.live.specs.Exact.{IsExact};
 
@@ -43,7 +43,7 @@ pub fn limited(
         → graph.now ≡ numbered rows → IsExact keep rows given marks.now
         → ((i : ℕ) → i < length rows → size (path_at rows i) ≡ slice_index sizes.now i) →
         v.items ≡ filter
-        (λ i. is_taken (limited_groups (graph_of rows) (λ p. not (is_live keep (graph_of rows) given p)) size limit)
+        (λ i. is_among (limited_groups (graph_of rows) (λ p. not (is_live keep (graph_of rows) given p)) size limit)
         (path_at rows i)) (range_with_len 0 (length rows))) }
     ensures paths { IfOk result
         (λ v. (keep : Keeps) (rows : List Row) (given : List Root) (size : Path → ℕ) → Rise (paths_of rows)

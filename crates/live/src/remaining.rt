@@ -15,7 +15,7 @@ use std::cmp::Reverse;
 use std::collections::BinaryHeap;
 use std::marker::Model;
 
-/// Which paths are dead, and which are left; how many references of others left there are to each; and those to which
+/// The dead paths, and those that are left; how many references of others left there are to each; and those to which
 /// there are none, the least on top. A path waits there once it has no referrer, and stays until it is met.
 #[derive(Drop)]
 pub(crate) struct Remaining {

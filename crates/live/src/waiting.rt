@@ -1,4 +1,4 @@
-//! What waits to be taken by a walk, a block of neighbours at a time, since what neighbours point to lies side by side in memory.
+//! What waits to be visited by a walk, a block of neighbours at a time, since what neighbours point to lies side by side in memory.
 ghost use Rattle.std.specs.Prelude.{◌≡◌, ℕ, ◌<◌, ◌≤◌, length, replicate, true, false, Contains, IfNone, IfOk, IfSome, IsFalse, IsTrue, OnOk, slice_set};
 ghost use Rattle.live.specs.Listed.{IsListed};
 ghost use Rattle.live.specs.Marking.{IsDequeued, NoneWaits, Waits};
@@ -19,7 +19,7 @@ fn strike(listed: &mut Vec<bool>, block: usize)
     }
 }
 
-/// Which places wait; in which blocks they lie; and what is left of the block at hand.
+/// The places that wait, the blocks that they are in, and what is left of the block at hand.
 #[derive(Drop)]
 pub(crate) struct Waiting {
     pub(crate) waiting: Vec<bool>,

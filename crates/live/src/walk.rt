@@ -7,7 +7,7 @@ use crate::waiting::Waiting;
 use std::alloc::{AllocError, Global};
 use std::marker::Model;
 
-/// The marks so far, and the marked places whose objects have still to be taken.
+/// The marks so far, and the marked places whose objects have still to be visited.
 #[derive(Drop)]
 pub(crate) struct Walk {
     pub(crate) first: Vec<usize>,

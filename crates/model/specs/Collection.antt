@@ -9,7 +9,7 @@ use Rattle.model.specs.Reply.{done, freed}
 use Rattle.model.specs.Liveness.{graph_of, lives}
 use Rattle.model.specs.Step.{Step}
 use Rattle.std.specs.Prelude.{not, length}
-use Rattle.live.specs.Limited.{DeletesGroups, is_taken}
+use Rattle.live.specs.Limited.{DeletesGroups, is_among}
 use Rattle.model.specs.Reply.{Answer, IsDone, Reply}
 
 -- the roots and profiles are the same
@@ -62,7 +62,7 @@ pub record DeletesByBytes (s : Settings) (w : World) (limit : ℕ) (new : World)
   pub bytes : (p : Path) (o : Object) → finite.get w.objects p ≡ Some o → size p ≡ length o.nar
   pub groups : List (List Path)
   pub takes : DeletesGroups (graph_of w) (λ p. not (lives s w p)) size (all_paths w) limit groups
-  pub went : (p : Path) → IsTrue (has w p) → IsFalse (has new p) ↔ IsTrue (is_taken groups p)
+  pub went : (p : Path) → IsTrue (has w p) → IsFalse (has new p) ↔ IsTrue (is_among groups p)
 
 abbrev pub CollectsByBytes : Type 0
 CollectsByBytes = (s : Settings) (w : World) (c : Caller) (ignores : Bool) (limit : ℕ) (a : Answer) (new : World)

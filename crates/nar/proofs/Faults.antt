@@ -44,7 +44,7 @@ pub record Behind (input : List ℕ) (fault : NarError) : Type 0 where
 
 front_of : (ps : List Part) (σ : List Symbol) (room : ℕ) (bytes : List ℕ) → run start ps ≡ Some σ → Front ps room → IsGoodPrefix (spelling ps ++ bytes) ps bytes
 front_of ps σ room bytes at front = record {
-  front = refl;
+  prefix = refl;
   begins = begins_from_run ps σ front.are_bytes at;
   shallow = front.shallow;
   fits = omega (arith, front.size);
@@ -133,9 +133,9 @@ behind_at input e h f =
     let g = f.good in
     let a = run_from_begins f.parts g.begins in
     let fits : length (spelling f.parts) ≤ limit = g.fits in
-    let rest : IsBytes f.rest = IsBytes-rest (spelling f.parts) f.rest (subst IsBytes g.front h) in
+    let rest : IsBytes f.rest = IsBytes-rest (spelling f.parts) f.rest (subst IsBytes g.prefix h) in
     let present = fails_at f.parts a.0 (limit - length (spelling f.parts)) f.rest e (bytes_from_begins f.parts g.begins) rest a.1 (omega arith) f.fails in
-    subst (λ (v : List ℕ). FaultAt start limit v e) (sym g.front) (before f.parts start a.0 limit f.rest e a.1 g.shallow fits (omega arith) present)
+    subst (λ (v : List ℕ). FaultAt start limit v e) (sym g.prefix) (before f.parts start a.0 limit f.rest e a.1 g.shallow fits (omega arith) present)
 
 pub fault_at : (input : List ℕ) (e : NarError) → IsBytes input → IsFault input e → FaultAt start limit input e
 fault_at input e h f = behind_at input e h (record { parts = f.parts; rest = f.rest; good = f.good; fails = f.fails })

@@ -76,9 +76,9 @@ longest input e h f ps rest g =
     let a = run_from_begins ps g.begins in
     let b = run_from_begins f.parts k.begins in
     let within : length (spelling f.parts) ≤ limit = k.fits in
-    let bytes : IsBytes f.rest = IsBytes-rest (spelling f.parts) f.rest (subst IsBytes k.front h) in
+    let bytes : IsBytes f.rest = IsBytes-rest (spelling f.parts) f.rest (subst IsBytes k.prefix h) in
     no_longer ps f.parts start a.0 b.0 limit rest f.rest a.1 b.1 g.shallow k.shallow g.fits k.fits (omega arith)
-    (fails_stuck f.parts b.0 (limit - length (spelling f.parts)) f.rest e (bytes_from_begins f.parts k.begins) bytes b.1 (omega arith) f.fails) (sym g.front ∙ k.front)
+    (fails_stuck f.parts b.0 (limit - length (spelling f.parts)) f.rest e (bytes_from_begins f.parts k.begins) bytes b.1 (omega arith) f.fails) (sym g.prefix ∙ k.prefix)
 
 -- what fails behind a good front is the input's fault
 pub as_fault : (input : List ℕ) (e : NarError) → IsBytes input → Behind input e → IsFault input e

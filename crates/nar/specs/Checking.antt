@@ -10,7 +10,7 @@ use Rattle.nar.specs.Fault.{IsFault}
 use Rattle.nar.specs.Answer.{IfFault}
 use Rattle.nar.specs.Progress.{HasRead}
 
--- what the checker knows of the bytes: good so far, or the fault that it told
+-- what the checker knows of the bytes: good so far, or the fault that it returned
 abbrev pub Knows : Option NarError → Progress → List ℕ → Type 0
 Knows None progress bytes = HasRead progress bytes
 Knows (Some e) progress bytes = IfFault e (λ f. IsFault bytes f × (f ≢ Truncated))

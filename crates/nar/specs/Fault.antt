@@ -45,7 +45,7 @@ Fails parts rest fault =
 
 -- A good prefix of the input: whole strings within the limits that begin an archive. The rest follows.
 pub record IsGoodPrefix (input : List ℕ) (parts : List Part) (rest : List ℕ) : Type 0 where
-  pub front : input ≡ spelling parts ++ rest
+  pub prefix : input ≡ spelling parts ++ rest
   pub begins : Begins parts
   pub shallow : AllByRecursion IsShallow parts
   pub fits : length (spelling parts) ≤ limit

@@ -25,7 +25,7 @@ Waits (x ∷ κ) room rest = string_at room rest ≡ Err Truncated
 
 -- the bytes end in the rest
 abbrev pub EndsIn : List ℕ → List ℕ → Type 0
-EndsIn bytes rest = (front : List ℕ) × (bytes ≡ front ++ rest)
+EndsIn bytes rest = (prefix : List ℕ) × (bytes ≡ prefix ++ rest)
 
 -- The count is right for these bytes of a string.
 pub record Counts (k : Count) (room : ℕ) (rest : List ℕ) : Type 0 where

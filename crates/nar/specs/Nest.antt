@@ -60,7 +60,7 @@ AwaitsKeyword phases.Name = ⊥
 AwaitsKeyword phases.Under = ⊥
 AwaitsKeyword _ = ⊤
 
--- the phase that follows stands for what is to come, or the fault is the one
+-- the phase that follows means what is to come, or the fault is the one
 abbrev pub Continues : Result (List Symbol) NarError → Result Phase NarError → Option (List ℕ) → List (List ℕ) → Type 0
 Continues r (Ok phase) last names = r ≡ Ok (symbols phase last names)
 Continues r (Err f) last names = r ≡ Err f

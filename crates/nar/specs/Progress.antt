@@ -4,7 +4,7 @@ use Rattle.nar.specs.declared.progress.Progress.{Progress}
 use Rattle.nar.specs.declared.count.Count.{Count}
 use Rattle.nar.specs.Feeding.{IsReachedBy}
 
--- The bytes were taken, and are good so far.
+-- The bytes were received, and are good so far.
 abbrev pub HasRead : Progress → List ℕ → Type 0
 HasRead p bytes = IsReachedBy p.count p.nest p.room p.held.items bytes
 

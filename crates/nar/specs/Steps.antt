@@ -86,7 +86,7 @@ check x s = cond (is_some (consumed x (other s))) (Ok (other s)) (Err BadTag)
 
 -- ---- bytes
 
--- the fault of the bytes where these symbols are to come, and this number of bytes may be taken
+-- the fault of the bytes where these symbols are to come, and this number of bytes may still come
 pub data FaultAt : List Symbol → ℕ → List ℕ → NarError → Type 0 where
   trails : {room : ℕ} {bytes : List ℕ} → bytes ≢ [] → FaultAt [] room bytes Trailing
   stops : {x : Symbol} {κ : List Symbol} {room : ℕ} {bytes : List ℕ} {e : NarError} → string_at room bytes ≡ Err e

@@ -57,10 +57,10 @@ impl Checker {
     /// ```
     pub fn feed(&mut self, piece: &[u8]) -> Result<(), NarError>
         ensures fed { (all : List ℕ) → HasBeenFed self.old all → HasBeenFed self.new (all ++ piece.now) }
-        // A fault of the pieces so far is told, unless it is the want of more.
+        // A fault of the pieces so far is returned, unless they only end early.
         ensures good { OnOk result ((all : List ℕ) (f : Fault) → HasBeenFed self.old all → IsFault (all ++ piece.now) f
             → f ≡ Truncated) }
-        // A fault that is told is one of the pieces so far.
+        // A fault that is returned is one of the pieces so far.
         ensures fault { IfErr result
             (λ e. IfFault e
             (λ f. (all : List ℕ) → HasBeenFed self.old all → IsFault (all ++ piece.now) f × (f ≢ Truncated))) }
@@ -113,7 +113,7 @@ impl Checker {
     /// ```
     pub fn finish(self) -> Result<(), NarError>
         ensures answer { (all : List ℕ) → HasBeenFed self all → Ends result all }
-        // Want of memory is answered only where a `feed` has told it: the end takes none.
+        // `Memory` is returned only where a `feed` has returned it: the end allocates nothing.
         ensures memory { result ≡ Err memory → HasFailed self memory }
         ensures repeats { (e : Fault) → HasFailed self e → result ≡ Err e }
     {

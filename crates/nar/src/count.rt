@@ -7,11 +7,11 @@ use crate::string::are_zeros;
 /// How much of a string has come.
 #[derive(Clone, Copy)]
 pub struct Count {
-    /// Where its text ends, and its padding begins.
+    /// Where the string's text ends, and its padding begins.
     pub text: usize,
-    /// Where it ends.
+    /// Where the string ends.
     pub size: usize,
-    /// How many of its bytes have come.
+    /// How many bytes of the string have come.
     pub got: usize,
     /// Whether the padding so far is zero.
     pub is_clean: bool,

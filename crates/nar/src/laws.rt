@@ -15,7 +15,7 @@ pub fn each_input_is_an_archive_or_has_one_fault()
         → ((t : Tree) × IsArchive t input) ⊎ ((e : Fault) × IsFault input e) }
     ensures not_both { (input : List ℕ) (t : Tree) (e : Fault) → IsBytes input → IsArchive t input → ¬ IsFault input e }
     ensures one_fault { (input : List ℕ) (e f : Fault) → IsBytes input → IsFault input e → IsFault input f → e ≡ f }
-    // Want of memory says nothing of the input.
+    // Running out of memory says nothing of the input.
     ensures no_memory { (input : List ℕ) → ¬ IsFault input memory }
 {}
 

@@ -16,7 +16,7 @@ use crate::words::LIMIT;
 use std::alloc::Global;
 use std::mem;
 
-/// Lets the want of more bytes pass, and no other fault.
+/// Lets `Truncated` pass, since more bytes may come, and no other fault.
 fn needs_more(e: NarError) -> Result<(), NarError>
     ensures ok { OnOk result (e ≡ Truncated) }
     ensures err { IfErr result (λ d. (d ≡ e) × (d ≢ Truncated)) }
@@ -181,17 +181,17 @@ impl Progress {
     }
 
     /// Takes bytes that go on with the string whose bytes are held.
-    fn fill(&mut self, front: &[u8]) -> Result<(), NarError>
+    fn fill(&mut self, prefix: &[u8]) -> Result<(), NarError>
         ensures ok { OnOk result ((all : List ℕ)
-            → Fed (symbols_of self.old.nest) self.old.room (self.old.held.items ++ front.now) all
+            → Fed (symbols_of self.old.nest) self.old.room (self.old.held.items ++ prefix.now) all
             → HasRead self.new all) }
         ensures err { IfErr result
             (λ e. IfFault e
-            (λ f. (all : List ℕ) → Fed (symbols_of self.old.nest) self.old.room (self.old.held.items ++ front.now) all
+            (λ f. (all : List ℕ) → Fed (symbols_of self.old.nest) self.old.room (self.old.held.items ++ prefix.now) all
             → IsFault all f × (f ≢ Truncated))) }
     {
         let mut held = mem::replace(&mut self.held, Vec::new(self.alloc));
-        held.extend_from_slice(front)?;
+        held.extend_from_slice(prefix)?;
         let rest = self.look(&held)?;
         if rest.is_empty() {
             // What was allocated for it serves the next string.
@@ -206,19 +206,19 @@ impl Progress {
     }
 
     /// Counts bytes of the string whose bytes are counted, and takes it at its end.
-    fn count_on(&mut self, count: Count, front: &[u8]) -> Result<(), NarError>
-        requires { length front.now ≤ count.size - count.got }
-        ensures ok { OnOk result ((all : List ℕ) → IsBytes (all ++ front.now)
+    fn count_on(&mut self, count: Count, prefix: &[u8]) -> Result<(), NarError>
+        requires { length prefix.now ≤ count.size - count.got }
+        ensures ok { OnOk result ((all : List ℕ) → IsBytes (all ++ prefix.now)
             → (self.old.held.items ≡ []) × IsCounting count self.old.nest self.old.room all
-            → HasRead self.new (all ++ front.now)) }
-        ensures done { OnOk result (count.size - count.got ≤ length front.now → self.new.count ≡ None) }
+            → HasRead self.new (all ++ prefix.now)) }
+        ensures done { OnOk result (count.size - count.got ≤ length prefix.now → self.new.count ≡ None) }
         ensures err { IfErr result
             (λ e. IfFault e
-            (λ f. (all : List ℕ) → IsBytes (all ++ front.now) → IsCounting count self.old.nest self.old.room all
-            → IsFault (all ++ front.now) f × (f ≢ Truncated))) }
+            (λ f. (all : List ℕ) → IsBytes (all ++ prefix.now) → IsCounting count self.old.nest self.old.room all
+            → IsFault (all ++ prefix.now) f × (f ≢ Truncated))) }
     {
         let mut count = count;
-        count.take(front);
+        count.take(prefix);
         if count.left() > 0 {
             self.count = Some(count);
             return Ok(());
@@ -247,8 +247,8 @@ impl Progress {
     {
         match self.count {
             Some(count) => {
-                let (front, rest) = piece.split_at(count.left().min(piece.len()));
-                self.count_on(count, front)?;
+                let (prefix, rest) = piece.split_at(count.left().min(piece.len()));
+                self.count_on(count, prefix)?;
                 Ok(rest)
             }
             None => {
@@ -256,8 +256,8 @@ impl Progress {
                     self.read_on(piece)?;
                     return Ok(&piece[piece.len()..]);
                 }
-                let (front, rest) = piece.split_at(wanted(&self.held).min(piece.len()));
-                self.fill(front)?;
+                let (prefix, rest) = piece.split_at(wanted(&self.held).min(piece.len()));
+                self.fill(prefix)?;
                 Ok(rest)
             }
         }

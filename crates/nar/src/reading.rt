@@ -208,7 +208,7 @@ fn node_of(alloc: Global, at: Place<'_>, depth: usize) -> Result<(Node<'_>, Plac
 pub fn read(alloc: Global, input: &[u8]) -> Result<Node<'_>, NarError>
     // What is read is the archive's tree.
     ensures found { IfOk result (λ node. IsArchive (tree_of node) input.now) }
-    // A fault that is told is the input's.
+    // A fault that is returned is the input's.
     ensures fault { IfErr result (λ e. IfFault e (IsFault input.now)) }
     // So it is the outcome of the input, unless memory is refused.
     ensures outcome { MatchResult result (λ node. outcome_of input.now ≡ Ok (tree_of node))
@@ -216,7 +216,7 @@ pub fn read(alloc: Global, input: &[u8]) -> Result<Node<'_>, NarError>
     // An archive is read, unless memory runs out.
     ensures each_archive { (t : Tree) → IsArchive t input.now
         → MatchResult result (λ node. tree_of node ≡ t) (λ e. e ≡ memory) }
-    // The input's fault is told, unless memory runs out.
+    // The input's fault is returned, unless memory runs out.
     ensures each_fault { (f : Cause) → IsFault input.now f → MatchResult result (λ _. ⊥) (λ e. IfFault e (λ g. g ≡ f)) }
 {
     read_whole(alloc, input)

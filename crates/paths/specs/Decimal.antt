@@ -19,6 +19,6 @@ decimal_of text =
     then Some (digits_value 10 text)
     else None
 
--- the number of a text that writes one up to `most`; any other text stands for 0
+-- the number of a text that writes one up to `most`; 0 for any other text
 abbrev pub number_up_to : ℕ → List ℕ → ℕ
 number_up_to most text = let n = unwrap_or (decimal_of text) 0 in if nat_le n most then n else 0

@@ -27,7 +27,7 @@ is_dots text = bytes_eq text (codes ".") || bytes_eq text (codes "..")
 
 -- the text begins with these bytes
 abbrev pub begins : List ℕ → List ℕ → Bool
-begins text front = lists.starts_with nat_eq text front
+begins text prefix = lists.starts_with nat_eq text prefix
 
 -- a store name: 1 to 211 such bytes, neither `.` nor `..`, and begun by neither `.-` nor `..-`
 abbrev pub is_store_name : List ℕ → Bool

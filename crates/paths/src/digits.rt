@@ -137,7 +137,7 @@ pub fn unbase32(alloc: Global, text: &str, count: usize) -> Result<Vec<u8>, Base
     requires { count ≤ 64 }
     ensures ok { IfOk result (λ bytes. spec.unbase32 text.now count ≡ Ok bytes.items) }
     ensures err { IfErr result (λ e. (e ≡ Base32Error.Memory) ⊎ (spec.unbase32 text.now count ≡ Err e)) }
-    // The first two faults are told before memory is taken.
+    // The first two faults are returned before memory is allocated.
     ensures digit { all_digits text.now ≡ false → result ≡ Err Base32Error.BadDigit }
     ensures count { all_digits text.now ≡ true → length text.now ≢ digit_count count
         → result ≡ Err Base32Error.BadLength }

@@ -41,7 +41,7 @@ pub fn decimal(text: &str) -> Option<u64>
     }
 }
 
-/// The number up to `most` that a text writes; any other text stands for 0.
+/// The number up to `most` that a text writes; 0 for any other text.
 fn up_to(most: u64, text: &str) -> u64
     ensures { result ≡ number_up_to most text.now }
 {
@@ -51,7 +51,7 @@ fn up_to(most: u64, text: &str) -> u64
     }
 }
 
-/// The number of a generation, 1 to 9,999. Any other text stands for 0, which no profile has.
+/// The number of a generation, 1 to 9,999. Any other text gives 0, which no profile has.
 ///
 /// ```rust
 /// assert_eq!(rt; paths::numbers::generation("9999"), 9_999);
@@ -64,7 +64,7 @@ pub fn generation(text: &str) -> u64
     up_to(MAX_GENERATION, text)
 }
 
-/// The number of a session, 1 to 4,194,304. Any other text stands for 0, which is no session's.
+/// The number of a session, 1 to 4,194,304. Any other text gives 0, which is no session's.
 ///
 /// ```rust
 /// assert_eq!(rt; paths::numbers::session("4194304"), 4_194_304);

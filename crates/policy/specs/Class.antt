@@ -22,7 +22,7 @@ holds (Some members) name = contains_key members name
 abbrev pub is_in_group : Groups → Caller → List ℕ → Bool
 is_in_group groups c g = is_primary g c.group || holds (get groups g) c.name
 
--- whether an entry stands for the caller: everyone, the caller's name, or a group of the caller's
+-- whether an entry matches the caller: everyone, the caller's name, or a group of the caller's
 abbrev pub admits : Groups → Caller → Entry → Bool
 admits groups c everyone = true
 admits groups c (user name) = bytes_eq name c.name

@@ -1,4 +1,4 @@
--- What is wrong with a configuration: what each key word stands for, and the order in which they are looked for.
+-- What is wrong with a configuration: what each key word means, and the order in which they are looked for.
 use Rattle.std.specs.Prelude.{◌≡◌, ℕ, Bool, true, false, not, is_none, List, [], ◌∷◌, Option, Some, None, Result, Ok, Err}
 use Rattle.std.specs.List.{find}
 use Rattle.toml.specs.Data.{Members}

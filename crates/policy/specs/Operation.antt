@@ -72,7 +72,7 @@ abbrev pub deletes : Operation → Bool
 deletes (delete flag) = true
 deletes _ = false
 
--- what the code's operation stands for
+-- the operation that a value of the code's type means
 abbrev pub operation_of : Op → Operation
 operation_of Plain = plain
 operation_of (Import has_address) = import_object has_address

@@ -30,9 +30,9 @@ use Rattle.report.proofs.Labels.{Unbroken, unbroken}
 -- ---- failures
 
 failure_line : (f : Failure) → IsLine (failure_text f)
-failure_line memory = record { front = codes "failed: memory"; ends = refl; one = refl }
-failure_line size = record { front = codes "failed: size"; ends = refl; one = refl }
-failure_line disk = record { front = codes "failed: disk"; ends = refl; one = refl }
+failure_line memory = record { line = codes "failed: memory"; ends = refl; one = refl }
+failure_line size = record { line = codes "failed: size"; ends = refl; one = refl }
+failure_line disk = record { line = codes "failed: disk"; ends = refl; one = refl }
 
 -- ---- denials
 
@@ -63,7 +63,7 @@ module _ (dir : List ℕ) (whole : IsTrue (lacks 10 dir)) where
 
   denial_line : (rule : Rule) (o : Option Pair) → PlainIf o → IsLine (denial_text dir rule o)
   denial_line rule o h = record {
-    front = codes "denied: " ++ rule_word rule ++ shown_text dir o;
+    line = codes "denied: " ++ rule_word rule ++ shown_text dir o;
     ends = refl;
     one = lacks_both 10 (codes "denied: " ++ rule_word rule) (shown_text dir o) (word_lacks rule) (shown_lacks o h);
   }

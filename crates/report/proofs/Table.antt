@@ -76,7 +76,7 @@ one BadSession = refl
 
 pub are_lines : RefusalsAreLines
 unfolding front
-are_lines r = record { front = front r; ends = refl; one = one r }
+are_lines r = record { line = front r; ends = refl; one = one r }
 
 -- ---- each is another line
 

@@ -77,9 +77,9 @@ lacks byte text = list_all (λ b. not (b == byte)) text
 
 -- a line: a line feed (10) ends it, and none comes before
 pub record IsLine (text : List ℕ) : Type 0 where
-  pub front : List ℕ
-  pub ends : text ≡ front ++ codes "\n"
-  pub one : IsTrue (lacks 10 front)
+  pub line : List ℕ
+  pub ends : text ≡ line ++ codes "\n"
+  pub one : IsTrue (lacks 10 line)
 
 abbrev pub RefusalsAreLines : Type 0
 RefusalsAreLines = (r : Refusal) → IsLine (refusal_line r)

@@ -50,7 +50,7 @@ pub record Gives (text : List ℕ) (w : Written) : Type 0 where
 
 -- standard output failed: it holds a prefix of the text, and standard error has a line on that
 pub record GivesOut (text : List ℕ) (w : Written) : Type 0 where
-  pub front : AppendsPrefix w.output.old w.output.new text
+  pub prefix : AppendsPrefix w.output.old w.output.new text
   pub reported : Prints (failure_line Output) 1 (on_errors w)
 
 -- a text was given to standard output, which took it or failed

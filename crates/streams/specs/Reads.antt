@@ -1,24 +1,24 @@
--- What is taken from an input, and passed on.
+-- What is read from an input, and passed on.
 use Rattle.std.specs.Prelude.{◌≡◌, ◌≤◌, ◌<◌, ◌++◌, ℕ, List, [], length, Option, Some, None, Result, Ok, Err}
 use Rattle.std.specs.Io.KnownBytes.{Consumes, IsAtEnd, Keeps}
 use Rattle.streams.specs.declared.error.ReadError.{ReadError}
 use Rattle.streams.specs.declared.error.ReadError.TheVariants.{Input, Memory}
 
--- no more than some number of bytes were taken from an input
+-- no more than some number of bytes were read from an input
 abbrev pub ConsumesAtMost : ℕ → Option (List ℕ) → Option (List ℕ) → Type 0
 ConsumesAtMost most old new = (bs : List ℕ) × Consumes old new bs × (length bs ≤ most)
 
--- fewer than some number of bytes were taken from an input
+-- fewer than some number of bytes were read from an input
 abbrev pub TakesFewer : ℕ → Option (List ℕ) → Option (List ℕ) → Type 0
 TakesFewer most old new = (bs : List ℕ) × Consumes old new bs × (length bs < most)
 
--- no more than some number of bytes were taken from an input, and at least one
+-- no more than some number of bytes were read from an input, and at least one
 abbrev pub TakesSome : ℕ → Option (List ℕ) → Option (List ℕ) → Type 0
 TakesSome most old new = (bs : List ℕ) × Consumes old new bs × (0 < length bs) × (length bs ≤ most)
 
 -- One read with room for a number of bytes: how many it took from the input and passed on, none at the input's end.
--- Where the reader failed, nothing was taken and nothing passed on; where the sink was refused memory, the bytes that
--- came were taken.
+-- Where the reader failed, nothing was read and nothing passed on; where the sink was refused memory, the bytes that
+-- came were read.
 abbrev pub ReadsOn : ℕ → Option (List ℕ) → Option (List ℕ) → List ℕ → List ℕ → Result (Option ℕ) ReadError → Type 0
 ReadsOn room old new held held' (Ok (Some n)) =
     (bs : List ℕ) × Consumes old new bs × (length bs ≡ n) × (0 < n) × (n ≤ room) × (held' ≡ held ++ bs)
@@ -26,7 +26,7 @@ ReadsOn room old new held held' (Ok None) = Consumes old new [] × IsAtEnd new �
 ReadsOn room old new held held' (Err Input) = Keeps old new × (held' ≡ held)
 ReadsOn room old new held held' (Err Memory) = TakesSome room old new
 
--- What became of the bytes that were taken from an input, of which no more than some number were to be. At success, and
+-- What became of the bytes that were read from an input, of which no more than some number were to be. At success, and
 -- where the reader failed, all were passed on; there are fewer of them only where the input is at its end, or the
 -- reader failed. Where memory was refused, it was for bytes that came.
 abbrev pub PassesOn : ℕ → List ℕ → Option (List ℕ) → List ℕ → List ℕ → Result ℕ ReadError → Type 0
@@ -34,7 +34,7 @@ PassesOn most bs new held held' (Ok n) = (n ≡ length bs) × (held' ≡ held ++
 PassesOn most bs new held held' (Err Input) = (length bs < most) × (held' ≡ held ++ bs)
 PassesOn most bs new held held' (Err Memory) = 0 < length bs
 
--- An input was read to a bound, and what was taken from it was passed on.
+-- An input was read to a bound, and what was read from it was passed on.
 abbrev pub Receives : ℕ → Option (List ℕ) → Option (List ℕ) → List ℕ → List ℕ → Result ℕ ReadError → Type 0
 Receives most old new held held' result =
     (bs : List ℕ) × Consumes old new bs × (length bs ≤ most) × PassesOn most bs new held held' result

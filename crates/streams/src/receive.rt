@@ -16,8 +16,8 @@ fn read_on<R: Read, S: Sink>(
     sink: &mut S,
 ) -> Result<Option<usize>, ReadError>
     requires { 0 < length window.old }
-    ensures { ReadsOn (length window.old) (R.remaining input.old) (R.remaining input.new) (S.taken sink.old)
-        (S.taken sink.new) result }
+    ensures { ReadsOn (length window.old) (R.remaining input.old) (R.remaining input.new) (S.received sink.old)
+        (S.received sink.new) result }
 {
     let count = match input.read(window) {
         Ok(count) => count,
@@ -35,14 +35,14 @@ fn read_on<R: Read, S: Sink>(
 ///
 /// # Errors
 ///
-/// `Input` where the reader failed, whatever the kind of its fault, that of an interrupted read too: the sink has taken all that came.
+/// `Input` where the reader failed, whatever the kind of its fault, that of an interrupted read too: the sink has received all that came.
 /// `Memory` where the sink was refused memory for a piece that came.
 pub fn receive_at_most<R: Read, S: Sink>(
     input: &mut R,
     most: usize,
     sink: &mut S,
 ) -> Result<usize, ReadError>
-    ensures { Receives most (R.remaining input.old) (R.remaining input.new) (S.taken sink.old) (S.taken sink.new)
+    ensures { Receives most (R.remaining input.old) (R.remaining input.new) (S.received sink.old) (S.received sink.new)
         result }
 {
     let mut window = [0; PIECE];

@@ -3,12 +3,12 @@ ghost use Rattle.std.specs.Prelude.{◌≡◌, ◌++◌, ℕ, List, OnOk};
 
 use std::alloc::AllocError;
 
-/// Takes bytes piece by piece.
+/// What receives bytes, piece by piece.
 pub trait Sink {
-    /// All bytes that were taken.
-    ghost taken: { Self → List ℕ };
+    /// All bytes that were received.
+    ghost received: { Self → List ℕ };
 
-    /// Takes one more piece, or says that memory was refused.
+    /// Receives one more piece, or says that memory was refused.
     fn take(&mut self, piece: &[u8]) -> Result<(), AllocError>
-        ensures { OnOk result (taken self.new ≡ taken self.old ++ piece.now) };
+        ensures { OnOk result (received self.new ≡ received self.old ++ piece.now) };
 }

@@ -51,7 +51,7 @@ impl Held {
 }
 
 impl Sink for Held {
-    ghost taken = { λ held. held };
+    ghost received = { λ held. held };
 
     /// The room grows by doubling, and never beyond what may come.
     fn take(&mut self, piece: &[u8]) -> Result<(), AllocError> {

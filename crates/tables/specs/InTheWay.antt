@@ -18,7 +18,7 @@ is_present s t = is_some (table_named s t.name)
 abbrev pub is_name_used : Schema → Table → Bool
 is_name_used s t = is_present s t || (is_some (index_named s t.name) || is_some (view_named s t.name))
 
--- some of the store's tables are there: one of the eleven names is taken
+-- some of the store's tables exist: one of the eleven names is in use
 abbrev pub has_store_tables : Schema → Bool
 has_store_tables s = list_any (is_name_used s) all_tables
 

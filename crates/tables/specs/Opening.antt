@@ -42,7 +42,7 @@ pub record HasFurtherOf (schema : Schema) (db : Database) : Type 0 where
   pub temporary : IsTrue (has_temporary schema) → HasFurther db temp_root
   pub no_temporary : IsFalse (has_temporary schema) → (contents_of db).temp_roots ≡ finite.empty
 
--- our tables are those of a schema, and the names of those that it lacks are free
+-- the store's tables are those of a schema, and the names of those that it lacks are free
 abbrev pub HasTablesOf : Schema → Shown → Type 0
 HasTablesOf V1 s = HasFirst s
 HasTablesOf V2 s = HasSecond s
@@ -107,7 +107,7 @@ module _ {S : Type 0} (g : Ghosts S) where
   OpensStore dir db t =
       OpensNew db t ⊎ (OpensExisting dir db t ⊎ (OpensMigrated V1 dir db t ⊎ OpensMigrated V2 dir db t))
 
--- none of our tables was there, and this is what a crash may leave of making them, if it leaves any of it
+-- the database had none of the store's tables, and this is what a crash may leave of making them, if it leaves any of it
 abbrev pub LeavesNew : List ℕ → Database → Remains → Type 0
 LeavesNew dir db left = HasNone db.schema × LeavesMade dir db left
 
@@ -125,7 +125,7 @@ LeavesOpening dir db left = LeavesNew dir db left ⊎ (LeavesMigration V1 dir db
 abbrev pub HasItsForm : Shown → Table → Type 0
 HasItsForm s t = (at : ℕ) × IsKnown s t.name at (record t { tree = tree_named s t.name })
 
--- our tables are there by a schema, each in exactly its form, and nothing has the name of one that it lacks
+-- the store's tables exist by a schema, each in exactly its form, and nothing has the name of one that it lacks
 abbrev pub HasFormsOf : Schema → Shown → Type 0
 HasFormsOf V1 s =
     AllByRecursion (HasItsForm s) our_tables × (is_name_used s piece ≡ false) × (is_name_used s temp_root ≡ false)

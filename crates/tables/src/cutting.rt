@@ -61,6 +61,6 @@ pub(crate) fn put_pieces<S: Alter>(
         }
         pieces::insert(tx, base, number, nar.piece(place))?;
     }
-    // No memory holds so many.
+    // No memory holds that many.
     Err(Failure::Memory)
 }

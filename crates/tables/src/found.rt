@@ -50,7 +50,7 @@ pub(crate) fn open_existing<S: Alter>(
     }
 }
 
-/// Makes our tables, and takes them up. The directory comes twice, lent and to be kept.
+/// Makes the store's tables, and opens them. The directory comes twice, lent and to be kept.
 fn make_new<S: Alter>(
     alloc: Global,
     mut conn: Connection<S>,
@@ -86,7 +86,7 @@ fn make_new<S: Alter>(
     }
 }
 
-/// Makes our tables where none of them is, and takes them up.
+/// Makes the store's tables where none of them exists, and opens them.
 pub(crate) fn open_new<S: Alter>(
     alloc: Global,
     conn: Connection<S>,

@@ -1,4 +1,4 @@
--- What the writes of a migration make of the contents of our tables, one after another.
+-- What the writes of a migration make of the contents of the store's tables, one after another.
 use Rattle.std.specs.Prelude.{List, [], ◌∷◌, ℕ, ℤ, Option, Some, None, codes}
 use Rattle.std.specs.FinMap as finite
 use Rattle.tables_sql.specs.Contents.{Stored, Contents, numbered_cmp}

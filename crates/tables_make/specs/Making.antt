@@ -91,7 +91,7 @@ abbrev pub first_settings : Bytes → finite.FinMap texts_cmp Bytes
 first_settings dir =
     finite.insert (finite.insert (finite.from_entries []) (codes "schema") (codes "3")) (codes "store-dir") dir
 
--- what our tables hold once they are made: the two settings, and nothing else
+-- what the store's tables hold once they are made: the two settings, and nothing else
 abbrev pub first_contents : Bytes → Contents
 first_contents dir = record {
   meta = first_settings dir;
@@ -113,7 +113,7 @@ pub record AreSettings (dir : Bytes) (rows : List Row) : Type 0 where
   pub readable : IsUtf8 dir → AreReadableRows meta rows
   pub settings : map_of texts_cmp is_pair pair_of rows ≡ first_settings dir
 
--- each table keeps its rows, also a frozen one, and ours are as they are made
+-- each table keeps its rows, also a frozen one, and the store's are as they are made
 pub record IsMadeOf (dir : Bytes) (db : Database) (trees : Trees) : Type 0 where
   pub sound : IsDatabase (record { schema = store_tables_created db.schema; trees = trees })
   pub kept : AllByRecursion (λ t. trees t.tree ≡ db.trees t.tree) db.schema.tables
@@ -121,7 +121,7 @@ pub record IsMadeOf (dir : Bytes) (db : Database) (trees : Trees) : Type 0 where
   pub empty : AllByRecursion (λ t. trees t.tree ≡ []) (others_placed db.schema)
   pub frozen : IsDatabase db → KeepsFrozen db trees
 
--- All eleven were made at once, and the connection is ready: ours hold the settings alone, and theirs the rows that
+-- All eleven were made at once, and the connection is ready: the store's hold the settings alone, and the others the rows that
 -- they had, also where the schema doesn't show them.
 pub record IsMade (dir : Bytes) (old new : State) : Type 0 where
   pub was_open : IsTrue old.is_open
@@ -239,7 +239,7 @@ LacksNames s tables = list_any (λ t. is_used s (index_of t.name)) tables ≡ tr
 
 -- Why these tables aren't made. A size is named for a row too large, where there may be one, and never of a connection
 -- that an earlier fault had shut. The disk is named for a fault in this call, or that earlier one, and where a
--- statement is refused: for want of numbers or names, or for a further reason, if there is one.
+-- statement is refused: for lack of numbers or names, or for a further reason, if there is one.
 abbrev pub FailsToMakeThese : List Table → (large refused : Type 0) → State → State → Failure → Type 0
 FailsToMakeThese tables large refused old new Memory = ⊤
 FailsToMakeThese tables large refused old new Size = large × IsTrue old.is_open

@@ -30,7 +30,7 @@ contents_from r = record {
   temp_roots = r.temp_roots;
 }
 
--- what our tables hold once they are brought from a schema to the third
+-- what the store's tables hold once they are migrated from a schema to the third
 abbrev pub migrated_contents : Schema → List ℕ → Contents → Contents
 migrated_contents from dir c = contents_from (migrated from dir (rows_of c))
 
@@ -40,7 +40,7 @@ lacking V1 = piece ∷ temp_root ∷ []
 lacking V2 = temp_root ∷ []
 lacking V3 = []
 
--- Inside a transaction, which goes on: these tables were made after all that was there, and ours were left with these
+-- Inside a transaction, which goes on: these tables were made after all that was there, and the store's were left with these
 -- contents. All eleven are there, and other tables have the rows that they had, also where the schema doesn't show
 -- them.
 pub record Grows (tables : List Table) (contents : Contents) (old new : State) : Type 0 where

@@ -53,7 +53,7 @@ pub(crate) fn put_pieces<S: Alter>(
         pieces::insert(tx, base, number, front)?;
         rest = after;
     }
-    // No memory holds so many.
+    // No memory holds that many.
     Err(Failure::Memory)
 }
 

@@ -34,7 +34,7 @@ pub(crate) struct Joined {
     pub(crate) pieces: Vec<PieceKey>,
 }
 
-/// Which pieces there are; none, where the schema has no table of them.
+/// The pieces of all objects; none, where the schema has no table of them.
 fn keys_of<S: Alter>(
     alloc: Global,
     conn: &mut Connection<S>,

@@ -17,7 +17,7 @@ const NO_MEMORY: Error = Error::SqliteFailure(ErrorCode::OutOfMemory);
 
 const CANNOT_OPEN: Error = Error::SqliteFailure(ErrorCode::CannotOpen);
 
-/// Which error of `sqlite` one of the host's is: out of memory where it says so, busy where somebody else has the file open, else that the file
+/// The error of `sqlite` that one of the host's is: out of memory where it says so, busy where another program has the file open, else that the file
 /// can't be opened.
 fn opening_error(error: OpenError) -> Error
     ensures { IsOpeningError error result }

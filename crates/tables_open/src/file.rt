@@ -19,7 +19,7 @@ use std::rt::HostRuntime;
 use tables_schema::recognising::Recognised;
 use tables_sql::failure::Failure;
 
-/// A database that was opened, and by which schema it holds our tables. If it does, it is ready for transactions.
+/// A database that was opened, and by which schema it holds the store's tables. If it does, it is ready for transactions.
 pub struct Opened<S: Alter> {
     /// The connection, outside a transaction.
     pub conn: Connection<S>,
@@ -50,7 +50,7 @@ pub enum Unopened<S: Alter, D: Disk> {
     Unreadable(Unreadable<S>),
 }
 
-/// Which failure kept a file from being opened; none, where it is something else than a database.
+/// The failure that kept a file from being opened; none, where it is something else than a database.
 fn opening_failure(error: Error) -> Option<Failure>
     ensures { result ≡ opening_failure error }
 {
@@ -87,7 +87,7 @@ pub fn inspect<S: Alter>(alloc: Global, mut conn: Connection<S>) -> Result<Opene
     }
 }
 
-/// Opens the file at a path, or makes an empty database there. `start` stands for what the file held, which no
+/// Opens the file at a path, or makes an empty database there. `start` is what the file held, which no
 /// code reads: a theorem is stated over any, and a program passes `Unknown`, or `Wary` where a torn write may leave any bytes.
 /// Out of memory, and anything but a database with nothing left, need no cause: `sqlite` gives none for memory, for a path
 /// that can't be opened, or for a file that another connection has open.

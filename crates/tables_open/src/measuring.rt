@@ -47,7 +47,7 @@ fn measure_file(rt: &HostRuntime, path: &str) -> io::Result<(u64, u64)> {
     Ok((found.len(), stated_page(&mut File::open(rt, path)?)?))
 }
 
-/// As `sqlite` reads it: 1 stands for 65,536, and what is no size of a page for that of a new file.
+/// As `sqlite` reads it: 1 means 65,536, and what is no size of a page means that of a new file.
 fn page_of(stated: u64) -> u64
     ensures { (512 ≤ result) × (result ≤ 65536) }
 {

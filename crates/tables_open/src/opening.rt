@@ -68,7 +68,7 @@ fn probe<S: Alter>(conn: &mut Connection<S>) -> Result<(), Failure>
     Ok(())
 }
 
-/// By which schema the connection has our tables, whatever they hold.
+/// By which schema the connection has the store's tables, whatever they hold.
 pub fn recognise<S: Alter>(conn: &Connection<S>) -> Recognised
     ensures nothing { result ≡ Nothing ↔ HasNone (state S.Store conn.now).now.schema }
     ensures first { result ≡ Tables V1 ↔ HasFirst (state S.Store conn.now).now.schema }

@@ -1,4 +1,4 @@
-//! The queries of our tables: of their rowids, and of their texts.
+//! The queries of the store's tables: of their rowids, and of their texts.
 
 ghost use Rattle.std.specs.Prelude.{◌≡◌};
 ghost use Rattle.tables_open.specs.Tables.{rowids_text, texts_text};

@@ -1,4 +1,4 @@
-//! The tests of our tables: that each row has a rowid of its own, an integer, and that the texts are UTF-8.
+//! The tests of the store's tables: that each row has a rowid of its own, an integer, and that the texts are UTF-8.
 
 ghost use Rattle.std.specs.Prelude.{◌≡◌, ◌↔◌, ◌<◌, length, IfOk, IfErr, IsTrue, false};
 ghost use Rattle.std.specs.List.{AllByRecursion};

@@ -1,4 +1,4 @@
--- What a summary in memory stands for.
+-- What a summary in memory means.
 use Rattle.std.specs.Prelude.{◌≡◌, length, map, IsTrue, string_bytes}
 use Rattle.std.specs.List.{zip}
 use Rattle.std.specs.FinMap as finite

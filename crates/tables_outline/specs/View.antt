@@ -1,4 +1,4 @@
--- What the outline in memory stands for.
+-- What the outline in memory means.
 use Rattle.std.specs.Prelude.{string_bytes}
 use Rattle.std.specs.Ordering.{nat_cmp}
 use Rattle.paths.specs.Root.{bytes_cmp}

@@ -15,7 +15,7 @@ use Rattle.tables_sql.specs.declared.failure.Failure.{Failure}
 module _ {S : Type 0} (g : Ghosts S) where
   -- ---- a read outside a transaction
 
-  -- no transaction is under way, and unless a fault has shut the connection its tables are ours and committed
+  -- no transaction is under way, and unless a fault has shut the connection its tables are the store's, and committed
   pub record MayRead (old : Held S) : Type 0 where
     pub alone : old.in_transaction ≡ false
     pub ready : HasCleanDisk (state g old) → IsTrue (state g old).is_open → IsReady (state g old)
@@ -34,7 +34,7 @@ module _ {S : Type 0} (g : Ghosts S) where
 
   -- ---- a call inside a transaction
 
-  -- a transaction is under way over our tables, unless a fault has shut the connection
+  -- a transaction is under way over the store's tables, unless a fault has shut the connection
   abbrev pub IsInside : MutBor (Held S) → Type 0
   IsInside old = HasCleanDisk (state g old.now) → IsUnderWay (state g old.now)
 
@@ -73,7 +73,7 @@ module _ {S : Type 0} (g : Ghosts S) where
   WasFree old new result find =
       HasCleanDisk (state g new.now) → OnOk result (find (contents_of (state g old.now).now) ≡ None)
 
-  -- an error of an insert of this row may also come of its size, of want of a rowid, or of such an entry
+  -- an error of an insert of this row may also come of its size, of the lack of a rowid, or of such an entry
   abbrev pub FailsToPut : {T X : Type 0} (old new : MutBor (Held S)) (result : Result T Failure) (table : Table)
       (row : Row) (find : Contents → Option X) → Type 0
   FailsToPut old new result table row find =

@@ -18,7 +18,7 @@ use tables_sql::failure::Failure;
 pub use tables_sql::pieces::{Piece, PieceKey};
 use tables_sql::statement;
 
-/// Which pieces there are, in the order of their bases and then of their numbers. It copies no bytes of theirs.
+/// The keys of all pieces, in the order of their bases and then of their numbers, without the pieces' bytes.
 pub fn keys<S: Alter>(alloc: Global, conn: &mut Connection<S>) -> Result<Vec<PieceKey>, Failure>
     requires frame { MayRead S.Store conn.old }
     requires exists { HasTable S.Store conn.old piece }

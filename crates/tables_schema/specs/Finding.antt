@@ -21,7 +21,7 @@ pub record IsLeftAlone (s : Schema) (name : List ℕ) (tree : ℕ) (key : List �
   pub alone : is_alone s name tree ≡ true
   pub unguarded : is_unguarded s tree key ≡ true
 
--- the table is ours: of the form, and left alone
+-- the table is the store's: of the form, and left alone
 pub record IsThis (s : Schema) (form found : Table) : Type 0 where
   pub has_form : HasForm s.tables form found
   pub left_alone : IsLeftAlone s form.name found.tree form.primary
@@ -37,7 +37,7 @@ pub record IsFree (s : Schema) (name : List ℕ) : Type 0 where
   pub view : view_named s name ≡ None
   pub unawaited : is_unawaited s name ≡ true
 
--- none of our names is taken, and a table that counts its rowids has its counter
+-- none of the store's names is in use, and a table that counts its rowids has its counter
 pub record HasNone (s : Schema) : Type 0 where
   pub free : AllByRecursion (λ t. IsFree s t.name) our_tables
   pub further : AllByRecursion (λ t. IsFree s t.name) further_tables

@@ -1,4 +1,4 @@
--- What the code's description of a table stands for.
+-- What the code's description of a table means.
 use Rattle.std.specs.Prelude.{◌≡◌, false, [], None}
 use Rattle.sqlite_schema.specs.declared.schema.Column.{Column}
 use Rattle.sqlite_schema.specs.declared.schema.Table.{Table}

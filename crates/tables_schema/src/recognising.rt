@@ -1,4 +1,4 @@
-//! By which of the three schemas a database has our tables.
+//! By which of the three schemas a database has the store's tables.
 
 ghost use Rattle.std.specs.Prelude.{◌≡◌, ◌≢◌, ◌↔◌, false};
 ghost use Rattle.sqlite.specs.Does.{lacks_sequence};
@@ -17,7 +17,7 @@ use sqlite_schema::schema::Schema as Shown;
 /// be made, each table that counts its rowids has its counter.
 #[derive(Clone, Copy, Debug, PartialEq, Eq)]
 pub enum Recognised {
-    /// None of our eleven names is taken, no foreign key waits for one, and each table that counts its rowids has its counter.
+    /// None of the store's eleven names is in use, no foreign key waits for one, and each table that counts its rowids has its counter.
     Nothing,
     /// The tables of this schema, and nothing under the names of those that it lacks.
     Tables(Schema),

@@ -52,12 +52,12 @@ pub record IsWhole (db : Database) : Type 0 where
 unfoldable pub KeepsFurther : Database → Database → Type 0
 KeepsFurther old new = AllByRecursion (λ t. HasFurther old t → HasFurther new t) further_tables
 
--- what the connection shows is ours, and so did the last commit leave it
+-- what the connection shows are the store's tables, as the last commit left them
 pub record IsReady (s : State) : Type 0 where
   pub ours : IsStoreDatabase s.now
   pub settled : s.now ≡ s.committed
 
--- A transaction is under way over our tables, unless a fault has shut the connection.
+-- A transaction is under way over the store's tables, unless a fault has shut the connection.
 pub record IsUnderWay (s : State) : Type 0 where
   pub ours : IsTrue s.is_open → IsStoreDatabase s.now
   pub mode : s.in_transaction ≡ true
@@ -67,7 +67,7 @@ abbrev pub KeepsTheirs : Database → Database → Type 0
 KeepsTheirs old new =
     AllByRecursion (λ t. is_our_name t.name ≡ false → new.trees t.tree ≡ old.trees t.tree) old.schema.tables
 
--- what a crash may leave, or a commit: our tables hold this, each other table has the rows that it had, and what the
+-- what a crash may leave, or a commit: the store's tables hold this, each other table has the rows that it had, and what the
 -- schema doesn't show is kept
 pub record Leaves (old : Database) (left : Remains) (contents : Contents) : Type 0 where
   pub ours : contents_of (after_crash old left) ≡ contents
@@ -80,7 +80,7 @@ pub record LeavesRows (old : Database) (left : Remains) (contents : Contents) : 
   pub rows : Leaves old left contents
   pub listed : left catalog_tree ≡ old.trees catalog_tree
 
--- Inside a transaction, which goes on: our tables hold what the change makes of what they held, each other table has
+-- Inside a transaction, which goes on: the store's tables hold what the change makes of what they held, each other table has
 -- the rows that it had, what the schema doesn't show is as it was, and so are the savepoints.
 pub record Changes (old new : State) (change : Contents → Contents) : Type 0 where
   pub was_open : IsTrue old.is_open

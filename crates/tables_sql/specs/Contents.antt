@@ -1,4 +1,4 @@
--- What our tables hold: eleven finite maps over bytes and numbers. A set is a map to the unit.
+-- What the store's tables hold: eleven finite maps over bytes and numbers. A set is a map to the unit.
 use Rattle.std.specs.Prelude.{Bool, true, false, ◌&&◌, filter, find, ℤ, Option, Some, None, option_map, unwrap_or, ℕ, List, [], map, codes}
 use Rattle.std.specs.declared.cmp.Ordering.{Ordering}
 use Rattle.std.specs.Ordering.{on, then_cmp, nat_cmp, int_cmp}
@@ -204,6 +204,6 @@ contents_with rows pieces temp_roots = record {
   temp_roots = map_of kept_cmp is_kept kept_of temp_roots;
 }
 
--- what our tables hold in this database
+-- what the store's tables hold in this database
 abbrev pub contents_of : Database → Contents
 contents_of db = contents_with (rows_named db) (rows_if_any db (codes "piece")) (rows_if_any db (codes "temp_root"))

@@ -1,4 +1,4 @@
--- What an entry that a call hands out stands for, and the columns of a row that shows it.
+-- What an entry that a call returns means, and the columns of a row that shows it.
 use Rattle.std.specs.Prelude.{◌≡◌, ◌≢◌, ◌⊎◌, ℕ, ℤ, List, length, Option, Some, None, String, MatchOption, option_map, string_bytes}
 use Rattle.std.specs.declared.alloc.Global.{Global}
 use Rattle.sqlite_value.specs.declared.value.Value.{Value}

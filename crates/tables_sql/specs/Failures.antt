@@ -71,7 +71,7 @@ IsTooLarge db table values =
     IsOversized db.schema (record table { tree = tree_named db.schema table.name })
     (Int (next_rowid (rows_named db table.name)) ∷ values)
 
--- no rowid is left for one more row: the one after the last is beyond 64 bits, or taken
+-- no rowid is left for one more row: the one after the last is beyond 64 bits, or in use
 unfoldable pub HasNoRowidLeft : Database → Table → Type 0
 HasNoRowidLeft db table =
     let rows = rows_named db table.name in (fits_i64 (next_rowid rows) ≡ false)
@@ -84,7 +84,7 @@ IsAdditionFailure text params old new f =
     (IsWriteFailure text params old new f × (f ≡ Size → IsTrue old.is_open)) ⊎ FailsWith old new ⊥ ⊥ f
 
 -- An insert of these values into a table: the row may be too large, which is reported of an open connection alone, and
--- the call refused for a limit on steps, for want of a rowid, or since the entry is there, where that may be.
+-- the call refused for a limit on steps, for lack of a rowid, or since the entry is there, where that may be.
 abbrev pub FailsToInsert : Table → Row → (is_there : Type 0) → State → State → Failure → Type 0
 FailsToInsert table values is_there old new =
     FailsWith old new (IsTooLarge old.now table values × IsTrue old.is_open)

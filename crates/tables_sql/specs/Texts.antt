@@ -1,4 +1,4 @@
--- That the texts in our tables can be read: another program may store one that isn't UTF-8, in a STRICT table too.
+-- That the texts in the store's tables can be read: another program may store one that isn't UTF-8, in a STRICT table too.
 use Rattle.std.specs.Prelude.{◌≡◌, ℕ, ℤ, ◌+◌, ◌<◌, List, length, IsUtf8, IfSome, Some, ⊤}
 use Rattle.std.specs.List.{AllByRecursion}
 use Rattle.std.specs.FinMap as finite
@@ -11,7 +11,7 @@ use Rattle.sqlite.specs.Effect.{Database}
 use Rattle.tables_schema.specs.Forms.{our_tables}
 use Rattle.tables_sql.specs.Contents.{Bytes, Stored, Contents, rows_named}
 
--- each text in our tables is UTF-8
+-- each text in the store's tables is UTF-8
 pub record AreReadable (c : Contents) : Type 0 where
   pub meta : (word value : Bytes) → finite.get c.meta word ≡ Some value → IsUtf8 word × IsUtf8 value
   pub objects : (base : Bytes) (o : Stored) → finite.get c.objects base ≡ Some o
@@ -49,6 +49,6 @@ IsReadableRow row = (at : ℕ) → at < length row → IsReadable (column row at
 abbrev pub AreReadableRows : Table → List Row → Type 0
 AreReadableRows t rows = (row : Row) (at : ℕ) → Has rows row → at < length t.columns → IsReadable (column row (at + 1))
 
--- each text in these rows of our tables is
+-- each text in these rows of the store's tables is
 unfoldable pub HasReadableRows : Database → Type 0
 HasReadableRows db = AllByRecursion (λ t. AreReadableRows t (rows_named db t.name)) our_tables

@@ -12,7 +12,7 @@ pub enum Failure {
     /// A row would be larger than a database can hold.
     Size,
     /// The disk failed, or an earlier failure of it had shut the connection. So it is where `sqlite` refuses a call: by a limit on
-    /// steps, for want of a rowid, or because an entry of a set is there already; where two rows share a rowid at opening; and where
+    /// steps, for lack of a rowid, or because an entry of a set is there already; where two rows share a rowid at opening; and where
     /// a row isn't as its table has them, which an honest disk never shows.
     Disk,
 }

@@ -42,7 +42,7 @@ impl Entry for Piece {
     }
 }
 
-/// Which piece it is: the base name of the object's path, and the piece's number.
+/// The key of a piece: the base name of the object's path, and the piece's number.
 #[derive(Debug, Drop)]
 pub struct PieceKey {
     pub base: String,

@@ -35,7 +35,7 @@ pub trait Sink: Sized + Drop {
             ⊎ ((f ≡ Disk) × ((rows : List (List Value)) → is_of rows self.old → is_amiss (rows ++ row.now ∷ [])))) };
 }
 
-/// HasBegunWith the rows that a query shows to `sink`, one at a time, up to the first that it doesn't take. Nothing changes.
+/// Passes the rows that a query shows to `sink`, one at a time, up to the first that it doesn't take. Nothing changes.
 pub fn read_into<S: Alter, T: Sink>(
     conn: &mut Connection<S>,
     text: &str,
@@ -65,7 +65,7 @@ pub fn read_into<S: Alter, T: Sink>(
         };
         sink.take(row)?;
     }
-    // No memory holds so many.
+    // No memory holds that many.
     Err(Failure::Memory)
 }
 

@@ -1,4 +1,4 @@
-//! A transaction over our tables: what is written inside it is committed at once, or not at all.
+//! A transaction over the store's tables: what is written inside it is committed at once, or not at all.
 
 ghost use Rattle.std.specs.Prelude.{◌≡◌, true, false, IsTrue, IfErr, OnOk, OnErr};
 ghost use Rattle.sqlite.specs.State.{HasCleanDisk, IsRolledBack, Survives};

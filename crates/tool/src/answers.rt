@@ -147,7 +147,7 @@ fn answer_alone<F: Start, R: Read, W: Write, E: Write>(
 /// Results go to `output`; refusals and failures go to `errors`, but for `who`, which puts everything
 /// on `output`. The configuration file that the command line names isn't read. No more than 16,777,224 bytes of the input
 /// are, but for `import` and `runtime`, which read all of it, and `serve`, which reads what its connection sends.
-/// `start` stands for what a database file held, as for `run`.
+/// `start` is what a database file held, as for `run`.
 ///
 /// ```rust
 /// use tool::Unknown;

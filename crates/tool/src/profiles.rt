@@ -14,7 +14,7 @@ use store_types::Request;
 use tool_pure::{Stop, parse_reference};
 use tool_words::{ProfileAction, ProfileArguments};
 
-/// Whose a profile is, and its name.
+/// A profile's owner, and its name.
 fn names(
     alloc: Global,
     caller: &Caller,

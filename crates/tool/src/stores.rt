@@ -51,7 +51,7 @@ fn in_memory<R: Read, W: Write, E: Write>(
     }
 }
 
-/// Does some work with the store of the database file at a path, which is made where it isn't there. `start` stands for what the
+/// Does some work with the store of the database file at a path, which is made where it isn't there. `start` is what the
 /// file held.
 fn in_file<F: Start, R: Read, W: Write, E: Write>(
     rt: &HostRuntime,

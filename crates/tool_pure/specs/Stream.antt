@@ -1,4 +1,4 @@
--- What is taken from an input, and an answer to the two outputs.
+-- What is read from an input, and an answer to the two outputs.
 use Rattle.std.specs.Prelude.{◌≡◌, ◌⊎◌, ⊤, ℕ, Bool, true, is_none, List, Option, Some, None, Result, Ok, Err, String, string_bytes, option_map}
 use Rattle.std.specs.Io.KnownBytes.{Keeps}
 use Rattle.std.specs.declared.alloc.Global.{Global}

@@ -1,4 +1,4 @@
-//! A reply, told on two writers with an exit status.
+//! A reply, printed on two writers with an exit status.
 ghost use Rattle.std.specs.Prelude.{◌≡◌, ◌⊎◌, option_map};
 ghost use Rattle.tables_outline.specs.Maps.{labelled_bytes};
 ghost use Rattle.report.specs.Stops.{denial_text};

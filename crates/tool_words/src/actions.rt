@@ -7,7 +7,7 @@ ghost use Rattle.tool_words.specs.Asked.{optional_text, on_profile_view, on_sess
 use crate::error::UsageFault;
 use crate::line::{ProfileAction, ServeArguments, TempAction, UnrootArguments, Unrooted};
 
-/// The number of a generation, 1 to 9,999; any other text stands for 0, which no profile has.
+/// The number of a generation, 1 to 9,999; any other text gives 0, which no profile has.
 fn generation(text: &str) -> u32
     ensures { result ≡ action.generation text.now }
 {
@@ -64,7 +64,7 @@ pub(crate) fn temp_action<'a>(
     }
 }
 
-/// Whose root of this name is dropped.
+/// The owner of the root that is dropped.
 pub(crate) fn unrooted<'a>(
     permanent: bool,
     owner: Option<&'a str>,

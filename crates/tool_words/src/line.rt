@@ -95,7 +95,7 @@ pub struct RootArguments<'a> {
     pub path: &'a str,
 }
 
-/// Whose root is dropped.
+/// The owner of the root that is dropped.
 #[derive(Debug, Drop)]
 pub enum Unrooted<'a> {
     /// A permanent root, which has no owner.
@@ -107,13 +107,13 @@ pub enum Unrooted<'a> {
 /// A root that is dropped.
 #[derive(Debug, Drop)]
 pub struct UnrootArguments<'a> {
-    /// Whose it is.
+    /// The owner.
     pub root: Unrooted<'a>,
     /// The name of the root.
     pub name: &'a str,
 }
 
-/// What happens to a profile. Generations are numbered from 1 to 9,999; 0 stands for a text that is no such number.
+/// What happens to a profile. Generations are numbered from 1 to 9,999; 0 means a text that is no such number.
 #[derive(Debug, Drop)]
 pub enum ProfileAction<'a> {
     /// A path becomes its current generation.
@@ -129,7 +129,7 @@ pub enum ProfileAction<'a> {
 /// A profile that is changed.
 #[derive(Debug, Drop)]
 pub struct ProfileArguments<'a> {
-    /// Whose it is: the caller's, where nobody is named.
+    /// The owner: the caller, where nobody is named.
     pub owner: Option<&'a str>,
     /// The name of the profile.
     pub name: &'a str,
@@ -149,9 +149,9 @@ pub enum TempAction<'a> {
 /// A session whose temporary roots are changed.
 #[derive(Debug, Drop)]
 pub struct TempArguments<'a> {
-    /// Whose it is: the caller's, where nobody is named.
+    /// The owner: the caller, where nobody is named.
     pub owner: Option<&'a str>,
-    /// The number of the session, 1 to 4,194,304; 0 stands for a text that is no such number.
+    /// The number of the session, 1 to 4,194,304; 0 means a text that is no such number.
     pub session: u64,
     /// What happens to its roots.
     pub action: TempAction<'a>,

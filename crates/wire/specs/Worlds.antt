@@ -14,7 +14,7 @@ use Rattle.wire_server.specs.Responses.{Replied}
 use Rattle.wire.specs.Replies.{response_to}
 use Rattle.wire.specs.Courses.{Course, replies, calls, HasCourse}
 
--- the reply at once, and the world stays; or a step is taken, and the response is that to its reply
+-- the reply at once, and the world stays; or a step is made, and the response is that to its reply
 abbrev pub LeadsTo : Settings → Course → World → Replied → World → Type 0
 LeadsTo s (replies it) w r new = (r ≡ it) × (new ≡ w)
 LeadsTo s (calls c q) w r new = (reply : Reply) × Step s w c q reply new × (r ≡ response_to s.store_dir reply)

@@ -51,15 +51,15 @@ entry_in line = (before_first is_colon line, drop 1 (after_first is_colon line))
 
 -- the entries of the lines of a text, of whose first line a prefix comes before it
 abbrev pub entries_from : List ℕ → List ℕ → List Entry
-entries_from front [] = []
-entries_from front (b ∷ text) =
-    cond (b == 10) (entry_in front ∷ entries_from [] text) (entries_from (front ++ b ∷ []) text)
+entries_from line [] = []
+entries_from line (b ∷ text) =
+    cond (b == 10) (entry_in line ∷ entries_from [] text) (entries_from (line ++ b ∷ []) text)
 
 -- the entries of the lines of a text
 abbrev pub entries_in : List ℕ → List Entry
 entries_in text = entries_from [] text
 
--- an empty body stands for the empty line alone
+-- an empty body means the empty line alone
 abbrev pub spelled : List ℕ → List ℕ
 spelled [] = 10 ∷ []
 spelled (b ∷ body) = b ∷ body

@@ -31,9 +31,9 @@ impl Model for Prefix {
 
     ghost Value = { List ℕ };
 
-    ghost view = { λ front. front.bytes.items };
+    ghost view = { λ prefix. prefix.bytes.items };
 
-    ghost invariant = { λ front. IsPrefix front.bytes.items front.place };
+    ghost invariant = { λ prefix. IsPrefix prefix.bytes.items prefix.place };
 }
 
 /// The place after one more byte.
@@ -62,7 +62,7 @@ fn place_after(place: Place, byte: u8) -> Place
 /// How many bytes of a piece, whose place is given, belong to these lines, and the place after them.
 fn prefix_in(place: Place, piece: &[u8]) -> (usize, Place)
     ensures within { result.0 ≤ length piece.now }
-    ensures front { take result.0 piece.now ≡ prefix_from place piece.now }
+    ensures prefix { take result.0 piece.now ≡ prefix_from place piece.now }
     ensures rest { drop result.0 piece.now ≡ rest_from place piece.now }
     ensures behind { result.1 ≡ place_after place piece.now }
 {
@@ -102,7 +102,7 @@ impl Prefix {
     ///
     /// Memory was refused, which is never asked for after the empty line. The lines are then as before.
     pub fn take<'a>(&mut self, piece: &'a [u8]) -> Result<&'a [u8], AllocError>
-        ensures front { IfOk result (λ rest. self.new ≡ prefix_of (self.old ++ piece.now)) }
+        ensures prefix { IfOk result (λ rest. self.new ≡ prefix_of (self.old ++ piece.now)) }
         ensures rest { IfOk result (λ rest. rest.now ≡ rest_of (self.old ++ piece.now)) }
         ensures refused { OnErr result (self.new ≡ self.old) }
         ensures whole { OnErr result (place_after BeginsLine self.old ≡ AfterPrefix → ⊥) }
@@ -119,7 +119,7 @@ impl Prefix {
     /// The bytes of the lines that have come.
     pub fn bytes(&self) -> &[u8]
         ensures now { result.now ≡ self.now }
-        ensures front { prefix_of self.now ≡ self.now }
+        ensures prefix { prefix_of self.now ≡ self.now }
     {
         &self.bytes
     }

@@ -10,7 +10,7 @@ use Rattle.wire_requests.specs.declared.requests.Requests.TheVariants.{Get, Post
 abbrev pub kind_where : List ℕ → List ℕ → Kind → Option Kind
 kind_where method word kind = cond (bytes_eq method word) (Some kind) None
 
--- the request that a method stands for on a route, letter by letter
+-- the request that a method means on a route, letter by letter
 abbrev pub kind_of : Requests → List ℕ → Option Kind
 kind_of (Get kind) method = kind_where method (codes "GET") kind
 kind_of (Post kind) method = kind_where method (codes "POST") kind

@@ -44,7 +44,7 @@ AreParametersOf (PostOrDelete kind other) target p = AreParameters kind target p
 
 -- ---- inside the crate
 
--- each name of a route with what was taken of a target
+-- each name of a route with the part of a target that it matched
 abbrev pub pairs_of : Params → List (List ℕ × List ℕ)
 pairs_of p = walk p.pattern.now p.text.now p.path.now p.names.now 0 0
 

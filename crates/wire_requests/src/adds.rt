@@ -70,7 +70,7 @@ fn named_prefix(alloc: Global, dir: &StoreDir, body: &Parted) -> Result<NamedHea
     ensures bad { result ≡ Err BodyError.BadBodyHead → (head : NamedOf) (nar : List ℕ)
         → IsNamedBody dir.now body.now head nar → ⊥ }
 {
-    let (head, _) = named_body(alloc, dir, body.front())?;
+    let (head, _) = named_body(alloc, dir, body.first_lines())?;
     Ok(head)
 }
 
@@ -80,7 +80,7 @@ fn import_prefix(alloc: Global, dir: &StoreDir, body: &Parted) -> Result<ImportH
     ensures bad { result ≡ Err BodyError.BadBodyHead → (head : ImportOf) (nar : List ℕ)
         → IsImportBody dir.now body.now head nar → ⊥ }
 {
-    let (head, _) = wire_bodies::import_body(alloc, dir, body.front())?;
+    let (head, _) = wire_bodies::import_body(alloc, dir, body.first_lines())?;
     Ok(head)
 }
 

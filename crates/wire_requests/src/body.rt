@@ -81,13 +81,13 @@ impl Body {
         }
     }
 
-    /// Its lines up to and with the first empty one.
+    /// The lines of the body up to and with the first empty one.
     pub(crate) fn lines(&self) -> &[u8]
         ensures { result.now ≡ prefix_of self.now }
     {
         match &self.kept {
             Kept::Whole(held) => lines_of(held.bytes()),
-            Kept::Parted(parted) => parted.front(),
+            Kept::Parted(parted) => parted.first_lines(),
         }
     }
 
@@ -117,7 +117,7 @@ impl Body {
 }
 
 impl Sink for Body {
-    ghost taken = { λ body. body };
+    ghost received = { λ body. body };
 
     fn take(&mut self, piece: &[u8]) -> Result<(), AllocError> {
         self.push(piece)

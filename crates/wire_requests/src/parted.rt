@@ -14,7 +14,7 @@ use wire_bodies::Prefix;
 #[derive(Drop)]
 pub(crate) struct Parted {
     alloc: Global,
-    front: Prefix,
+    prefix: Prefix,
     archive: Intake,
     has_begun: bool,
 }
@@ -27,15 +27,15 @@ impl Model for Parted {
 
     ghost Value = { List ℕ };
 
-    ghost view = { λ parted. parted.front ++ bytes_in parted.archive };
+    ghost view = { λ parted. parted.prefix ++ bytes_in parted.archive };
 
-    ghost invariant = { λ parted. prefix_of (parted.front ++ bytes_in parted.archive) ≡ parted.front };
+    ghost invariant = { λ parted. prefix_of (parted.prefix ++ bytes_in parted.archive) ≡ parted.prefix };
 }
 
 /// Whether the lines name the address of a text, which asks for the contents of the archive. No answer hangs on it: where
 /// it isn't seen here, they are hashed once that address is tested.
-fn names_text_address(front: &[u8]) -> bool {
-    match str::from_utf8(front) {
+fn names_text_address(prefix: &[u8]) -> bool {
+    match str::from_utf8(prefix) {
         Ok(text) => text.starts_with("ca: text:") || text.contains("\nca: text:"),
         Err(_) => false,
     }
@@ -43,13 +43,13 @@ fn names_text_address(front: &[u8]) -> bool {
 
 /// Before the first bytes of the archive come: contents that will be asked for are hashed as they come. Gives whether
 /// the archive has begun.
-fn begin(has_begun: bool, front: &[u8], rest: &[u8], archive: &mut Intake) -> bool
+fn begin(has_begun: bool, prefix: &[u8], rest: &[u8], archive: &mut Intake) -> bool
     ensures { archive.new ≡ archive.old }
 {
     if has_begun || rest.is_empty() {
         return has_begun;
     }
-    if names_text_address(front) {
+    if names_text_address(prefix) {
         archive.hash_contents();
     }
     true
@@ -62,7 +62,7 @@ impl Parted {
     {
         Parted {
             alloc,
-            front: Prefix::new(alloc),
+            prefix: Prefix::new(alloc),
             archive: Intake::new(alloc),
             has_begun: false,
         }
@@ -75,23 +75,23 @@ impl Parted {
         // Once bytes of the archive have come, the lines before it stay.
         ensures lines { OnErr result ((rest_of self.old ≡ [] → ⊥) → self.new ≡ prefix_of self.old) }
     {
-        let Ok(rest) = self.front.take(piece) else {
+        let Ok(rest) = self.prefix.take(piece) else {
             *self = Parted::new(self.alloc);
             return Err(AllocError);
         };
         if rest.is_empty() {
             return Ok(());
         }
-        self.has_begun = begin(self.has_begun, self.front.bytes(), rest, &mut self.archive);
+        self.has_begun = begin(self.has_begun, self.prefix.bytes(), rest, &mut self.archive);
         self.archive.push(rest)?;
         Ok(())
     }
 
     /// The lines up to and with the first empty one.
-    pub(crate) fn front(&self) -> &[u8]
+    pub(crate) fn first_lines(&self) -> &[u8]
         ensures { result.now ≡ prefix_of self.now }
     {
-        self.front.bytes()
+        self.prefix.bytes()
     }
 
     /// The archive, without a copy.
@@ -105,7 +105,7 @@ impl Parted {
     pub(crate) fn joined(self, alloc: Global) -> Result<Vec<u8>, AllocError>
         ensures { IfOk result (λ bytes. bytes.items ≡ self) }
     {
-        let mut bytes = self.front.bytes().to_vec(alloc)?;
+        let mut bytes = self.prefix.bytes().to_vec(alloc)?;
         let archive = self.archive.finish()?.pieces.joined()?;
         bytes.extend_from_slice(&archive)?;
         Ok(bytes)

@@ -8,7 +8,7 @@ fn before_slash(text: &str) -> &str
     ensures { result.now ≡ before_first is_slash text.now }
 {
     match text.split_once('/') {
-        Some((front, _)) => front,
+        Some((before, _)) => before,
         None => text,
     }
 }

@@ -12,7 +12,7 @@ use paths::numbers::{generation, session};
 use store_types::Request;
 use wire_bodies::is_blank;
 
-/// The number of a generation that a text writes; any other text stands for 0, which no profile has.
+/// The number of a generation that a text writes; any other text gives 0, which no profile has.
 fn generation_of(text: &str) -> u32
     ensures { result ≡ spec.generation_in text.now }
 {

@@ -45,7 +45,7 @@ module _ {S : Type 0} (answers : S → RequestHead → List ℕ → Replied → 
     items = report.done;
     replies = report.replies;
     bytes = joined report.replies;
-    front = begins_all input report.done (follows_any input rest held report.done report.follows);
+    prefix = begins_all input report.done (follows_any input rest held report.done report.follows);
     answered = report.answered;
     written = by e reading;
     appended = report.written;
@@ -78,7 +78,7 @@ module _ {S : Type 0} (answers : S → RequestHead → List ℕ → Replied → 
     items = report.done;
     replies = report.replies;
     counted = ap reported report.counted;
-    front = begins_all input report.done (follows_any input rest held report.done report.follows);
+    prefix = begins_all input report.done (follows_any input rest held report.done report.follows);
     answered = report.answered;
     written = report.written;
   }
@@ -89,7 +89,7 @@ module _ {S : Type 0} (answers : S → RequestHead → List ℕ → Replied → 
     items = rests.items;
     replies = rests.replies;
     bytes = joined rests.replies;
-    front = rests.front;
+    prefix = rests.prefix;
     answered = rests.answered;
     written = refl;
     appended = rests.written;
@@ -102,7 +102,7 @@ module _ {S : Type 0} (answers : S → RequestHead → List ℕ → Replied → 
     items = report.done;
     replies = report.replies;
     counted = ap reported (sym is ∙ report.counted);
-    front = begins_all input report.done (follows_any input rest held report.done report.follows);
+    prefix = begins_all input report.done (follows_any input rest held report.done report.follows);
     whole = λ small. absurd (full n (length report.done) is report.counted small);
     answered = report.answered;
     written = report.written;
@@ -115,7 +115,7 @@ module _ {S : Type 0} (answers : S → RequestHead → List ℕ → Replied → 
     items = report.done;
     replies = report.replies;
     counted = ap reported report.counted;
-    front = begins_all input report.done (follows_any input rest held report.done report.follows);
+    prefix = begins_all input report.done (follows_any input rest held report.done report.follows);
     whole = λ small. divides_all input report.done (follows_end input rest held report.done report.follows none end);
     answered = report.answered;
     written = report.written;
@@ -130,7 +130,7 @@ module _ {S : Type 0} (answers : S → RequestHead → List ℕ → Replied → 
       items = report.done ++ faulty fault ∷ [];
       replies = report.replies ++ fault_reply fault ∷ [];
       counted = ap reported (counted_more report.done (faulty fault) n report.counted);
-      front = begins_all input _ (follows_fault false input rest held report.done fault report.follows some is);
+      prefix = begins_all input _ (follows_fault false input rest held report.done fault report.follows some is);
       whole = λ small. divides_all input _ (follows_fault true input rest held report.done fault report.follows some is);
       answered = replies_fault answers s t report.done report.replies fault report.answered;
       written = sent_more output out out' report.replies (fault_reply fault) report.written sent;
@@ -141,7 +141,7 @@ module _ {S : Type 0} (answers : S → RequestHead → List ℕ → Replied → 
       items = report.done ++ faulty fault ∷ [];
       replies = report.replies ++ fault_reply fault ∷ [];
       bytes = joined report.replies ++ take k (fault_reply fault);
-      front = begins_all input _ (follows_fault false input rest held report.done fault report.follows some is);
+      prefix = begins_all input _ (follows_fault false input rest held report.done fault report.follows some is);
       answered = replies_fault answers s t report.done report.replies fault report.answered;
       written = (report.replies, fault_reply fault, k, refl, below, refl);
       appended = Appends-trans output out out' (joined report.replies) (take k (fault_reply fault)) report.written sent;
@@ -157,7 +157,7 @@ module _ {S : Type 0} (answers : S → RequestHead → List ℕ → Replied → 
       items = report.done ++ message h (body_in held head size) ∷ [];
       replies = report.replies ++ reply_bytes (closes h) r ∷ [];
       bytes = bytes;
-      front = begins_all input _ (follows_item held report.done head size h is input rest report.follows);
+      prefix = begins_all input _ (follows_item held report.done head size h is input rest report.follows);
       answered = replies_item answers s t new report.done report.replies h (body_in held head size) r report.answered answered;
       written = written;
       appended = appended;
@@ -183,7 +183,7 @@ module _ {S : Type 0} (answers : S → RequestHead → List ℕ → Replied → 
       items = report.done ++ message h (body_in held head size) ∷ [];
       replies = report.replies ++ reply_bytes (closes h) r ∷ [];
       counted = ap reported (counted_more report.done _ n report.counted);
-      front = begins_all input _ (follows_last held report.done head size h is false input rest report.follows last);
+      prefix = begins_all input _ (follows_last held report.done head size h is false input rest report.follows last);
       whole = λ small. divides_all input _ (follows_last held report.done head size h is true input rest report.follows last);
       answered = replies_item answers s t new report.done report.replies h (body_in held head size) r report.answered answered;
       written = sent_more output out out' report.replies (reply_bytes (closes h) r) report.written sent;

@@ -49,7 +49,7 @@ module _ {S W : Type 0} (answers : S → RequestHead → List ℕ → Replied �
                 items = served.items;
                 replies = served.replies;
                 counted = served.counted;
-                front = served.front;
+                prefix = served.prefix;
                 whole = served.whole;
                 answered = after.1;
                 written = served.written;
@@ -67,7 +67,7 @@ module _ {S W : Type 0} (answers : S → RequestHead → List ℕ → Replied �
                 items = stopped.items;
                 replies = stopped.replies;
                 bytes = stopped.bytes;
-                front = stopped.front;
+                prefix = stopped.prefix;
                 answered = after.1;
                 written = stopped.written;
                 appended = stopped.appended;
@@ -88,7 +88,7 @@ module _ {S W : Type 0} (answers : S → RequestHead → List ℕ → Replied �
                 items = rests.items;
                 replies = rests.replies;
                 counted = rests.counted;
-                front = rests.front;
+                prefix = rests.prefix;
                 answered = after.1;
                 written = rests.written;
               },

@@ -1,7 +1,7 @@
 -- The peers of a listener that shows them: what they send, and what was written to them.
 use Rattle.std.specs.Prelude.{◌≡◌, ⊤, ℕ, List, [], ◌++◌, map, Option, Some, None}
 
--- the next peers were taken, of whom this is known of what they send
+-- the next peers were accepted, of whom this is known of what they send
 abbrev pub AcceptsPeers : Option (List (List ℕ)) → Option (List (List ℕ)) → List (Option (List ℕ)) → Type 0
 AcceptsPeers None new inputs = ⊤
 AcceptsPeers (Some all) None inputs = ⊥

@@ -75,7 +75,7 @@ module _ {S : Type 0} (answers : S → RequestHead → List ℕ → Replied → 
     pub items : List Item
     pub replies : List (List ℕ)
     pub counted : count ≡ reported (length items)
-    pub front : BeginsWith input items
+    pub prefix : BeginsWith input items
     pub whole : length items < 2 ^ 128 - 1 → DividesAll input items
     pub answered : Replies old items replies new
     pub written : Appends output output' (joined replies)
@@ -85,7 +85,7 @@ module _ {S : Type 0} (answers : S → RequestHead → List ℕ → Replied → 
     pub items : List Item
     pub replies : List (List ℕ)
     pub bytes : List ℕ
-    pub front : BeginsWith input items
+    pub prefix : BeginsWith input items
     pub answered : Replies old items replies new
     pub written : IsWritten fault replies bytes
     pub appended : Appends output output' bytes
@@ -95,7 +95,7 @@ module _ {S : Type 0} (answers : S → RequestHead → List ℕ → Replied → 
     pub items : List Item
     pub replies : List (List ℕ)
     pub counted : count ≡ reported (length items)
-    pub front : BeginsWith input items
+    pub prefix : BeginsWith input items
     pub answered : Replies old items replies new
     pub written : Appends output output' (joined replies)
 

@@ -8,7 +8,7 @@ use std::net::TcpStream;
 use std::rt::Clock;
 use std::time::{Duration, Instant};
 
-/// How many bytes are read at most: the largest body that is taken, and a head.
+/// How many bytes are read at most: the largest body that is accepted, and a head.
 const MOST: usize = 20_971_520 + 16_384;
 
 /// How many seconds a peer may be silent.

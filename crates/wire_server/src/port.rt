@@ -9,7 +9,7 @@ use std::net::{Shutdown, TcpListener, TcpStream};
 use std::rt::Clock;
 use std::time::Duration;
 
-/// How many seconds a connection waits for a peer: for the next byte of an input, and until some of a reply is taken.
+/// How many seconds a connection waits for a peer: for the next byte of an input, and until some of a reply is sent.
 const LIMIT: u64 = 60;
 
 /// The connections of a listener. A peer who sends nothing for 60 seconds, or takes nothing of a reply, makes the read or the

@@ -29,14 +29,14 @@ impl Response {
             (length self.now.text)) }
     {
         let mut head = String::new(alloc);
-        let front = ReplyHead {
+        let reply = ReplyHead {
             status: self.status,
             kind: self.kind,
             allow: self.allow,
             close,
             size: self.text.len(),
         };
-        write_reply_head(&mut head, &front)?;
+        write_reply_head(&mut head, &reply)?;
         Ok(head)
     }
 

@@ -59,11 +59,11 @@ fn add_guesses(
     Ok(())
 }
 
-/// Guesses that are taken in the order in which they were made.
+/// Guesses that are used in the order in which they were made.
 #[derive(Drop)]
 pub(crate) struct Guesses {
     places: Vec<usize>,
-    taken: usize,
+    used: usize,
 }
 
 impl Guesses {
@@ -78,15 +78,15 @@ impl Guesses {
                 places.push(guess(heads, &hints, path))?;
             }
         }
-        Ok(Guesses { places, taken: 0 })
+        Ok(Guesses { places, used: 0 })
     }
 
     /// The next guess.
     pub(crate) fn next(&mut self) -> usize {
-        let taken = self.taken;
-        self.taken = taken.saturating_add(1);
-        if taken < self.places.len() {
-            self.places[taken]
+        let used = self.used;
+        self.used = used.saturating_add(1);
+        if used < self.places.len() {
+            self.places[used]
         } else {
             0
         }

@@ -9,8 +9,8 @@ pub hash_pieces-requires-clause-order : goal.hash_pieces-requires-clause-order
 hash_pieces-requires-clause-order c =
     omega (arith, c.len-now.ensures, c.len-whole.ensures, ap length c.in_ok-push.ensures.ok, length-append c.args.pieces.now c.args.piece.now)
 
-pub returns-clause-taken : goal.returns-clause-taken
-returns-clause-taken c = λ has.
+pub returns-clause-accepted : goal.returns-clause-accepted
+returns-clause-accepted c = λ has.
     let bytes = c.args.pieces.now in
     let piece = c.args.piece.now in
     let all = c.push.new.self in

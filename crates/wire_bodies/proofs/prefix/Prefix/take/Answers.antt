@@ -4,8 +4,8 @@ use Rattle.wire_bodies.specs.Prefix.{prefix_from, rest_from, prefix_of, rest_of,
 use Rattle.wire_bodies.proofs.Fronts.{front_more, rest_more, is_front_more}
 use Rattle.wire_bodies.proofs.prefix.Prefix.take.Goals as goal
 
-pub returns-in-AfterPrefix-clause-front : goal.returns-in-AfterPrefix-clause-front
-returns-in-AfterPrefix-clause-front c =
+pub returns-in-AfterPrefix-clause-prefix : goal.returns-in-AfterPrefix-clause-prefix
+returns-in-AfterPrefix-clause-prefix c =
     let old = c.self.inside in
     sym c.self.view_is ∙ sym (append-nil old.bytes.items)
     ∙ ap (λ p. old.bytes.items ++ prefix_from p c.args.piece.now) (sym c.in-AfterPrefix.is)
@@ -21,16 +21,16 @@ pub invariant_of-self-2 : goal.invariant_of-self-2
 invariant_of-self-2 c =
     let old = c.self.inside in
     let new : c.extend_from_slice.new.self.items ≡ old.bytes.items ++ prefix_from old.place c.args.piece.now =
-    c.in_ok-extend_from_slice.ensures.items ∙ ap (λ t. old.bytes.items ++ t) c.prefix_in-count.ensures.front in
+    c.in_ok-extend_from_slice.ensures.items ∙ ap (λ t. old.bytes.items ++ t) c.prefix_in-count.ensures.prefix in
     subst (λ t. IsPrefix t c.prefix_in-count.result.1) (sym new)
     (subst (λ p. IsPrefix (old.bytes.items ++ prefix_from old.place c.args.piece.now) p) (sym c.prefix_in-count.ensures.behind)
     (is_front_more old.bytes.items c.args.piece.now old.place c.self.invariant))
 
-pub returns-clause-front : goal.returns-clause-front
-returns-clause-front c =
+pub returns-clause-prefix : goal.returns-clause-prefix
+returns-clause-prefix c =
     let old = c.self.inside in
     let new : c.extend_from_slice.new.self.items ≡ old.bytes.items ++ prefix_from old.place c.args.piece.now =
-    c.in_ok-extend_from_slice.ensures.items ∙ ap (λ t. old.bytes.items ++ t) c.prefix_in-count.ensures.front in
+    c.in_ok-extend_from_slice.ensures.items ∙ ap (λ t. old.bytes.items ++ t) c.prefix_in-count.ensures.prefix in
     new ∙ front_more old.bytes.items c.args.piece.now old.place c.self.invariant ∙ ap (λ t. prefix_of (t ++ c.args.piece.now)) c.self.view_is
 
 pub returns-clause-rest : goal.returns-clause-rest
