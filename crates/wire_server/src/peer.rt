@@ -1,4 +1,6 @@
 //! The two directions of a connection of a port.
+ghost use Rattle.std.specs.Prelude.{◌≡◌, nat_lt};
+
 use std::io;
 use std::io::{Error, ErrorKind, Read, Write};
 use std::net::TcpStream;
@@ -10,13 +12,21 @@ pub struct Incoming {
     is_ready: bool,
 }
 
-/// What a peer is sent. Where the connection couldn't be prepared, each write fails.
+/// What a peer is sent. Where the connection couldn't be prepared, each write fails, and so does each after a short one.
 #[derive(Drop)]
 pub struct Outgoing(Option<TcpStream>);
 
 /// Why nothing is read or written on a connection that couldn't be prepared.
 fn unprepared() -> Error {
     Error::from(ErrorKind::NotConnected)
+}
+
+/// Whether a write was short, so that its time is over. It waits until each byte has a place, or for 60 seconds. A count below the
+/// length is thus no sign of a peer who reads: the system may have found some more room of its own.
+fn is_short(count: usize, len: usize) -> bool
+    ensures { result ≡ nat_lt count len }
+{
+    count < len
 }
 
 impl Incoming {
@@ -49,10 +59,14 @@ impl Read for Incoming {
 
 impl Write for Outgoing {
     fn write(&mut self, buf: &[u8]) -> io::Result<usize> {
-        match &mut self.0 {
-            Some(stream) => stream.write(buf),
-            None => Err(unprepared()),
+        let Some(stream) = &mut self.0 else {
+            return Err(unprepared());
+        };
+        let count = stream.write(buf)?;
+        if is_short(count, buf.len()) {
+            self.0 = None;
         }
+        Ok(count)
     }
 
     fn flush(&mut self) -> io::Result<()> {

@@ -9,11 +9,11 @@ use std::net::{Shutdown, TcpListener, TcpStream};
 use std::rt::Clock;
 use std::time::Duration;
 
-/// How many seconds a connection waits for a peer: for the next byte of an input, and until some of a reply is sent.
+/// How many seconds a connection waits for a peer: for the next byte of an input, and until a piece of a reply is sent.
 const LIMIT: u64 = 60;
 
-/// The connections of a listener. A peer who sends nothing for 60 seconds, or takes nothing of a reply, makes the read or the
-/// write fail that waits for it.
+/// The connections of a listener. A peer who sends nothing for 60 seconds makes the read fail that waits for it. One who doesn't
+/// take a piece of a reply in 60 seconds makes its next write fail.
 #[derive(Drop)]
 pub struct Port<'a, C: Clock> {
     listener: &'a TcpListener,
