@@ -28,8 +28,8 @@ use sqlite::Alter;
 use std::alloc::{AllocError, Global};
 use store_types::{Answer, Stop};
 use tables::Tables;
-use tables_listing::root_list;
 use tables_outline::Outline;
+use tables_root_list::root_list;
 use tables_sql::failure::Failure;
 
 /// The bytes of the archive of each row's path.

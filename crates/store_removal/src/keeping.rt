@@ -21,8 +21,8 @@ use live::{Marks, Row};
 use paths::StorePath;
 use policy::{Class, Config};
 use std::alloc::{AllocError, Global};
-use tables_listing::root_list;
 use tables_outline::Outline;
+use tables_root_list::root_list;
 
 /// The place of the first root of a path, by the marks of the rows.
 fn mark_of(rows: &[Row], marks: &Marks, path: &StorePath) -> Option<usize>

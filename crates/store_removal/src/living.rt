@@ -19,8 +19,8 @@ use live::{Graph, Keep, Marks, Root, Roots, Row, mark};
 use paths::StorePath;
 use policy::{Config, keep_derivations, keep_outputs};
 use std::alloc::{AllocError, Global};
-use tables_listing::root_list;
 use tables_outline::Outline;
+use tables_root_list::root_list;
 
 /// What is kept alive besides references, as the configuration says.
 pub(crate) fn keep_of(config: &Config) -> Keep

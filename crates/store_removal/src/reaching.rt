@@ -20,8 +20,8 @@ use live::{Graph, Keep, Root, Roots, Row, roots_of};
 use paths::StorePath;
 use policy::{Class, Config};
 use std::alloc::{AllocError, Global};
-use tables_listing::root_list;
 use tables_outline::Outline;
+use tables_root_list::root_list;
 
 /// The place of a path among rows, if it is there.
 pub(crate) fn place_of(rows: &[Row], path: &StorePath) -> Option<usize>

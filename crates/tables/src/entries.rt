@@ -20,8 +20,8 @@ use sqlite::Alter;
 use std::alloc::{AllocError, Global};
 use std::collections::BTreeMap;
 use streams::Pieces;
-use tables_listing::root_list;
 use tables_outline::{Profile, Summary};
+use tables_root_list::root_list;
 use tables_sql::failure::Failure;
 
 /// An object: its archive, and all else that is known of it.
