@@ -28,8 +28,8 @@ module _ {T E : Type 0} (f : T → State) (h : E → State) where
 
   -- what was taken up is one of more
   pub among : (r : Result T E) (P Q : T → Type 0) → ((t : T) → P t → Q t) → IfOk r (λ t. HasCleanDisk (f t) → P t) → IfOk r (λ t. HasCleanDisk (f t) → Q t)
-  among (Ok t) P Q more took = λ clean. more t (took clean)
-  among (Err e) P Q more took = tt
+  among (Ok t) P Q more opens = λ clean. more t (opens clean)
+  among (Err e) P Q more opens = tt
 
   module _ (r : Result T E) (a b : State) (dir : List ℕ) (same : HasCleanDisk b → IsUnchanged a b) (first : Survives a b (λ _. ⊥))
       (next : MatchResult r (λ t. Survives b (f t) (LeavesOpening dir b.now)) (λ e. Survives b (h e) (LeavesOpening dir b.now)))

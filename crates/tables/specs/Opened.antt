@@ -26,7 +26,7 @@ module _ {D : Type 0} {g : disk.Ghosts D} where
     pub conn : Held (FileStore D g)
     pub opened : IsAsOpened held was conn
     pub found : HasCleanDisk (file_state t.connection) → FindsIn held (file_state conn)
-    pub took : HasCleanDisk (file_state t.connection) → OpensStore over_files dir (file_state conn).now t
+    pub opens : HasCleanDisk (file_state t.connection) → OpensStore over_files dir (file_state conn).now t
     pub durable : IsTrue (file_state t.connection).is_open → IsDurable (file_state t.connection)
     pub survives : Survives (file_state conn) (file_state t.connection) (LeavesOpening dir (file_state conn).now)
 

@@ -29,7 +29,7 @@ pub(crate) fn take<S: Alter>(
     requires alone { conn.in_transaction ≡ false }
     requires found { HasCleanDisk (state S.Store conn) → IsFound found (state S.Store conn) }
     ensures dir { IfOk result (λ t. t.dir ≡ dir.now) }
-    ensures took { IfOk result
+    ensures opens { IfOk result
         (λ t. HasCleanDisk (state S.Store t.connection) → OpensStore S.Store dir.now (state S.Store conn).now t) }
     ensures alone { IfErr result (λ e. e.conn.in_transaction ≡ false) }
     ensures cause { IfErr result
@@ -65,7 +65,7 @@ fn adopt_unlimited<S: Alter>(
 ) -> Result<Tables<S>, Unadopted<S>>
     requires alone { conn.in_transaction ≡ false }
     ensures dir { IfOk result (λ t. t.dir ≡ dir.now) }
-    ensures took { IfOk result
+    ensures opens { IfOk result
         (λ t. HasCleanDisk (state S.Store t.connection) → OpensStore S.Store dir.now (state S.Store conn).now t) }
     ensures alone { IfErr result (λ e. e.conn.in_transaction ≡ false) }
     ensures cause { IfErr result
@@ -126,7 +126,7 @@ pub fn adopt<S: Alter>(
 ) -> Result<Tables<S>, Unadopted<S>>
     requires alone { conn.in_transaction ≡ false }
     ensures dir { IfOk result (λ t. t.dir ≡ dir.now) }
-    ensures took { IfOk result
+    ensures opens { IfOk result
         (λ t. HasCleanDisk (state S.Store t.connection) → OpensStore S.Store dir.now (state S.Store conn).now t) }
     ensures alone { IfErr result (λ e. e.conn.in_transaction ≡ false) }
     ensures cause { IfErr result

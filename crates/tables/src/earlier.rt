@@ -87,7 +87,7 @@ pub(crate) fn open_earlier<S: Alter>(
     requires ready { HasCleanDisk (state S.Store conn) → IsReady (state S.Store conn) }
     requires found { HasCleanDisk (state S.Store conn) → IsFoundBy schema (state S.Store conn).now }
     ensures dir { IfOk result (λ t. t.dir ≡ dir.now) }
-    ensures took { IfOk result
+    ensures opens { IfOk result
         (λ t. HasCleanDisk (state S.Store t.connection)
         → OpensMigrated S.Store schema dir.now (state S.Store conn).now t) }
     ensures alone { IfErr result (λ e. e.conn.in_transaction ≡ false) }

@@ -33,7 +33,7 @@ pub fn open<S: Start>(
     start: S,
 ) -> Result<Tables<FileStore<FileFrom<S>>>, Unopened<FileStore<FileFrom<S>>, FileFrom<S>>>
     ensures dir { IfOk result (λ t. t.dir ≡ dir.now) }
-    ensures took { IfOk result (λ t. Opens (image_at S.Start) dir.now t) }
+    ensures opens { IfOk result (λ t. Opens (image_at S.Start) dir.now t) }
     ensures cause { IfErr result (λ e. IsUnopened (image_at S.Start) dir.now e) }
 {
     match file::open(rt, path, start) {

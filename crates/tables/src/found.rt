@@ -30,7 +30,7 @@ pub(crate) fn open_existing<S: Alter>(
     requires ready { HasCleanDisk (state S.Store conn) → IsReady (state S.Store conn) }
     requires found { HasCleanDisk (state S.Store conn) → IsFoundBy V3 (state S.Store conn).now }
     ensures dir { IfOk result (λ t. t.dir ≡ dir.now) }
-    ensures took { IfOk result
+    ensures opens { IfOk result
         (λ t. HasCleanDisk (state S.Store t.connection) → OpensExisting S.Store dir.now (state S.Store conn).now t) }
     ensures alone { IfErr result (λ e. e.conn.in_transaction ≡ false) }
     ensures cause { IfErr result
@@ -62,7 +62,7 @@ fn make_new<S: Alter>(
     requires none { HasCleanDisk (state S.Store conn) → HasNone (state S.Store conn).now.schema }
     requires settled { HasCleanDisk (state S.Store conn) → (state S.Store conn).now ≡ (state S.Store conn).committed }
     ensures dir { IfOk result (λ t. t.dir ≡ dir.now) }
-    ensures took { IfOk result
+    ensures opens { IfOk result
         (λ t. HasCleanDisk (state S.Store t.connection) → OpensNew S.Store (state S.Store conn).now t) }
     ensures alone { IfErr result (λ e. e.conn.in_transaction ≡ false) }
     ensures cause { IfErr result
@@ -96,7 +96,7 @@ pub(crate) fn open_new<S: Alter>(
     requires none { HasCleanDisk (state S.Store conn) → HasNone (state S.Store conn).now.schema }
     requires settled { HasCleanDisk (state S.Store conn) → (state S.Store conn).now ≡ (state S.Store conn).committed }
     ensures dir { IfOk result (λ t. t.dir ≡ dir.now) }
-    ensures took { IfOk result
+    ensures opens { IfOk result
         (λ t. HasCleanDisk (state S.Store t.connection) → OpensNew S.Store (state S.Store conn).now t) }
     ensures alone { IfErr result (λ e. e.conn.in_transaction ≡ false) }
     ensures cause { IfErr result

@@ -30,7 +30,7 @@ impl Read for Drip<'_> {
 /// A writer that takes at most `most` bytes a call. The call after `calls` of them has this fault, or takes no byte.
 #[derive(Drop)]
 pub struct Narrow {
-    pub taken: Vec<u8>,
+    pub written: Vec<u8>,
     pub most: usize,
     pub calls: usize,
     pub fault: Option<ErrorKind>,
@@ -46,7 +46,7 @@ impl Write for Narrow {
         }
         self.calls -= 1;
         let count = self.most.min(buf.len());
-        self.taken.extend_from_slice(&buf[..count])?;
+        self.written.extend_from_slice(&buf[..count])?;
         Ok(count)
     }
 

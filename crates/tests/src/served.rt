@@ -1,7 +1,7 @@
 //! A store in memory that is served on readers and writers that fail at one of their calls.
 use crate::fakes::{Drip, Narrow};
-use crate::libraries::archives::front;
-use crate::stores::{push_list, store, tell_all};
+use crate::libraries::archives::prefix;
+use crate::stores::{push_list, push_replies, store};
 use sqlite::MemStore;
 use std::alloc::Global;
 use std::io::ErrorKind;
@@ -50,7 +50,7 @@ fn list(alloc: Global, store: &mut Store<MemStore>) -> Result<Vec<u8>, Fail> {
     let mut calls = Vec::new(alloc);
     push_list(alloc, &mut calls)?;
     let mut listed = Vec::new(alloc);
-    tell_all(alloc, store.run(calls)?, &mut listed)?;
+    push_replies(alloc, store.run(calls)?, &mut listed)?;
     Ok(listed)
 }
 
@@ -93,13 +93,13 @@ fn serve_bytes(
         fault: ErrorKind::Other,
     };
     let mut output = Narrow {
-        taken: Vec::new(alloc),
+        written: Vec::new(alloc),
         most: writes.0,
         calls: writes.1,
         fault,
     };
     let served = serve_all(alloc, &mut input, &mut output)?;
-    Ok((served, output.taken))
+    Ok((served, output.written))
 }
 
 // A message is answered as soon as it is there, and the end takes a call more.
@@ -151,8 +151,8 @@ fn served_to_writers_that_fail(rt: HostRuntime) -> Result<(), Fail> {
         for calls in 0..200usize {
             let (served, written) = serve_bytes(alloc, &all, ANY, (most, calls), fault)?;
             assert!(rt; both.starts_with(&written), "{calls} calls for {most}");
-            let is_front = most != 1 || written.len() == calls.min(both.len());
-            assert!(rt; is_front, "{calls} calls");
+            let is_prefix = most != 1 || written.len() == calls.min(both.len());
+            assert!(rt; is_prefix, "{calls} calls");
             let is_added = written.len() >= FIRST_REPLY.len();
             assert!(rt; served.is_added == is_added, "{calls} calls for {most}");
             let end = if written.len() == both.len() {
@@ -171,7 +171,7 @@ fn served_to_writers_that_fail(rt: HostRuntime) -> Result<(), Fail> {
 fn served_without_the_last_byte(rt: HostRuntime) -> Result<(), Fail> {
     let alloc = rt.alloc();
     let all = joined(alloc, FIRST, SECOND)?;
-    let cut = front(&all, all.len().saturating_sub(1));
+    let cut = prefix(&all, all.len().saturating_sub(1));
     let replies = joined(alloc, FIRST_REPLY, CUT_REPLY)?;
     for most in [1, usize::MAX] {
         let reads = (most, usize::MAX);

@@ -159,7 +159,7 @@ fn replies(alloc: Global, calls: Vec<(Caller, Request)>) -> Result<Vec<Reply>, F
     Ok(replies?)
 }
 
-pub fn tell(
+pub fn push_reply(
     alloc: Global,
     dir: &StoreDir,
     reply: Reply,
@@ -170,10 +170,14 @@ pub fn tell(
     Ok(())
 }
 
-pub fn tell_all(alloc: Global, replies: Vec<Reply>, reported: &mut Vec<u8>) -> Result<(), Fail> {
+pub fn push_replies(
+    alloc: Global,
+    replies: Vec<Reply>,
+    reported: &mut Vec<u8>,
+) -> Result<(), Fail> {
     let dir = StoreDir::parse(alloc, "/nix/store")?;
     for reply in replies {
-        tell(alloc, &dir, reply, reported)?;
+        push_reply(alloc, &dir, reply, reported)?;
     }
     Ok(())
 }
@@ -186,7 +190,7 @@ fn calls_in_turn(rt: HostRuntime) -> Result<(), Fail> {
     let replies = replies(alloc, calls)?;
     assert_eq!(rt; replies.len(), 7);
     let mut reported = Vec::new(alloc);
-    tell_all(alloc, replies, &mut reported)?;
+    push_replies(alloc, replies, &mut reported)?;
     assert!(rt; reported.as_slice() == PRINTED.as_bytes());
     Ok(())
 }

@@ -1,5 +1,5 @@
 //! Callers of `tables`, `store` and `report`.
-use crate::stores::{push_text, store, tell_all};
+use crate::stores::{push_replies, push_text, store};
 use paths::{StoreDir, StorePath};
 use policy::{Caller, Rule};
 use report::{Refusal, denial_line, path_line, paths_text, refusal_line, usage_text};
@@ -40,7 +40,7 @@ fn ask(alloc: Global) -> Result<(Reply, Vec<u8>), Fail> {
     let replies = store.run(calls);
     drop(store.release().release());
     let mut reported = Vec::new(alloc);
-    tell_all(alloc, replies?, &mut reported)?;
+    push_replies(alloc, replies?, &mut reported)?;
     Ok((reply, reported))
 }
 

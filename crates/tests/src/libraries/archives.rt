@@ -25,7 +25,7 @@ pub fn spelled(alloc: Global, words: &str) -> Result<Vec<u8>, AllocError> {
     Ok(out)
 }
 
-pub fn front(bytes: &[u8], len: usize) -> &[u8] {
+pub fn prefix(bytes: &[u8], len: usize) -> &[u8] {
     &bytes[..len.min(bytes.len())]
 }
 

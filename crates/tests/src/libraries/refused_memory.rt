@@ -1,5 +1,5 @@
 //! Memory that is refused: run with each allocation refused in turn.
-use super::archives::{MY_FILE, fault_of, front, spelled};
+use super::archives::{MY_FILE, fault_of, prefix, spelled};
 use drv::{DrvError, outputs};
 use nar::{Checker, Entry, NarError, Node, is_writable, list, read, write};
 use paths::StoreDir;
@@ -52,7 +52,7 @@ fn refused_while_reading(rt: HostRuntime) {
         Err(e) => assert_eq!(rt; e, NarError::Memory),
     }
     // A fault behind directories is told, or `Memory`.
-    let faulty = front(&bytes, 600);
+    let faulty = prefix(&bytes, 600);
     let fault = fault_of(read(alloc, faulty));
     assert!(rt; fault == Some(NarError::Truncated) || fault == Some(NarError::Memory));
 }
@@ -132,7 +132,7 @@ fn refused_while_reading_derivations(rt: HostRuntime) {
     let Ok(dir) = StoreDir::parse(alloc, "/nix/store") else {
         return;
     };
-    let malformed = front(ONE.as_bytes(), 90);
+    let malformed = prefix(ONE.as_bytes(), 90);
     let rows = [
         (ONE.as_bytes(), None),
         (TWICE.as_bytes(), Some(DrvError::DoubleOutput)),

@@ -37,7 +37,7 @@ fn readers_that_fail(rt: HostRuntime) {
 fn writers_that_fail(rt: HostRuntime) {
     for calls in 0..12usize {
         let mut output = Narrow {
-            taken: Vec::new(rt.alloc()),
+            written: Vec::new(rt.alloc()),
             most: 1,
             calls,
             fault: Some(ErrorKind::Other),
@@ -45,7 +45,7 @@ fn writers_that_fail(rt: HostRuntime) {
         let is_sent = send_bytes(&mut output, BYTES).is_ok();
         assert!(rt; is_sent == (calls >= 10), "{calls}");
         assert!(rt;
-            BYTES.starts_with(&output.taken) && output.taken.len() == calls.min(10),
+            BYTES.starts_with(&output.written) && output.written.len() == calls.min(10),
             "{calls}"
         );
     }

@@ -1,5 +1,5 @@
 //! What is left after a stop.
-use crate::libraries::archives::front;
+use crate::libraries::archives::prefix;
 use crate::stops::course::{Run, make_run, open};
 use crate::stops::disks::{Contents, connect, crash, files_of, held_in};
 use crate::stops::requests::Step;
@@ -99,14 +99,14 @@ fn is_world(case: &Case, place: usize, rows: &[u8]) -> bool {
 }
 
 /// Whether the replies before the stop are those without one, and the last says that the disk failed.
-fn is_told(case: &Case, run: &Run) -> bool {
+fn is_answered(case: &Case, run: &Run) -> bool {
     let reported = run.reported.as_slice();
     let all = case.reported.as_bytes();
     if run.made > case.steps.len() {
         return reported == all;
     }
     reported.ends_with(FAILED)
-        && all.starts_with(front(reported, reported.len().saturating_sub(FAILED.len())))
+        && all.starts_with(prefix(reported, reported.len().saturating_sub(FAILED.len())))
 }
 
 /// Files in which a stop fell into the opening hold what they held, or what the opening leaves.
@@ -118,7 +118,7 @@ fn is_begun(alloc: Global, case: &Case, held: &Contents) -> Result<bool, Fail> {
 }
 
 /// Whether files that a stop left hold the store before the call that met it, or that of its done case.
-fn stands_in(alloc: Global, case: &Case, made: usize, held: &Contents) -> Result<(), Fail> {
+fn is_kept(alloc: Global, case: &Case, made: usize, held: &Contents) -> Result<(), Fail> {
     if made == 0 && !is_begun(alloc, case, held)? {
         return Err(Fail::new("neither what was there nor a store"));
     }
@@ -140,14 +140,14 @@ fn held_of(alloc: Global, log: &[u8], db: &[u8]) -> Result<Contents, Fail> {
 
 /// What was answered before a stop is in the files, whether or not each of them loses what it hadn't synced.
 pub fn survives(alloc: Global, case: &Case, mut run: Run) -> Result<(), Fail> {
-    if !is_told(case, &run) {
+    if !is_answered(case, &run) {
         return Err(Fail::new("another answer before a stop"));
     }
     let kept = held_in(alloc, &run.files)?;
     crash(&mut run.files);
     let lost = held_in(alloc, &run.files)?;
-    stands_in(alloc, case, run.made, &kept)?;
-    stands_in(alloc, case, run.made, &lost)?;
-    stands_in(alloc, case, run.made, &held_of(alloc, &kept.log, &lost.db)?)?;
-    stands_in(alloc, case, run.made, &held_of(alloc, &lost.log, &kept.db)?)
+    is_kept(alloc, case, run.made, &kept)?;
+    is_kept(alloc, case, run.made, &lost)?;
+    is_kept(alloc, case, run.made, &held_of(alloc, &kept.log, &lost.db)?)?;
+    is_kept(alloc, case, run.made, &held_of(alloc, &lost.log, &kept.db)?)
 }

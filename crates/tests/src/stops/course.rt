@@ -4,7 +4,7 @@ ghost use Rattle.std.specs.Prelude.{◌≡◌, IfOk};
 
 use crate::stops::disks::{DiskStore, Disks, close, connect, give_up};
 use crate::stops::requests::{Step, request_of};
-use crate::stores::tell;
+use crate::stores::push_reply;
 use paths::StoreDir;
 use policy::{Caller, Config, store_dir};
 use report::failure_line;
@@ -78,7 +78,7 @@ fn make_calls(
         let request = request_of(alloc, &steps[at])?;
         let reply = store.call(&caller, request);
         let is_failed = matches!(&reply, Reply::Failed(_));
-        tell(alloc, &dir, reply, reported)?;
+        push_reply(alloc, &dir, reply, reported)?;
         if is_failed {
             return Ok(at);
         }
@@ -87,7 +87,7 @@ fn make_calls(
 }
 
 /// The line of a failure that stopped an opening.
-fn tell_failure(failure: Option<Failed>, reported: &mut Vec<u8>) -> Result<(), Fail> {
+fn push_failure(failure: Option<Failed>, reported: &mut Vec<u8>) -> Result<(), Fail> {
     match failure {
         Some(failure) => Ok(reported.extend_from_slice(failure_line(failure).as_bytes())?),
         None => Err(Fail::new("the files hold no store")),
@@ -115,7 +115,7 @@ pub fn make_run(alloc: Global, files: Disks, settings: &[u8], steps: &[Step]) ->
             })
         }
         Err((files, failure)) => {
-            tell_failure(failure, &mut reported)?;
+            push_failure(failure, &mut reported)?;
             Ok(Run {
                 made: 0,
                 reported,

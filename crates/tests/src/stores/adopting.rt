@@ -2,7 +2,7 @@
 
 ghost use Rattle.std.specs.Prelude.{◌≡◌, false, IfOk};
 
-use super::{SETTINGS, TEXT_PATH, push_list, push_text, tell_all};
+use super::{SETTINGS, TEXT_PATH, push_list, push_replies, push_text};
 use paths::StoreDir;
 use policy::{Caller, Config, store_dir};
 use sqlite::{Connection, MemStore};
@@ -35,7 +35,7 @@ fn served(
     let replies = store.run(calls);
     let conn = store.release().release();
     let mut reported = Vec::new(alloc);
-    tell_all(alloc, replies?, &mut reported)?;
+    push_replies(alloc, replies?, &mut reported)?;
     Ok((conn, reported))
 }
 
@@ -52,7 +52,7 @@ fn refused(
     match adopt(alloc, conn, &dir) {
         Ok(tables) => {
             drop(tables.release());
-            Err(Fail::new("taken up"))
+            Err(Fail::new("opened"))
         }
         Err(Unadopted { conn, cause }) => Ok((conn, cause)),
     }
@@ -74,7 +74,7 @@ fn with_a_table_of_ours(
 }
 
 #[test]
-fn taken_up_again(rt: HostRuntime) -> Result<(), Fail> {
+fn opened_again(rt: HostRuntime) -> Result<(), Fail> {
     let alloc = rt.alloc();
     let mut calls = Vec::new(alloc);
     push_list(alloc, &mut calls)?;

@@ -5,10 +5,10 @@ use Rattle.tables.specs.Opening.{OpensStore, IsCause}
 use Rattle.tables.proofs.Unlimited.{cleared, ok_of, shown_of, survive_of}
 use Rattle.tables.proofs.adopting.adopt.Goals as goal
 
-pub returns-clause-took : goal.returns-clause-took
-returns-clause-took g c =
+pub returns-clause-opens : goal.returns-clause-opens
+returns-clause-opens g c =
     ok_of (λ t. state g.S.Store t.connection) (λ e. state g.S.Store e.conn) c.adopt_unlimited.result (state g.S.Store c.args.conn) (state g.S.Store c.set_step_limit.new.self)
-    (cleared g.S.Store c.args.conn c.set_step_limit.new.self c.set_step_limit.ensures) (OpensStore g.S.Store c.args.dir.now) c.adopt_unlimited.ensures.took
+    (cleared g.S.Store c.args.conn c.set_step_limit.new.self c.set_step_limit.ensures) (OpensStore g.S.Store c.args.dir.now) c.adopt_unlimited.ensures.opens
 
 pub returns-clause-cause : goal.returns-clause-cause
 returns-clause-cause g c =

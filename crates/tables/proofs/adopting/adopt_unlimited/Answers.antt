@@ -19,10 +19,10 @@ returns-in-Ok-clause-survives g c =
     both_survive (λ t. state g.S.Store t.connection) (λ e. state g.S.Store e.conn) c.take.result (state g.S.Store c.args.conn) (state g.S.Store c.in-Ok.opened.conn) c.args.dir.now
     c.in-Ok.ensures.unchanged c.in-Ok.ensures.survives c.take.ensures.survives
 
-pub returns-in-Ok-clause-took : goal.returns-in-Ok-clause-took
-returns-in-Ok-clause-took g c =
+pub returns-in-Ok-clause-opens : goal.returns-in-Ok-clause-opens
+returns-in-Ok-clause-opens g c =
     same_took (λ t. state g.S.Store t.connection) (λ e. state g.S.Store e.conn) c.take.result (state g.S.Store c.args.conn) (state g.S.Store c.in-Ok.opened.conn) c.args.dir.now
-    c.in-Ok.ensures.unchanged c.in-Ok.ensures.survives c.take.ensures.survives (λ db t. OpensStore g.S.Store c.args.dir.now db t) c.take.ensures.took
+    c.in-Ok.ensures.unchanged c.in-Ok.ensures.survives c.take.ensures.survives (λ db t. OpensStore g.S.Store c.args.dir.now db t) c.take.ensures.opens
 
 pub returns-in-Err-clause-cause : goal.returns-in-Err-clause-cause
 returns-in-Err-clause-cause g c clean = inl (c.in-Err.ensures.cause clean)

@@ -20,20 +20,20 @@ open_earlier-requires-in-Tables-V2-clause-found g c clean = second_found c.args.
 pub open_existing-requires-clause-found : goal.open_existing-requires-clause-found
 open_existing-requires-clause-found g c clean = third_found c.args.found (state g.S.Store c.args.conn) (c.requires.found clean) (c.in-Tables-V3.is ∙ ap Tables (rw c.in-Tables-V3.is at c.in-Tables-V3.field-0-is))
 
-pub returns-in-Tables-V1-clause-took : goal.returns-in-Tables-V1-clause-took
-returns-in-Tables-V1-clause-took g c =
+pub returns-in-Tables-V1-clause-opens : goal.returns-in-Tables-V1-clause-opens
+returns-in-Tables-V1-clause-opens g c =
     let a = state g.S.Store c.args.conn in
-    among (λ t. state g.S.Store t.connection) (λ e. state g.S.Store e.conn) c.open_earlier.result (OpensMigrated g.S.Store V1 c.args.dir.now a.now) (OpensStore g.S.Store c.args.dir.now a.now) (λ t it. inr (inr (inl it))) c.open_earlier.ensures.took
+    among (λ t. state g.S.Store t.connection) (λ e. state g.S.Store e.conn) c.open_earlier.result (OpensMigrated g.S.Store V1 c.args.dir.now a.now) (OpensStore g.S.Store c.args.dir.now a.now) (λ t it. inr (inr (inl it))) c.open_earlier.ensures.opens
 
-pub returns-in-Tables-V2-clause-took : goal.returns-in-Tables-V2-clause-took
-returns-in-Tables-V2-clause-took g c =
+pub returns-in-Tables-V2-clause-opens : goal.returns-in-Tables-V2-clause-opens
+returns-in-Tables-V2-clause-opens g c =
     let a = state g.S.Store c.args.conn in
-    among (λ t. state g.S.Store t.connection) (λ e. state g.S.Store e.conn) c.open_earlier-in-Tables-V2.result (OpensMigrated g.S.Store V2 c.args.dir.now a.now) (OpensStore g.S.Store c.args.dir.now a.now) (λ t it. inr (inr (inr it))) c.open_earlier-in-Tables-V2.ensures.took
+    among (λ t. state g.S.Store t.connection) (λ e. state g.S.Store e.conn) c.open_earlier-in-Tables-V2.result (OpensMigrated g.S.Store V2 c.args.dir.now a.now) (OpensStore g.S.Store c.args.dir.now a.now) (λ t it. inr (inr (inr it))) c.open_earlier-in-Tables-V2.ensures.opens
 
-pub returns-in-Tables-V3-clause-took : goal.returns-in-Tables-V3-clause-took
-returns-in-Tables-V3-clause-took g c =
+pub returns-in-Tables-V3-clause-opens : goal.returns-in-Tables-V3-clause-opens
+returns-in-Tables-V3-clause-opens g c =
     let a = state g.S.Store c.args.conn in
-    among (λ t. state g.S.Store t.connection) (λ e. state g.S.Store e.conn) c.open_existing.result (OpensExisting g.S.Store c.args.dir.now a.now) (OpensStore g.S.Store c.args.dir.now a.now) (λ t it. inr (inl it)) c.open_existing.ensures.took
+    among (λ t. state g.S.Store t.connection) (λ e. state g.S.Store e.conn) c.open_existing.result (OpensExisting g.S.Store c.args.dir.now a.now) (OpensStore g.S.Store c.args.dir.now a.now) (λ t it. inr (inl it)) c.open_existing.ensures.opens
 
 pub returns-in-Nothing-clause-survives : goal.returns-in-Nothing-clause-survives
 returns-in-Nothing-clause-survives g c =

@@ -12,8 +12,8 @@ over-requires g c =
     brought_agrees g.S.Store c.read_and_bring.new.conn (state g.S.Store c.args.conn) c.args.schema c.args.dir.now c.in-Ok.loaded.dir c.in-Ok.loaded.outline
     c.in-Ok.ensures.dir c.in-Ok.ensures.reported c.in-Ok.ensures.brought c.read_and_bring.ensures.alone
 
-pub returns-in-Ok-clause-took : goal.returns-in-Ok-clause-took
-returns-in-Ok-clause-took g c =
+pub returns-in-Ok-clause-opens : goal.returns-in-Ok-clause-opens
+returns-in-Ok-clause-opens g c =
     let a = state g.S.Store c.args.conn in
     let d = state g.S.Store c.read_and_bring.new.conn in
     subst (λ (t : Kept _). HasCleanDisk (state g.S.Store t.connection) → OpensMigrated g.S.Store c.args.schema c.args.dir.now a.now t) (sym c.over.ensures) (λ clean.

@@ -1,11 +1,11 @@
 use Rattle.std.proofs.Common.{arith}
 use Rattle.tables.proofs.files.open.Goals as goal
 
-pub returns-in-Ok-take-clause-took : goal.returns-in-Ok-take-clause-took
-returns-in-Ok-take-clause-took g c =
+pub returns-in-Ok-take-clause-opens : goal.returns-in-Ok-take-clause-opens
+returns-in-Ok-take-clause-opens g c =
     let here = c.in-Ok.ensures in
     let now = c.in-Ok-take.ensures in
-    record { was = here.opened.0; conn = c.in-Ok.opened.conn; opened = here.opened.1; found = λ clean. here.held (omega (arith, now.survives.clean)); took = now.took; durable = now.durable; survives = now.survives }
+    record { was = here.opened.0; conn = c.in-Ok.opened.conn; opened = here.opened.1; found = λ clean. here.held (omega (arith, now.survives.clean)); opens = now.opens; durable = now.durable; survives = now.survives }
 
 pub returns-in-Err-take-clause-cause : goal.returns-in-Err-take-clause-cause
 returns-in-Err-take-clause-cause g c =

@@ -18,8 +18,8 @@ over-requires g c =
     let made : HasCleanDisk new → IsMade c.args.own old new = λ clean. subst (λ (d : List ℕ). IsMade d old new) (c.as_str.ensures.value ∙ sym c.requires.own) (c.in-Ok.ensures.done clean) in
     made_agrees g.S.Store c.make.new.conn old c.args.own c.new-outline.result valid c.new-outline.ensures made c.make.ensures.alone
 
-pub returns-in-Ok-clause-took : goal.returns-in-Ok-clause-took
-returns-in-Ok-clause-took g c =
+pub returns-in-Ok-clause-opens : goal.returns-in-Ok-clause-opens
+returns-in-Ok-clause-opens g c =
     let old = state g.S.Store c.args.conn in
     let new = state g.S.Store c.make.new.conn in
     let valid : IsTrue (is_store_dir c.args.own) = ap is_store_dir c.requires.own ∙ c.as_str.ensures.valid in

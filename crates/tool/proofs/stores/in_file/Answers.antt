@@ -7,7 +7,7 @@ use Rattle.tool.proofs.stores.in_file.Goals as goal
 
 pub returns-in-Ok-clause-does : goal.returns-in-Ok-clause-does
 returns-in-Ok-clause-does g c = λ d is.
-    inl (c.in-Ok.tables, subst (λ (dir : List ℕ). Opens (image_at g.F.Start) dir c.in-Ok.tables) c.store_dir.ensures c.in-Ok.ensures.took, c.work_over.ensures.over d is)
+    inl (c.in-Ok.tables, subst (λ (dir : List ℕ). Opens (image_at g.F.Start) dir c.in-Ok.tables) c.store_dir.ensures c.in-Ok.ensures.opens, c.work_over.ensures.over d is)
 
 pub returns-in-Err-clause-does : goal.returns-in-Err-clause-does
 returns-in-Err-clause-does g c = λ d is.
