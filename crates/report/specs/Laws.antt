@@ -111,4 +111,7 @@ pub record ListingsDiffer (dir : List ℕ) : Type 0 where
 
 abbrev pub ANewStoreUsesNothing : Type 0
 ANewStoreUsesNothing = (s : Settings) (c : Caller) → answer_text s.store_dir (answer s no_world c report)
-    ≡ codes "class       paths            bytes\nlive            0                0\ndead            0                0\ntotal           0                0\n"
+    ≡ codes "class       paths            bytes\n"
+    ++ codes "live            0                0\n"
+    ++ codes "dead            0                0\n"
+    ++ codes "total           0                0\n"

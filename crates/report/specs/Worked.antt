@@ -1,5 +1,5 @@
 -- Worked texts, line by line.
-use Rattle.std.specs.Prelude.{◌≡◌, ℕ, List, [], ◌∷◌, codes, Some, None, option_map}
+use Rattle.std.specs.Prelude.{◌≡◌, ℕ, List, [], ◌∷◌, ◌++◌, codes, Some, None, option_map}
 use Rattle.nar.specs.declared.error.NarError.TheVariants as archives
 use Rattle.drv.specs.declared.error.DrvError.TheVariants as derivations
 use Rattle.paths.specs.declared.content_address.Method.TheVariants.{Source, Text}
@@ -82,18 +82,27 @@ pub record HasWorkedAnswers : Type 0 where
   pub runtime : reply_text dir (done (runtime_count 1)) ≡ codes "runtime roots 1\n"
   pub temporary : reply_text dir (done (temporary_count 0)) ≡ codes "temporary roots 0\n"
   pub nothing : reply_text dir (done (freed [] 0)) ≡ codes "freed 0 paths 0 bytes\n"
-  pub freed : reply_text dir (done (freed (p ∷ x ∷ []) 224)) ≡ codes "/nix/store/00000000000000000000000000000000-p\n/nix/store/11111111111111111111111111111111-x\nfreed 2 paths 224 bytes\n"
+  pub freed : reply_text dir (done (freed (p ∷ x ∷ []) 224))
+      ≡ codes "/nix/store/00000000000000000000000000000000-p\n"
+      ++ codes "/nix/store/11111111111111111111111111111111-x\n"
+      ++ codes "freed 2 paths 224 bytes\n"
 
 -- a live path of 112 bytes next to a dead one of 208; numbers wider than their columns
 pub record HasWorkedUsage : Type 0 where
   pub two : reply_text dir
       (done (usage (record { paths = 1; bytes = 112 }) (record { paths = 1; bytes = 208 })
       (record { paths = 2; bytes = 320 })))
-      ≡ codes "class       paths            bytes\nlive            1              112\ndead            1              208\ntotal           2              320\n"
+      ≡ codes "class       paths            bytes\n"
+      ++ codes "live            1              112\n"
+      ++ codes "dead            1              208\n"
+      ++ codes "total           2              320\n"
   pub wide : reply_text dir
       (done (usage (record { paths = 12345678901; bytes = 12345678901234567 }) (record { paths = 0; bytes = 0 })
       (record { paths = 12345678901; bytes = 12345678901234567 })))
-      ≡ codes "class       paths            bytes\nlive   12345678901 12345678901234567\ndead            0                0\ntotal  12345678901 12345678901234567\n"
+      ≡ codes "class       paths            bytes\n"
+      ++ codes "live   12345678901 12345678901234567\n"
+      ++ codes "dead            0                0\n"
+      ++ codes "total  12345678901 12345678901234567\n"
 
 -- the digest of the archive of a file with the contents `mycontent` and a line feed
 abbrev pub digest : List ℕ
@@ -112,7 +121,15 @@ pub record HasWorkedNarinfo : Type 0 where
         deriver = None;
         ca = Some (record { method = Source; digest = digest });
       })
-      ≡ codes "StorePath: /nix/store/xv2iccirbrvklck36f1g7vldn5v58vck-myfile\nURL: nar/xv2iccirbrvklck36f1g7vldn5v58vck-myfile\nCompression: none\nFileHash: sha256:1qwy7y49hyqd7kdpkyjfclz5fkfqalqapzc4v18lbibkx1yzdzib\nFileSize: 128\nNarHash: sha256:1qwy7y49hyqd7kdpkyjfclz5fkfqalqapzc4v18lbibkx1yzdzib\nNarSize: 128\nReferences: \nCA: fixed:r:sha256:1qwy7y49hyqd7kdpkyjfclz5fkfqalqapzc4v18lbibkx1yzdzib\n"
+      ≡ codes "StorePath: /nix/store/xv2iccirbrvklck36f1g7vldn5v58vck-myfile\n"
+      ++ codes "URL: nar/xv2iccirbrvklck36f1g7vldn5v58vck-myfile\n"
+      ++ codes "Compression: none\n"
+      ++ codes "FileHash: sha256:1qwy7y49hyqd7kdpkyjfclz5fkfqalqapzc4v18lbibkx1yzdzib\n"
+      ++ codes "FileSize: 128\n"
+      ++ codes "NarHash: sha256:1qwy7y49hyqd7kdpkyjfclz5fkfqalqapzc4v18lbibkx1yzdzib\n"
+      ++ codes "NarSize: 128\n"
+      ++ codes "References: \n"
+      ++ codes "CA: fixed:r:sha256:1qwy7y49hyqd7kdpkyjfclz5fkfqalqapzc4v18lbibkx1yzdzib\n"
   pub derived : narinfo dir
       (record {
         path = x;
@@ -122,7 +139,15 @@ pub record HasWorkedNarinfo : Type 0 where
         deriver = Some (codes "22222222222222222222222222222222-y.drv");
         ca = None;
       })
-      ≡ codes "StorePath: /nix/store/11111111111111111111111111111111-x\nURL: nar/11111111111111111111111111111111-x\nCompression: none\nFileHash: sha256:1qwy7y49hyqd7kdpkyjfclz5fkfqalqapzc4v18lbibkx1yzdzib\nFileSize: 128\nNarHash: sha256:1qwy7y49hyqd7kdpkyjfclz5fkfqalqapzc4v18lbibkx1yzdzib\nNarSize: 128\nReferences: 00000000000000000000000000000000-p 11111111111111111111111111111111-x\nDeriver: 22222222222222222222222222222222-y.drv\n"
+      ≡ codes "StorePath: /nix/store/11111111111111111111111111111111-x\n"
+      ++ codes "URL: nar/11111111111111111111111111111111-x\n"
+      ++ codes "Compression: none\n"
+      ++ codes "FileHash: sha256:1qwy7y49hyqd7kdpkyjfclz5fkfqalqapzc4v18lbibkx1yzdzib\n"
+      ++ codes "FileSize: 128\n"
+      ++ codes "NarHash: sha256:1qwy7y49hyqd7kdpkyjfclz5fkfqalqapzc4v18lbibkx1yzdzib\n"
+      ++ codes "NarSize: 128\n"
+      ++ codes "References: 00000000000000000000000000000000-p 11111111111111111111111111111111-x\n"
+      ++ codes "Deriver: 22222222222222222222222222222222-y.drv\n"
   pub both : reply_text dir
       (done (record_of
       (record {
@@ -134,4 +159,13 @@ pub record HasWorkedNarinfo : Type 0 where
         ca =
             Some (record { method = Text; digest = digest });
       })))
-      ≡ codes "StorePath: /nix/store/11111111111111111111111111111111-x\nURL: nar/11111111111111111111111111111111-x\nCompression: none\nFileHash: sha256:1qwy7y49hyqd7kdpkyjfclz5fkfqalqapzc4v18lbibkx1yzdzib\nFileSize: 128\nNarHash: sha256:1qwy7y49hyqd7kdpkyjfclz5fkfqalqapzc4v18lbibkx1yzdzib\nNarSize: 128\nReferences: 00000000000000000000000000000000-p\nDeriver: 22222222222222222222222222222222-y.drv\nCA: text:sha256:1qwy7y49hyqd7kdpkyjfclz5fkfqalqapzc4v18lbibkx1yzdzib\n"
+      ≡ codes "StorePath: /nix/store/11111111111111111111111111111111-x\n"
+      ++ codes "URL: nar/11111111111111111111111111111111-x\n"
+      ++ codes "Compression: none\n"
+      ++ codes "FileHash: sha256:1qwy7y49hyqd7kdpkyjfclz5fkfqalqapzc4v18lbibkx1yzdzib\n"
+      ++ codes "FileSize: 128\n"
+      ++ codes "NarHash: sha256:1qwy7y49hyqd7kdpkyjfclz5fkfqalqapzc4v18lbibkx1yzdzib\n"
+      ++ codes "NarSize: 128\n"
+      ++ codes "References: 00000000000000000000000000000000-p\n"
+      ++ codes "Deriver: 22222222222222222222222222222222-y.drv\n"
+      ++ codes "CA: text:sha256:1qwy7y49hyqd7kdpkyjfclz5fkfqalqapzc4v18lbibkx1yzdzib\n"

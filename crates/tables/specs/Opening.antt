@@ -107,7 +107,8 @@ module _ {S : Type 0} (g : Ghosts S) where
   OpensStore dir db t =
       OpensNew db t ⊎ (OpensExisting dir db t ⊎ (OpensMigrated V1 dir db t ⊎ OpensMigrated V2 dir db t))
 
--- the database had none of the store's tables, and this is what a crash may leave of making them, if it leaves any of it
+-- the database had none of the store's tables, and this is what a crash may leave of making them, if it leaves any of
+-- it
 abbrev pub LeavesNew : List ℕ → Database → Remains → Type 0
 LeavesNew dir db left = HasNone db.schema × LeavesMade dir db left
 

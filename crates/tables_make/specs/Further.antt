@@ -14,9 +14,9 @@ use Rattle.tables_make.specs.Making.{all_created}
 abbrev pub grown : List Table → Database → Database
 grown tables db = record db { schema = all_created db.schema tables }
 
--- Inside a transaction, which goes on: these tables were made after what was there. They hold no row, so the store's tables
--- hold what they held; each other table keeps its rows, also where the schema doesn't show it, and a further table that
--- stood still does.
+-- Inside a transaction, which goes on: these tables were made after what was there. They hold no row, so the store's
+-- tables hold what they held; each other table keeps its rows, also where the schema doesn't show it, and a further
+-- table that existed still does.
 pub record MakesFurther (tables : List Table) (old new : State) : Type 0 where
   pub was_open : IsTrue old.is_open
   pub is_open : IsTrue new.is_open

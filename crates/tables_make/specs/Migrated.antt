@@ -40,8 +40,8 @@ lacking V1 = piece ∷ temp_root ∷ []
 lacking V2 = temp_root ∷ []
 lacking V3 = []
 
--- Inside a transaction, which goes on: these tables were made after all that was there, and the store's were left with these
--- contents. All eleven are there, and other tables have the rows that they had, also where the schema doesn't show
+-- Inside a transaction, which goes on: these tables were made after all that was there, and the store's were left with
+-- these contents. All eleven exist, and other tables have the rows that they had, also where the schema doesn't show
 -- them.
 pub record Grows (tables : List Table) (contents : Contents) (old new : State) : Type 0 where
   pub was_open : IsTrue old.is_open

@@ -42,8 +42,8 @@ use Rattle.tables_sql.specs.Texts.{AreReadable}
 use Rattle.tables_sql.specs.Calls.{IsKeyed, IsWhole, HasFurther, IsReady, KeepsShown}
 use Rattle.tables_sql.specs.Failures.{opening_failure, FailsToTest}
 
--- Which error of `sqlite` one of the host's is at opening: out of memory where it says so, busy where another program has
--- the file open, else that the file can't be opened.
+-- Which error of `sqlite` one of the host's is at opening: out of memory where it says so, busy where another program
+-- has the file open, else that the file can't be opened.
 abbrev pub IsOpeningError : OpenError → Error → Type 0
 IsOpeningError host.OutOfMemory e = e ≡ SqliteFailure OutOfMemory
 IsOpeningError host.Busy e = e ≡ SqliteFailure DatabaseBusy
@@ -59,8 +59,8 @@ pub record IsRecognised (r : Recognised) (s : Schema) : Type 0 where
   pub second : r ≡ Tables V2 ↔ HasSecond s
   pub third : r ≡ Tables V3 ↔ HasThird s
 
--- by which schema the database has the store's tables, with texts that can be read; or it has none of them, or is something
--- else
+-- by which schema the database has the store's tables, with texts that can be read; or it has none of them, or is
+-- something else
 pub record IsBySchema (r : Recognised) (db : Database) : Type 0 where
   pub nothing : r ≡ Nothing ↔ HasNone db.schema
   pub first : r ≡ Tables V1 ↔ HasFirst db.schema × AreReadable (contents_of db)

@@ -12,7 +12,8 @@ use Rattle.tool_words.specs.declared.line.ServeArguments.TheVariants.{Streams, P
 abbrev pub ServesBy : {S : Type 0} → (S → RequestHead → List ℕ → Replied → S → Type 0) → ServeArguments → Console → S
     → Type 0
 ServesBy answers Streams c old =
-    ServesStreams answers c.input.old c.written.output.old c.written.output.new c.written.errors.old c.written.errors.new old c.written.status
+    ServesStreams answers c.input.old c.written.output.old c.written.output.new c.written.errors.old
+    c.written.errors.new old c.written.status
 ServesBy answers (Port port n) c old =
     Keeps c.written.output.old c.written.output.new
     × ServesPort answers n c.written.errors.old c.written.errors.new old c.written.status
