@@ -20,7 +20,8 @@ pub fn named_body<'b>(
     body: &'b [u8],
 ) -> Result<(NamedHead, &'b [u8]), BodyError>
     ensures ok { IfOk result (λ add. IsNamedBody dir.now body.now add.0 add.1.now) }
-    ensures bad { result ≡ Err BodyError.BadBodyHead → (head : NamedOf) (contents : List ℕ) → IsNamedBody dir.now body.now head contents → ⊥ }
+    ensures bad { result ≡ Err BodyError.BadBodyHead
+        → (head : NamedOf) (contents : List ℕ) → IsNamedBody dir.now body.now head contents → ⊥ }
 {
     let Some(parts) = body_of(body) else {
         return Err(BodyError::BadBodyHead);

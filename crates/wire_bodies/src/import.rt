@@ -58,7 +58,8 @@ pub fn import_body<'b>(
     body: &'b [u8],
 ) -> Result<(ImportHead, &'b [u8]), BodyError>
     ensures ok { IfOk result (λ import. IsImportBody dir.now body.now import.0 import.1.now) }
-    ensures bad { result ≡ Err BodyError.BadBodyHead → (head : HeadOf) (nar : List ℕ) → IsImportBody dir.now body.now head nar → ⊥ }
+    ensures bad { result ≡ Err BodyError.BadBodyHead
+        → (head : HeadOf) (nar : List ℕ) → IsImportBody dir.now body.now head nar → ⊥ }
 {
     let Some(parts) = body_of(body) else {
         return Err(BodyError::BadBodyHead);

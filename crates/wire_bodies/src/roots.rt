@@ -65,7 +65,8 @@ pub fn runtime_head(
     entries: &Lines<'_>,
 ) -> Result<Vec<(String, StorePath)>, BodyError>
     ensures ok { IfOk result (λ roots. IsRuntime dir.now entries.now (labelled roots.items)) }
-    ensures bad { result ≡ Err BodyError.BadBodyHead → (roots : List (List ℕ × List ℕ)) → IsRuntime dir.now entries.now roots → ⊥ }
+    ensures bad { result ≡ Err BodyError.BadBodyHead
+        → (roots : List (List ℕ × List ℕ)) → IsRuntime dir.now entries.now roots → ⊥ }
 {
     if !are_known(entries, &["root"]) {
         return Err(BodyError::BadBodyHead);

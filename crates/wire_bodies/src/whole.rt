@@ -89,7 +89,8 @@ pub fn runtime_body(
     body: &[u8],
 ) -> Result<Vec<(String, StorePath)>, BodyError>
     ensures ok { IfOk result (λ roots. Says (IsRuntime dir.now) body.now (labelled roots.items)) }
-    ensures bad { result ≡ Err BodyError.BadBodyHead → (roots : List (List ℕ × List ℕ)) → Says (IsRuntime dir.now) body.now roots → ⊥ }
+    ensures bad { result ≡ Err BodyError.BadBodyHead
+        → (roots : List (List ℕ × List ℕ)) → Says (IsRuntime dir.now) body.now roots → ⊥ }
 {
     let entries = entries_of(body)?;
     runtime_head(alloc, dir, &entries)
