@@ -70,13 +70,9 @@ fn read<S: Alter>(tables: &mut Tables<S>, path: &StorePath) -> Result<Pieces, Fa
 pub(crate) fn archive<S: Alter>(tables: &mut Tables<S>, path: StorePath) -> Result<Answer, Stop>
     ensures { (s : Settings) (c : Caller) → IsMet S.Store s c (asked.nar path) result tables.old tables.new }
 {
-    match may_read(tables.outline(), &path) {
-        Ok(()) => match read(tables, &path) {
-            Ok(nar) => Ok(Answer::Archive(nar)),
-            Err(failure) => Err(Stop::Failed(failure)),
-        },
-        Err(refusal) => Err(Stop::Refused(refusal)),
-    }
+    may_read(tables.outline(), &path)?;
+    let nar = read(tables, &path)?;
+    Ok(Answer::Archive(nar))
 }
 
 fn read_listing<S: Alter>(
@@ -92,10 +88,8 @@ fn read_listing<S: Alter>(
     ensures cause { (w : World) → HasWorld S.Store tables.old w → IsTrue (has w path.now)
         → FailsToAsk S.Store tables.old tables.new result }
 {
-    match read(tables, path) {
-        Ok(nar) => list(alloc, &nar),
-        Err(failure) => Err(failure),
-    }
+    let nar = read(tables, path)?;
+    list(alloc, &nar)
 }
 
 /// The listing of the archive of an object.
@@ -106,11 +100,7 @@ pub(crate) fn listing<S: Alter>(
 ) -> Result<Answer, Stop>
     ensures { (s : Settings) (c : Caller) → IsMet S.Store s c (asked.ls path) result tables.old tables.new }
 {
-    match may_read(tables.outline(), &path) {
-        Ok(()) => match read_listing(alloc, tables, &path) {
-            Ok(text) => Ok(Answer::Listing(text)),
-            Err(failure) => Err(Stop::Failed(failure)),
-        },
-        Err(refusal) => Err(Stop::Refused(refusal)),
-    }
+    may_read(tables.outline(), &path)?;
+    let text = read_listing(alloc, tables, &path)?;
+    Ok(Answer::Listing(text))
 }

@@ -33,10 +33,8 @@ pub fn add<S: Alter>(tables: &mut Tables<S>, added: Added) -> Result<Answer, Sto
     if tables.outline().has(&path) {
         return Ok(Answer::Path(path));
     }
-    match tables.insert_object(&path, &nar, object) {
-        Ok(()) => Ok(Answer::Path(path)),
-        Err(failure) => Err(Stop::Failed(failure)),
-    }
+    tables.insert_object(&path, &nar, object)?;
+    Ok(Answer::Path(path))
 }
 
 /// A text is added.
@@ -55,8 +53,6 @@ pub fn add_text<S: Alter>(
     // A store name is a text.
     let _text = name.as_str();
     let dir = store_dir(config);
-    match prepare_text(alloc, dir, tables.outline(), &name, refs, &contents) {
-        Ok(added) => add(tables, added),
-        Err(stop) => Err(stop),
-    }
+    let added = prepare_text(alloc, dir, tables.outline(), &name, refs, &contents)?;
+    add(tables, added)
 }

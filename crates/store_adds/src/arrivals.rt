@@ -11,7 +11,6 @@ ghost use Rattle.store_types.specs.Tested.{Tested};
 
 use intake::{Arrived, Intake};
 use store_types::{Refusal, Stop};
-use tables_sql::failure::Failure;
 
 /// An archive at its end. Where memory was refused as it came, the call fails.
 pub(crate) fn arrived(nar: Intake) -> Result<Arrived, Stop>
@@ -20,10 +19,8 @@ pub(crate) fn arrived(nar: Intake) -> Result<Arrived, Stop>
     ensures spent { nar ≡ None → IfOk result (λ a. ⊥) }
     ensures failed { IfErr result (λ stop. stop ≡ failed memory) }
 {
-    match nar.finish() {
-        Ok(arrived) => Ok(arrived),
-        Err(_) => Err(Stop::Failed(Failure::Memory)),
-    }
+    let arrived = nar.finish()?;
+    Ok(arrived)
 }
 
 /// Tests that it is an archive.

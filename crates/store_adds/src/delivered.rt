@@ -57,17 +57,15 @@ pub(crate) fn at_end(import: Imported) -> Result<Delivered, Stop>
         ca,
         nar,
     } = import;
-    match arrived(nar) {
-        Ok(nar) => Ok(Delivered {
-            path,
-            nar_hash,
-            refs,
-            deriver,
-            ca,
-            nar,
-        }),
-        Err(stop) => Err(stop),
-    }
+    let nar = arrived(nar)?;
+    Ok(Delivered {
+        path,
+        nar_hash,
+        refs,
+        deriver,
+        ca,
+        nar,
+    })
 }
 
 impl Delivered {

@@ -46,10 +46,8 @@ fn outputs_of(
         (λ map. outputs_view map.entries) result (outputs_fault (outcome.outputs_of dir.now text.now))
         (objects.outputs_if_sound (outcome.outputs_of dir.now text.now)) }
 {
-    match drv::outputs(alloc, text, dir) {
-        Ok(found) => Ok(by_name(alloc, found)?),
-        Err(fault) => Err(Stop::from(fault)),
-    }
+    let found = drv::outputs(alloc, text, dir)?;
+    Ok(by_name(alloc, found)?)
 }
 
 /// The outputs of a tree as a derivation: any other node than a regular file has no text.
@@ -95,10 +93,8 @@ fn outputs_joined(
         (λ map. outputs_view map.entries) result (tree_fault dir.now (outcome_of nar.now))
         (objects.tree_outputs dir.now (outcome_of nar.now)) }
 {
-    match nar.joined() {
-        Ok(nar) => outputs_from(alloc, dir, nar.as_slice()),
-        Err(_) => Err(Stop::Failed(Failure::Memory)),
-    }
+    let nar = nar.joined()?;
+    outputs_from(alloc, dir, nar.as_slice())
 }
 
 /// The outputs that an object records, by its archive. A derivation text alone is joined.

@@ -107,8 +107,6 @@ pub fn import_object<S: Alter>(
     ensures spent { import.nar ≡ None → (result ≡ Err (failed memory)) × (tables.new ≡ tables.old) }
 {
     let dir = store_dir(config);
-    match prepare_import(alloc, dir, tables.outline(), import) {
-        Ok(added) => add(tables, added),
-        Err(stop) => Err(stop),
-    }
+    let added = prepare_import(alloc, dir, tables.outline(), import)?;
+    add(tables, added)
 }

@@ -109,8 +109,6 @@ pub fn add_source<S: Alter>(
     // A store name is a text.
     let _text = name.as_str();
     let dir = store_dir(config);
-    match prepare_source(alloc, dir, tables.outline(), &name, refs, nar) {
-        Ok(added) => add(tables, added),
-        Err(stop) => Err(stop),
-    }
+    let added = prepare_source(alloc, dir, tables.outline(), &name, refs, nar)?;
+    add(tables, added)
 }

@@ -30,7 +30,6 @@ use store_types::{Answer, Stop};
 use tables::Tables;
 use tables_outline::Outline;
 use tables_root_list::root_list;
-use tables_sql::failure::Failure;
 
 /// The bytes of the archive of each row's path.
 fn sizes(alloc: Global, outline: &Outline, rows: &[Row]) -> Result<Vec<u64>, AllocError>
@@ -138,8 +137,6 @@ pub fn collect<S: Alter>(
 ) -> Result<Answer, Stop>
     ensures { (c : Caller) → IsMet S.Store config.now c (asked.collect ignores limit) result tables.old tables.new }
 {
-    match find_collected(alloc, config, tables.outline(), limit) {
-        Ok(gone) => remove(tables, gone),
-        Err(_) => Err(Stop::Failed(Failure::Memory)),
-    }
+    let gone = find_collected(alloc, config, tables.outline(), limit)?;
+    remove(tables, gone)
 }

@@ -141,8 +141,6 @@ pub fn delete<S: Alter>(
     ensures { (s : Settings) (c : callers.Caller)
         → IsMet S.Store s c (asked.delete named.items ignores) result tables.old tables.new }
 {
-    match find_deleted(alloc, tables.outline(), &named) {
-        Ok(gone) => remove(tables, gone),
-        Err(stop) => Err(stop),
-    }
+    let gone = find_deleted(alloc, tables.outline(), &named)?;
+    remove(tables, gone)
 }

@@ -49,10 +49,8 @@ pub fn set_permanent<S: Alter>(
         → IsMet S.Store s c (asked.set_permanent (string_bytes name) path) result tables.old tables.new }
 {
     let text = name.as_str();
-    match may_set(tables.outline(), text, &path) {
-        Ok(()) => answered(tables.put_permanent(text, &path), Answer::Changed),
-        Err(refusal) => Err(Stop::Refused(refusal)),
-    }
+    may_set(tables.outline(), text, &path)?;
+    answered(tables.put_permanent(text, &path), Answer::Changed)
 }
 
 /// A permanent root is dropped.
@@ -61,8 +59,6 @@ pub fn drop_permanent<S: Alter>(tables: &mut Tables<S>, name: String) -> Result<
         → IsMet S.Store s c (asked.drop_permanent (string_bytes name)) result tables.old tables.new }
 {
     let text = name.as_str();
-    match may_drop(tables.outline(), text) {
-        Ok(()) => answered(tables.drop_permanent(text), Answer::Changed),
-        Err(refusal) => Err(Stop::Refused(refusal)),
-    }
+    may_drop(tables.outline(), text)?;
+    answered(tables.drop_permanent(text), Answer::Changed)
 }

@@ -92,13 +92,11 @@ pub fn set_profile<S: Alter>(
         → IsMet S.Store s c (asked.set_profile (string_bytes owned.0) (string_bytes owned.1) path) result tables.old
         tables.new }
 {
-    match next_number(tables.outline(), &owned, &path) {
-        Ok(number) => answered(
-            tables.set_profile(owned.0.as_str(), owned.1.as_str(), number, &path),
-            Answer::Generation(number),
-        ),
-        Err(refusal) => Err(Stop::Refused(refusal)),
-    }
+    let number = next_number(tables.outline(), &owned, &path)?;
+    answered(
+        tables.set_profile(owned.0.as_str(), owned.1.as_str(), number, &path),
+        Answer::Generation(number),
+    )
 }
 
 /// The generation below the current one becomes current.
@@ -107,15 +105,11 @@ pub fn rollback<S: Alter>(tables: &mut Tables<S>, owned: (String, String)) -> Re
         → IsMet S.Store s c (asked.rollback (string_bytes owned.0) (string_bytes owned.1)) result tables.old
         tables.new }
 {
-    match older(tables.outline(), &owned) {
-        Ok(number) => {
-            answered(
-                tables.switch_generation(owned.0.as_str(), owned.1.as_str(), number),
-                Answer::Generation(number),
-            )
-        }
-        Err(refusal) => Err(Stop::Refused(refusal)),
-    }
+    let number = older(tables.outline(), &owned)?;
+    answered(
+        tables.switch_generation(owned.0.as_str(), owned.1.as_str(), number),
+        Answer::Generation(number),
+    )
 }
 
 /// A generation becomes current.
@@ -128,15 +122,11 @@ pub fn switch<S: Alter>(
         → IsMet S.Store s c (asked.switch (string_bytes owned.0) (string_bytes owned.1) number) result tables.old
         tables.new }
 {
-    match may_switch(tables.outline(), &owned, number) {
-        Ok(()) => {
-            answered(
-                tables.switch_generation(owned.0.as_str(), owned.1.as_str(), number),
-                Answer::Generation(number),
-            )
-        }
-        Err(refusal) => Err(Stop::Refused(refusal)),
-    }
+    may_switch(tables.outline(), &owned, number)?;
+    answered(
+        tables.switch_generation(owned.0.as_str(), owned.1.as_str(), number),
+        Answer::Generation(number),
+    )
 }
 
 /// A generation is deleted.
@@ -149,13 +139,9 @@ pub fn delete_generation<S: Alter>(
         → IsMet S.Store s c (asked.delete_generation (string_bytes owned.0) (string_bytes owned.1) number) result
         tables.old tables.new }
 {
-    match may_delete(tables.outline(), &owned, number) {
-        Ok(()) => {
-            answered(
-                tables.drop_generation(owned.0.as_str(), owned.1.as_str(), number),
-                Answer::Changed,
-            )
-        }
-        Err(refusal) => Err(Stop::Refused(refusal)),
-    }
+    may_delete(tables.outline(), &owned, number)?;
+    answered(
+        tables.drop_generation(owned.0.as_str(), owned.1.as_str(), number),
+        Answer::Changed,
+    )
 }

@@ -96,11 +96,7 @@ pub fn replace_runtime<S: Alter>(
     ensures { (s : Settings) (c : Caller)
         → IsMet S.Store s c (asked.replace_runtime (map labelled_bytes pairs.items)) result tables.old tables.new }
 {
-    match prepare_runtime(alloc, tables.outline(), pairs) {
-        Ok(valid) => {
-            let count = count_of(&valid);
-            answered(tables.replace_runtime(valid), Answer::RuntimeCount(count))
-        }
-        Err(stop) => Err(stop),
-    }
+    let valid = prepare_runtime(alloc, tables.outline(), pairs)?;
+    let count = count_of(&valid);
+    answered(tables.replace_runtime(valid), Answer::RuntimeCount(count))
 }

@@ -79,10 +79,8 @@ pub fn add_temp<S: Alter>(
         → IsMet S.Store s c (asked.add_temp (string_bytes owner) session path) result tables.old tables.new }
 {
     let text = owner.as_str();
-    match may_keep(tables.outline(), text, session, &path) {
-        Ok(number) => answered(tables.add_temp(text, number, &path), Answer::Changed),
-        Err(refusal) => Err(Stop::Refused(refusal)),
-    }
+    let number = may_keep(tables.outline(), text, session, &path)?;
+    answered(tables.add_temp(text, number, &path), Answer::Changed)
 }
 
 /// A session ends: the answer is how many paths it kept.
@@ -95,11 +93,7 @@ pub fn end_session<S: Alter>(
         → IsMet S.Store s c (asked.end_session (string_bytes owner) session) result tables.old tables.new }
 {
     let text = owner.as_str();
-    match may_end(text, session) {
-        Ok(number) => match tables.end_session(text, number) {
-            Ok(count) => Ok(Answer::TemporaryCount(count)),
-            Err(failure) => Err(Stop::Failed(failure)),
-        },
-        Err(refusal) => Err(Stop::Refused(refusal)),
-    }
+    let number = may_end(text, session)?;
+    let count = tables.end_session(text, number)?;
+    Ok(Answer::TemporaryCount(count))
 }

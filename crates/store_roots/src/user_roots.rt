@@ -50,15 +50,11 @@ pub fn set_user_root<S: Alter>(
         → IsMet S.Store s c (asked.set_user_root (string_bytes owned.0) (string_bytes owned.1) path) result tables.old
         tables.new }
 {
-    match may_set(tables.outline(), &owned, &path) {
-        Ok(()) => {
-            answered(
-                tables.put_user_root(owned.0.as_str(), owned.1.as_str(), &path),
-                Answer::Changed,
-            )
-        }
-        Err(refusal) => Err(Stop::Refused(refusal)),
-    }
+    may_set(tables.outline(), &owned, &path)?;
+    answered(
+        tables.put_user_root(owned.0.as_str(), owned.1.as_str(), &path),
+        Answer::Changed,
+    )
 }
 
 /// A user root is dropped.
@@ -70,13 +66,9 @@ pub fn drop_user_root<S: Alter>(
         → IsMet S.Store s c (asked.drop_user_root (string_bytes owned.0) (string_bytes owned.1)) result tables.old
         tables.new }
 {
-    match may_drop(tables.outline(), &owned) {
-        Ok(()) => {
-            answered(
-                tables.drop_user_root(owned.0.as_str(), owned.1.as_str()),
-                Answer::Changed,
-            )
-        }
-        Err(refusal) => Err(Stop::Refused(refusal)),
-    }
+    may_drop(tables.outline(), &owned)?;
+    answered(
+        tables.drop_user_root(owned.0.as_str(), owned.1.as_str()),
+        Answer::Changed,
+    )
 }

@@ -1,4 +1,5 @@
 use Rattle.std.proofs.Common.{[], refl, sym, ap, ◌∙◌}
+use Rattle.std.proofs.lemmas.Result.{err_from_is_err_and}
 use Rattle.model.specs.World.{has}
 use Rattle.model.specs.declared.refusal.Refusal.TheVariants.{NotValid}
 use Rattle.model.proofs.Passed.{met, passed}
@@ -10,15 +11,18 @@ use Rattle.store_steps.proofs.Caused.{read_fails}
 use Rattle.store_steps.proofs.Written.{met_by_stopping}
 use Rattle.store.proofs.disk.archive.Goals as goal
 
-pub returns-in-Ok-read : goal.returns-in-Ok-read
-returns-in-Ok-read g c s caller = met_by_disk g.S.Store s caller (nar c.args.path) c.args.tables.now c.read.new.tables _ c.in-Ok-read.ensures.reads (λ h. h) (λ w t. tt)
-    (λ w t. (c.in-Ok.ensures s w (t.outline ∙ sym c.outline.ensures), λ honest. ap archive_of (c.in-Ok-read.ensures.archive (honest refl) w t), refl))
-
-pub returns-in-Ok : goal.returns-in-Ok
-returns-in-Ok g c s caller =
-    met_by_disk g.S.Store s caller (nar c.args.path) c.args.tables.now c.read.new.tables _ c.in-Err-read.ensures.reads (λ h. h)
-    (λ w t. read_fails g.S.Store (nar c.args.path) c.args.tables.now c.read.new.tables refl _ (c.in-Err-read.ensures.cause w t (met (has w c.args.path) NotValid (passed _ [] (c.in-Ok.ensures s w (t.outline ∙ sym c.outline.ensures))).0)))
-    (λ w t. refl)
-
 pub returns : goal.returns
-returns g c s caller = met_by_stopping g.S.Store s caller (nar c.args.path) c.args.tables.now (Refused c.in-Err.refusal) c.outline.result.now c.outline.ensures (λ w is. c.in-Err.ensures s w is)
+returns g c s caller = met_by_disk g.S.Store s caller (nar c.args.path) c.args.tables.now c.read.new.tables _ c.in_ok-nar.ensures.reads (λ h. h) (λ w t. tt)
+    (λ w t. (c.in_ok-may_read.ensures s w (t.outline ∙ sym c.outline.ensures), λ honest. ap archive_of (c.in_ok-nar.ensures.archive (honest refl) w t), refl))
+
+pub returns-in_err-nar : goal.returns-in_err-nar
+returns-in_err-nar g c s caller =
+    let p = err_from_is_err_and c.from_residual-in_err-nar.result c.from_residual-in_err-nar.ensures.1 in
+    rw (p.1, p.2) (met_by_disk g.S.Store s caller (nar c.args.path) c.args.tables.now c.read.new.tables _ c.in_err-nar.ensures.reads (λ h. h)
+    (λ w t. read_fails g.S.Store (nar c.args.path) c.args.tables.now c.read.new.tables refl _ (c.in_err-nar.ensures.cause w t (met (has w c.args.path) NotValid (passed _ [] (c.in_ok-may_read.ensures s w (t.outline ∙ sym c.outline.ensures))).0)))
+    (λ w t. refl))
+
+pub returns-in_err-may_read : goal.returns-in_err-may_read
+returns-in_err-may_read g c s caller =
+    let p = err_from_is_err_and c.from_residual.result c.from_residual.ensures.1 in
+    rw (p.1, p.2) (met_by_stopping g.S.Store s caller (nar c.args.path) c.args.tables.now (Refused c.in_err-may_read.field-0.0) c.outline.result.now c.outline.ensures (λ w is. c.in_err-may_read.ensures s w is))

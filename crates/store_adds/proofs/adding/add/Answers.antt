@@ -1,4 +1,5 @@
 use Rattle.std.proofs.Common.{refl, sym, ap, ◌∙◌}
+use Rattle.std.proofs.lemmas.Result.{err_from_is_err_and}
 use Rattle.std.specs.FinMap as finite
 use Rattle.tables_outline.specs.Outline.{OutlineValue}
 use Rattle.tables.specs.RowsPut.{AddedRows}
@@ -15,14 +16,15 @@ insert_object-requires-clause-sound g c =
     sound_put g.S.Store c.args.added.path c.args.added.object c.args.tables.now c.args.added.nar c.args.added.nar refl
     (ap (λ (x : OutlineValue). finite.contains_key x.objects c.args.added.path) (sym c.outline.ensures) ∙ sym c.has.ensures ∙ c.if-has.false) c.requires.sound
 
-pub returns-in-Ok : goal.returns-in-Ok
-returns-in-Ok g c =
+pub returns : goal.returns
+returns g c =
     added_new g.S.Store c.args.added.path c.args.added.object c.args.tables.now c.args.added.nar c.args.added.nar refl
     (ap (λ (x : OutlineValue). finite.contains_key x.objects c.args.added.path) (sym c.outline.ensures) ∙ sym c.has.ensures ∙ c.if-has.false)
-    c.insert_object.new.self c.in-Ok.ensures.frame
+    c.insert_object.new.self c.in_ok-insert_object.ensures.frame
 
-pub returns-in-Err : goal.returns-in-Err
-returns-in-Err g c =
-    added_not g.S.Store c.args.added.path c.args.added.object c.args.tables.now c.args.added.nar c.args.added.nar refl
+pub returns-in_err-insert_object : goal.returns-in_err-insert_object
+returns-in_err-insert_object g c =
+    let p = err_from_is_err_and c.from_residual.result c.from_residual.ensures.1 in
+    rw (p.1, p.2) (added_not g.S.Store c.args.added.path c.args.added.object c.args.tables.now c.args.added.nar c.args.added.nar refl
     (ap (λ (x : OutlineValue). finite.contains_key x.objects c.args.added.path) (sym c.outline.ensures) ∙ sym c.has.ensures ∙ c.if-has.false)
-    c.insert_object.new.self c.in-Err.failure c.in-Err.ensures.frame (AddedRows c.args.added.path c.args.added.nar c.args.added.object) c.in-Err.ensures.cause
+    c.insert_object.new.self c.in_err-insert_object.field-0.0 c.in_err-insert_object.ensures.frame (AddedRows c.args.added.path c.args.added.nar c.args.added.object) c.in_err-insert_object.ensures.cause)

@@ -3,5 +3,5 @@ use Rattle.model.specs.Request.{Imported}
 use Rattle.store_types.specs.View.{import_view}
 use Rattle.store_adds.proofs.delivered.at_end.Goals as goal
 
-pub returns-in-Ok-clause-same : goal.returns-in-Ok-clause-same
-returns-in-Ok-clause-same c = ap (λ (b : List ℕ). let i : Imported = record (import_view c.args.import) { nar = b } in i) c.in-Ok.ensures.pieces
+pub returns-clause-same : goal.returns-clause-same
+returns-clause-same c = ap (λ (b : List ℕ). let i : Imported = record (import_view c.args.import) { nar = b } in i) c.in_ok-nar.ensures.pieces

@@ -1,4 +1,5 @@
 use Rattle.std.proofs.Common.{Err, refl}
+use Rattle.std.proofs.lemmas.Result.{err_from_is_err_and}
 use Rattle.model.specs.Request.{add_source}
 use Rattle.model.specs.Adds.{added_source}
 use Rattle.store_adds.specs.Parts.{added_view}
@@ -10,21 +11,22 @@ use Rattle.store_adds.proofs.sources.add_source.Goals as goal
 
 pub add-requires-clause-sound : goal.add-requires-clause-sound
 add-requires-clause-sound g c =
-    source_stays_sound g.S.Store c.args.tables.now c.args.config.now c.args.name c.args.refs.items (bytes_in c.args.nar) (added_view c.in-Ok.added) c.requires.dir c.as_str-text.ensures.valid c.in-Ok.ensures.bytes
+    source_stays_sound g.S.Store c.args.tables.now c.args.config.now c.args.name c.args.refs.items (bytes_in c.args.nar) (added_view c.in_ok-added.added) c.requires.dir c.as_str-text.ensures.valid c.in_ok-added.ensures.bytes
     (source_given c.args.name c.args.refs.items (bytes_in c.args.nar) c.outline.result.now c.args.tables.now.outline c.store_dir-dir.result.now c.args.config.now.store_dir
-    c.outline.ensures c.store_dir-dir.ensures (added_view c.in-Ok.added) c.in-Ok.ensures.reported)
-
-pub returns-in-Ok-clause-met : goal.returns-in-Ok-clause-met
-returns-in-Ok-clause-met g c caller =
-    met_by_adding g.S.Store c.args.config.now caller (add_source c.args.name c.args.refs.items (bytes_in c.args.nar)) c.add.result c.args.tables.now c.add.new.tables
-    (added_view c.in-Ok.added) (added_source c.args.config.now.store_dir c.args.name c.args.refs.items (bytes_in c.args.nar))
-    (source_given c.args.name c.args.refs.items (bytes_in c.args.nar) c.outline.result.now c.args.tables.now.outline c.store_dir-dir.result.now c.args.config.now.store_dir
-    c.outline.ensures c.store_dir-dir.ensures (added_view c.in-Ok.added) c.in-Ok.ensures.reported)
-    (λ w. refl) (λ w. refl) refl refl c.add.ensures
+    c.outline.ensures c.store_dir-dir.ensures (added_view c.in_ok-added.added) c.in_ok-added.ensures.reported)
 
 pub returns-clause-met : goal.returns-clause-met
 returns-clause-met g c caller =
-    met_by_reading g.S.Store c.args.config.now caller (add_source c.args.name c.args.refs.items (bytes_in c.args.nar)) (Err c.in-Err.stop) c.args.tables.now c.args.tables.now.outline refl
-    (reads_stopped c.args.config.now caller c.args.tables.now.outline (add_source c.args.name c.args.refs.items (bytes_in c.args.nar)) c.in-Err.stop
+    met_by_adding g.S.Store c.args.config.now caller (add_source c.args.name c.args.refs.items (bytes_in c.args.nar)) c.add.result c.args.tables.now c.add.new.tables
+    (added_view c.in_ok-added.added) (added_source c.args.config.now.store_dir c.args.name c.args.refs.items (bytes_in c.args.nar))
+    (source_given c.args.name c.args.refs.items (bytes_in c.args.nar) c.outline.result.now c.args.tables.now.outline c.store_dir-dir.result.now c.args.config.now.store_dir
+    c.outline.ensures c.store_dir-dir.ensures (added_view c.in_ok-added.added) c.in_ok-added.ensures.reported)
+    (λ w. refl) (λ w. refl) refl refl c.add.ensures
+
+pub returns-in_err-added-clause-met : goal.returns-in_err-added-clause-met
+returns-in_err-added-clause-met g c caller =
+    let p = err_from_is_err_and c.from_residual.result c.from_residual.ensures.1 in
+    rw (p.1, p.2) (met_by_reading g.S.Store c.args.config.now caller (add_source c.args.name c.args.refs.items (bytes_in c.args.nar)) (Err c.in_err-added.field-0.0) c.args.tables.now c.args.tables.now.outline refl
+    (reads_stopped c.args.config.now caller c.args.tables.now.outline (add_source c.args.name c.args.refs.items (bytes_in c.args.nar)) c.in_err-added.field-0.0
     (source_stopped c.args.name c.args.refs.items (bytes_in c.args.nar) c.outline.result.now c.args.tables.now.outline c.store_dir-dir.result.now c.args.config.now.store_dir
-    c.outline.ensures c.store_dir-dir.ensures c.in-Err.stop c.in-Err.ensures.reported))
+    c.outline.ensures c.store_dir-dir.ensures c.in_err-added.field-0.0 c.in_err-added.ensures.reported)))

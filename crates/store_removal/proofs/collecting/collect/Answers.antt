@@ -1,4 +1,5 @@
 use Rattle.std.proofs.Common.{refl, sym, ap₂, ◌∙◌}
+use Rattle.std.proofs.lemmas.Result.{err_from_is_err_and}
 use Rattle.model.specs.Request.{collect}
 use Rattle.model.specs.Reply.{freed}
 use Rattle.model.specs.Effects.{effect}
@@ -12,22 +13,23 @@ use Rattle.store_removal.proofs.collecting.collect.Goals as goal
 pub remove-requires : goal.remove-requires
 remove-requires g c =
     let s = c.args.config.now in
-    let gone = c.in-Ok.gone in
+    let gone = c.in_ok-gone.gone in
     let asked = collect c.args.ignores c.args.limit in
     sound_as g.S.Store c.args.tables.now (λ w. without w gone.paths.items) (λ w. effect s w asked)
-    (λ w t. collected_left s w c.args.ignores c.args.limit gone.paths.items (c.in-Ok.ensures.paths w (t.outline ∙ sym c.outline.ensures)))
+    (λ w t. collected_left s w c.args.ignores c.args.limit gone.paths.items (c.in_ok-gone.ensures.paths w (t.outline ∙ sym c.outline.ensures)))
     (λ w t. sound_left s w c.args.ignores c.args.limit c.args.tables.now.dir t.sound)
 
-pub returns-in-Ok : goal.returns-in-Ok
-returns-in-Ok g c caller =
+pub returns : goal.returns
+returns g c caller =
     let s = c.args.config.now in
-    let gone = c.in-Ok.gone in
+    let gone = c.in_ok-gone.gone in
     c.remove.ensures s caller (collect c.args.ignores c.args.limit) refl (λ w is. record {
       passes = refl;
-      answers = ap₂ freed (c.in-Ok.ensures.paths w (is ∙ sym c.outline.ensures)) (c.in-Ok.ensures.bytes w (is ∙ sym c.outline.ensures));
-      becomes = collected_left s w c.args.ignores c.args.limit gone.paths.items (c.in-Ok.ensures.paths w (is ∙ sym c.outline.ensures));
+      answers = ap₂ freed (c.in_ok-gone.ensures.paths w (is ∙ sym c.outline.ensures)) (c.in_ok-gone.ensures.bytes w (is ∙ sym c.outline.ensures));
+      becomes = collected_left s w c.args.ignores c.args.limit gone.paths.items (c.in_ok-gone.ensures.paths w (is ∙ sym c.outline.ensures));
     })
 
-pub returns-in-Err : goal.returns-in-Err
-returns-in-Err g c caller =
-    met_by_stopping g.S.Store c.args.config.now caller (collect c.args.ignores c.args.limit) c.args.tables.now (Failed Memory) c.outline.result.now c.outline.ensures (λ w is. refl)
+pub returns-in_err-gone : goal.returns-in_err-gone
+returns-in_err-gone g c caller =
+    let p = err_from_is_err_and c.from_residual.result c.from_residual.ensures.1 in
+    rw (p.1, p.2) (met_by_stopping g.S.Store c.args.config.now caller (collect c.args.ignores c.args.limit) c.args.tables.now (Failed Memory) c.outline.result.now c.outline.ensures (λ w is. refl))

@@ -1,4 +1,5 @@
 use Rattle.std.proofs.Common.{Result, refl, sym, ap, subst, ◌∙◌}
+use Rattle.std.proofs.lemmas.Result.{err_from_is_err_and}
 use Rattle.std.specs.Prelude.{map}
 use Rattle.std.specs.FinMap as finite
 use Rattle.paths.specs.Root.{Set}
@@ -22,22 +23,23 @@ pub replace_runtime-requires : goal.replace_runtime-requires
 replace_runtime-requires g c =
     let pairs = map labelled_bytes c.args.pairs.items in
     record {
-      sound = sound_as g.S.Store c.args.tables.now (λ w. with_runtime w (seen_set pair_cmp labelled_bytes c.in-Ok.valid.keys)) (λ w. with_runtime w (valid_pairs w pairs))
-          (λ w t. ap (with_runtime w) (c.in-Ok.ensures no_settings w (t.outline ∙ sym c.outline.ensures)).1)
-          (λ w t. runtime_fits c.args.tables.now.dir w t.sound pairs (c.in-Ok.ensures no_settings w (t.outline ∙ sym c.outline.ensures)).0);
+      sound = sound_as g.S.Store c.args.tables.now (λ w. with_runtime w (seen_set pair_cmp labelled_bytes c.in_ok-valid.valid.keys)) (λ w. with_runtime w (valid_pairs w pairs))
+          (λ w t. ap (with_runtime w) (c.in_ok-valid.ensures no_settings w (t.outline ∙ sym c.outline.ensures)).1)
+          (λ w t. runtime_fits c.args.tables.now.dir w t.sound pairs (c.in_ok-valid.ensures no_settings w (t.outline ∙ sym c.outline.ensures)).0);
     }
 
-pub returns-in-Ok : goal.returns-in-Ok
-returns-in-Ok g c s caller =
+pub returns : goal.returns
+returns g c s caller =
     let asked = replace_runtime (map labelled_bytes c.args.pairs.items) in
     subst (λ (r : Result Answer Stop). IsMet g.S.Store s caller asked r c.args.tables.now c.replace_runtime.new.self) (sym c.answered.ensures)
-    (met_by_writing g.S.Store s caller asked c.args.tables.now c.replace_runtime.new.self (λ w. with_runtime w (seen_set pair_cmp labelled_bytes c.in-Ok.valid.keys)) (RuntimeCount c.count_of-count.result)
-    (λ w is. (c.in-Ok.ensures s w (is ∙ sym c.outline.ensures)).0)
-    (λ w is. ap runtime_count (c.count_of-count.ensures ∙ ap (λ (m : Set pair_cmp). finite.len m) (c.in-Ok.ensures s w (is ∙ sym c.outline.ensures)).1))
-    (λ w is. ap (with_runtime w) (c.in-Ok.ensures s w (is ∙ sym c.outline.ensures)).1)
+    (met_by_writing g.S.Store s caller asked c.args.tables.now c.replace_runtime.new.self (λ w. with_runtime w (seen_set pair_cmp labelled_bytes c.in_ok-valid.valid.keys)) (RuntimeCount c.count_of-count.result)
+    (λ w is. (c.in_ok-valid.ensures s w (is ∙ sym c.outline.ensures)).0)
+    (λ w is. ap runtime_count (c.count_of-count.ensures ∙ ap (λ (m : Set pair_cmp). finite.len m) (c.in_ok-valid.ensures s w (is ∙ sym c.outline.ensures)).1))
+    (λ w is. ap (with_runtime w) (c.in_ok-valid.ensures s w (is ∙ sym c.outline.ensures)).1)
     c.replace_runtime.result c.replace_runtime.ensures.frame
-    (write_fails g.S.Store asked c.args.tables.now c.replace_runtime.new.self refl (RowsOf RuntimeRow (map labelled_bytes c.in-Ok.valid.keys)) (λ t row put. refl) (RuntimeCount c.count_of-count.result) c.replace_runtime.result c.replace_runtime.ensures.cause))
+    (write_fails g.S.Store asked c.args.tables.now c.replace_runtime.new.self refl (RowsOf RuntimeRow (map labelled_bytes c.in_ok-valid.valid.keys)) (λ t row put. refl) (RuntimeCount c.count_of-count.result) c.replace_runtime.result c.replace_runtime.ensures.cause))
 
-pub returns-in-Err : goal.returns-in-Err
-returns-in-Err g c s caller =
-    met_by_stopping g.S.Store s caller (replace_runtime (map labelled_bytes c.args.pairs.items)) c.args.tables.now c.in-Err.stop c.outline.result.now c.outline.ensures (λ w is. c.in-Err.ensures s w is)
+pub returns-in_err-valid : goal.returns-in_err-valid
+returns-in_err-valid g c s caller =
+    let p = err_from_is_err_and c.from_residual.result c.from_residual.ensures.1 in
+    rw (p.1, p.2) (met_by_stopping g.S.Store s caller (replace_runtime (map labelled_bytes c.args.pairs.items)) c.args.tables.now c.in_err-valid.field-0.0 c.outline.result.now c.outline.ensures (λ w is. c.in_err-valid.ensures s w is))
