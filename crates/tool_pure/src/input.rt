@@ -28,10 +28,8 @@ pub fn read_input<R: Read>(alloc: Global, input: &mut R, most: usize) -> Result<
     ensures memory { IsErrOf result (Stop.Failed Failure.Memory)
         → TakesSome most (R.remaining input.old) (R.remaining input.new) }
 {
-    match read_at_most(alloc, input, most) {
-        Ok(bytes) => Ok(bytes),
-        Err(fault) => Err(Stop::from(fault)),
-    }
+    let bytes = read_at_most(alloc, input, most)?;
+    Ok(bytes)
 }
 
 /// The archive on standard input, checked and hashed as it comes. No more bytes are read than decide what it is.
@@ -50,13 +48,9 @@ pub fn receive_archive<R: Read>(alloc: Global, input: &mut R) -> Result<Intake, 
         → TakesSome max_prefix (R.remaining input.old) (R.remaining input.new) }
 {
     let mut nar = Intake::new(alloc);
-    match receive_at_most(input, MOST_OF_ARCHIVE, &mut nar) {
-        Ok(_) => {
-            nar.are_bytes();
-            Ok(nar)
-        }
-        Err(fault) => Err(Stop::from(fault)),
-    }
+    receive_at_most(input, MOST_OF_ARCHIVE, &mut nar)?;
+    nar.are_bytes();
+    Ok(nar)
 }
 
 /// More bytes than memory holds.
@@ -76,14 +70,10 @@ pub fn receive_input<R: Read, S: Sink>(input: &mut R, sink: &mut S) -> Result<()
     ensures memory { IsErrOf result (Stop.Failed Failure.Memory)
         → TakesSome UNBOUNDED (R.remaining input.old) (R.remaining input.new) }
 {
-    match receive_at_most(input, UNBOUNDED, sink) {
-        Ok(count) => {
-            if count < UNBOUNDED {
-                Ok(())
-            } else {
-                Err(Stop::Failed(Failure::Memory))
-            }
-        }
-        Err(fault) => Err(Stop::from(fault)),
+    let count = receive_at_most(input, UNBOUNDED, sink)?;
+    if count < UNBOUNDED {
+        Ok(())
+    } else {
+        Err(Stop::Failed(Failure::Memory))
     }
 }

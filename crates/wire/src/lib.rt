@@ -18,5 +18,6 @@ pub use listening::serve_on;
 pub use port::serve_port;
 pub use serving::{Count, serve};
 pub use stream::serve_streams;
+pub use wire_bodies::BodyError;
 pub use wire_requests::{import_body, runtime_body};
 pub use wire_server::WireError;

@@ -8,7 +8,7 @@ use crate::server::Server;
 use sqlite::Alter;
 use std::alloc::Global;
 use std::io;
-use std::io::{Error, ErrorKind, Write};
+use std::io::Write;
 use std::net::TcpListener;
 use std::rt::Clock;
 use store::Store;
@@ -50,11 +50,7 @@ pub fn serve_on<C: Clock, S: Alter, E: Write>(
         ServesOver (AnswersFrom store.old.settings) connections (E.contents errors.old) (E.contents errors.new) w next
         result) }
 {
-    match Server::new(alloc) {
-        Ok(server) => {
-            let mut peers = Port::new(clock, listener);
-            wire_server::serve_on(alloc, &mut peers, connections, errors, &server, store)
-        }
-        Err(_) => Err(Error::from(ErrorKind::OutOfMemory)),
-    }
+    let server = Server::new(alloc)?;
+    let mut peers = Port::new(clock, listener);
+    wire_server::serve_on(alloc, &mut peers, connections, errors, &server, store)
 }

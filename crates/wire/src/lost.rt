@@ -63,11 +63,9 @@ fn import_left<'t>(
     ensures bad { result ≡ Err AskError.BadBodyHead → (all : List ℕ) → IsLeftOf body.now all
         → AsksNothing dir.now Kind.Import target.now all BadBodyHead }
 {
-    match left_address(alloc, dir, body) {
-        Ok(Some(has_address)) => Ok(Op::Import { has_address }),
-        Ok(None) => Ok(operation_at(Kind::Import, target)),
-        Err(AskError::BadBodyHead) => Err(AskError::BadBodyHead),
-        Err(_) => Err(AskError::Memory),
+    match left_address(alloc, dir, body)? {
+        Some(has_address) => Ok(Op::Import { has_address }),
+        None => Ok(operation_at(Kind::Import, target)),
     }
 }
 

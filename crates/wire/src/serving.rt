@@ -44,8 +44,6 @@ pub fn serve<S: Alter, R: Read, W: Write>(
     ensures replies { Served (AnswersSome store.old.settings) (R.remaining input.old) (W.contents output.old)
         (W.contents output.new) tt tt result }
 {
-    match Server::new(alloc) {
-        Ok(server) => wire_server::serve(alloc, input, output, &server, store),
-        Err(_) => Err(WireError::Memory),
-    }
+    let server = Server::new(alloc)?;
+    wire_server::serve(alloc, input, output, &server, store)
 }

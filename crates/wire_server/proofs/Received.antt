@@ -17,11 +17,9 @@ use Rattle.wire_messages.proofs.Reading.{at_end_all, ends_inside}
 use Rattle.wire_server.specs.Responses.{Replied, replied}
 use Rattle.wire_server.specs.declared.response.Response.{Response}
 use Rattle.wire_server.specs.declared.ready.Ready.{Ready}
-use Rattle.wire_server.specs.declared.error.WireError.{WireError}
-use Rattle.wire_server.specs.declared.receiving.Halt.TheVariants.{Failed}
 use Rattle.wire_server.specs.declared.exchange.Exchange.{Exchange}
 use Rattle.wire_server.specs.Answers.{body_in, Answered, IsReady}
-use Rattle.wire_server.specs.Arrivals.{Whole, Brings, broken_of}
+use Rattle.wire_server.specs.Arrivals.{Whole, Brings, halt_of}
 use Rattle.wire_server.specs.Exchanges.{IsAnswered, IsLost}
 
 -- what was kept where nothing had been
@@ -59,14 +57,11 @@ module _ (held read : List ℕ) (head : Head) (size : ℕ) (is : HoldsHead held 
 
 module _ {S C B : Type 0} (answers : S → RequestHead → List ℕ → Replied → S → Type 0) (decides : S → RequestHead → C → Type 0) (kept : B → List ℕ) (may_be : B → List ℕ → Type 0) (s : S) where
   -- nothing came
-  pub brings_broken : (all held : List ℕ) (rest : Option (List ℕ)) (fault : ReceiveError) (e : WireError) → e ≡ broken_of fault
-      → Brings answers decides kept may_be s all held rest (Err (Failed e))
-  brings_broken all held rest fault e is = subst (λ v. Brings answers decides kept may_be s all held rest (Err (Failed v))) (sym is) (by fault)
-    where
-      by : (f : ReceiveError) → Brings answers decides kept may_be s all held rest (Err (Failed (broken_of f)))
-      by received.Read = tt
-      by received.Silent = tt
-      by received.Memory = tt
+  pub brings_none : (all held : List ℕ) (rest : Option (List ℕ)) (fault : ReceiveError) → (fault ≡ received.Silent → held ≡ [])
+      → Brings answers decides kept may_be s all held rest (Err (halt_of fault))
+  brings_none all held rest received.Read silent = tt
+  brings_none all held rest received.Silent silent = silent refl
+  brings_none all held rest received.Memory silent = tt
 
 -- a number of bytes that stays at the greatest is as good as the number, where there are fewer
 pub drop_saturated : (n m : ℕ) (bytes : List ℕ) → m ≡ min n 18446744073709551615 → length bytes < 18446744073709551616 → drop m bytes ≡ drop n bytes

@@ -17,11 +17,11 @@ use Rattle.wire_server.specs.declared.receiving.Halt.TheVariants.{Failed, Silent
 use Rattle.wire_server.specs.declared.receiving.Next.{Next}
 use Rattle.wire_server.specs.declared.receiving.Next.TheVariants.{End, Message, Faulty}
 
--- why a connection fails where a message can't be received
-abbrev pub broken_of : ReceiveError → WireError
-broken_of received.Read = Read
-broken_of received.Silent = Read
-broken_of received.Memory = Memory
+-- why nothing is received where the head or the body of a message isn't
+abbrev pub halt_of : ReceiveError → Halt
+halt_of received.Read = Failed Read
+halt_of received.Silent = Silent
+halt_of received.Memory = Failed Memory
 
 module _ {S C B : Type 0} (answers : S → RequestHead → List ℕ → Replied → S → Type 0)
     (decides : S → RequestHead → C → Type 0) (kept : B → List ℕ) (may_be : B → List ℕ → Type 0) (s : S) where

@@ -27,14 +27,10 @@ pub fn serve_on<L: Listener, E: Write, T, A: Responder<T>>(
 {
     let mut failed = 0;
     'connections: for _ in 0..connections {
-        match listener.accept() {
-            Ok((mut input, mut output)) => {
-                let close = serve_peer(alloc, &mut input, &mut output, errors, responder, state);
-                listener.close(input, output);
-                failed += close.failures();
-            }
-            Err(fault) => return Err(fault),
-        }
+        let (mut input, mut output) = listener.accept()?;
+        let close = serve_peer(alloc, &mut input, &mut output, errors, responder, state);
+        listener.close(input, output);
+        failed += close.failures();
     }
     Ok(failed)
 }

@@ -1,4 +1,9 @@
 //! Why a connection ends before its input does.
+ghost use Rattle.std.specs.Prelude.{◌≡◌};
+ghost use Rattle.wire_server.specs.declared.error.WireError.TheVariants.{Memory, Write};
+
+use std::alloc::AllocError;
+use std::io;
 use thiserror::Error;
 
 /// Why a connection ends before its input does.
@@ -13,4 +18,21 @@ pub enum WireError {
     /// Memory was refused.
     #[error("memory")]
     Memory,
+}
+
+impl From<AllocError> for WireError {
+    ghost from_gives = { λ _ e. e ≡ Memory };
+
+    fn from(_: AllocError) -> WireError {
+        WireError::Memory
+    }
+}
+
+/// The fault of a writer. A reader's is none of these: it comes as a `ReceiveError`.
+impl From<io::Error> for WireError {
+    ghost from_gives = { λ _ e. e ≡ Write };
+
+    fn from(_: io::Error) -> WireError {
+        WireError::Write
+    }
 }

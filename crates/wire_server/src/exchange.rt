@@ -69,10 +69,7 @@ fn answer_message<T, A: Responder<T>>(
         → Responds A.answers all buffer.new.items state.old state.new result }
 {
     let close = closes(buffer, head);
-    let response = match respond(responder, state, buffer, head, ready) {
-        Ok(response) => response,
-        Err(fault) => return Err(fault),
-    };
+    let response = respond(responder, state, buffer, head, ready)?;
     drain_prefix(buffer, head.spans.len.saturating_add(size));
     Ok(Exchange { response, close })
 }
@@ -98,14 +95,9 @@ pub(crate) fn answer_next<T, A: Responder<T>>(
     match next {
         Next::End => Ok(None),
         Next::Message(head, size, ready) => {
-            match answer_message(responder, state, buffer, &head, size, ready) {
-                Ok(exchange) => Ok(Some(exchange)),
-                Err(fault) => Err(fault),
-            }
+            let exchange = answer_message(responder, state, buffer, &head, size, ready)?;
+            Ok(Some(exchange))
         }
-        Next::Faulty(fault) => match refused(alloc, fault) {
-            Ok(exchange) => Ok(Some(exchange)),
-            Err(fault) => Err(fault),
-        },
+        Next::Faulty(fault) => Ok(Some(refused(alloc, fault)?)),
     }
 }

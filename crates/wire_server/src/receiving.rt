@@ -4,12 +4,15 @@ ghost use Rattle.httparse.specs.Grammar.{RequestHead};
 ghost use Rattle.wire_messages.specs.Heads.{Holds};
 ghost use Rattle.wire_messages.specs.Messages.{HoldsHead};
 ghost use Rattle.wire_server.specs.Answers.{IsBegun};
-ghost use Rattle.wire_server.specs.Arrivals.{Arrives, broken_of};
+ghost use Rattle.wire_server.specs.Arrivals.{Arrives, halt_of};
+ghost use Rattle.wire_server.specs.declared.error.WireError.TheVariants.{Memory};
+ghost use Rattle.wire_server.specs.declared.receiving.Halt.TheVariants.{Failed};
 
 use crate::begun::Begun;
 use crate::error::WireError;
 use crate::ready::Ready;
 use crate::responder::Responder;
+use std::alloc::AllocError;
 use std::io::Read;
 use wire_messages::{
     Fate, Fault, Head, ReceiveError, Received, pass_body, receive_body, receive_head,
@@ -34,13 +37,24 @@ pub(crate) enum Halt {
     Silent,
 }
 
-/// Why a connection fails where a message can't be received. No writer has part in it.
-fn broken(fault: ReceiveError) -> WireError
-    ensures { result ≡ broken_of fault }
-{
-    match fault {
-        ReceiveError::Read | ReceiveError::Silent => WireError::Read,
-        ReceiveError::Memory => WireError::Memory,
+impl From<AllocError> for Halt {
+    ghost from_gives = { λ _ halt. halt ≡ Failed Memory };
+
+    fn from(_: AllocError) -> Halt {
+        Halt::Failed(WireError::Memory)
+    }
+}
+
+/// No writer has part in it.
+impl From<ReceiveError> for Halt {
+    ghost from_gives = { λ fault halt. halt ≡ halt_of fault };
+
+    fn from(fault: ReceiveError) -> Halt {
+        match fault {
+            ReceiveError::Read => Halt::Failed(WireError::Read),
+            ReceiveError::Silent => Halt::Silent,
+            ReceiveError::Memory => Halt::Failed(WireError::Memory),
+        }
     }
 }
 
@@ -64,18 +78,19 @@ fn receive_rest<R: Read, T, A: Responder<T>>(
 {
     match begun {
         Begun::Accepted(course, mut body) => {
-            match receive_body(input, held, &head, size, &mut body) {
-                Ok(Fate::Kept) => Ok(Next::Message(head, size, Ready::Kept(course, body))),
-                Ok(Fate::Lost) => Ok(Next::Message(head, size, Ready::Lost(course, body))),
-                Ok(Fate::Short) => Ok(Next::Faulty(Fault::BadLength)),
-                Err(fault) => Err(Halt::Failed(broken(fault))),
+            match receive_body(input, held, &head, size, &mut body)? {
+                Fate::Kept => Ok(Next::Message(head, size, Ready::Kept(course, body))),
+                Fate::Lost => Ok(Next::Message(head, size, Ready::Lost(course, body))),
+                Fate::Short => Ok(Next::Faulty(Fault::BadLength)),
             }
         }
-        Begun::Refused(response) => match pass_body(input, held, &head, size) {
-            Ok(true) => Ok(Next::Message(head, size, Ready::Refused(response))),
-            Ok(false) => Ok(Next::Faulty(Fault::BadLength)),
-            Err(fault) => Err(Halt::Failed(broken(fault))),
-        },
+        Begun::Refused(response) => {
+            if pass_body(input, held, &head, size)? {
+                Ok(Next::Message(head, size, Ready::Refused(response)))
+            } else {
+                Ok(Next::Faulty(Fault::BadLength))
+            }
+        }
     }
 }
 
@@ -93,10 +108,8 @@ fn receive_message<R: Read, T, A: Responder<T>>(
     ensures { Arrives A.answers A.decides A.Body.kept A.Body.may_be state.now (R.remaining input.old) (R.remaining
         input.new) held.now held.now result }
 {
-    match responder.begin(state, held, &head, size) {
-        Ok(begun) => receive_rest::<R, T, A>(input, held, state, head, size, begun),
-        Err(_) => Err(Halt::Failed(WireError::Memory)),
-    }
+    let begun = responder.begin(state, held, &head, size)?;
+    receive_rest::<R, T, A>(input, held, state, head, size, begun)
 }
 
 /// Receives the next message of a connection, whole.
@@ -116,13 +129,11 @@ pub(crate) fn receive_next<R: Read, T, A: Responder<T>>(
     ensures { Arrives A.answers A.decides A.Body.kept A.Body.may_be state.now
         (R.remaining input.old) (R.remaining input.new) buffer.old.items buffer.new.items result }
 {
-    match receive_head(input, window, buffer) {
-        Ok(Received::Message(head, size)) => {
+    match receive_head(input, window, buffer)? {
+        Received::Message(head, size) => {
             receive_message(input, buffer, responder, state, head, size)
         }
-        Ok(Received::End) => Ok(Next::End),
-        Ok(Received::Faulty(fault)) => Ok(Next::Faulty(fault)),
-        Err(ReceiveError::Silent) => Err(Halt::Silent),
-        Err(fault) => Err(Halt::Failed(broken(fault))),
+        Received::End => Ok(Next::End),
+        Received::Faulty(fault) => Ok(Next::Faulty(fault)),
     }
 }

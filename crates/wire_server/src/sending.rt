@@ -15,10 +15,8 @@ use streams::{Pieces, send_bytes, send_pieces};
 fn send_both<W: Write>(output: &mut W, head: &[u8], text: &Pieces) -> io::Result<()>
     ensures { Sends (W.contents output.old) (W.contents output.new) (head.now ++ text.now) result }
 {
-    match send_bytes(output, head) {
-        Ok(()) => send_pieces(output, text),
-        Err(fault) => Err(fault),
-    }
+    send_bytes(output, head)?;
+    send_pieces(output, text)
 }
 
 /// Writes a reply: its head, and its text.
@@ -36,11 +34,7 @@ pub(crate) fn send_reply<W: Write>(
     ensures { SendsReply (W.contents output.old) (W.contents output.new) (reply_bytes close (replied response.now))
         result }
 {
-    let Ok(head) = response.head(alloc, close) else {
-        return Err(WireError::Memory);
-    };
-    match send_both(output, head.as_bytes(), &response.text) {
-        Ok(()) => Ok(()),
-        Err(_) => Err(WireError::Write),
-    }
+    let head = response.head(alloc, close)?;
+    send_both(output, head.as_bytes(), &response.text)?;
+    Ok(())
 }

@@ -2,13 +2,15 @@
 ghost use Rattle.std.specs.Prelude.{◌≡◌};
 ghost use Rattle.wire_server.specs.Serves.{Served, reported};
 ghost use Rattle.wire_server.specs.Courses.{Ran};
+ghost use Rattle.wire_server.specs.declared.error.WireError.TheVariants.{Memory};
+ghost use Rattle.wire_server.specs.declared.serving.Stop.TheVariants.{Failed};
 
 use crate::error::WireError;
 use crate::exchange::answer_next;
 use crate::receiving::{Halt, receive_next};
 use crate::responder::Responder;
 use crate::sending::send_reply;
-use std::alloc::Global;
+use std::alloc::{AllocError, Global};
 use std::io::{Read, Write};
 
 /// Why a connection ends before its input does.
@@ -17,6 +19,22 @@ pub(crate) enum Stop {
     Failed(WireError),
     /// Nothing of a message came for as long as the input waits. The number is that of the messages answered until then.
     Silent(u64),
+}
+
+impl From<AllocError> for Stop {
+    ghost from_gives = { λ _ stop. stop ≡ Failed Memory };
+
+    fn from(_: AllocError) -> Stop {
+        Stop::Failed(WireError::Memory)
+    }
+}
+
+impl From<WireError> for Stop {
+    ghost from_gives = { λ fault stop. stop ≡ Failed fault };
+
+    fn from(fault: WireError) -> Stop {
+        Stop::Failed(fault)
+    }
 }
 
 /// A number of messages as it is reported: it stays at the greatest value.
@@ -49,15 +67,10 @@ pub(crate) fn run<R: Read, W: Write, T, A: Responder<T>>(
             Err(Halt::Failed(fault)) => return Err(Stop::Failed(fault)),
             Err(Halt::Silent) => return Err(Stop::Silent(reported(count))),
         };
-        let exchange = match answer_next(alloc, responder, state, &mut buffer, next) {
-            Ok(Some(exchange)) => exchange,
-            Ok(None) => return Ok(reported(count)),
-            Err(_) => return Err(Stop::Failed(WireError::Memory)),
+        let Some(exchange) = answer_next(alloc, responder, state, &mut buffer, next)? else {
+            return Ok(reported(count));
         };
-        match send_reply(alloc, output, &exchange.response, exchange.close) {
-            Ok(()) => {}
-            Err(fault) => return Err(Stop::Failed(fault)),
-        }
+        send_reply(alloc, output, &exchange.response, exchange.close)?;
         if exchange.close {
             return Ok(reported(count + 1));
         }

@@ -1,4 +1,5 @@
 use Rattle.std.proofs.Common.{rules, ◌≡◌, sym, subst}
+use Rattle.std.proofs.lemmas.Result.{err_from_is_err_and}
 use Rattle.wire_server.specs.Serves.{Serves, Stops, Rests}
 use Rattle.wire_server.proofs.Reported.{Reported}
 use Rattle.wire_server.proofs.Ends.{told_start, rested, counted_out}
@@ -24,36 +25,38 @@ returns-in-Err-Silent g c =
 pub answer_next-requires : goal.answer_next-requires
 answer_next-requires g c = (_, _, c.in-Ok.ensures.2)
 
-pub returns-in-Ok-None : goal.returns-in-Ok-None
-returns-in-Ok-None g c =
+pub returns-in_default : goal.returns-in_default
+returns-in_default g c =
     let arrives = c.in-Ok.ensures in
-    let comes = rw c.in-Ok-None.field-0-is at (c.in-Ok-None.ensures _ _ arrives.2) in
+    let comes = rw c.in_default.is at (c.in_ok-exchange.ensures _ _ arrives.2) in
     subst (λ k. Serves g.A.Responder.answers (g.R.Read.remaining c.args.input.now) (g.W.Write.contents c.args.output.now) (g.W.Write.contents c.messages.output) c.args.state.now c.answer_next.new.state k)
-    (sym c.reported-in-Ok-None.ensures) (turn_end g.A.Responder.answers (g.R.Read.remaining c.args.input.now) (g.W.Write.contents c.args.output.now) c.args.state.now (g.R.Read.remaining c.messages.input) (g.R.Read.remaining c.receive_next.new.input) (g.W.Write.contents c.messages.output) c.messages.buffer.items c.answer_next.new.buffer.items c.messages.state c.answer_next.new.state c.messages.count c.messages.invariant (arrives.0, arrives.1, comes))
+    (sym c.reported-in_default.ensures) (turn_end g.A.Responder.answers (g.R.Read.remaining c.args.input.now) (g.W.Write.contents c.args.output.now) c.args.state.now (g.R.Read.remaining c.messages.input) (g.R.Read.remaining c.receive_next.new.input) (g.W.Write.contents c.messages.output) c.messages.buffer.items c.answer_next.new.buffer.items c.messages.state c.answer_next.new.state c.messages.count c.messages.invariant (arrives.0, arrives.1, comes))
 
-pub returns-in-Err : goal.returns-in-Err
-returns-in-Err g c =
+pub returns-in_err-exchange : goal.returns-in_err-exchange
+returns-in_err-exchange g c =
     let arrives = c.in-Ok.ensures in
-    turn_lost g.A.Responder.answers (g.R.Read.remaining c.args.input.now) (g.W.Write.contents c.args.output.now) c.args.state.now (g.R.Read.remaining c.messages.input) (g.R.Read.remaining c.receive_next.new.input) (g.W.Write.contents c.messages.output) c.messages.buffer.items c.answer_next.new.buffer.items c.messages.state c.answer_next.new.state c.messages.count c.messages.invariant c.in-Err.field-0 (arrives.0, arrives.1, c.in-Err.ensures _ _ arrives.2)
+    let p = err_from_is_err_and c.from_residual.result c.from_residual.ensures.1 in
+    rw (p.1, p.2) (turn_lost g.A.Responder.answers (g.R.Read.remaining c.args.input.now) (g.W.Write.contents c.args.output.now) c.args.state.now (g.R.Read.remaining c.messages.input) (g.R.Read.remaining c.receive_next.new.input) (g.W.Write.contents c.messages.output) c.messages.buffer.items c.answer_next.new.buffer.items c.messages.state c.answer_next.new.state c.messages.count c.messages.invariant c.in_err-exchange.field-0.0 (arrives.0, arrives.1, c.in_err-exchange.ensures _ _ arrives.2))
 
-pub returns-in-Err-send_reply : goal.returns-in-Err-send_reply
-returns-in-Err-send_reply g c =
+pub returns-in_err-send_reply : goal.returns-in_err-send_reply
+returns-in_err-send_reply g c =
     let arrives = c.in-Ok.ensures in
-    let comes = rw c.in-Ok-Some.field-0-is at (c.in-Ok-Some.ensures _ _ arrives.2) in
-    turn_cut g.A.Responder.answers (g.R.Read.remaining c.args.input.now) (g.W.Write.contents c.args.output.now) c.args.state.now (g.R.Read.remaining c.messages.input) (g.R.Read.remaining c.receive_next.new.input) (g.W.Write.contents c.messages.output) c.messages.buffer.items c.answer_next.new.buffer.items c.messages.state c.answer_next.new.state c.messages.count c.messages.invariant c.in-Ok-Some.exchange (g.W.Write.contents c.send_reply.new.output) (arrives.0, arrives.1, comes) c.in-Err-send_reply.fault c.in-Err-send_reply.ensures
+    let comes = rw c.in-Some.is at (c.in_ok-exchange.ensures _ _ arrives.2) in
+    let p = err_from_is_err_and c.from_residual-in_err-send_reply.result c.from_residual-in_err-send_reply.ensures.1 in
+    rw (p.1, p.2) (turn_cut g.A.Responder.answers (g.R.Read.remaining c.args.input.now) (g.W.Write.contents c.args.output.now) c.args.state.now (g.R.Read.remaining c.messages.input) (g.R.Read.remaining c.receive_next.new.input) (g.W.Write.contents c.messages.output) c.messages.buffer.items c.answer_next.new.buffer.items c.messages.state c.answer_next.new.state c.messages.count c.messages.invariant c.in-Some.exchange (g.W.Write.contents c.send_reply.new.output) (arrives.0, arrives.1, comes) c.in_err-send_reply.field-0.0 c.in_err-send_reply.ensures)
 
 pub returns-then-exchange : goal.returns-then-exchange
 returns-then-exchange g c =
     let arrives = c.in-Ok.ensures in
-    let comes = rw c.in-Ok-Some.field-0-is at (c.in-Ok-Some.ensures _ _ arrives.2) in
+    let comes = rw c.in-Some.is at (c.in_ok-exchange.ensures _ _ arrives.2) in
     subst (λ k. Serves g.A.Responder.answers (g.R.Read.remaining c.args.input.now) (g.W.Write.contents c.args.output.now) (g.W.Write.contents c.send_reply.new.output) c.args.state.now c.answer_next.new.state k)
-    (sym c.reported-then-exchange.ensures) (turn_closed g.A.Responder.answers (g.R.Read.remaining c.args.input.now) (g.W.Write.contents c.args.output.now) c.args.state.now (g.R.Read.remaining c.messages.input) (g.R.Read.remaining c.receive_next.new.input) (g.W.Write.contents c.messages.output) c.messages.buffer.items c.answer_next.new.buffer.items c.messages.state c.answer_next.new.state c.messages.count c.messages.invariant c.in-Ok-Some.exchange (g.W.Write.contents c.send_reply.new.output) c.in-Ok-send_reply.ensures (arrives.0, arrives.1, comes) c.if-exchange.true)
+    (sym c.reported-then-exchange.ensures) (turn_closed g.A.Responder.answers (g.R.Read.remaining c.args.input.now) (g.W.Write.contents c.args.output.now) c.args.state.now (g.R.Read.remaining c.messages.input) (g.R.Read.remaining c.receive_next.new.input) (g.W.Write.contents c.messages.output) c.messages.buffer.items c.answer_next.new.buffer.items c.messages.state c.answer_next.new.state c.messages.count c.messages.invariant c.in-Some.exchange (g.W.Write.contents c.send_reply.new.output) c.in_ok-send_reply.ensures (arrives.0, arrives.1, comes) c.if-exchange.true)
 
 pub messages-preserved : goal.messages-preserved
 messages-preserved g c =
     let arrives = c.in-Ok.ensures in
-    let comes = rw c.in-Ok-Some.field-0-is at (c.in-Ok-Some.ensures _ _ arrives.2) in
-    turn_on g.A.Responder.answers (g.R.Read.remaining c.args.input.now) (g.W.Write.contents c.args.output.now) c.args.state.now (g.R.Read.remaining c.messages.input) (g.R.Read.remaining c.receive_next.new.input) (g.W.Write.contents c.messages.output) c.messages.buffer.items c.answer_next.new.buffer.items c.messages.state c.answer_next.new.state c.messages.count c.messages.invariant c.in-Ok-Some.exchange (g.W.Write.contents c.send_reply.new.output) c.in-Ok-send_reply.ensures (arrives.0, arrives.1, comes) c.if-exchange.false
+    let comes = rw c.in-Some.is at (c.in_ok-exchange.ensures _ _ arrives.2) in
+    turn_on g.A.Responder.answers (g.R.Read.remaining c.args.input.now) (g.W.Write.contents c.args.output.now) c.args.state.now (g.R.Read.remaining c.messages.input) (g.R.Read.remaining c.receive_next.new.input) (g.W.Write.contents c.messages.output) c.messages.buffer.items c.answer_next.new.buffer.items c.messages.state c.answer_next.new.state c.messages.count c.messages.invariant c.in-Some.exchange (g.W.Write.contents c.send_reply.new.output) c.in_ok-send_reply.ensures (arrives.0, arrives.1, comes) c.if-exchange.false
 
 pub returns : goal.returns
 returns g c =
