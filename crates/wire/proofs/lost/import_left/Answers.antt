@@ -1,5 +1,6 @@
-use Rattle.std.proofs.Common.{◌∙◌, Err, refl, ap, sym}
+use Rattle.std.proofs.Common.{◌≡◌, ◌∙◌, Err, refl, ap, sym}
 use Rattle.std.proofs.lemmas.Result.{err_from_is_err_and}
+use Rattle.wire_requests.specs.declared.error.AskError.TheVariants.{BadBodyHead}
 use Rattle.wire.proofs.Known.{import_says, import_asks}
 use Rattle.wire.proofs.lost.import_left.Goals as goal
 
@@ -16,5 +17,6 @@ returns-in-Some-clause-lines c = λ _ all left.
 pub returns-in_err-has_address-clause-bad : goal.returns-in_err-has_address-clause-bad
 returns-in_err-has_address-clause-bad c = λ same all left.
     let p = err_from_is_err_and c.from_residual.result c.from_residual.ensures.1 in
-    let reported = ap (λ e. Err e) (sym p.2) ∙ sym p.1 ∙ same in
-    (refl, λ q is. c.in_err-has_address.ensures.bad reported all left is.0 is.1 is.2)
+    let both = ap (λ e. Err e) (sym p.2) ∙ sym p.1 ∙ same in
+    let fault : c.in_err-has_address.field-0.0 ≡ BadBodyHead = cc in
+    (refl, λ q is. c.in_err-has_address.ensures.bad (ap (λ e. Err e) fault) all left is.0 is.1 is.2)
