@@ -2,8 +2,6 @@
 #![tactic(auto)]
 
 #[cfg(test)]
-mod faces;
-#[cfg(test)]
 mod fakes;
 #[cfg(test)]
 mod libraries;

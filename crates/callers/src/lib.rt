@@ -1,0 +1,35 @@
+//! Small callers of the public crates, written as a stranger would write them.
+#![tactic(auto)]
+
+#[cfg(test)]
+mod addresses;
+#[cfg(test)]
+mod archives;
+#[cfg(test)]
+mod bodies;
+#[cfg(test)]
+mod changes;
+#[cfg(test)]
+mod commands;
+#[cfg(test)]
+mod connections;
+#[cfg(test)]
+mod derivations;
+#[cfg(test)]
+mod fixtures;
+#[cfg(test)]
+mod liveness;
+#[cfg(test)]
+mod names;
+#[cfg(test)]
+mod opening;
+#[cfg(test)]
+mod roots;
+#[cfg(test)]
+mod requests;
+#[cfg(test)]
+mod settings;
+#[cfg(test)]
+mod spent;
+#[cfg(test)]
+mod texts;
