@@ -7,7 +7,15 @@ use std::test::Fail;
 fn read_and_written(rt: HostRuntime) -> Result<(), Fail> {
     let alloc = rt.alloc();
     let node = read(alloc, MY_FILE)?;
-    assert!(rt; matches!(&node, Node::Regular { executable: false, contents: b"mycontent\n" }));
+    assert!(rt;
+        matches!(
+            &node,
+            Node::Regular {
+                executable: false,
+                contents: b"mycontent\n"
+            }
+        )
+    );
     assert!(rt; is_writable(&node));
     let mut written = Vec::new(alloc);
     write(&node, &mut written)?;
@@ -49,8 +57,11 @@ fn made_and_listed(rt: HostRuntime) -> Result<(), Fail> {
 #[test]
 fn refused_archives(rt: HostRuntime) -> Result<(), Fail> {
     let alloc = rt.alloc();
+    let Some((_, shorter)) = MY_FILE.split_last() else {
+        return Err(Fail::new("no bytes"));
+    };
     assert!(rt; matches!(read(alloc, b""), Err(NarError::Truncated)));
-    assert!(rt; matches!(read(alloc, &MY_FILE[..127]), Err(NarError::Truncated)));
+    assert!(rt; matches!(read(alloc, shorter), Err(NarError::Truncated)));
     assert!(rt; matches!(read(alloc, &[0xff; 8]), Err(NarError::TooLarge)));
     let mut longer = Vec::from_slice(alloc, MY_FILE)?;
     longer.push(0)?;

@@ -52,7 +52,15 @@ fn answered_lines(rt: HostRuntime) -> Result<(), Fail> {
     let line = command(alloc, &words)?;
     let mut input = b"".as_slice();
     let (mut output, mut errors) = (Vec::new(alloc), Vec::new(alloc));
-    let status = answer(&rt, Unknown, b"", &line, &mut input, &mut output, &mut errors);
+    let status = answer(
+        &rt,
+        Unknown,
+        b"",
+        &line,
+        &mut input,
+        &mut output,
+        &mut errors,
+    );
     assert!(rt; status == 0 && errors.is_empty());
     assert!(rt; output.starts_with(b"class       paths            bytes\n"));
     Ok(())
@@ -64,7 +72,11 @@ fn who_is_who(rt: HostRuntime) -> Result<(), Fail> {
     let verdict = judge(alloc, b"allowed-users = []\n", Some("bob"), Some("users"))?;
     assert!(rt; verdict.class == Class::Stranger && verdict.denial == Some(Rule::Connect));
     for (user, status, printed) in [
-        (Some("root"), 0, b"class: trusted\nconnect: yes\n".as_slice()),
+        (
+            Some("root"),
+            0,
+            b"class: trusted\nconnect: yes\n".as_slice(),
+        ),
         (Some("bob"), 4, b"class: stranger\ndenied: connect\n"),
         (None, 3, b"refused: 20 bad-caller\n"),
     ] {
@@ -83,10 +95,26 @@ fn paths_of_inputs(rt: HostRuntime) -> Result<(), Fail> {
     let none = [""; 0];
     let (mut output, mut errors) = (Vec::new(alloc), Vec::new(alloc));
     let mut input = b"mycontent\n".as_slice();
-    let status = text_path(alloc, &dir, "myfile", &none, &mut input, &mut output, &mut errors);
+    let status = text_path(
+        alloc,
+        &dir,
+        "myfile",
+        &none,
+        &mut input,
+        &mut output,
+        &mut errors,
+    );
     assert_eq!(rt; status, 0);
     let mut input = MY_FILE;
-    let status = source_path(alloc, &dir, "myfile", &none, &mut input, &mut output, &mut errors);
+    let status = source_path(
+        alloc,
+        &dir,
+        "myfile",
+        &none,
+        &mut input,
+        &mut output,
+        &mut errors,
+    );
     assert_eq!(rt; status, 0);
     let mut input = MY_FILE;
     assert_eq!(rt; ls(alloc, &mut input, &mut output, &mut errors), 0);

@@ -12,8 +12,7 @@ const MESSAGES: &[u8] = b"GET /paths HTTP/1.1\r\nstore-user: bob\r\n\r\n\
 POST /text HTTP/1.1\r\nstore-user: bob\r\ncontent-length: 10\r\n\r\nname: a\n\nx";
 
 /// What is replied to both in a new store. The path was computed by another program.
-const REPLIES: &[u8] =
-    b"HTTP/1.1 200 OK\r\ncontent-type: text/plain\r\ncontent-length: 0\r\n\r\n\
+const REPLIES: &[u8] = b"HTTP/1.1 200 OK\r\ncontent-type: text/plain\r\ncontent-length: 0\r\n\r\n\
 HTTP/1.1 200 OK\r\ncontent-type: text/plain\r\ncontent-length: 46\r\n\r\n\
 /nix/store/12wigjpizrn8axaqxj288q1b751qmwya-a\n";
 

@@ -24,9 +24,9 @@ mod names;
 #[cfg(test)]
 mod opening;
 #[cfg(test)]
-mod roots;
-#[cfg(test)]
 mod requests;
+#[cfg(test)]
+mod roots;
 #[cfg(test)]
 mod settings;
 #[cfg(test)]

@@ -1,8 +1,6 @@
 //! A caller of `live`.
 use crate::fixtures::path;
-use live::{
-    Graph, Keep, Root, Roots, Row, are_valid, do_rise, limited, mark, referrers, roots_of,
-};
+use live::{Graph, Keep, Root, Roots, Row, are_valid, do_rise, limited, mark, referrers, roots_of};
 use paths::{RootKind, StorePath};
 use std::alloc::Global;
 use std::test::Fail;
@@ -46,7 +44,7 @@ struct Reached {
     steps: u64,
 }
 
-fn reached(alloc: Global, rows: &[Row], roots: &[Root]) -> Result<Option<Reached>, Fail> {
+fn reach(alloc: Global, rows: &[Row], roots: &[Root]) -> Result<Option<Reached>, Fail> {
     if !do_rise(rows) || !are_valid(rows, roots) {
         return Ok(None);
     }
@@ -80,13 +78,17 @@ fn reached_by_a_root(rt: HostRuntime) -> Result<(), Fail> {
     let third = path(alloc, "22222222222222222222222222222222-y")?;
     let mut references = Vec::new(alloc);
     references.push(first.clone()?)?;
-    let rows = [row(&first, &[]), row(&second, &references), row(&third, &[])];
+    let rows = [
+        row(&first, &[]),
+        row(&second, &references),
+        row(&third, &[]),
+    ];
     let roots = [Root {
         kind: RootKind::User,
         target: &second,
         label: "ann/r",
     }];
-    let Some(found) = reached(alloc, &rows, &roots)? else {
+    let Some(found) = reach(alloc, &rows, &roots)? else {
         return Err(Fail::new("no graph"));
     };
     assert!(rt; found.first.as_slice() == [Some(0), Some(0), None].as_slice());

@@ -90,11 +90,19 @@ fn ordered_roots(rt: HostRuntime) -> Result<(), Fail> {
         (RootKind::Runtime, "00000000000000000000000000000000-p", "a"),
         (RootKind::User, "11111111111111111111111111111111-x", "c"),
         (RootKind::User, "00000000000000000000000000000000-p", "d"),
-        (RootKind::Permanent, "11111111111111111111111111111111-x", "e"),
+        (
+            RootKind::Permanent,
+            "11111111111111111111111111111111-x",
+            "e",
+        ),
     ] {
         let target = StorePath::from_base(alloc, target)?;
         let label = String::from_str(alloc, label)?;
-        roots.push(Root { kind, target, label })?;
+        roots.push(Root {
+            kind,
+            target,
+            label,
+        })?;
     }
     roots.sort()?;
     let mut labels = String::new(alloc);

@@ -76,7 +76,10 @@ fn opened_as_a_file(rt: HostRuntime) -> Result<(), Fail> {
     let _ = remove_file(&rt, "callers.db");
     assert_eq!(rt; cause_of(&rt, "callers.db", &dir), None);
     assert_eq!(rt; cause_of(&rt, "callers.db", &dir), None);
-    assert_eq!(rt; cause_of(&rt, "callers.db", &other), Some(Cause::OtherStoreDir));
+    assert_eq!(rt;
+        cause_of(&rt, "callers.db", &other),
+        Some(Cause::OtherStoreDir)
+    );
     remove_file(&rt, "callers.db")?;
     Ok(())
 }

@@ -31,11 +31,12 @@ pub fn add_text(alloc: Global) -> Result<Request, Fail> {
     })
 }
 
-/// The source object `myfile`, added. Its archive arrives in two pieces.
+/// The source object `myfile`, added. Its archive arrives in pieces.
 fn add_source(alloc: Global) -> Result<Request, Fail> {
     let mut nar = Intake::new(alloc);
-    nar.push(&MY_FILE[..50])?;
-    nar.push(&MY_FILE[50..])?;
+    for piece in MY_FILE.chunks(50) {
+        nar.push(piece)?;
+    }
     Ok(Request::AddSource {
         name: Name::parse(alloc, "myfile")?,
         refs: Vec::new(alloc),
@@ -91,17 +92,25 @@ fn added_and_listed(rt: HostRuntime) -> Result<(), Fail> {
 }
 
 /// Adds the source, and reads it.
-fn read_source(
-    alloc: Global,
-    store: &mut Store<MemStore>,
-    text: &mut Vec<u8>,
-) -> Result<(), Fail> {
+fn read_source(alloc: Global, store: &mut Store<MemStore>, text: &mut Vec<u8>) -> Result<(), Fail> {
     ask(alloc, store, "bob", add_source(alloc)?, text)?;
     text.clear();
-    ask(alloc, store, "bob", Request::Info(path(alloc, SOURCE)?), text)?;
+    ask(
+        alloc,
+        store,
+        "bob",
+        Request::Info(path(alloc, SOURCE)?),
+        text,
+    )?;
     ask(alloc, store, "bob", Request::Ls(path(alloc, SOURCE)?), text)?;
     ask(alloc, store, "bob", Request::Ls(path(alloc, TEXT)?), text)?;
-    ask(alloc, store, "bob", Request::Nar(path(alloc, SOURCE)?), text)
+    ask(
+        alloc,
+        store,
+        "bob",
+        Request::Nar(path(alloc, SOURCE)?),
+        text,
+    )
 }
 
 const READ: &[u8] = b"StorePath: /nix/store/xv2iccirbrvklck36f1g7vldn5v58vck-myfile
@@ -145,8 +154,16 @@ fn push(
 fn run_all(alloc: Global, store: &mut Store<MemStore>) -> Result<Vec<Reply>, Fail> {
     let mut calls = Vec::new(alloc);
     push(&mut calls, caller(alloc, "bob")?, add_text(alloc)?)?;
-    push(&mut calls, caller(alloc, "bob")?, Request::Nar(path(alloc, TEXT)?))?;
-    push(&mut calls, caller(alloc, "bob")?, Request::Nar(path(alloc, SOURCE)?))?;
+    push(
+        &mut calls,
+        caller(alloc, "bob")?,
+        Request::Nar(path(alloc, TEXT)?),
+    )?;
+    push(
+        &mut calls,
+        caller(alloc, "bob")?,
+        Request::Nar(path(alloc, SOURCE)?),
+    )?;
     Ok(store.run(calls)?)
 }
 

@@ -41,7 +41,13 @@ fn set_roots(alloc: Global, store: &mut Store<MemStore>, text: &mut Vec<u8>) -> 
         name: owned(alloc, "editor")?,
     };
     ask(alloc, store, "ann", dropped, text)?;
-    ask(alloc, store, "bob", Request::RootsOf(path(alloc, TEXT)?), text)
+    ask(
+        alloc,
+        store,
+        "bob",
+        Request::RootsOf(path(alloc, TEXT)?),
+        text,
+    )
 }
 
 const ROOTS: &[u8] = b"done
@@ -212,4 +218,3 @@ fn deleted_and_collected(rt: HostRuntime) -> Result<(), Fail> {
     assert!(rt; text.as_slice() == DELETED);
     Ok(())
 }
-

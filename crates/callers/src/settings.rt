@@ -27,7 +27,10 @@ fn read_settings(rt: HostRuntime) -> Result<(), Fail> {
 #[test]
 fn refused_settings(rt: HostRuntime) {
     for (text, word) in [
-        (b"x = 1\nstore-dir = \"/\"\n".as_slice(), KeyWord::UnknownKey),
+        (
+            b"x = 1\nstore-dir = \"/\"\n".as_slice(),
+            KeyWord::UnknownKey,
+        ),
         (b"store-dir = \"/\"\n", KeyWord::StoreDir),
         (b"allowed-users = [\"@\"]\n", KeyWord::AllowedUsers),
         (b"\xff", KeyWord::Syntax),
@@ -67,8 +70,18 @@ fn verdicts_of_the_rules(rt: HostRuntime) -> Result<(), Fail> {
         (Op::ReplaceRuntime, Some(Rule::TrustedRuntimeRoots)),
         (Op::SetUserRoot("bob"), Some(Rule::OwnRoot)),
         (Op::SetUserRoot("ann"), None),
-        (Op::Collect { ignores_liveness: true }, Some(Rule::NoIgnoreLiveness)),
-        (Op::Delete { ignores_liveness: false }, None),
+        (
+            Op::Collect {
+                ignores_liveness: true,
+            },
+            Some(Rule::NoIgnoreLiveness),
+        ),
+        (
+            Op::Delete {
+                ignores_liveness: false,
+            },
+            None,
+        ),
     ] {
         assert!(rt; decide(Class::Allowed, &caller, &op) == rule, "{op:?}");
     }

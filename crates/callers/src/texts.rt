@@ -49,9 +49,7 @@ fn texts_of_lists(rt: HostRuntime) -> Result<(), Fail> {
     let label = String::from_str(alloc, "{censored}")?;
     let roots = [(label, path.clone()?)];
     let text = roots_text(alloc, &dir, &roots)?;
-    assert!(rt;
-        text.as_str() == "{censored} /nix/store/a0d1zlpv81nsfbam8ay3i7snrc0sgsvr-myfile\n"
-    );
+    assert!(rt; text.as_str() == "{censored} /nix/store/a0d1zlpv81nsfbam8ay3i7snrc0sgsvr-myfile\n");
     assert!(rt; paths_text(alloc, &dir, &[path])? == line);
     Ok(())
 }
