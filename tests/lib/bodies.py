@@ -8,9 +8,9 @@ from tests.lib import program, report
 
 SELECTION = "tests/gate/bodies.txt"
 # An error for a name that an edit took away, or for what fell with it: it says nothing of what the body does.
-OF_NAMES = "has no field", "has no goal", "that depend"
+OF_NAMES = "has no field", "has no goal", "that depend", "that can be named from here"
 # A goal in which nothing is left to prove, which a proof of another shape doesn't fit.
-OF_NOTHING = re.compile(r"expected type `(?:\w+\.)*Unit(?: \{\d+\})?`")
+OF_NOTHING = re.compile(r"(?:expected type|checked against) `(?:\w+\.)*Unit(?: \{\d+\})?`")
 ERROR = re.compile(r"^\./proofs/(\S+)/\w+\.antt:\d+:\d+: error: (.*(?:\n(?:  |\t).*)*)", re.M)
 
 
