@@ -70,7 +70,7 @@ fn texts_of_lines(rt: HostRuntime) -> Result<(), Fail> {
     let mut text = Vec::new(alloc);
     refusal_text(39, &mut text)?;
     refusal_text(19, &mut text)?;
-    assert!(rt; text.as_slice() == b"refused: 39 no-routerefused: 19 bad-config".as_slice());
+    assert!(rt; text.as_slice() == b"refused: 39 no-route\nrefused: 19 bad-config".as_slice());
     Ok(())
 }
 
