@@ -1,4 +1,4 @@
--- What was found of our tables, by the schema that was recognised.
+-- What was found of the store's tables, by the schema that was recognised.
 use Rattle.std.proofs.Common.{◌≡◌, ◌∙◌, ℕ, List, refl, sym, ap, subst}
 use Rattle.std.specs.FinMap as finite
 use Rattle.std.proofs.lemmas.Bool.{false≢true}
@@ -52,7 +52,7 @@ third_further db whole = record {
 
 -- all eleven stand, as the third schema has them
 pub whole_by : (db : Database) → IsStoreDatabase db → HasFurtherOf V3 db → IsWhole db
-whole_by db ours further = record { ours = ours; pieces = further.pieces refl; temp_roots = further.temporary refl }
+whole_by db of_store further = record { of_store = of_store; pieces = further.pieces refl; temp_roots = further.temporary refl }
 
 -- ---- each schema
 

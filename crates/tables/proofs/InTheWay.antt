@@ -1,4 +1,4 @@
--- A store is one exactly where our tables are there soundly and nobody's stand in the way; there is none exactly where nothing of ours is there and nobody's stand in the way.
+-- A store is one exactly where the store's tables are there soundly and nobody's stand in the way; there is none exactly where nothing of the store is there and nobody's stand in the way.
 use Rattle.std.proofs.Common.{◌≡◌, Bool, true, false, ◌||◌, ◌&&◌, not, ℕ, List, [], ◌∷◌, Option, Some, None, is_some, refl, sym, ap, ◌∙◌, inl, inr, IsTrue}
 use Rattle.std.specs.List.{AllByRecursion, list_any}
 use Rattle.std.proofs.lemmas.Bool.{false≢true, and_from, and_left, and_right, or_parts, or_from, not_from_true, not_from_false}
@@ -168,7 +168,7 @@ module _ (s : Shown) where
       let it = each_clear clear in
       (standing h.0 it.0, clear_stands piece h.1 it.1.0, clear_stands temp_root h.2 it.1.1)
 
-  -- none of our tables: nothing of ours is there, and nothing stands in the way
+  -- none of the store's tables: nothing of the store is there, and nothing stands in the way
   none_apart : HasNone s → (has_store_tables s ≡ false) × (are_others_in_the_way s ≡ false)
   none_apart h = (
     none_any (is_name_used s) all_tables
@@ -177,9 +177,9 @@ module _ (s : Shown) where
   )
 
   none_of_ours : has_store_tables s ≡ false → are_others_in_the_way s ≡ false → HasNone s
-  none_of_ours ours clear =
+  none_of_ours of_store clear =
       let it = each_clear clear in
-      let untaken = apart Untaken (any_none (is_name_used s) all_tables ours) in
+      let untaken = apart Untaken (any_none (is_name_used s) all_tables of_store) in
       record {
         free = zipped Untaken IsClear (λ (t : Table). IsFree s t.name) clear_free our_tables untaken.0 it.0;
         further = (clear_free piece untaken.1.0 it.1.0, (clear_free temp_root untaken.1.1 it.1.1, tt));
@@ -198,13 +198,13 @@ holds_by schema dir db h clear = record { tables = tables_of db.schema schema h.
 pub no_store_cause : (dir : List ℕ) (db : Database) → IsNoStore db → IsRefusal dir db BadSchema
 no_store_cause dir db h = by (are_others_in_the_way db.schema) refl
   where
-    ours : (b : Bool) → has_store_tables db.schema ≡ b → are_others_in_the_way db.schema ≡ false → IsTrue (has_store_tables db.schema)
-    ours true is clear = is
-    ours false is clear = absurd (h.0 (none_of_ours db.schema is clear))
+    of_store : (b : Bool) → has_store_tables db.schema ≡ b → are_others_in_the_way db.schema ≡ false → IsTrue (has_store_tables db.schema)
+    of_store true is clear = is
+    of_store false is clear = absurd (h.0 (none_of_ours db.schema is clear))
 
     by : (b : Bool) → are_others_in_the_way db.schema ≡ b → IsRefusal dir db BadSchema
     by true is = inr is
-    by false is = inl (ours (has_store_tables db.schema) refl is, λ d present. h.1 d (present.0, holds_by present.0 d db present.1 is))
+    by false is = inl (of_store (has_store_tables db.schema) refl is, λ d present. h.1 d (present.0, holds_by present.0 d db present.1 is))
 
 -- and where this is why there is none
 pub cause_no_store : (dir : List ℕ) (db : Database) → IsRefusal dir db BadSchema → IsNoStore db

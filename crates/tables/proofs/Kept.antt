@@ -86,8 +86,8 @@ module _ {S : Type 0} (g : Ghosts S) where
             let by = follows was is_open in
             let c = contents_of (state g k.connection).now in
             record {
-              sound = subst (IsSoundContents k.dir) (sym l.rows.ours) (by.sound (sound_then (world_in c) (rows_told k agrees was is_open)));
-              world = ap world_in l.rows.ours ∙ by.world ∙ ap F (t.rows was is_open);
+              sound = subst (IsSoundContents k.dir) (sym l.rows.of_store) (by.sound (sound_then (world_in c) (rows_told k agrees was is_open)));
+              world = ap world_in l.rows.of_store ∙ by.world ∙ ap F (t.rows was is_open);
               others = record { schema = refl; listed = l.listed; theirs = l.rows.theirs; frozen = l.rows.frozen };
             }
 

@@ -29,7 +29,7 @@ no_schema = record { tables = []; indexes = []; views = [] }
 free : (name : List ℕ) → IsFree no_schema name
 free name = record { table = refl; index = refl; view = refl; unawaited = refl }
 
--- where there is nothing, there is nothing of ours
+-- where there is nothing, there is nothing of the store
 pub empty_has_none : (s : Schema) → s ≡ record { tables = []; indexes = []; views = [] } → HasNone s
 empty_has_none s is = subst HasNone (sym is) (record {
   free = (free (codes "meta"), (free (codes "object"), (free (codes "refs"), (free (codes "outs"), (free (codes "permanent"), (free (codes "user_root"), (free (codes "profile"), (free (codes "generation"), (free (codes "runtime"), tt)))))))));

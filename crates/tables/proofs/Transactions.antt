@@ -33,7 +33,7 @@ changes_at a b f h same is = record {
   contents = is.contents ∙ same;
   theirs = is.theirs;
   unshown = is.unshown;
-  ours = is.ours;
+  of_store = is.of_store;
   further = is.further;
   committed = is.committed;
   mode = is.mode;
@@ -57,7 +57,7 @@ temp_roots_stand a b f done survives present clean =
 
 -- and so do all that the writing of a change began with, once it is committed
 pub whole_after : (a b c : State) (f : Contents → Contents) → Changes a b f → IsCommitted b c → IsWhole a.now → IsWhole c.now
-whole_after a b c f h k present = subst IsWhole (sym k.now) (record { ours = h.ours; pieces = piece_after a b f h present.pieces; temp_roots = temp_root_after a b f h present.temp_roots })
+whole_after a b c f h k present = subst IsWhole (sym k.now) (record { of_store = h.of_store; pieces = piece_after a b f h present.pieces; temp_roots = temp_root_after a b f h present.temp_roots })
 
 -- a change that was written and committed, seen from before the transaction was begun
 pub written : {S : Type 0} (g : Ghosts S) (conn start : Held S) (b c : State) (f : Contents → Contents) (P : Trees → Type 0) → start ≡ record conn { in_transaction = true }
@@ -83,7 +83,7 @@ written {S} g conn start b c f P is done before after present clean k =
 pub others_kept : (a b : State) (f : Contents → Contents) (P : Trees → Type 0) → Survives a b P → (HasCleanDisk a → IsTrue a.is_open → IsReady a) → HasCleanDisk b → IsWritten a b f → KeepsOthers a.now b.now
 others_kept a b f P survives ready clean it =
     let early : HasCleanDisk a = omega (arith, survives.clean, clean) in
-    let sound = (ready early it.was_open).ours.sound in
+    let sound = (ready early it.was_open).of_store.sound in
     record { schema = it.schema; listed = listed_of a.now b.now.trees sound it.unshown; theirs = it.theirs; frozen = frozen_of a.now b.now.trees sound it.unshown }
 
 -- where nothing changed, it is too

@@ -1,4 +1,4 @@
--- That our tables hold what they held once further tables are made beside them, and that those stand.
+-- That the store's tables hold what they held once further tables are made beside them, and that those stand.
 use Rattle.std.proofs.Common.{◌≡◌, List, [], ◌∷◌, map, true, false, refl, sym, ap, subst, ◌∙◌, IsTrue}
 use Rattle.std.specs.Fmt.{digits}
 use Rattle.std.specs.List.{AllByRecursion}
@@ -51,14 +51,14 @@ module _ (a b : Database) (sound : IsDatabase b) (fs : List Parts) (made : b.sch
 
   ours_still : IsStoreDatabase a → IsStoreDatabase b
   unfolding HasReadableRows
-  ours_still ours =
+  ours_still of_store =
       let Same = λ (t : Table). rows_named b t.name ≡ rows_named a t.name in
-      let same = same_rows ours.has in
+      let same = same_rows of_store.has in
       record {
         sound = sound;
-        has = all-map (IsIntact b.schema) table_of nine (all_weaker (λ f. IsIntact a.schema (table_of f)) (λ f. IsIntact b.schema (table_of f)) still_stands nine (all_from_map (IsIntact a.schema) table_of nine ours.has));
-        keyed = all_both Same (λ t. IsKeyed (rows_named a t.name)) (λ t. IsKeyed (rows_named b t.name)) (λ t is. subst IsKeyed (sym is)) our_tables same ours.keyed;
-        readable = all_both Same (λ t. AreReadableRows t (rows_named a t.name)) (λ t. AreReadableRows t (rows_named b t.name)) (λ t is. subst (AreReadableRows t) (sym is)) our_tables same ours.readable;
+        has = all-map (IsIntact b.schema) table_of nine (all_weaker (λ f. IsIntact a.schema (table_of f)) (λ f. IsIntact b.schema (table_of f)) still_stands nine (all_from_map (IsIntact a.schema) table_of nine of_store.has));
+        keyed = all_both Same (λ t. IsKeyed (rows_named a t.name)) (λ t. IsKeyed (rows_named b t.name)) (λ t is. subst IsKeyed (sym is)) our_tables same of_store.keyed;
+        readable = all_both Same (λ t. AreReadableRows t (rows_named a t.name)) (λ t. AreReadableRows t (rows_named b t.name)) (λ t is. subst (AreReadableRows t) (sym is)) our_tables same of_store.readable;
       }
 
   further_still : (f : Parts) → HasFurther a (table_of f) → HasFurther b (table_of f)
@@ -76,11 +76,11 @@ pub record IsKept (a b : Database) (t : Table) : Type 0 where
   pub exists : HasFurther a t → HasFurther b t
 
 module _ (fs : List Parts) (apart : are_apart (map table_of fs) ≡ true) (a b : State) (under : IsUnderWay a) (free : AllByRecursion (λ t. IsFree a.now.schema t.name) (map table_of fs)) (h : Makes (map table_of fs) a b) where
-  abbrev ours : IsStoreDatabase a.now
-  ours = under.ours h.was_open
+  abbrev of_store : IsStoreDatabase a.now
+  of_store = under.of_store h.was_open
 
   made : AllByRecursion (StandsAs b.now.schema) (placed a.now.schema (map table_of fs))
-  made = subst (λ (s : Schema). AllByRecursion (StandsAs s) (placed a.now.schema (map table_of fs))) (sym h.schema) (all_stand a.now.schema fs apart free (are_low a.now ours.sound))
+  made = subst (λ (s : Schema). AllByRecursion (StandsAs s) (placed a.now.schema (map table_of fs))) (sym h.schema) (all_stand a.now.schema fs apart free (are_low a.now of_store.sound))
 
   -- each stands, with no row
   pub these : AllByRecursion (λ t. HasFurther b.now t × (rows_named b.now t.name ≡ [])) (map table_of fs)
@@ -103,10 +103,10 @@ module _ (fs : List Parts) (apart : are_apart (map table_of fs) ≡ true) (a b :
     was_open = h.was_open;
     is_open = h.is_open;
     schema = h.schema;
-    contents = contents_alike (rows_named b.now) (rows_named a.now) _ _ _ _ (same_rows a.now b.now h.sound fs h.schema h.kept ours.has) pieces.rows temp_roots.rows;
+    contents = contents_alike (rows_named b.now) (rows_named a.now) _ _ _ _ (same_rows a.now b.now h.sound fs h.schema h.kept of_store.has) pieces.rows temp_roots.rows;
     theirs = theirs_of a.now b.now.trees a.now.schema.tables h.kept;
-    frozen = h.frozen ours.sound;
-    ours = ours_still a.now b.now h.sound fs h.schema h.kept ours;
+    frozen = h.frozen of_store.sound;
+    of_store = ours_still a.now b.now h.sound fs h.schema h.kept of_store;
     stand = all_weaker (λ (t : Table). HasFurther b.now t × (rows_named b.now t.name ≡ [])) (HasFurther b.now) (λ t it. it.0) (map table_of fs) these;
     further = (pieces.exists, (temp_roots.exists, tt));
     committed = h.committed;
@@ -131,4 +131,4 @@ makes_last a b under second h =
     makes_further fs refl a b under free h (old_kept fs refl a b under free h (part piece) second.1) (new_kept fs refl a b under free h temp_root second.2 (these fs refl a b under free h).0)
 
 pub making_further : (ts : List Table) (s : State) → IsUnderWay s → (IsTrue s.is_open → AllByRecursion (λ t. IsFree s.now.schema t.name) ts × (lacks_sequence s.now.schema ≡ false)) → IsMaking ts s
-making_further ts s under free = making_free ts s (λ up. (under.ours up).sound) free under.mode
+making_further ts s under free = making_free ts s (λ up. (under.of_store up).sound) free under.mode

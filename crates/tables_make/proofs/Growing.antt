@@ -1,4 +1,4 @@
--- A transaction that makes further tables and then changes what our tables hold, seen from before it: what a crash leaves of it.
+-- A transaction that makes further tables and then changes what the store's tables hold, seen from before it: what a crash leaves of it.
 use Rattle.std.proofs.Common.{◌≡◌, List, true, false, sym, ap, subst, ◌∙◌, IsTrue}
 use Rattle.std.specs.List.{AllByRecursion}
 use Rattle.sqlite_trees.specs.Tree.{Trees}
@@ -18,19 +18,19 @@ use Rattle.tables_make.proofs.Creates.{tables_after}
 use Rattle.tables_make.proofs.FrozenThen.{frozen_before}
 
 module _ (tables : List Table) (named : (s : Schema) → AllByRecursion (λ t. is_our_name t.name ≡ true) (placed s tables)) where
-  -- the tables that were made are ours, and theirs keep their rows
+  -- the tables that were made are the store's, and theirs keep their rows
   pub theirs_grown : (a b : State) → MakesFurther tables a b → KeepsTheirs (grown tables a.now) b.now
   theirs_grown a b h =
       subst (AllByRecursion (λ (t : Table). is_our_name t.name ≡ false → b.now.trees t.tree ≡ a.now.trees t.tree)) (sym (tables_after a.now.schema tables))
       (all-append (λ (t : Table). is_our_name t.name ≡ false → b.now.trees t.tree ≡ a.now.trees t.tree) a.now.schema.tables _ h.theirs
-      (all_weaker (λ (t : Table). is_our_name t.name ≡ true) (λ t. is_our_name t.name ≡ false → b.now.trees t.tree ≡ a.now.trees t.tree) (λ t ours other. absurd (let e = sym ours ∙ other in cc)) (placed a.now.schema tables) (named a.now.schema)))
+      (all_weaker (λ (t : Table). is_our_name t.name ≡ true) (λ t. is_our_name t.name ≡ false → b.now.trees t.tree ≡ a.now.trees t.tree) (λ t of_store other. absurd (let e = sym of_store ∙ other in cc)) (placed a.now.schema tables) (named a.now.schema)))
 
   -- what a crash leaves of the changed tables, seen from before the further ones were made
   pub leaves_grown : (a b c : State) (f : Contents → Contents) (db : Trees) → MakesFurther tables a b → Changes b c f → Leaves c.now db (contents_of c.now) → Leaves (grown tables a.now) db (f (contents_of a.now))
   leaves_grown a b c f db h k l =
-      let left = leaves_from b c f db h.ours.sound k l in
+      let left = leaves_from b c f db h.of_store.sound k l in
       record {
-        ours = subst (λ (s : Schema). contents_of (record b.now { schema = s; trees = db }) ≡ f (contents_of b.now)) h.schema left.ours ∙ ap f h.contents;
+        of_store = subst (λ (s : Schema). contents_of (record b.now { schema = s; trees = db }) ≡ f (contents_of b.now)) h.schema left.of_store ∙ ap f h.contents;
         theirs = theirs_then (grown tables a.now) b.now (record b.now { trees = db }) h.schema (theirs_grown a b h) left.theirs;
         frozen = record {
           rows = λ tree is. left.frozen.rows tree (subst (λ (s : Schema). IsFrozen s tree) (sym h.schema) is) ∙ h.frozen.rows tree (frozen_before a.now.schema tables tree is);

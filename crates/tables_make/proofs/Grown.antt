@@ -1,4 +1,4 @@
--- A transaction that makes further tables and then changes what ours hold, and what its commit or a crash leaves of that.
+-- A transaction that makes further tables and then changes what the store's hold, and what its commit or a crash leaves of that.
 use Rattle.std.proofs.Common.{◌≡◌, List, [], ◌∷◌, false, true, Result, Ok, Err, refl, sym, ap, subst, ◌∙◌, IsTrue}
 use Rattle.std.specs.Prelude.{OnOk, OnErr}
 use Rattle.std.specs.List.{AllByRecursion}
@@ -42,8 +42,8 @@ module _ (tables : List Table) (a b c : State) (f : Contents → Contents) (made
     schema = changed.schema ∙ made.schema;
     contents_are = changed.contents ∙ ap f made.contents;
     theirs = theirs_still;
-    frozen = frozen_then a.now b.now c.now.trees tables made.schema made.frozen (frozen_of b.now c.now.trees made.ours.sound changed.unshown);
-    whole = record { ours = changed.ours; pieces = piece_after b c f changed pieces; temp_roots = temp_root_after b c f changed temp_roots };
+    frozen = frozen_then a.now b.now c.now.trees tables made.schema made.frozen (frozen_of b.now c.now.trees made.of_store.sound changed.unshown);
+    whole = record { of_store = changed.of_store; pieces = piece_after b c f changed pieces; temp_roots = temp_root_after b c f changed temp_roots };
     committed = changed.committed ∙ made.committed;
     mode = changed.mode;
   }
@@ -53,10 +53,10 @@ unfolding KeepsFurther
 pieces_still tables a b made present = made.further.0 present
 
 pub makes_under : (tables : List Table) (a b : State) → MakesFurther tables a b → IsUnderWay b
-makes_under tables a b made = record { ours = λ _. made.ours; mode = made.mode }
+makes_under tables a b made = record { of_store = λ _. made.of_store; mode = made.mode }
 
 pub grows_under : (tables : List Table) (contents : Contents) (a b : State) → Grows tables contents a b → IsUnderWay b
-grows_under tables contents a b h = record { ours = λ _. h.whole.ours; mode = h.mode }
+grows_under tables contents a b h = record { of_store = λ _. h.whole.of_store; mode = h.mode }
 
 -- ---- what its commit leaves
 
@@ -90,7 +90,7 @@ grown_as tables x y a b is h = subst (λ (z : Contents). IsGrown tables z a b) i
 
 -- ---- what a crash leaves
 
--- the tables that are made are ours
+-- the tables that are made are the store's
 pub both_named : (s : Schema) → AllByRecursion (λ t. is_our_name t.name ≡ true) (placed s (piece ∷ temp_root ∷ []))
 both_named s = (refl, (refl, tt))
 
@@ -103,11 +103,11 @@ module _ (tables : List Table) (named : (s : Schema) → AllByRecursion (λ t. i
       let P : Table → Type 0 = λ t. is_our_name t.name ≡ false → b.now.trees t.tree ≡ a.now.trees t.tree in
       subst (λ (ts : List Table). AllByRecursion P ts) (sym (tables_after a.now.schema tables))
       (two_lists P a.now.schema.tables (placed a.now.schema tables) h.theirs
-      (all_weaker (λ (t : Table). is_our_name t.name ≡ true) P (λ t ours other. absurd (let e = sym ours ∙ other in cc)) (placed a.now.schema tables) (named a.now.schema)))
+      (all_weaker (λ (t : Table). is_our_name t.name ≡ true) P (λ t of_store other. absurd (let e = sym of_store ∙ other in cc)) (placed a.now.schema tables) (named a.now.schema)))
 
   leaves_grown : (a b : State) (db : Trees) → Grows tables contents a b → Leaves b.now db (contents_of b.now) → Leaves (grown tables a.now) db contents
   leaves_grown a b db h l = record {
-    ours = subst (λ (s : Schema). contents_of (record b.now { schema = s; trees = db }) ≡ contents_of b.now) h.schema l.ours ∙ h.contents_are;
+    of_store = subst (λ (s : Schema). contents_of (record b.now { schema = s; trees = db }) ≡ contents_of b.now) h.schema l.of_store ∙ h.contents_are;
     theirs = theirs_then (grown tables a.now) b.now (record b.now { trees = db }) h.schema (theirs_grown a b h) l.theirs;
     frozen = record {
       rows = λ tree is. l.frozen.rows tree (subst (λ (s : Schema). IsFrozen s tree) (sym h.schema) is) ∙ h.frozen.rows tree (frozen_before a.now.schema tables tree is);

@@ -1,4 +1,4 @@
--- Our tables are made one after another: what one text makes, what stands after so many, and why the next fails.
+-- the store's tables are made one after another: what one text makes, what stands after so many, and why the next fails.
 use Rattle.std.proofs.Common.{◌≡◌, inl, inr, ◌<◌, ◌≤◌, ◌+◌, ℕ, zero, suc, List, [], ◌∷◌, ◌++◌, map, take, drop, length, Ok, true, false, refl, sym, ap, subst, ◌∙◌, arith, IsTrue}
 use Rattle.std.proofs.lemmas.List.{take_more, take_all, take-append-drop, map-append}
 use Rattle.std.specs.Prelude.{get_or}
@@ -23,7 +23,7 @@ use Rattle.tables_make.proofs.MakingTexts.{IsCreating, texts_are}
 use Rattle.tables_make.proofs.MakingTogether.{part, fails_among}
 use Rattle.tables_make.proofs.Stood.{table_of}
 
--- what is so of every table with columns and a key alone is so of ours
+-- what is so of every table with columns and a key alone is so of the store
 of_form : (P : Table → Type 0) → ((title : List ℕ) (cs : List Column) (key : List ℕ) → P (strict title cs key)) → (t : OurTable) → P (form t)
 of_form P all Meta = all meta.name meta.columns meta.primary
 of_form P all t = all (form t).name (form t).columns (form t).primary

@@ -1,4 +1,4 @@
--- What our tables hold once they are made, and that they stand.
+-- What the store's tables hold once they are made, and that they stand.
 use Rattle.std.proofs.Common.{◌≡◌, List, [], ◌∷◌, codes, true, false, if◌then◌else◌, bytes_eq, refl, sym, ap, subst, ◌∙◌}
 use Rattle.std.specs.Prelude.{IsUtf8}
 use Rattle.std.specs.Fmt.{digits}
@@ -92,7 +92,7 @@ module _ (dir : Bytes) (s : Schema) (d : Database) (sound : IsDatabase d) (stand
 
   pub whole_made : IsUtf8 dir → IsWhole d
   whole_made utf8 = record {
-    ours = record { sound = sound; has = exists.0; keyed = keyed_made; readable = readable_made utf8 };
+    of_store = record { sound = sound; has = exists.0; keyed = keyed_made; readable = readable_made utf8 };
     pieces = made_further d piece exists.1.0 pieces;
     temp_roots = made_further d temp_root exists.1.1 temp_roots;
   }
@@ -118,7 +118,7 @@ made_is dir old new sound none utf8 h =
       frozen = h.made.frozen sound;
       whole = whole;
       readable = whole_readable new.now whole;
-      ready = record { ours = whole.ours; settled = h.settled };
+      ready = record { of_store = whole.of_store; settled = h.settled };
     }
 
 pub leaves_made : (dir : Bytes) (old : Database) (trees : Trees) → IsDatabase old → HasNone old.schema → IsUtf8 dir → IsMadeOf dir old trees → LeavesMade dir old trees
@@ -131,10 +131,10 @@ leaves_made dir old trees sound none utf8 h =
       whole = whole;
       readable = whole_readable d whole;
       left = record {
-        ours = contents_made dir old.schema d h.sound stand h.settings h.empty;
+        of_store = contents_made dir old.schema d h.sound stand h.settings h.empty;
         theirs = subst (AllByRecursion (λ (t : Table). is_our_name t.name ≡ false → trees t.tree ≡ old.trees t.tree)) (sym (tables_after old.schema all_tables))
             (all-append (λ (t : Table). is_our_name t.name ≡ false → trees t.tree ≡ old.trees t.tree) old.schema.tables _ (theirs_of old trees old.schema.tables h.kept)
-            (all_weaker (λ (t : Table). is_our_name t.name ≡ true) (λ t. is_our_name t.name ≡ false → trees t.tree ≡ old.trees t.tree) (λ t ours other. absurd (let e = sym ours ∙ other in cc)) (placed old.schema all_tables) (ours_placed old.schema)));
+            (all_weaker (λ (t : Table). is_our_name t.name ≡ true) (λ t. is_our_name t.name ≡ false → trees t.tree ≡ old.trees t.tree) (λ t of_store other. absurd (let e = sym of_store ∙ other in cc)) (placed old.schema all_tables) (ours_placed old.schema)));
         frozen = record { rows = λ tree is. (h.frozen sound).rows tree (frozen_before old.schema all_tables tree is); texts = (h.frozen sound).texts; version = (h.frozen sound).version };
       };
     }

@@ -1,4 +1,4 @@
--- Why a table of ours isn't made: `sqlite` understands each of our texts, and refuses it for a name or a number alone.
+-- Why a table of the store isn't made: `sqlite` understands each of the store's texts, and refuses it for a name or a number alone.
 use Rattle.std.proofs.Common.{◌≡◌, ◌⊎◌, inl, inr, ◌+◌, ◌*◌, ◌^◌, ◌≤◌, ℕ, List, [], ◌∷◌, codes, true, false, Some, None, Option, Ok, Err, refl, sym, ap, subst, ◌∙◌, arith, IsTrue, length}
 use Rattle.std.specs.Prelude.{nat_le, ◌||◌, IsUtf8}
 use Rattle.std.proofs.lemmas.Bool.{leb-false}
@@ -119,7 +119,7 @@ module _ (text : List ℕ) (title : Bytes) (cs : List Column) (key : List ℕ) (
   table_may_stop free (Some e) (inl odd) = absurd (odd.0 accepted.utf8)
   table_may_stop free (Some e) (inr (why, refuses, is)) = (ap failure_of is ∙ refusal_is why, inr (refused_table old.now.schema text title cs key accepted free why refuses))
 
-  -- a CREATE TABLE of ours
+  -- a CREATE TABLE of the store
   pub create_fails : (IsTrue old.is_open → IsMakingIn old.now.schema text (strict title cs key)) → (IsTrue old.is_open → IsFree old.now.schema title) → (IsTrue old.is_open → lacks_sequence old.now.schema ≡ false)
       → (f : Failure) → (g : Failure) × (f ≡ without_size g) × IsWriteFailure text [] old new g → FailsToMakeThese these ⊥ ⊥ old new f
   create_fails making free lacks f h =

@@ -1,4 +1,4 @@
--- What the texts mean that make our tables, in any schema that has nothing of their names.
+-- What the texts mean that make the store's tables, in any schema that has nothing of their names.
 use Rattle.std.proofs.Common.{ℕ, List, refl}
 use Rattle.sqlite_value.specs.Order.{value_cmp}
 use Rattle.sqlite_trees.specs.Sound.{fits_kind, is_free_name, same_name, begins}

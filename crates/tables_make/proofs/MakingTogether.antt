@@ -1,4 +1,4 @@
--- A failure after some of our tables were made is a failure to make them all.
+-- A failure after some of the store's tables were made is a failure to make them all.
 use Rattle.std.proofs.Common.{◌≡◌, ◌⊎◌, inl, inr, ◌≤◌, ◌+◌, ℕ, List, [], ◌∷◌, ◌++◌, map, Bool, true, false, refl, sym, ap, subst, ◌∙◌, arith, IsTrue, length-append, ◌&&◌, Result, Ok, Err}
 use Rattle.std.specs.Prelude.{fold, max, IfErr}
 use Rattle.std.specs.Result.{IsErrAnd}

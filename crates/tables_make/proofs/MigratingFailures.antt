@@ -23,15 +23,15 @@ use Rattle.tables_make.specs.Reasons.{IsReason, IsWithin, LacksRowid, Rows}
 use Rattle.tables_make.proofs.Growing.{theirs_grown}
 use Rattle.tables_make.proofs.Reasons.{within_then}
 
--- the tables that a schema lacks are ours
+-- the tables that a schema lacks are the store's
 abbrev AreOurs : Schema → Type 0
 AreOurs from = (s : Shown) → AllByRecursion (λ t. is_our_name t.name ≡ true) (placed s (lacking from))
 
 -- ---- rows that weren't put next to the tables that were made
 
-module _ (from : Schema) (ours : AreOurs from) (a b c : State) (made : MakesFurther (lacking from) a b) (before : Survives a b (λ _. ⊥)) where
+module _ (from : Schema) (of_store : AreOurs from) (a b c : State) (made : MakesFurther (lacking from) a b) (before : Survives a b (λ _. ⊥)) where
   grown_within : IsWithin (grown (lacking from) a.now) b.now
-  grown_within = record { schema = made.schema; theirs = theirs_grown (lacking from) ours a b made }
+  grown_within = record { schema = made.schema; theirs = theirs_grown (lacking from) of_store a b made }
 
   reason_before : (rows : Rows) (f : Failure) → IsReason rows b c f → IsReason rows (with_lacking from a) c f
   reason_before rows Memory h = tt

@@ -1,4 +1,4 @@
--- That our tables stand where they were made, one after another, beside whatever tables there were.
+-- That the store's tables stand where they were made, one after another, beside whatever tables there were.
 use Rattle.std.proofs.Common.{◌≡◌, ◌<◌, ℕ, List, [], ◌∷◌, ◌++◌, map, Bool, true, false, not, ◌&&◌, ◌||◌, ◌==◌, Some, None, Option, length, refl, sym, ap, subst, ◌∙◌, arith, bytes_eq, inl}
 use Rattle.std.specs.Prelude.{slice_get, option_map, unwrap_or, find, nat_le, ◌^◌}
 use Rattle.std.specs.List.{AllByRecursion, list_all}

@@ -77,7 +77,7 @@ module _ (r : Recognised) (a n : State) (by : IsRecognised r a.now.schema) (same
     λ no. found_other some (λ readable. let yes : b ≡ true = reported.1 (maps.1 readable) in absurd cc),
   )
 
--- there are no tables of ours, or they are no schema's
+-- there are no tables of the store, or they are no schema's
 pub found_none : (r : Recognised) (a n : State) → IsRecognised r a.now.schema → IsUnchanged a n → a.now ≡ a.committed → ((v : Schema) → r ≢ Tables v) → IsFound r n
 found_none (Tables v) a n by same settled not = absurd (not v refl)
 found_none r a n by same settled not = record {
@@ -105,7 +105,7 @@ module _ (a n : State) (b : Bool) (sound : IsDatabase a.now) (settled : a.now �
   Readable t = AreReadableRows t (rows_named a.now t.name)
 
   ready_by : IsUnchanged a n → IsStoreDatabase a.now → IsReady n
-  ready_by same ours = record { ours = subst IsStoreDatabase (sym same.0.now_is) ours; settled = same.0.now_is ∙ settled ∙ sym same.0.committed_is }
+  ready_by same of_store = record { of_store = subst IsStoreDatabase (sym same.0.now_is) of_store; settled = same.0.now_is ∙ settled ∙ sym same.0.committed_is }
 
   pub found_by : (v : Schema) → IsRecognised (Tables v) a.now.schema → Tested (schema_tables v) a n b → (b ≡ true → IsFound (Tables v) n) × (b ≡ false → IsFound Other n)
   unfolding HasReadableRows
@@ -133,10 +133,10 @@ module _ (a n : State) (b : Bool) (sound : IsDatabase a.now) (settled : a.now �
       (λ rows. let each = one_list Readable our_tables further_tables rows in maps.0 (each.0, each.1.0, each.1.1.0), λ readable. let all = maps.1 readable in all-append Readable our_tables further_tables all.0 (all.1, (all.2, tt)))
       (λ rows.
       let each = one_list Readable our_tables further_tables rows in
-      let ours : IsStoreDatabase a.now = record { sound = sound; has = has.0; keyed = keyed.0; readable = each.0 } in (
-        ready_by reported.0 ours,
+      let of_store : IsStoreDatabase a.now = record { sound = sound; has = has.0; keyed = keyed.0; readable = each.0 } in (
+        ready_by reported.0 of_store,
         subst IsWhole (sym reported.0.0.now_is) (record {
-          ours = ours;
+          of_store = of_store;
           pieces = record { exists = has.1; keyed = keyed.1.0; readable = each.1.0 };
           temp_roots = record { exists = has.2; keyed = keyed.1.1.0; readable = each.1.1.0 };
         }),

@@ -1,4 +1,4 @@
--- What the texts mean that show the rowids of our tables, in any schema in which they stand.
+-- What the texts mean that show the rowids of the store's tables, in any schema in which they stand.
 use Rattle.std.proofs.Common.{refl}
 use Rattle.std.specs.Prelude.{map}
 use Rattle.sqlite_tied.specs.Compute.{everything}

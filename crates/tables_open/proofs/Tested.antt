@@ -1,4 +1,4 @@
--- What the tests of a table of ours tell, and why they fail, by the texts that ask for its rowids and its texts.
+-- What the tests of a table of the store tell, and why they fail, by the texts that ask for its rowids and its texts.
 use Rattle.std.proofs.Common.{◌≡◌, ◌↔◌, ◌⊎◌, ℕ, List, [], Bool, IsTrue, length}
 use Rattle.sqlite_value.specs.declared.keys.Key.{Key}
 use Rattle.sqlite_value.specs.Order.{Row}

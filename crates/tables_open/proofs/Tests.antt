@@ -1,4 +1,4 @@
--- That the texts of each table of ours ask for the rowids and the texts of its rows.
+-- That the texts of each table of the store ask for the rowids and the texts of its rows.
 use Rattle.std.proofs.Common.{ℕ, ◌+◌, [], ◌∷◌, arith, refl, below_none, below_more}
 use Rattle.sqlite_value.specs.Order.{Row, column}
 use Rattle.tables_schema.specs.Forms.{meta, object, refs, outs, permanent, user_root, profile, generation, runtime, piece, temp_root}

@@ -74,7 +74,7 @@ module _ {K X Y T : Type 0} {d : Description K X} {p : Part d Y} {ShowsItem : Ro
       → (r : Result (Vec T Global) Failure) → IfErr r (IsReadFailure old new text params (Amiss d ShowsItem item IsLegible)) → IfErr r (FailsFor old new)
   fails_to_read s survives ready own clean r =
       let before = early survives clean in
-      select_fails r old new text params _ (selects_not d q old new s (λ up. d.within old.now (ready before up).ours (own before up))) (never_amiss d q old new s (ready before) (own before))
+      select_fails r old new text params _ (selects_not d q old new s (λ up. d.within old.now (ready before up).of_store (own before up))) (never_amiss d q old new s (ready before) (own before))
 
 -- of entries as they are
 module _ {K X T : Type 0} {d : Description K X} {ShowsItem : Row → T → Type 0} {item : T → K × X} {IsLegible : Row → Type 0}

@@ -119,7 +119,7 @@ module _ {K X T : Type 0} {d : Description K X} {ShowsItem : Row → T → Type 
     {q : Reading d ShowsItem item IsLegible} {old new : State} {text : List ℕ} {params : Row} {test : K → Bool} (s : Selection d q text params test)
     (survives : Survives old new (λ _. ⊥)) (under : HasCleanDisk old → IsUnderWay old) (own : WasOwn d old) (clean : HasCleanDisk new) where
   ready : IsTrue old.is_open → IsReady (settled old)
-  ready up = record { ours = (under (early survives clean)).ours up; settled = refl }
+  ready up = record { of_store = (under (early survives clean)).of_store up; settled = refl }
 
   -- the entries of this part of the keys, in order
   pub selects_within : (r : Result (Vec T Global) Failure) → Selects ShowsItem old new text params r → Rises d item r
@@ -133,5 +133,5 @@ module _ {K X T : Type 0} {d : Description K X} {ShowsItem : Row → T → Type 
   pub fails_within : (r : Result (Vec T Global) Failure) → IfErr r (IsReadFailure old new text params (Amiss d ShowsItem item IsLegible)) → IfErr r (FailsFor old new)
   fails_within r =
       let before = early survives clean in
-      select_fails r old new text params _ (selects_not d q old new s (λ up. d.within old.now ((under before).ours up) (own before up)))
+      select_fails r old new text params _ (selects_not d q old new s (λ up. d.within old.now ((under before).of_store up) (own before up)))
       (λ rows begun. never_amiss d q (settled old) (settled new) s ready (own before) rows (begun_alike text params s.reads old new rows begun))

@@ -1,4 +1,4 @@
--- Why an INSERT into one of our tables fails: its row may be too large, or no rowid may be left for it.
+-- Why an INSERT into one of the store's tables fails: its row may be too large, or no rowid may be left for it.
 use Rattle.std.proofs.Common.{◌≡◌, ◌⊎◌, inl, inr, ℕ, ℤ, ◌/◌, List, [], ◌∷◌, ◌&&◌, Bool, true, false, not, Ok, Err, Some, None, Option, length, map, drop, option_map, slice_get, sym, ap, subst, ◌∙◌, refl, IsTrue}
 use Rattle.std.specs.Prelude.{IsSome}
 use Rattle.std.proofs.lemmas.Bool.{both_ways}
@@ -159,4 +159,4 @@ module _ (name : List ℕ) (columns : List Column) (key : List ℕ) (old new : S
         → (e : Error) → ExecutesInside 0 text params old new (Err e) → FailsWith old new (OrShut old (IsTooLarge old.now table values)) (IsSome old.step_limit ⊎ (HasNoRowidLeft old.now table ⊎ Taken)) (failure_of e)
     insert_fails Taken free e h =
         our_write_fails name columns key old new standing text count params _ (λ at tree. refl) given is (IsTooLarge old.now table values) (IsSome old.step_limit ⊎ (HasNoRowidLeft old.now table ⊎ Taken))
-        (λ up exists. insert_stops name columns key old.now (under.ours up).sound exists values typed (present _) Taken (free up) old.step_limit params terms width accepts (made _)) e h
+        (λ up exists. insert_stops name columns key old.now (under.of_store up).sound exists values typed (present _) Taken (free up) old.step_limit params terms width accepts (made _)) e h

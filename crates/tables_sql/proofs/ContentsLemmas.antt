@@ -1,4 +1,4 @@
--- What our tables hold after a write to one of them.
+-- What the store's tables hold after a write to one of them.
 use Rattle.std.proofs.Common.{◌≡◌, ℤ, List, Bool, true, false, if◌then◌else◌, refl, ap, ◌∙◌, bytes_eq}
 use Rattle.std.proofs.lemmas.Slice.Eq.{bytes_eq-Decides}
 use Rattle.std.specs.FinMap as finite
@@ -25,7 +25,7 @@ module _ (old new : State) (has : HasTables old.now.schema) (rows : List Row) (a
       go true is = ap (rows_named new.now) ((bytes_eq-Decides t.name a.name).0 is) ∙ own_rows a old new rows exists sets
       go false is = others_kept a old new rows exists sets t present is
 
-  -- what our tables hold then, by the rows of the further two
+  -- what the store's tables hold then, by the rows of the further two
   abbrev pub contents_by : List Row → List Row → Contents
   contents_by pieces temp_roots = record {
     meta = map_of texts_cmp is_pair pair_of (after meta);
@@ -60,7 +60,7 @@ module _ (old new : State) (has : HasTables old.now.schema) (rows : List Row) (a
   after_one : same_name a.name piece.name ≡ false → same_name a.name temp_root.name ≡ false → contents_of new.now ≡ contents_by (rows_if_any old.now piece.name) (rows_if_any old.now temp_root.name)
   after_one pieces temp_roots = after_write _ _ (if_any_kept a old new rows exists sets piece.name pieces) (if_any_kept a old new rows exists sets temp_root.name temp_roots)
 
--- ---- what our tables hold then
+-- ---- what the store's tables hold then
 
 module _ (old new : State) (has : HasTables old.now.schema) (rows : List Row) where
   pub meta_set : SetsRows old new (tree_named old.now.schema meta.name) rows → (m : finite.FinMap texts_cmp Bytes) → map_of texts_cmp is_pair pair_of rows ≡ m → contents_of new.now ≡ record (contents_of old.now) { meta = m }

@@ -1,4 +1,4 @@
--- A table that is described once: its form, where it stands among ours, and the map or set that its rows make. What its statements do, and why they fail, is proved over the description. Of one of the nine, that all nine stand says enough; of a further table it has to be known beside.
+-- A table that is described once: its form, where it stands among the store's, and the map or set that its rows make. What its statements do, and why they fail, is proved over the description. Of one of the nine, that all nine stand says enough; of a further table it has to be known beside.
 use Rattle.std.proofs.Common.{◌≡◌, ◌⊎◌, inl, inr, ◌/◌, ◌+◌, ◌<◌, ℕ, zero, suc, ℤ, List, [], ◌∷◌, true, false, not, Bool, Some, None, Option, Ok, Err, Result, IfOk, Vec, Global, map, length, drop, take, refl, sym, ap, subst, ◌∙◌, IsTrue}
 use Rattle.std.specs.declared.cmp.Ordering.{Ordering}
 use Rattle.std.specs.Prelude.{IsSome}
@@ -65,7 +65,7 @@ pub record Description (K X : Type 0) : Type 1 where
   pub same : finite.IsAntisymmetric order
   pub kind : Row → Bool
   pub entry : Row → K × X
-  -- which schemas have it, and what has to be known of a database beside that it is ours
+  -- which schemas have it, and what has to be known of a database beside that it is the store's
   pub IsIn : Schema → Type 0
   pub IsOwn : Database → Type 0
   pub within : (db : Database) → IsStoreDatabase db → IsOwn db → IsIn db.schema
@@ -73,12 +73,12 @@ pub record Description (K X : Type 0) : Type 1 where
   pub of : Contents → finite.FinMap order X
   pub put : Contents → finite.FinMap order X → Contents
   pub held : (db : Database) → IsIn db.schema → of (contents_of db) ≡ map_of order kind entry (rows_named db name)
-  -- it is one of ours
+  -- it is one of the store
   pub named : is_our_name name ≡ true
   pub exists : (s : Schema) → IsIn s → IsIntact s (strict name columns key)
   pub keyed : (db : Database) → IsStoreDatabase db → IsOwn db → IsKeyed (rows_named db name)
   pub kept : (db : Database) → IsStoreDatabase db → IsOwn db → AreKept kind (λ r. (entry r).0) (length columns) (rows_named db name)
-  -- what our tables hold after a write to it, and that it is still there
+  -- what the store's tables hold after a write to it, and that it is still there
   pub written : (old new : State) (rows : List Row) → HasTables old.now.schema → IsIn old.now.schema → SetsRows old new (tree_named old.now.schema name) rows → (m : finite.FinMap order X) → map_of order kind entry rows ≡ m → contents_of new.now ≡ put (contents_of old.now) m
   pub still : (old new : State) (rows : List Row) → IsIntact old.now.schema (strict name columns key) → SetsRows old new (tree_named old.now.schema name) rows → (IsKeyed (rows_named old.now name) → IsKeyed rows)
       → (AreReadableRows (strict name columns key) (rows_named old.now name) → AreReadableRows (strict name columns key) rows) → IsOwn old.now → IsOwn new.now
@@ -114,7 +114,7 @@ pub record Addition {K X : Type 0} (d : Description K X) (text : List ℕ) (para
 
 module _ {K X : Type 0} (d : Description K X) (old new : State) (under : IsUnderWay old) (own : IsTrue old.is_open → d.IsOwn old.now) where
   abbrev in_schema : IsTrue old.is_open → d.IsIn old.now.schema
-  in_schema up = d.within old.now (under.ours up) (own up)
+  in_schema up = d.within old.now (under.of_store up) (own up)
 
 module _ {K X : Type 0} (d : Description K X) (old new : State) (under : IsUnderWay old) (own : IsTrue old.is_open → d.IsOwn old.now) {text : List ℕ} {params values : Row} {k : K} {x : X} (a : Addition d text params values k x) where
   abbrev rows : List Row
@@ -143,22 +143,22 @@ module _ {K X : Type 0} (d : Description K X) (old new : State) (under : IsUnder
   -- the entry wasn't there, and is
   pub adds : (count : ℕ) → AllByRecursion IsReadable values → ExecutesInside 0 text params old new (Ok count) → (finite.get (d.of (contents_of old.now)) k ≡ None) × Added
   adds count texts h =
-      let ours = under.ours h.1.was_open in
+      let of_store = under.of_store h.1.was_open in
       let mine = own h.1.was_open in
-      let here = d.within old.now ours mine in
+      let here = d.within old.now of_store mine in
       let exists = d.exists old.now.schema here in
       let it = puts count h in
       let e = a.entry (next_rowid rows) in
       let keyed : IsKeyed rows → IsKeyed (put_row row rows) = keyed_put row rows it.0 refl in
       let readable = put_readable (form d) row rows (tt, texts) in
-      let after : IsStoreDatabase new.now = ours_kept (form d) old new (put_row row rows) exists it.1 ours keyed readable in
+      let after : IsStoreDatabase new.now = ours_kept (form d) old new (put_row row rows) exists it.1 of_store keyed readable in
       let once : HasOneRowEach d.total d.same d.kind d.entry (put_row row rows) = subst (HasOneRowEach d.total d.same d.kind d.entry) (own_rows (form d) old new (put_row row rows) exists it.1) (d.kept new.now after (d.still old new (put_row row rows) exists it.1 keyed readable mine)).once in
       let lacks : finite.get (map_of d.order d.kind d.entry rows) (d.entry row).0 ≡ None = was_none d.total d.same d.kind d.entry row rows it.0 (a.kind _) once in
       let more : map_of d.order d.kind d.entry (put_row row rows) ≡ finite.insert (map_of d.order d.kind d.entry rows) k x =
       put_map d.total d.same d.kind d.entry row rows it.0 (a.kind _) lacks ∙ ap (λ (p : K × X). finite.insert (map_of d.order d.kind d.entry rows) p.0 p.1) e in
       let held = d.held old.now here in (
         subst (λ m. finite.get m k ≡ None) (sym held) (subst (λ (p : K × X). finite.get (map_of d.order d.kind d.entry rows) p.0 ≡ None) e lacks),
-        changed (form d) old new (put_row row rows) exists it.1 _ ours keyed readable d.named (d.written old new (put_row row rows) ours.has here it.1 _ (more ∙ ap (λ m. finite.insert m k x) (sym held))),
+        changed (form d) old new (put_row row rows) exists it.1 _ of_store keyed readable d.named (d.written old new (put_row row rows) of_store.has here it.1 _ (more ∙ ap (λ m. finite.insert m k x) (sym held))),
       )
 
   -- why it isn't added: beside the store, for a limit on steps, for want of a rowid, or since its key is there
@@ -166,11 +166,11 @@ module _ {K X : Type 0} (d : Description K X) (old new : State) (under : IsUnder
       → FailsWith old new (IsTooLarge old.now (form d) values ⊎ (old.is_open ≡ false)) (IsSome old.step_limit ⊎ (HasNoRowidLeft old.now (form d) ⊎ IsSome (finite.get (d.of (contents_of old.now)) k))) (failure_of e)
   adds_not e h =
       insert_fails d.name d.columns d.key old new under (λ up. d.exists old.now.schema (in_schema d old new under own up)) text (length params) params (terms_of d) (length (terms_of d)) values refl (λ s at tree known. a.is s at tree known.named) a.accepts a.made a.typed a.present
-      (IsSome (finite.get (d.of (contents_of old.now)) k)) (λ up. free (under.ours up) (own up) (finite.get (d.of (contents_of old.now)) k) refl) e h
+      (IsSome (finite.get (d.of (contents_of old.now)) k)) (λ up. free (under.of_store up) (own up) (finite.get (d.of (contents_of old.now)) k) refl) e h
     where
       free : IsStoreDatabase old.now → d.IsOwn old.now → (o : Option X) → finite.get (d.of (contents_of old.now)) k ≡ o → IsNewKey d.name d.key old.now values ⊎ IsSome (finite.get (d.of (contents_of old.now)) k)
-      free ours mine None none = inl (a.fresh old.now ours mine none)
-      free ours mine (Some v) there = inr (subst IsSome (sym there) refl)
+      free of_store mine None none = inl (a.fresh old.now of_store mine none)
+      free of_store mine (Some v) there = inr (subst IsSome (sym there) refl)
 
 -- ---- those of a part of the keys gone
 
@@ -184,12 +184,12 @@ pub record Removal {K X : Type 0} (d : Description K X) (text : List ℕ) (param
 module _ {K X : Type 0} (d : Description K X) (old new : State) (under : IsUnderWay old) (own : IsTrue old.is_open → d.IsOwn old.now) {text : List ℕ} {params : Row} {test : K → Bool} (r : Removal d text params test) where
   pub removes : (count : ℕ) → ExecutesInside 0 text params old new (Ok count) → Changes old new (λ c. d.put c (finite.retain_keys (d.of c) (λ k. not (test k))))
   removes count h =
-      let ours = under.ours h.1.was_open in
+      let of_store = under.of_store h.1.was_open in
       let mine = own h.1.was_open in
-      let here = d.within old.now ours mine in
+      let here = d.within old.now of_store mine in
       let exists = d.exists old.now.schema here in
-      let it = deletes_part d.name d.columns d.key d.total d.same d.kind d.entry old new (λ _. exists) under text params r.filter test r.said r.is count h (d.keyed old.now ours mine) in
-      changed (form d) old new it.0 exists it.1 _ ours it.2 it.3 d.named (d.written old new it.0 ours.has here it.1 _ (it.4 ∙ ap (λ m. finite.retain_keys m (λ k. not (test k))) (sym (d.held old.now here))))
+      let it = deletes_part d.name d.columns d.key d.total d.same d.kind d.entry old new (λ _. exists) under text params r.filter test r.said r.is count h (d.keyed old.now of_store mine) in
+      changed (form d) old new it.0 exists it.1 _ of_store it.2 it.3 d.named (d.written old new it.0 of_store.has here it.1 _ (it.4 ∙ ap (λ m. finite.retain_keys m (λ k. not (test k))) (sym (d.held old.now here))))
 
   pub removes_not : (e : Error) → ExecutesInside 0 text params old new (Err e) → FailsWith old new (old.is_open ≡ false) (IsSome old.step_limit) (failure_of e)
   removes_not e h = delete_fails d.name d.columns d.key old new under (λ up. d.exists old.now.schema (in_schema d old new under own up)) text (length params) params r.filter refl r.is r.accepts e h
@@ -204,11 +204,11 @@ pub record Part {K X : Type 0} (d : Description K X) (Y : Type 0) : Type 0 where
 
 -- all of it
 abbrev pub entire : {K X : Type 0} → (d : Description K X) → Part d X
-entire d = record { of = λ x. x; has = d.kind; alike = λ db ours mine r there. refl }
+entire d = record { of = λ x. x; has = d.kind; alike = λ db of_store mine r there. refl }
 
 -- one that a row of the table's kind has, since each row of the table is of that kind
 abbrev pub part : {K X Y : Type 0} → (d : Description K X) → (X → Y) → (has : Row → Bool) → ((r : Row) → d.kind r ≡ true → has r ≡ true) → Part d Y
-part d of has enough = record { of = of; has = has; alike = λ db ours mine r there. enough r ((d.kept db ours mine).typed r there) ∙ sym ((d.kept db ours mine).typed r there) }
+part d of has enough = record { of = of; has = has; alike = λ db of_store mine r there. enough r ((d.kept db of_store mine).typed r there) ∙ sym ((d.kept db of_store mine).typed r there) }
 
 -- how a query shows the key and a part of an entry, by which columns and in the order of how many of them, and which of its rows can be read as one
 pub record PartReading {K X Y T : Type 0} (d : Description K X) (p : Part d Y) (ShowsItem : Row → T → Type 0) (item : T → K × Y) (IsLegible : Row → Type 0) : Type 0 where
@@ -241,12 +241,12 @@ module _ {K X Y T : Type 0} (d : Description K X) {p : Part d Y} {ShowsItem : Ro
   selects ready own (Err f) got up = tt
   selects ready own (Ok all) got up =
       let is_open = got.1.1.1.0.was_open in
-      let ours = (ready is_open).ours in
-      let here = d.within old.now ours (own is_open) in
+      let of_store = (ready is_open).of_store in
+      let here = d.within old.now of_store (own is_open) in
       let read =
       reads_part d.name d.columns d.key d.total d.same p.has (λ r. made d.order p.of (d.entry r)) old new (λ _. d.exists old.now.schema here) ready text params (names_on q.shown)
       (query_on q.shown q.by s.filter) scan test (λ tree r has. s.said r has) ShowsItem item (q.fits params s.filter) s.is (Ok all) got up in
-      let of_rows = part_made d.order p.of d.kind p.has d.entry d.total d.same test (rows_named old.now d.name) (p.alike old.now ours (own is_open)) in
+      let of_rows = part_made d.order p.of d.kind p.has d.entry d.total d.same test (rows_named old.now d.name) (p.alike old.now of_store (own is_open)) in
       (read.0, read.1 ∙ of_rows ∙ ap (λ m. map (made d.order p.of) (finite.entries (finite.retain_keys m test))) (sym (d.held old.now here)))
 
   -- why they aren't read
@@ -257,7 +257,7 @@ module _ {K X Y T : Type 0} (d : Description K X) {p : Part d Y} {ShowsItem : Ro
   pub never_amiss : (IsTrue old.is_open → IsReady old) → (IsTrue old.is_open → d.IsOwn old.now) → (rows : List Row) → HasBegunWith text params old new rows → ¬ IsAmiss IsLegible ShowsItem (λ x y. is_lt (d.order (item x).0 (item y).0)) rows
   never_amiss ready own rows begun =
       let mine = own begun.1.0.was_open in
-      shown_well d.name d.columns d.key d.same d.kind (λ r. (d.entry r).0) (length d.columns) old new ready (λ _. d.exists old.now.schema (d.within old.now (ready begun.1.0.was_open).ours mine)) (λ ours. d.kept old.now ours mine) text params (names_on q.shown) (query_on q.shown q.by s.filter) scan s.is (q.orders params s.filter)
+      shown_well d.name d.columns d.key d.same d.kind (λ r. (d.entry r).0) (length d.columns) old new ready (λ _. d.exists old.now.schema (d.within old.now (ready begun.1.0.was_open).of_store mine)) (λ of_store. d.kept old.now of_store mine) text params (names_on q.shown) (query_on q.shown q.by s.filter) scan s.is (q.orders params s.filter)
       ShowsItem (λ t. (item t).0) (λ tree row t h. ap (λ e. e.0) (q.fits params s.filter tree row t h).1) IsLegible (q.legible params s.filter) rows begun
 
 -- ---- in other words

@@ -1,4 +1,4 @@
--- The further tables where they stand: their rows are of their kind, no two have one key or one rowid, each text in them is UTF-8, and what our tables hold after a write to one.
+-- The further tables where they stand: their rows are of their kind, no two have one key or one rowid, each text in them is UTF-8, and what the store's tables hold after a write to one.
 use Rattle.std.proofs.Common.{◌≡◌, List, [], true, ◌&&◌, Option, Some, refl, sym, ap, subst, ◌∙◌}
 use Rattle.std.specs.Prelude.{slice_get, option_and_then, option_map, unwrap_or}
 use Rattle.std.specs.FinMap as finite
@@ -42,12 +42,12 @@ module _ (db : Database) (sound : IsDatabase db) where
       front : (r : Row) → is_kept r ≡ true → (is_text (column r 1) ≡ true) × (is_int (column r 2) ≡ true)
       front r k = and_so _ _ (and_so (is_text (column r 1) && is_int (column r 2)) _ k).0
 
-module _ (db : Database) (ours : IsStoreDatabase db) where
+module _ (db : Database) (of_store : IsStoreDatabase db) where
   pub piece_kept : HasFurther db piece → AreKept is_piece (λ r. (piece_of r).0) 3 (rows_named db piece.name)
-  piece_kept it = record { typed = pieces_typed db ours.sound it.exists; once = pieces_once db ours.sound it.exists it.keyed; apart = it.keyed.apart; readable = it.readable }
+  piece_kept it = record { typed = pieces_typed db of_store.sound it.exists; once = pieces_once db of_store.sound it.exists it.keyed; apart = it.keyed.apart; readable = it.readable }
 
   pub temp_root_kept : HasFurther db temp_root → AreKept is_kept (λ r. (kept_of r).0) 3 (rows_named db temp_root.name)
-  temp_root_kept it = record { typed = temp_roots_typed db ours.sound it.exists; once = temp_roots_once db ours.sound it.exists it.keyed; apart = it.keyed.apart; readable = it.readable }
+  temp_root_kept it = record { typed = temp_roots_typed db of_store.sound it.exists; once = temp_roots_once db of_store.sound it.exists it.keyed; apart = it.keyed.apart; readable = it.readable }
 
 -- where a table stands, its rows are those of the first table of its name
 pub if_any_named : (db : Database) (t : Table) → IsIntact db.schema t → rows_if_any db t.name ≡ rows_named db t.name

@@ -29,7 +29,7 @@ use Rattle.tables_sql.proofs.Description.{Description, Addition, Removal, Readin
 abbrev pub table : Description Triple Bytes
 table =
     one_of_nine generation triple_total triple_antisymmetric is_generation generation_of (λ c. c.generations) (λ c m. record c { generations = m })
-    refl (λ db has. refl) (λ s has. has.1.1.1.1.1.1.1.0) (λ db ours. ours.keyed.1.1.1.1.1.1.1.0) generation_kept generation_set
+    refl (λ db has. refl) (λ s has. has.1.1.1.1.1.1.1.0) (λ db of_store. of_store.keyed.1.1.1.1.1.1.1.0) generation_kept generation_set
 
 -- its key is two texts and a number
 key_is : (r : Row) → is_generation r ≡ true → (is_text (column r 1) ≡ true) × (is_text (column r 2) ≡ true) × (is_int (column r 3) ≡ true)

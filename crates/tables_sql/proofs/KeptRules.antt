@@ -1,4 +1,4 @@
--- Which rules of a database a write to one of our tables keeps.
+-- Which rules of a database a write to one of the store's tables keeps.
 use Rattle.std.proofs.Common.{◌≡◌, ◌≢◌, ◌⊎◌, inl, inr, ℕ, List, [], true, false, not, ◌||◌, ◌==◌, map, Some, None, Option, refl, sym, ap, subst, ◌∙◌, eq-eqb, bytes_eq}
 use Rattle.std.specs.Prelude.{find, option_and_then, option_map, unwrap_or}
 use Rattle.std.specs.List.{list_all, position_from}
@@ -91,7 +91,7 @@ none_to_fit s own at named unreferred = test_from _ s.tables (λ t listed. test_
     let here : points_at s own.tree ref ≡ true = rw (found, named.1, eq-eqb own.tree own.tree refl) refl in
     both_ways _ (not-true _ (misses s own.tree unreferred t ref listed known)) here)))))
 
--- ---- a table of ours is found by its tree
+-- ---- a table of the store is found by its tree
 
 pub only_ours : (db : Database) (table : Table) → IsDatabase db → (exists : IsIntact db.schema table) → (t : Table) → Has db.schema.tables t → t.tree ≡ tree_named db.schema table.name → t ≡ record table { tree = tree_named db.schema table.name }
 only_ours db table sound exists t listed same =

@@ -1,4 +1,4 @@
--- That each row of a table of ours has its entry in the map that its rows make.
+-- That each row of a table of the store has its entry in the map that its rows make.
 use Rattle.std.proofs.Common.{◌≡◌, List, map, filter, Bool, true, Some, None, Option, refl, sym, ap, ◌∙◌, Ordering}
 use Rattle.std.specs.Cmp.{IsTotalOrder, tied_itself}
 use Rattle.std.specs.FinMap as finite

@@ -1,4 +1,4 @@
--- That a row of a new key, put into a table of ours, leaves no two rows of one key.
+-- That a row of a new key, put into a table of the store, leaves no two rows of one key.
 use Rattle.std.proofs.Common.{◌≡◌, inl, inr, ℕ, List, true, false, not, ◌&&◌, ◌||◌, ◌==◌, sym, ap, subst, ◌∙◌, bytes_eq, eqb-true, IsTrue}
 use Rattle.std.specs.List.{list_all}
 use Rattle.std.specs.Ordering.{is_ne}

@@ -43,7 +43,7 @@ use Rattle.sqlite_typing.specs.Types.{class_of}
 abbrev pub table : Description Bytes Stored
 table =
     one_of_nine object texts_total texts_antisymmetric is_object object_of (λ c. c.objects) (λ c m. record c { objects = m })
-    refl (λ db has. refl) (λ s has. has.1.0) (λ db ours. ours.keyed.1.0) object_kept object_set
+    refl (λ db has. refl) (λ s has. has.1.0) (λ db of_store. of_store.keyed.1.0) object_kept object_set
 
 -- ---- one more
 

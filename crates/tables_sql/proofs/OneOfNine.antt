@@ -1,4 +1,4 @@
--- A table that every schema of ours has, described: that all nine stand says enough of it.
+-- A table that every schema of the store has, described: that all nine stand says enough of it.
 use Rattle.std.proofs.Common.{◌≡◌, List, Bool, true, length}
 use Rattle.std.specs.declared.cmp.Ordering.{Ordering}
 use Rattle.std.specs.Cmp.{IsTotalOrder}
@@ -37,14 +37,14 @@ one_of_nine t {order} total same kind entry of put named held exists keyed kept 
   entry = entry;
   IsIn = HasTables;
   IsOwn = λ db. Unit {0};
-  within = λ db ours mine. ours.has;
+  within = λ db of_store mine. of_store.has;
   of = of;
   put = put;
   held = held;
   named = named;
   exists = exists;
-  keyed = λ db ours mine. keyed db ours;
-  kept = λ db ours mine. kept db ours;
+  keyed = λ db of_store mine. keyed db of_store;
+  kept = λ db of_store mine. kept db of_store;
   written = λ old new rows has here sets m is. written old new has rows sets m is;
   still = λ old new rows exists sets keyed readable mine. tt;
 }

@@ -1,4 +1,4 @@
--- What a SELECT means that shows columns of one table of ours and rises by the first of them, whatever the table.
+-- What a SELECT means that shows columns of one table of the store and rises by the first of them, whatever the table.
 use Rattle.std.proofs.Common.{◌≡◌, ℕ, zero, suc, ◌+◌, pos, negsuc, List, [], ◌∷◌, ◌++◌, Some, None, Option, true, false, Bool, Ok, refl, length, map, append_assoc, append-nil, slice_get, take}
 use Rattle.std.specs.Prelude.{nat_lt, nat_le, ◌-◌}
 use Rattle.std.specs.List.{AllByRecursion}

@@ -27,7 +27,7 @@ use Rattle.tables_sql.proofs.Description.{Description, Addition, Removal, Readin
 abbrev pub table : Description Pair Bytes
 table =
     one_of_nine outs pair_total pair_antisymmetric is_triple target_of (λ c. c.outs) (λ c m. record c { outs = m })
-    refl (λ db has. refl) (λ s has. has.1.1.1.0) (λ db ours. ours.keyed.1.1.1.0) outs_kept outs_set
+    refl (λ db has. refl) (λ s has. has.1.1.1.0) (λ db of_store. of_store.keyed.1.1.1.0) outs_kept outs_set
 
 -- ---- one more
 

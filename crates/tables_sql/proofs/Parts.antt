@@ -259,7 +259,7 @@ added d {k = k} is made put same = record {
   present = λ id. (put.2 id).0;
   kind = λ id. (put.2 id).1;
   entry = λ id. (put.2 id).2;
-  fresh = λ db ours mine none r there h.
-      let typed = (d.kept db ours mine).typed r there in
-      lacks d.total d.same d.kind d.entry (rows_named db d.name) k (subst (λ m. finite.get m k ≡ None) (d.held db (d.within db ours mine)) none) r there typed (same (next_rowid (rows_named db d.name)) r typed h);
+  fresh = λ db of_store mine none r there h.
+      let typed = (d.kept db of_store mine).typed r there in
+      lacks d.total d.same d.kind d.entry (rows_named db d.name) k (subst (λ m. finite.get m k ≡ None) (d.held db (d.within db of_store mine)) none) r there typed (same (next_rowid (rows_named db d.name)) r typed h);
 }

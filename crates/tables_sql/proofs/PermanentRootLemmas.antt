@@ -27,7 +27,7 @@ use Rattle.tables_sql.proofs.Description.{Description, Addition, Removal, Readin
 abbrev pub table : Description Bytes Bytes
 table =
     one_of_nine permanent texts_total texts_antisymmetric is_pair pair_of (λ c. c.permanent) (λ c m. record c { permanent = m })
-    refl (λ db has. refl) (λ s has. has.1.1.1.1.0) (λ db ours. ours.keyed.1.1.1.1.0) permanent_kept permanent_set
+    refl (λ db has. refl) (λ s has. has.1.1.1.1.0) (λ db of_store. of_store.keyed.1.1.1.1.0) permanent_kept permanent_set
 
 -- ---- one more
 

@@ -39,13 +39,13 @@ table = record {
   entry = piece_of;
   IsIn = λ s. IsIntact s piece;
   IsOwn = λ db. HasFurther db piece;
-  within = λ db ours mine. mine.exists;
+  within = λ db of_store mine. mine.exists;
   of = λ c. c.pieces;
   put = λ c m. record c { pieces = m };
   held = pieces_held;
   named = refl;
   exists = λ s here. here;
-  keyed = λ db ours mine. mine.keyed;
+  keyed = λ db of_store mine. mine.keyed;
   kept = piece_kept;
   written = λ old new rows has here sets m is. pieces_set old new has rows here sets m is;
   still = λ old new rows exists sets keyed readable mine. further_kept piece old new rows exists sets keyed readable piece mine;

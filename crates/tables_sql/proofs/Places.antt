@@ -1,4 +1,4 @@
--- That a write to one of our tables leaves each other table as it was, ours and theirs.
+-- That a write to one of the store's tables leaves each other table as it was, the store's and the foreign ones.
 use Rattle.std.proofs.Common.{◌≡◌, ◌≢◌, ℕ, List, [], ◌∷◌, Bool, true, false, not, ◌||◌, ◌==◌, Some, refl, sym, ap, subst, subst₂, ◌∙◌, ◌+◌, ◌<◌, length, slice_get, bytes_eq}
 use Rattle.std.specs.Prelude.{cond, find, option_and_then, option_map, unwrap_or}
 use Rattle.std.specs.List.{AllByRecursion, list_all}
@@ -48,31 +48,31 @@ module _ (s : Schema) (a : Table) (exists : IsIntact s a) where
   abbrev tree : ℕ
   tree = tree_named s a.name
 
-  -- two of our tables have two trees
+  -- two of the store's tables have two trees
   pub apart : (b : Table) → IsIntact s b → bytes_eq b.name a.name ≡ false → tree_named s b.name ≢ tree
   apart b other names e =
       let alone = list_all_at _ s.tables other.at _ other.known.named.1 exists.alone in
       absurd (let f = rw (eq-eqb _ _ e, names) at alone in cc)
 
   kept : (p : Table → Type 0) (ts : List Table) → list_all (λ t. not (t.tree == tree) || bytes_eq t.name a.name) ts ≡ true → AllByRecursion (λ t. t.tree ≢ tree → p t) ts → is_our_name a.name ≡ true → AllByRecursion (λ t. is_our_name t.name ≡ false → p t) ts
-  kept p [] alone h ours = tt
-  kept p (t ∷ ts) alone h ours = (λ other. h.0 (λ e. differs e other (and_so _ _ alone).0), kept p ts (and_so _ _ alone).1 h.1 ours)
+  kept p [] alone h of_store = tt
+  kept p (t ∷ ts) alone h of_store = (λ other. h.0 (λ e. differs e other (and_so _ _ alone).0), kept p ts (and_so _ _ alone).1 h.1 of_store)
     where
       differs : t.tree ≡ tree → is_our_name t.name ≡ false → (not (t.tree == tree) || bytes_eq t.name a.name) ≡ true → ⊥
       differs e other alone =
           let named : bytes_eq t.name a.name ≡ true = let f = alone in rw (eq-eqb _ _ e) at f in
           let is : t.name ≡ a.name = bytes_same _ _ named in
-          absurd (let f = sym ours ∙ ap is_our_name (sym is) ∙ other in cc)
+          absurd (let f = sym of_store ∙ ap is_our_name (sym is) ∙ other in cc)
 
   at_tree : (p : ℕ → Type 0) (b : Table) → IsIntact s b → AllByRecursion (λ (t : Table). t.tree ≢ tree → p t.tree) s.tables → tree_named s b.name ≢ tree → p (tree_named s b.name)
   at_tree p b other h = all-slice_get (λ (t : Table). t.tree ≢ tree → p t.tree) s.tables other.at _ other.known.named.1 h
 
--- after a write to the rows of one of our tables
+-- after a write to the rows of one of the store's tables
 module _ (a : Table) (old new : State) (rows : List Row) (exists : IsIntact old.now.schema a) (sets : SetsRows old new (tree_named old.now.schema a.name) rows) where
   pub own_rows : rows_named new.now a.name ≡ rows
   own_rows = ap (λ s. new.now.trees (tree_named s a.name)) sets.schema ∙ sets.rows_are
 
-  -- each other table of ours has the rows that it had
+  -- each other table of the store has the rows that it had
   pub others_kept : (b : Table) → IsIntact old.now.schema b → bytes_eq b.name a.name ≡ false → rows_named new.now b.name ≡ rows_named old.now b.name
   others_kept b other names =
       ap (λ s. new.now.trees (tree_named s b.name)) sets.schema
@@ -105,7 +105,7 @@ module _ (a : Table) (old new : State) (rows : List Row) (exists : IsIntact old.
   pub theirs_kept : is_our_name a.name ≡ true → KeepsTheirs old.now new.now
   theirs_kept = kept old.now.schema a exists (λ t. new.now.trees t.tree ≡ old.now.trees t.tree) old.now.schema.tables exists.alone sets.others
 
-  -- what holds of the columns and the rows of each table of ours holds after the write, where the write keeps it of its own
+  -- what holds of the columns and the rows of each table of the store holds after the write, where the write keeps it of its own
   after : (P : List Column → List Row → Type 0) → (P a.columns (rows_named old.now a.name) → P a.columns rows) → (ts : List Table) → AllByRecursion (IsIntact old.now.schema) ts → AllByRecursion (λ t. P t.columns (rows_named old.now t.name)) ts → AllByRecursion (λ t. P t.columns (rows_named new.now t.name)) ts
   after P keeps [] has held = tt
   after P keeps (t ∷ ts) has held = (go (bytes_eq t.name a.name) refl, after P keeps ts has.1 held.1)
@@ -119,11 +119,11 @@ module _ (a : Table) (old new : State) (rows : List Row) (exists : IsIntact old.
 
   pub ours_kept : IsStoreDatabase old.now → (IsKeyed (rows_named old.now a.name) → IsKeyed rows) → (AreReadableRows a (rows_named old.now a.name) → AreReadableRows a rows) → IsStoreDatabase new.now
   unfolding HasReadableRows
-  ours_kept ours keyed readable = record {
+  ours_kept of_store keyed readable = record {
     sound = sets.sound;
-    has = subst HasTables (sym sets.schema) ours.has;
-    keyed = after (λ columns rs. IsKeyed rs) keyed our_tables ours.has ours.keyed;
-    readable = after (λ columns rs. (row : Row) (at : ℕ) → Has rs row → at < length columns → IsReadable (column row (at + 1))) readable our_tables ours.has ours.readable;
+    has = subst HasTables (sym sets.schema) of_store.has;
+    keyed = after (λ columns rs. IsKeyed rs) keyed our_tables of_store.has of_store.keyed;
+    readable = after (λ columns rs. (row : Row) (at : ℕ) → Has rs row → at < length columns → IsReadable (column row (at + 1))) readable our_tables of_store.has of_store.readable;
   }
 
   -- a further table that stood stands still
@@ -134,17 +134,17 @@ module _ (a : Table) (old new : State) (rows : List Row) (exists : IsIntact old.
     readable = (after (λ columns rs. (row : Row) (at : ℕ) → Has rs row → at < length columns → IsReadable (column row (at + 1))) readable (t ∷ []) (present.exists, tt) (present.readable, tt)).0;
   }
 
-  -- what the write makes of what our tables hold
+  -- what the write makes of what the store's tables hold
   pub changed : (change : Contents → Contents) → IsStoreDatabase old.now → (IsKeyed (rows_named old.now a.name) → IsKeyed rows) → (AreReadableRows a (rows_named old.now a.name) → AreReadableRows a rows) → is_our_name a.name ≡ true → contents_of new.now ≡ change (contents_of old.now) → Changes old new change
   unfolding KeepsFurther
-  changed change ours keyed readable named contents = record {
+  changed change of_store keyed readable named contents = record {
     was_open = sets.was_open;
     is_open = sets.is_open;
     schema = sets.schema;
     contents = contents;
     theirs = theirs_kept named;
     unshown = sets.unshown;
-    ours = ours_kept ours keyed readable;
+    of_store = ours_kept of_store keyed readable;
     further = (further_kept keyed readable piece, (further_kept keyed readable temp_root, tt));
     committed = sets.committed;
     mode = sets.mode;

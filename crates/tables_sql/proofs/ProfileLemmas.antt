@@ -29,7 +29,7 @@ use Rattle.tables_sql.proofs.Description.{Description, Addition, Removal, Readin
 abbrev pub table : Description Pair ℤ
 table =
     one_of_nine profile pair_total pair_antisymmetric is_profile profile_of (λ c. c.profiles) (λ c m. record c { profiles = m })
-    refl (λ db has. refl) (λ s has. has.1.1.1.1.1.1.0) (λ db ours. ours.keyed.1.1.1.1.1.1.0) profile_kept profile_set
+    refl (λ db has. refl) (λ s has. has.1.1.1.1.1.1.0) (λ db of_store. of_store.keyed.1.1.1.1.1.1.0) profile_kept profile_set
 
 -- ---- one more
 

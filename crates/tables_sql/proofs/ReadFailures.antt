@@ -1,4 +1,4 @@
--- Why a query of our tables fails: `sqlite` understands each text of ours, and types and sums have nothing to refuse.
+-- Why a query of the store's tables fails: `sqlite` understands each text of the store, and types and sums have nothing to refuse.
 use Rattle.std.proofs.Common.{◌≡◌, ◌⊎◌, inl, inr, ℕ, ◌≤◌, IsTrue, List, [], ◌∷◌, length, append-nil, Bool, true, false, None, Result, Ok, Err, refl, sym, ap, subst, subst₂, ◌∙◌}
 use Rattle.std.specs.Prelude.{IsSome, if◌then◌else◌}
 use Rattle.std.proofs.lemmas.Bool.{leb-true}

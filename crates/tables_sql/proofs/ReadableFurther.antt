@@ -83,5 +83,5 @@ module _ (db : Database) where
 -- the texts of all eleven can be read
 pub whole_readable : (db : Database) → IsWhole db → AreReadable (contents_of db)
 whole_readable db whole =
-    let ours = whole.ours in
-    (readable_by_maps db ours.sound ours.has ours.keyed _ _ (pieces_by_maps db ours.sound whole.pieces.exists whole.pieces.keyed) (temp_roots_by_maps db ours.sound whole.temp_roots.exists whole.temp_roots.keyed)).0 (ours.readable, whole.pieces.readable, whole.temp_roots.readable)
+    let of_store = whole.of_store in
+    (readable_by_maps db of_store.sound of_store.has of_store.keyed _ _ (pieces_by_maps db of_store.sound whole.pieces.exists whole.pieces.keyed) (temp_roots_by_maps db of_store.sound whole.temp_roots.exists whole.temp_roots.keyed)).0 (of_store.readable, whole.pieces.readable, whole.temp_roots.readable)

@@ -27,7 +27,7 @@ use Rattle.tables_sql.proofs.Description.{Description, Addition, Removal, Readin
 abbrev pub table : Description Pair (Unit {0})
 table =
     one_of_nine refs pair_total pair_antisymmetric is_pair member_of (λ c. c.refs) (λ c m. record c { refs = m })
-    refl (λ db has. refl) (λ s has. has.1.1.0) (λ db ours. ours.keyed.1.1.0) refs_kept refs_set
+    refl (λ db has. refl) (λ s has. has.1.1.0) (λ db of_store. of_store.keyed.1.1.0) refs_kept refs_set
 
 -- ---- one more
 

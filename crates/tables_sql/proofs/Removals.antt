@@ -1,4 +1,4 @@
--- Why a DELETE from one of our tables fails: no rule refuses it, and no row of it is too large.
+-- Why a DELETE from one of the store's tables fails: no rule refuses it, and no row of it is too large.
 use Rattle.std.proofs.Common.{◌≡◌, ◌≢◌, ◌⊎◌, inl, inr, ℕ, List, [], true, false, not, Ok, Err, Some, None, Option, length, slice_get, sym, ap, subst, refl, IsTrue}
 use Rattle.std.specs.Prelude.{IsSome, nat_lt}
 use Rattle.std.proofs.lemmas.Bool.{cases_eq, or_right, both_ways}
@@ -114,7 +114,7 @@ module _ (name : List ℕ) (columns : List Column) (key : List ℕ) (old new : S
   delete_fails text count params filter given is accepts e h =
       fails_wider old new (OrShut old ⊥) (old.is_open ≡ false) (IsSome old.step_limit) (IsSome old.step_limit) shut_alone (λ l. l) (failure_of e)
       (our_write_fails name columns key old new standing text count params _ (λ at tree. refl) given is ⊥ (IsSome old.step_limit)
-      (λ up exists. let tree = tree_named old.now.schema name in delete_stops name columns key tree exists.at filter old.now (under.ours up).sound exists.known.named exists.unreferred old.step_limit params (accepts old.now.schema exists.at tree exists.known)) e h)
+      (λ up exists. let tree = tree_named old.now.schema name in delete_stops name columns key tree exists.at filter old.now (under.of_store up).sound exists.known.named exists.unreferred old.step_limit params (accepts old.now.schema exists.at tree exists.known)) e h)
     where
       shut_alone : OrShut old ⊥ → old.is_open ≡ false
       shut_alone (inl none) = absurd none

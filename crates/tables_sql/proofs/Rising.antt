@@ -183,7 +183,7 @@ module _ (q : Query) (tree : ℕ) (scan : IsScan q tree) (db : Trees) (params : 
         subst IsLegible (sym r.3) (legible r.0 (own.typed r.0 r.1) (λ at low. own.readable r.0 at r.1 low))))
     none_amiss IsLegible legible (inr h) = h.2 (entries_rise h.0 h.1)
 
--- ---- what a text shows of a table of ours
+-- ---- what a text shows of a table of the store
 
 module _ (name : List ℕ) (columns : List Column) (primary : List ℕ) {K : Type 0} {R : K → K → Ordering} (same : finite.IsAntisymmetric R) (kind : Row → Bool) (key : Row → K) (width : ℕ) (old new : State) (ready : IsTrue old.is_open → IsReady old)
     (at : HasTables old.now.schema → IsIntact old.now.schema (strict name columns primary)) (own : IsStoreDatabase old.now → AreKept kind key width (rows_named old.now name)) (text : List ℕ) (params : Row) (names : List (List ℕ)) (query : ℕ → Query)
@@ -193,14 +193,14 @@ module _ (name : List ℕ) (columns : List Column) (primary : List ℕ) {K : Typ
       → (IsLegible : Row → Type 0) → ((tree : ℕ) (r : Row) → kind r ≡ true → ((at : ℕ) → at < width → IsReadable (column r (at + 1))) → IsLegible (shows (query tree) params r))
       → (rows : List Row) → HasBegunWith text params old new rows → ¬ IsAmiss IsLegible ShowsItem (λ x y. is_lt (R (item x) (item y))) rows
   shown_well ShowsItem item fits IsLegible legible rows given =
-      let ours = (ready given.1.0.was_open).ours in
-      let exists = at ours.has in
+      let of_store = (ready given.1.0.was_open).of_store in
+      let exists = at of_store.has in
       let tree = tree_named old.now.schema name in
       let db = overlay old.now.trees [] in
       let same_rows : db tree ≡ old.now.trees tree = overlay_low old.now.trees tree exists.known.low in
       let all = whole text params old new names (query tree) (is old.now.schema exists.at tree exists.known) rows given in
       let answer = answer_of name columns primary old new text params query is exists (rows ++ all.0) all.1 in
-      none_amiss (query tree) tree (scan tree) db params rows all.0 answer same kind key width (subst (AreKept kind key width) (sym same_rows) (own ours)) (orders tree) ShowsItem item (fits tree) IsLegible (legible tree)
+      none_amiss (query tree) tree (scan tree) db params rows all.0 answer same kind key width (subst (AreKept kind key width) (sym same_rows) (own of_store)) (orders tree) ShowsItem item (fits tree) IsLegible (legible tree)
 
 -- ---- so a read fails only for want of memory, once its query was answered
 

@@ -27,7 +27,7 @@ use Rattle.tables_sql.proofs.Description.{Description, Addition, Removal, Readin
 abbrev pub table : Description Pair (Unit {0})
 table =
     one_of_nine runtime pair_total pair_antisymmetric is_pair member_of (λ c. c.runtime) (λ c m. record c { runtime = m })
-    refl (λ db has. refl) (λ s has. has.1.1.1.1.1.1.1.1.0) (λ db ours. ours.keyed.1.1.1.1.1.1.1.1.0) runtime_kept runtime_set
+    refl (λ db has. refl) (λ s has. has.1.1.1.1.1.1.1.1.0) (λ db of_store. of_store.keyed.1.1.1.1.1.1.1.1.0) runtime_kept runtime_set
 
 -- ---- one more
 

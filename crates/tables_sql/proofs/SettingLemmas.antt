@@ -27,7 +27,7 @@ use Rattle.tables_sql.proofs.Description.{Description, Inserts, Addition, Remova
 abbrev pub table : Description Bytes Bytes
 table =
     one_of_nine meta texts_total texts_antisymmetric is_pair pair_of (λ c. c.meta) (λ c m. record c { meta = m })
-    refl (λ db has. refl) (λ s has. has.0) (λ db ours. ours.keyed.0) meta_kept meta_set
+    refl (λ db has. refl) (λ s has. has.0) (λ db of_store. of_store.keyed.0) meta_kept meta_set
 
 -- ---- one more
 

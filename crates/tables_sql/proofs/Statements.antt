@@ -1,4 +1,4 @@
--- What a query lists and what a DELETE leaves, once for every table of ours.
+-- What a query lists and what a DELETE leaves, once for every table of the store.
 use Rattle.std.proofs.Common.{◌≡◌, ℕ, List, [], ◌∷◌, Bool, true, not, Result, Ok, Err, IfOk, Vec, Global, map, length, IsTrue, refl, sym, ap, subst, ◌∙◌}
 use Rattle.std.specs.declared.cmp.Ordering.{Ordering}
 use Rattle.sqlite_value.specs.declared.value.Value.TheVariants.{Null}
@@ -61,7 +61,7 @@ module _ (name : List ℕ) (columns : List Column) (key : List ℕ) {K X : Type 
         → IsUnchanged old new × (map item all ≡ finite.entries (finite.retain_keys rows_are test))
     listed all rows shown texts up =
         let same_all = shown.1.1 in
-        let exists = at (ready same_all.0.was_open).ours.has in
+        let exists = at (ready same_all.0.was_open).of_store.has in
         let tree = tree_named old.now.schema name in
         let db = overlay old.now.trees [] in
         let same_rows : db tree ≡ old.now.trees tree = overlay_low old.now.trees tree exists.known.low in
@@ -81,7 +81,7 @@ module _ (name : List ℕ) (columns : List Column) (key : List ℕ) {K X : Type 
     pub deletes_part : (count : ℕ) → ExecutesInside 0 text params old new (Ok count) → IsKeyed (rows_named old.now name)
         → (rows : List Row) × SetsRows old new (tree_named old.now.schema name) rows × (IsKeyed (rows_named old.now name) → IsKeyed rows) × (AreReadableRows (strict name columns key) (rows_named old.now name) → AreReadableRows (strict name columns key) rows) × (map_of R kind entry rows ≡ finite.retain_keys rows_are (λ k. not (test k)))
     deletes_part count h keyed =
-        let exists = at (under.ours h.1.was_open).has in
+        let exists = at (under.of_store h.1.was_open).has in
         let tree = tree_named old.now.schema name in
         let db = overlay old.now.trees [] in
         let same_rows : db tree ≡ old.now.trees tree = overlay_low old.now.trees tree exists.known.low in

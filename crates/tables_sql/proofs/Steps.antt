@@ -30,7 +30,7 @@ changes_then a b c f g h k = record {
   contents = k.contents ∙ ap g h.contents;
   theirs = theirs_then a.now b.now c.now h.schema h.theirs k.theirs;
   unshown = λ tree hidden. k.unshown tree (subst (λ (s : Schema). IsUnshown s tree) (sym h.schema) hidden) ∙ h.unshown tree hidden;
-  ours = k.ours;
+  of_store = k.of_store;
   further = (λ present. k.further.0 (h.further.0 present), (λ present. k.further.1.0 (h.further.1.0 present), tt));
   committed = k.committed ∙ h.committed;
   mode = k.mode;
@@ -46,7 +46,7 @@ changes_to a b f g same h = record {
   contents = same;
   theirs = h.theirs;
   unshown = h.unshown;
-  ours = h.ours;
+  of_store = h.of_store;
   further = h.further;
   committed = h.committed;
   mode = h.mode;
@@ -66,7 +66,7 @@ changes_none s under is_open = record {
   contents = refl;
   theirs = all_of (λ (t : Table). is_our_name t.name ≡ false → s.now.trees t.tree ≡ s.now.trees t.tree) (λ t other. refl) s.now.schema.tables;
   unshown = λ tree hidden. refl;
-  ours = under.ours is_open;
+  of_store = under.of_store is_open;
   further = (λ present. present, (λ present. present, tt));
   committed = refl;
   mode = under.mode;
@@ -75,7 +75,7 @@ changes_none s under is_open = record {
 
 -- after a change the transaction goes on
 pub under_after : (a b : State) (f : Contents → Contents) → Changes a b f → IsUnderWay b
-under_after a b f h = record { ours = λ _. h.ours; mode = h.mode }
+under_after a b f h = record { of_store = λ _. h.of_store; mode = h.mode }
 
 -- what was changed and then failed keeps the last commit
 pub keeps_after : (a b c : State) (f : Contents → Contents) → Changes a b f → KeepsCommit b c → KeepsCommit a c
@@ -85,7 +85,7 @@ keeps_after a b c f h k = record { was_open = λ _. h.was_open; committed = λ i
 pub ready_after : (a b : State) → (IsTrue a.is_open → IsReady a) → KeepsShown a b → IsTrue b.is_open → IsReady b
 ready_after a b ready h is_open =
     let was = ready (h.was_open is_open) in
-    record { ours = subst IsStoreDatabase (sym (h.now is_open)) was.ours; settled = h.now is_open ∙ was.settled ∙ sym (h.committed is_open) }
+    record { of_store = subst IsStoreDatabase (sym (h.now is_open)) was.of_store; settled = h.now is_open ∙ was.settled ∙ sym (h.committed is_open) }
 
 -- two reads in a row
 pub shown_then : (a b c : State) → KeepsShown a b → KeepsShown b c → KeepsShown a c
@@ -98,7 +98,7 @@ shown_then a b c h k = record {
 -- ---- what a crash leaves of a commit
 
 leaves_now : (d : Database) (db : Trees) → db ≡ d.trees → Leaves d db (contents_of d)
-leaves_now d db is = subst (λ (trees : Trees). Leaves d trees (contents_of d)) (sym is) (record { ours = refl; theirs = all_of (λ (t : Table). is_our_name t.name ≡ false → d.trees t.tree ≡ d.trees t.tree) (λ t other. refl) d.schema.tables; frozen = record { rows = λ tree is. refl; texts = λ row present foreign. present; version = refl } })
+leaves_now d db is = subst (λ (trees : Trees). Leaves d trees (contents_of d)) (sym is) (record { of_store = refl; theirs = all_of (λ (t : Table). is_our_name t.name ≡ false → d.trees t.tree ≡ d.trees t.tree) (λ t other. refl) d.schema.tables; frozen = record { rows = λ tree is. refl; texts = λ row present foreign. present; version = refl } })
 
 pub leaves_by : (old new : State) → Survives old new (λ db. db ≡ old.now.trees) → Survives old new (λ db. Leaves old.now db (contents_of old.now))
 leaves_by old new h = survives_weaker old new _ _ (λ clean db is. leaves_now old.now db is) h
@@ -108,7 +108,7 @@ leaves_by old new h = survives_weaker old new _ _ (λ clean db is. leaves_now ol
 -- what a crash leaves of the changed tables, seen from those before the change
 pub leaves_from : (a b : State) (f : Contents → Contents) (db : Trees) → IsDatabase a.now → Changes a b f → Leaves b.now db (contents_of b.now) → Leaves a.now db (f (contents_of a.now))
 leaves_from a b f db sound h l = record {
-  ours = subst (λ (s : Schema). contents_of (record a.now { schema = s; trees = db }) ≡ f (contents_of a.now)) h.schema (l.ours ∙ h.contents);
+  of_store = subst (λ (s : Schema). contents_of (record a.now { schema = s; trees = db }) ≡ f (contents_of a.now)) h.schema (l.of_store ∙ h.contents);
   theirs = theirs_then a.now b.now (record a.now { trees = db }) h.schema h.theirs l.theirs;
   frozen = frozen_next a.now b.now db h.schema (frozen_of a.now b.now.trees sound h.unshown) l.frozen;
 }
@@ -126,4 +126,4 @@ pub survives_whole : (a b c : State) (f : Contents → Contents) → (HasCleanDi
 survives_whole a b c f under h before after = survives_then a b c (λ _. ⊥) _ (λ db. IsTrue a.is_open × LeavesRows a.now db (f (contents_of a.now))) (λ clean db none. absurd none) (λ clean db is.
     let clean_b = clean_before b c _ after clean in
     let changes = h clean_b in
-    (changes.was_open, rows_left a b f db ((under (clean_before a b _ before clean_b)).ours changes.was_open).sound changes is)) before after
+    (changes.was_open, rows_left a b f db ((under (clean_before a b _ before clean_b)).of_store changes.was_open).sound changes is)) before after

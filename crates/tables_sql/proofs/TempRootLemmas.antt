@@ -40,13 +40,13 @@ table = record {
   entry = kept_of;
   IsIn = λ s. IsIntact s temp_root;
   IsOwn = λ db. HasFurther db temp_root;
-  within = λ db ours mine. mine.exists;
+  within = λ db of_store mine. mine.exists;
   of = λ c. c.temp_roots;
   put = λ c m. record c { temp_roots = m };
   held = temp_roots_held;
   named = refl;
   exists = λ s here. here;
-  keyed = λ db ours mine. mine.keyed;
+  keyed = λ db of_store mine. mine.keyed;
   kept = temp_root_kept;
   written = λ old new rows has here sets m is. temp_roots_set old new has rows here sets m is;
   still = λ old new rows exists sets keyed readable mine. further_kept temp_root old new rows exists sets keyed readable temp_root mine;

@@ -1,4 +1,4 @@
--- Why the tests of our tables at opening fail, one query after another, and how they leave the connection.
+-- Why the tests of the store's tables at opening fail, one query after another, and how they leave the connection.
 use Rattle.std.proofs.Common.{◌≡◌, ◌⊎◌, ℕ, List, [], inl, inr, Result, Ok, Err, IsErrAnd, IfErr, sym, subst, ◌∙◌, arith}
 use Rattle.std.specs.Prelude.{IsSome}
 use Rattle.sqlite.specs.declared.error.Error.{Error}

@@ -1,4 +1,4 @@
--- That the rows of our tables are of the types of their columns, as a database that obeys its schema has them.
+-- That the rows of the store's tables are of the types of their columns, as a database that obeys its schema has them.
 use Rattle.std.proofs.Common.{◌≡◌, ℕ, suc, ◌+◌, List, [], ◌∷◌, Bool, true, false, not, ◌||◌, ap, subst, ◌∙◌, refl, drop, arith}
 use Rattle.std.specs.List.{AllByRecursion, list_all}
 use Rattle.std.specs.Prelude.{None, if◌then◌else◌}
@@ -98,7 +98,7 @@ are_of (c ∷ cs) at row [] same strict h present =
 are_of (c ∷ cs) at row (v ∷ vs) same strict h present =
     (value c at row (v ∷ vs) same (suited c.is_strict (is_of c.kind v) (has_affinity c.kind v) (and_so _ _ strict).0 (and_so _ _ h).0) (and_so _ _ present).0, are_of cs (at + 1) row vs (λ i. next at row (v ∷ vs) same i) (and_so _ _ strict).1 (and_so _ _ h).1 (and_so _ _ present).1)
 
--- what each row of a table of ours passes
+-- what each row of a table of the store passes
 module _ (db : Database) (sound : IsDatabase db) (table : Table) (exists : IsIntact db.schema table) (row : Row) (present : Has (rows_named db table.name) row) where
   abbrev own : Table
   own = record table { tree = tree_named db.schema table.name }
@@ -109,7 +109,7 @@ module _ (db : Database) (sound : IsDatabase db) (table : Table) (exists : IsInt
   has_values : are_present own.key 0 own.columns row ≡ true
   has_values = all_has (λ r. passes NotNull db.schema db.trees own r ≡ true) (db.trees own.tree) row (all-slice_get (λ t. AllByRecursion (λ r. passes NotNull db.schema db.trees t r ≡ true) (db.trees t.tree)) db.schema.tables exists.at own exists.known.named.1 (sound.obeys.rules NotNull)) present
 
--- each row of a table of ours is as its columns ask
+-- each row of a table of the store is as its columns ask
 typed : (db : Database) → IsDatabase db → (name : List ℕ) (columns : List Column) (key : List ℕ) → list_all (λ c. c.is_strict) columns ≡ true → IsIntact db.schema (strict name columns key) → (row : Row) → Has (rows_named db name) row → AreOf 1 columns row
 typed db sound name columns key all exists row present =
     let table = strict name columns key in

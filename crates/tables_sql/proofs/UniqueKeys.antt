@@ -1,4 +1,4 @@
--- That no two rows of a table of ours have one key, as a database that obeys its schema has them.
+-- That no two rows of a table of the store have one key, as a database that obeys its schema has them.
 use Rattle.std.proofs.Common.{◌≡◌, ℕ, List, [], ◌∷◌, Bool, true, false, not, ◌&&◌, IsTrue, refl, sym, ap, ◌∙◌, arith}
 use Rattle.std.proofs.lemmas.Bool.Decides.{nat_tests}
 use Rattle.std.specs.declared.cmp.Ordering.{Ordering}

@@ -1,4 +1,4 @@
--- Why a write of our own fails inside a transaction: only the store, and what may refuse this one command.
+-- Why a write of the store's own fails inside a transaction: only the store, and what may refuse this one command.
 use Rattle.std.proofs.Common.{◌≡◌, ◌≢◌, ◌⊎◌, inl, inr, ℕ, List, [], Bool, true, false, Result, Ok, Err, Some, None, Option, length, append-nil, ◌||◌, sym, ap, subst, ◌∙◌, refl, IsTrue}
 use Rattle.std.specs.Prelude.{MatchBool, ◌≤◌, IfErr, IsSome}
 use Rattle.std.proofs.lemmas.Bool.{both_ways, leb-true}
@@ -134,7 +134,7 @@ module _ (old new : State) (text : List ℕ) (params : Row) (command : Command) 
       let it = h.0 in
       absurd (stays_inside old command writes (subst (Escapes 0 old) (subst (λ (k : Compiled). k.command ≡ command) (same_compiled live it.0 it.1.is) (known live).command_is) it.2))
 
--- a write to a table of ours, wherever it stands
+-- a write to a table of the store, wherever it stands
 pub our_write_fails : (name : List ℕ) (columns : List Column) (key : List ℕ) (old new : State) → (IsTrue old.is_open → IsIntact old.now.schema (strict name columns key))
     → (text : List ℕ) (count : ℕ) (params : Row) (command : ℕ → ℕ → Command) → ((at tree : ℕ) → changes (command at tree) ≡ true) → length params ≡ count → Compiles name columns key text count command
     → (large refused : Type 0)

@@ -38,7 +38,7 @@ use Rattle.tables_sql.proofs.Truths.{and_so}
 use Rattle.std.proofs.lemmas.Bool.{ne_eqb}
 use Rattle.tables_sql.proofs.KeptRules.{parent_off}
 
--- inside a transaction: one table has these rows, and each other table, ours or theirs, has those that it had
+-- inside a transaction: one table has these rows, and each other table, the store's or a foreign one, has those that it had
 pub record SetsRows (old new : State) (tree : ℕ) (rows : List Row) : Type 0 where
   pub was_open : IsTrue old.is_open
   pub is_open : IsTrue new.is_open

@@ -44,7 +44,7 @@ pub record HasFurther (db : Database) (t : Table) : Type 0 where
 
 -- all eleven tables are there, with the same of the rows of each
 pub record IsWhole (db : Database) : Type 0 where
-  pub ours : IsStoreDatabase db
+  pub of_store : IsStoreDatabase db
   pub pieces : HasFurther db piece
   pub temp_roots : HasFurther db temp_root
 
@@ -54,12 +54,12 @@ KeepsFurther old new = AllByRecursion (λ t. HasFurther old t → HasFurther new
 
 -- what the connection shows are the store's tables, as the last commit left them
 pub record IsReady (s : State) : Type 0 where
-  pub ours : IsStoreDatabase s.now
+  pub of_store : IsStoreDatabase s.now
   pub settled : s.now ≡ s.committed
 
 -- A transaction is under way over the store's tables, unless a fault has shut the connection.
 pub record IsUnderWay (s : State) : Type 0 where
-  pub ours : IsTrue s.is_open → IsStoreDatabase s.now
+  pub of_store : IsTrue s.is_open → IsStoreDatabase s.now
   pub mode : s.in_transaction ≡ true
 
 -- each table with a name that is none of the store's has the rows that it had
@@ -67,10 +67,10 @@ abbrev pub KeepsTheirs : Database → Database → Type 0
 KeepsTheirs old new =
     AllByRecursion (λ t. is_our_name t.name ≡ false → new.trees t.tree ≡ old.trees t.tree) old.schema.tables
 
--- what a crash may leave, or a commit: the store's tables hold this, each other table has the rows that it had, and what the
--- schema doesn't show is kept
+-- what a crash may leave, or a commit: the store's tables hold this, each other table has the rows that it had, and what
+-- the schema doesn't show is kept
 pub record Leaves (old : Database) (left : Remains) (contents : Contents) : Type 0 where
-  pub ours : contents_of (after_crash old left) ≡ contents
+  pub of_store : contents_of (after_crash old left) ≡ contents
   pub theirs : KeepsTheirs old (after_crash old left)
   pub frozen : SparesFrozen old (after_crash old left)
 
@@ -80,8 +80,8 @@ pub record LeavesRows (old : Database) (left : Remains) (contents : Contents) : 
   pub rows : Leaves old left contents
   pub listed : left catalog_tree ≡ old.trees catalog_tree
 
--- Inside a transaction, which goes on: the store's tables hold what the change makes of what they held, each other table has
--- the rows that it had, what the schema doesn't show is as it was, and so are the savepoints.
+-- Inside a transaction, which goes on: the store's tables hold what the change makes of what they held, each other table
+-- has the rows that it had, what the schema doesn't show is as it was, and so are the savepoints.
 pub record Changes (old new : State) (change : Contents → Contents) : Type 0 where
   pub was_open : IsTrue old.is_open
   pub is_open : IsTrue new.is_open
@@ -89,7 +89,7 @@ pub record Changes (old new : State) (change : Contents → Contents) : Type 0 w
   pub contents : contents_of new.now ≡ change (contents_of old.now)
   pub theirs : KeepsTheirs old.now new.now
   pub unshown : SparesUnshown old.now new.now
-  pub ours : IsStoreDatabase new.now
+  pub of_store : IsStoreDatabase new.now
   pub further : KeepsFurther old.now new.now
   pub committed : new.committed ≡ old.committed
   pub mode : new.in_transaction ≡ true

@@ -1,4 +1,4 @@
--- What our tables tell of one path.
+-- What the store's tables report of one path.
 use Rattle.std.proofs.Common.{◌≡◌, ℕ, List, [], ◌++◌, map, ◌&&◌, refl, ap, ◌∙◌}
 use Rattle.std.specs.Prelude.{ℤ}
 use Rattle.std.specs.List.{filter}

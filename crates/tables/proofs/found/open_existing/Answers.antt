@@ -13,7 +13,7 @@ over-requires g c =
     let a = state g.S.Store c.args.conn in
     let b = state g.S.Store c.read_as.new.conn in
     agreed g.S.Store c.read_as.new.conn a.now c.in-Ok.loaded.dir c.in-Ok.loaded.outline (λ clean. (c.in-Ok.ensures.unchanged clean).0.now_is) c.in-Ok.ensures.reported
-    (λ clean. let early = clean_before a b _ c.read_as.ensures.survives clean in whole_by a.now (c.requires.ready early).ours (c.requires.found early).further) c.read_as.ensures.alone c.read_as.ensures.ready
+    (λ clean. let early = clean_before a b _ c.read_as.ensures.survives clean in whole_by a.now (c.requires.ready early).of_store (c.requires.found early).further) c.read_as.ensures.alone c.read_as.ensures.ready
 
 pub returns-in-Ok-clause-opens : goal.returns-in-Ok-clause-opens
 returns-in-Ok-clause-opens g c =
