@@ -14,6 +14,10 @@ use Rattle.paths.specs.Names.{begins, is_dots, is_store_byte, is_store_name, is_
 use Rattle.paths.specs.Base32.{value_of, digits, all_digits}
 use Rattle.paths.specs.StorePath.{base_of, is_base_name, full_path}
 use Rattle.paths.proofs.PathText.{base_of-below}
+use Rattle.paths.specs.declared.store_path.StorePathError.{StorePathError}
+use Rattle.paths.specs.declared.store_path.StorePathError.TheVariants as path
+use Rattle.drv.specs.Answer.{Fails}
+use Rattle.drv.specs.Faults.{path_fault}
 use Rattle.drv.specs.Reading.{base_in, name_in}
 
 -- ---- ASCII
@@ -143,6 +147,11 @@ base_not_base dir text h =
     let found = base_takes dir text base e in
     let below : base_of dir text ≡ base = ap (base_of dir) (found.1 ∙ full_path_is dir base) ∙ base_of-below dir base in
     both_ways (is_base_name base) (ap is_base_name (sym below) ∙ h) found.0)
+
+-- a text that a parser of paths refuses
+pub base_fails : (dir bytes text : List ℕ) (fault : StorePathError) → text ≡ bytes → (fault ≡ path.BadStorePath → is_base_name (base_of dir text) ≡ false) → Fails (path_fault fault) (base_in dir bytes)
+base_fails dir bytes text path.BadStorePath same bad = base_not_base dir bytes (ap (λ t. is_base_name (base_of dir t)) (sym same) ∙ bad refl)
+base_fails dir bytes text path.Memory same bad = tt
 
 slash_no_base : (text : List ℕ) → is_base_name (47 ∷ text) ≡ true → ⊥
 unfolding value_of

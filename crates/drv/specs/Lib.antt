@@ -1,5 +1,6 @@
 pub mod Answer
 pub mod Derivation
+pub mod Faults
 pub mod Laws
 pub mod Outcome
 pub mod Reading

@@ -1,8 +1,10 @@
 //! Why a text gives no outputs.
 
 ghost use Rattle.std.specs.Prelude.{◌≡◌};
+ghost use Rattle.drv.specs.Faults.{name_fault, path_fault};
 ghost use Rattle.drv.specs.declared.error.DrvError.TheVariants.{Memory as memory};
 
+use paths::{NameError, StorePathError};
 use std::alloc::{AllocError, AllocFailed};
 use thiserror::Error;
 
@@ -33,5 +35,27 @@ impl<T: Drop> From<AllocFailed<T>> for DrvError {
 
     fn from(_e: AllocFailed<T>) -> DrvError {
         DrvError::Memory
+    }
+}
+
+impl From<NameError> for DrvError {
+    ghost from_gives = { λ fault e. e ≡ name_fault fault };
+
+    fn from(fault: NameError) -> DrvError {
+        match fault {
+            NameError::BadStoreName => DrvError::BadDerivation,
+            NameError::Memory => DrvError::Memory,
+        }
+    }
+}
+
+impl From<StorePathError> for DrvError {
+    ghost from_gives = { λ fault e. e ≡ path_fault fault };
+
+    fn from(fault: StorePathError) -> DrvError {
+        match fault {
+            StorePathError::BadStorePath => DrvError::BadDerivation,
+            StorePathError::Memory => DrvError::Memory,
+        }
     }
 }

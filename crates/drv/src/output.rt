@@ -9,7 +9,7 @@ ghost use Rattle.drv.specs.View.{view};
 use crate::error::DrvError;
 use crate::skipping::skip_hash;
 use crate::string::{after, string_of};
-use paths::{Name, NameError, StoreDir, StorePath, StorePathError};
+use paths::{Name, StoreDir, StorePath};
 use std::alloc::Global;
 
 /// An output: its name, and its path if it has one.
@@ -26,11 +26,8 @@ fn name_in(alloc: Global, bytes: Vec<u8>) -> Result<String, DrvError>
     let Ok(name) = String::from_utf8(bytes) else {
         return Err(DrvError::BadDerivation);
     };
-    match Name::parse(alloc, name.as_str()) {
-        Ok(_) => Ok(name),
-        Err(NameError::BadStoreName) => Err(DrvError::BadDerivation),
-        Err(NameError::Memory) => Err(DrvError::Memory),
-    }
+    Name::parse(alloc, name.as_str())?;
+    Ok(name)
 }
 
 /// The path of an output's base name, where some bytes are its full path in the store directory.
@@ -43,11 +40,7 @@ fn base_in(alloc: Global, bytes: &[u8], dir: &StoreDir) -> Result<StorePath, Drv
     let Ok(text) = str::from_utf8(bytes) else {
         return Err(DrvError::BadDerivation);
     };
-    match StorePath::parse(alloc, dir, text) {
-        Ok(path) => Ok(path),
-        Err(StorePathError::BadStorePath) => Err(DrvError::BadDerivation),
-        Err(StorePathError::Memory) => Err(DrvError::Memory),
-    }
+    Ok(StorePath::parse(alloc, dir, text)?)
 }
 
 /// The path that some bytes are, or none if there are no bytes.

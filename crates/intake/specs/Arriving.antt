@@ -14,8 +14,8 @@ abbrev pub MayHold : Option Sha256 → List ℕ → Type 0
 MayHold None bytes = ⊤
 MayHold (Some hasher) bytes = Holds256 hasher bytes
 
--- The checker has received these bytes, and was refused no memory. Of them each whole piece is hashed, and what it has of a
--- file's contents, where they are asked for.
+-- The checker has received these bytes, and was refused no memory. Of them each whole piece is hashed, and what it has
+-- of a file's contents, where they are asked for.
 pub record HasAccepted (checker : Checker) (hasher : Sha256) (contents : Option Sha256) (bytes : List ℕ) : Type 0 where
   pub fed : HasBeenFed checker bytes
   pub sound : ¬ HasFailed checker Memory

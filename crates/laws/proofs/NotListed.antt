@@ -120,7 +120,7 @@ module _ (dir : List ℕ) (w : World) (sound : IsSound dir w) where
     generation_ = λ o p n t e g other run l. apart_bytes 112 103 refl (ap first_byte l);
     runtime_ = λ pair h other run l. run refl;
     temporary_ = λ t h other run l. apart_bytes 123 103 refl (ap first_byte l);
-  }) r b.stood b.other
+  }) r b.existed b.other
 
   pub user_free : (owner name : List ℕ) → (r : Root) → CoexistedWith w user (user_label owner name) r → (r.kind ≡ runtime → ⊥) → r.label ≡ user_label owner name → ⊥
   user_free owner name r b = every (λ x. (x.kind ≡ user → x.label ≡ user_label owner name → ⊥) → (x.kind ≡ runtime → ⊥) → x.label ≡ user_label owner name → ⊥) w (record {
@@ -130,7 +130,7 @@ module _ (dir : List ℕ) (w : World) (sound : IsSound dir w) where
     generation_ = λ o p n t e g other run l. apart_bytes 112 103 refl (ap first_byte l);
     runtime_ = λ pair h other run l. run refl;
     temporary_ = λ t h other run l. apart_bytes 123 103 refl (ap first_byte l);
-  }) r b.stood b.other
+  }) r b.existed b.other
 
   pub generation_free : (owner name : List ℕ) (n : ℕ) → (r : Root) → CoexistedWith w profile (generation_label owner name n) r → (r.kind ≡ runtime → ⊥) → r.label ≡ generation_label owner name n → ⊥
   generation_free owner name n r b = every (λ x. (x.kind ≡ profile → x.label ≡ generation_label owner name n → ⊥) → (x.kind ≡ runtime → ⊥) → x.label ≡ generation_label owner name n → ⊥) w (record {
@@ -139,7 +139,7 @@ module _ (dir : List ℕ) (w : World) (sound : IsSound dir w) where
     generation_ = λ o p m t e g other run l. other refl l;
     runtime_ = λ pair h other run l. run refl;
     temporary_ = λ t h other run l. apart_bytes 123 112 refl (ap first_byte l);
-  }) r b.stood b.other
+  }) r b.existed b.other
 
 pub dropped_labels_are_not_told : DroppedLabelsAreNotListed
 dropped_labels_are_not_told s w c mid next sound = record {

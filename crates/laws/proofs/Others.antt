@@ -104,14 +104,14 @@ module _ (w new : World) (owned : Pair) (n : ℕ) (h : LosesGeneration w owned n
   }
     where
       exists : (name : List ℕ) → ((owner, name) ≡ owned) ⊎ ((owner, name) ≡ owned → ⊥) → finite.contains_key new.profiles (owner, name) ≡ finite.contains_key w.profiles (owner, name)
-      exists name (inl is) = ap (λ k. finite.contains_key new.profiles k) is ∙ ap is_some h.change.exists ∙ sym (ap is_some h.stood) ∙ ap (λ k. finite.contains_key w.profiles k) (sym is)
+      exists name (inl is) = ap (λ k. finite.contains_key new.profiles k) is ∙ ap is_some h.change.exists ∙ sym (ap is_some h.existed) ∙ ap (λ k. finite.contains_key w.profiles k) (sym is)
       exists name (inr other) = ap is_some (h.change.others (owner, name) other)
 
       before : (name : List ℕ) (now : Profile) → finite.get new.profiles (owner, name) ≡ Some now → ((owner, name) ≡ owned) ⊎ ((owner, name) ≡ owned → ⊥)
           → (was : Profile) × (finite.get w.profiles (owner, name) ≡ Some was) × HasNoMore was now
       before name now e (inl is) = (
         h.was,
-        ap (λ k. finite.get w.profiles k) is ∙ h.stood,
+        ap (λ k. finite.get w.profiles k) is ∙ h.existed,
         subst (λ (x : Profile). HasNoMore h.was x) (same_Some h.now now (sym h.change.exists ∙ ap (λ k. finite.get new.profiles k) (sym is) ∙ e)) no_more,
       )
       before name now e (inr other) = (now, sym (h.change.others (owner, name) other) ∙ e, record { current = refl; current_target = refl; generations = λ m t g. g })

@@ -21,7 +21,7 @@ use Rattle.model.specs.Effects.{with_object, effect}
 use Rattle.model.specs.Step.{Step}
 use Rattle.model.specs.Soundness.{IsWellFormed}
 use Rattle.laws.specs.Changes.{with_import, IsAsSubmitted}
-use Rattle.laws.specs.Planting.{Came, stood, addressed, imported, NobodyPlantsInRuns}
+use Rattle.laws.specs.Planting.{Came, existed, addressed, imported, NobodyPlantsInRuns}
 use Rattle.model.proofs.MapMembers.{bytes_antisymmetric, inserted_entry}
 use Rattle.model.proofs.Limited.{leaves}
 use Rattle.laws.proofs.Adding.{import_as_handed_in}
@@ -83,17 +83,17 @@ module _ (s : Settings) (w : World) (c : Caller) (q : Request) (calls : List (Ca
 
   came : (reply : Reply) (new : World) → Step s w c q reply new → IsWellFormed q → IsSound s.store_dir w → (p : Path) (o : Object) → finite.get new.objects p ≡ Some o → Came s w ((c, q) ∷ calls) p o
   came reply new step formed sound p o e = elim (cases_Bool (has w p)) as (λ _. Came s w ((c, q) ∷ calls) p o) [
-    | inl present ↦ stood (sym (nothing_replaced s w c q reply new step p present (ap is_some e)) ∙ e)
+    | inl present ↦ existed (sym (nothing_replaced s w c q reply new step p present (ap is_some e)) ∙ e)
     | inr fresh ↦ came_new reply new step formed sound p o fresh e
   ]
 
 pub nobody_plants_in_runs : NobodyPlantsInRuns
-nobody_plants_in_runs s w [] [] new h formed sound p o e = stood (ap (λ (u : World). finite.get u.objects p) (sym h) ∙ e)
+nobody_plants_in_runs s w [] [] new h formed sound p o e = existed (ap (λ (u : World). finite.get u.objects p) (sym h) ∙ e)
 nobody_plants_in_runs s w (call ∷ calls) (reply ∷ replies) new h formed sound p o e =
     by (nobody_plants_in_runs s h.0 calls replies new h.2 formed.1 (keeps_sound s w call.0 call.1 reply h.0 h.1 formed.0 sound) p o e)
   where
     by : Came s h.0 calls p o → Came s w (call ∷ calls) p o
-    by (stood f) = came s w call.0 call.1 calls reply h.0 h.1 formed.0 sound p o f
+    by (existed f) = came s w call.0 call.1 calls reply h.0 h.1 formed.0 sound p o f
     by (addressed a f v) = addressed a f v
     by (imported c i listed trusted at as_given) = imported c i (behind call (c, import_object i) calls listed) trusted at as_given
 nobody_plants_in_runs s w [] (reply ∷ replies) new h formed sound p o e = absurd h

@@ -29,9 +29,9 @@ change w owned now = record {
   temporary = refl;
 }
 
-stood : (o : Option Profile) → IsTrue (is_some o) → o ≡ Some (profile_or_new o)
-stood None h = absurd (false≢true h)
-stood (Some p) h = refl
+existed : (o : Option Profile) → IsTrue (is_some o) → o ≡ Some (profile_or_new o)
+existed None h = absurd (false≢true h)
+existed (Some p) h = refl
 
 -- ---- a path is set
 
@@ -73,7 +73,7 @@ sets s w c owner name t a new h =
 moves : (w : World) (owned : Pair) (n : ℕ) → IsTrue (has_profile w owned) → IsTrue (has_generation (profile_at w owned) n) → MovesTo w owned n (with_profile w owned (switched (profile_at w owned) n))
 moves w owned n h present = record {
   was = profile_at w owned;
-  stood = stood (finite.get w.profiles owned) h;
+  existed = existed (finite.get w.profiles owned) h;
   present = present;
   now = switched (profile_at w owned) n;
   change = change w owned (switched (profile_at w owned) n);
@@ -118,7 +118,7 @@ deletes_generations s w c owner name n a new h = (
   h.2,
   subst (λ (u : World). LosesGeneration w (owner, name) n u) (sym h.3) (record {
     was = profile_at w (owner, name);
-    stood = stood (finite.get w.profiles (owner, name)) (met (has_profile w (owner, name)) _ (each_passed (tests s w (delete_generation owner name n)) h.1 _ (1, omega arith, refl)));
+    existed = existed (finite.get w.profiles (owner, name)) (met (has_profile w (owner, name)) _ (each_passed (tests s w (delete_generation owner name n)) h.1 _ (1, omega arith, refl)));
     present = met (has_generation (profile_at w (owner, name)) n) _ (each_passed (tests s w (delete_generation owner name n)) h.1 _ (2, omega arith, refl));
     not_current = differs (profile_at w (owner, name)).current n (met (not ((profile_at w (owner, name)).current == n)) _ (each_passed (tests s w (delete_generation owner name n)) h.1 _ (3, omega arith, refl)));
     now = without_generation (profile_at w (owner, name)) n;

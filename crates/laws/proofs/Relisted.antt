@@ -53,10 +53,10 @@ module _ (w new : World) (name : List ℕ) (k : ChangesPermanent w new name) whe
     temporary_ = λ _. k.temporary;
   }
 
-  -- one of another name stood
-  stood : (n : List ℕ) (t : Path) → (n ≡ name → ⊥) → finite.get new.permanent n ≡ Some t → CoexistedWith w permanent (permanent_label name) (permanent_root (n, t))
-  stood n t apart e = record {
-    stood = (each_root w).permanent n t (sym (k.others n apart) ∙ e);
+  -- one of another name existed
+  existed : (n : List ℕ) (t : Path) → (n ≡ name → ⊥) → finite.get new.permanent n ≡ Some t → CoexistedWith w permanent (permanent_label name) (permanent_root (n, t))
+  existed n t apart e = record {
+    existed = (each_root w).permanent n t (sym (k.others n apart) ∙ e);
     other = λ _ l. apart (same_permanent n name l);
   }
 
@@ -64,8 +64,8 @@ module _ (w new : World) (name : List ℕ) (k : ChangesPermanent w new name) whe
   exists : (r : Root) → CoexistedWith w permanent (permanent_label name) r → Contains (roots_of new) r
   exists r s = of_kind permanent (Contains (roots_of new)) r
       (λ is. permanents w (λ x. (x.label ≡ permanent_label name → ⊥) → Contains (roots_of new) x)
-      (λ n t e f. (each_root new).permanent n t (k.others n (λ same. f (ap permanent_label same)) ∙ e)) r s.stood is (s.other is))
-      (λ f. moved permanent w new (turned permanent new w agree) r f s.stood)
+      (λ n t e f. (each_root new).permanent n t (k.others n (λ same. f (ap permanent_label same)) ∙ e)) r s.existed is (s.other is))
+      (λ f. moved permanent w new (turned permanent new w agree) r f s.existed)
 
   -- so the roots are those, and one of this name if there is
   pub permanent_roots : (P : Root → Type 0) → ((r : Root) → CoexistedWith w permanent (permanent_label name) r → P r)
@@ -76,7 +76,7 @@ module _ (w new : World) (name : List ℕ) (k : ChangesPermanent w new name) whe
     where
       by : (n : List ℕ) (t : Path) → finite.get new.permanent n ≡ Some t → (n ≡ name) ⊎ (n ≡ name → ⊥) → P (permanent_root (n, t))
       by n t e (inl same) = subst (λ (m : List ℕ). P (permanent_root (m, t))) (sym same) (here t (ap (finite.get new.permanent) (sym same) ∙ e))
-      by n t e (inr apart) = f (permanent_root (n, t)) (stood n t apart e)
+      by n t e (inr apart) = f (permanent_root (n, t)) (existed n t apart e)
 
   pub permanent_gone : finite.contains_key new.permanent name ≡ false → (r : Root) → Contains (roots_of new) r ↔ CoexistedWith w permanent (permanent_label name) r
   permanent_gone gone r = (
@@ -109,7 +109,7 @@ module _ (dir : List ℕ) (w new : World) (sound : IsSound dir w) (owner name : 
 
   stood_user : (o : Pair) (t : Path) → (o ≡ (owner, name) → ⊥) → finite.get new.user_roots o ≡ Some t → CoexistedWith w user (user_label owner name) (user_root (o, t))
   stood_user o t apart e = record {
-    stood = (each_root w).user o t (sym (k.others o apart) ∙ e);
+    existed = (each_root w).user o t (sym (k.others o apart) ∙ e);
     other = λ _ l.
         let both = same_user o.0 owner o.1 name (sound.user_root_owner o (ap is_some (sym (k.others o apart) ∙ e))) plain l in
         apart (λ i. (both.0 i, both.1 i));
@@ -118,8 +118,8 @@ module _ (dir : List ℕ) (w new : World) (sound : IsSound dir w) (owner name : 
   stands_user : (r : Root) → CoexistedWith w user (user_label owner name) r → Contains (roots_of new) r
   stands_user r s = of_kind user (Contains (roots_of new)) r
       (λ is. users w (λ x. (x.label ≡ user_label owner name → ⊥) → Contains (roots_of new) x)
-      (λ o t e f. (each_root new).user o t (k.others o (λ same. f (ap (λ (x : Pair). user_label x.0 x.1) same)) ∙ e)) r s.stood is (s.other is))
-      (λ f. moved user w new (turned user new w agree_users) r f s.stood)
+      (λ o t e f. (each_root new).user o t (k.others o (λ same. f (ap (λ (x : Pair). user_label x.0 x.1) same)) ∙ e)) r s.existed is (s.other is))
+      (λ f. moved user w new (turned user new w agree_users) r f s.existed)
 
   user_roots_now : (P : Root → Type 0) → ((r : Root) → CoexistedWith w user (user_label owner name) r → P r)
       → ((t : Path) → finite.get new.user_roots (owner, name) ≡ Some t → P (user_root ((owner, name), t))) → (r : Root) → Contains (roots_of new) r → P r

@@ -31,7 +31,7 @@ module _ (w new : World) (owned : Pair) (now : Profile) (k : ChangesProfile w ne
     temporary_ = λ _. k.temporary;
   }
 
-  -- those of the next: roots of other kinds that stood, generations of other profiles that stood, and those of this one as it is now
+  -- those of the next: roots of other kinds that existed, generations of other profiles that existed, and those of this one as it is now
   forward : (P : Root → Type 0) → ((r : Root) → Contains (roots_of w) r → (r.kind ≡ profile → ⊥) → P r)
       → ((o : Pair) (q : Profile) (m : ℕ) (t : Path) → (o ≡ owned → ⊥) → finite.get w.profiles o ≡ Some q → finite.get q.generations m ≡ Some t → P (generation_root o (m, t)))
       → ((m : ℕ) (t : Path) → finite.get now.generations m ≡ Some t → P (generation_root owned (m, t))) → (r : Root) → Contains (roots_of new) r → P r
@@ -110,10 +110,10 @@ module _ (w new : World) (owned : Pair) (p : Path) (a : Answer) (x : SetsProfile
 pub generations_stay : (w new : World) (owned : Pair) (n : ℕ) → MovesTo w owned n new → (r : Root) → Contains (roots_of new) r ↔ Contains (roots_of w) r
 generations_stay w new owned n x r = (
   forward w new owned x.now x.change (Contains (roots_of w)) (λ y c _. c) (λ o q m t _ e g. (each_root w).generation o q m t e g)
-      (λ m t e. (each_root w).generation owned x.was m t x.stood (ap (λ g. finite.get g m) (sym x.generations) ∙ e)) r,
+      (λ m t e. (each_root w).generation owned x.was m t x.existed (ap (λ g. finite.get g m) (sym x.generations) ∙ e)) r,
   backward w new owned x.now x.change (Contains (roots_of new)) (λ y d. d)
       (λ q m t e g. (each_root new).generation owned x.now m t x.change.exists
-      (ap (λ y. finite.get y m) x.generations ∙ ap (λ (y : Profile). finite.get y.generations m) (same_Some x.was q (sym x.stood ∙ e)) ∙ g)) r,
+      (ap (λ y. finite.get y m) x.generations ∙ ap (λ (y : Profile). finite.get y.generations m) (same_Some x.was q (sym x.existed ∙ e)) ∙ g)) r,
 )
 
 -- ---- a generation is deleted
@@ -123,7 +123,7 @@ module _ (dir : List ℕ) (w new : World) (sound : IsSound dir w) (owner name : 
   label_apart : (o : Pair) (q : Profile) (m : ℕ) → finite.get w.profiles o ≡ Some q → IsTrue (has_generation q m) → generation_label o.0 o.1 m ≡ generation_label owner name n
       → (o.0 ≡ owner) × (o.1 ≡ name) × (m ≡ n)
   label_apart o q m e present =
-      let mine = sound.profiles (owner, name) x.was x.stood in
+      let mine = sound.profiles (owner, name) x.was x.existed in
       let theirs = sound.profiles o q e in
       let low : n ≤ 9999 = mine.highest n x.present in
       let small : m ≤ 9999 = theirs.highest m present in
@@ -132,7 +132,7 @@ module _ (dir : List ℕ) (w new : World) (sound : IsSound dir w) (owner name : 
   apart_from : (o : Pair) (q : Profile) (m : ℕ) (t : Path) → finite.get w.profiles o ≡ Some q → finite.get q.generations m ≡ Some t → (o ≡ (owner, name) → m ≡ n → ⊥)
       → CoexistedWith w profile (generation_label owner name n) (generation_root o (m, t))
   apart_from o q m t e g other = record {
-    stood = (each_root w).generation o q m t e g;
+    existed = (each_root w).generation o q m t e g;
     other = λ _ l. let is = label_apart o q m e (ap is_some g) l in other (λ i. (is.0 i, is.1 i)) is.2;
   }
 
@@ -142,12 +142,12 @@ module _ (dir : List ℕ) (w new : World) (sound : IsSound dir w) (owner name : 
         (λ o q m t apart e g. apart_from o q m t e g (λ same _. apart same))
         (λ m t e. left m t e (same_or_not nat_cmp_total nat_antisymmetric m n)) r,
     λ s. backward w new (owner, name) x.now x.change (λ y. (y.kind ≡ profile → y.label ≡ generation_label owner name n → ⊥) → Contains (roots_of new) y) (λ y d _. d)
-        (λ q m t e g other. still m t (ap (λ (y : Profile). finite.get y.generations m) (same_Some x.was q (sym x.stood ∙ e)) ∙ g) (λ same. other refl (ap (generation_label owner name) same))) r s.stood s.other,
+        (λ q m t e g other. still m t (ap (λ (y : Profile). finite.get y.generations m) (same_Some x.was q (sym x.existed ∙ e)) ∙ g) (λ same. other refl (ap (generation_label owner name) same))) r s.existed s.other,
   )
     where
       left : (m : ℕ) (t : Path) → finite.get x.now.generations m ≡ Some t → (m ≡ n) ⊎ (m ≡ n → ⊥) → CoexistedWith w profile (generation_label owner name n) (generation_root (owner, name) (m, t))
       left m t e (inl same) = absurd (false≢true (sym x.gone ∙ ap (λ k. is_some (finite.get x.now.generations k)) (sym same) ∙ ap is_some e))
-      left m t e (inr apart) = apart_from (owner, name) x.was m t x.stood (sym (x.others m apart) ∙ e) (λ _ is. apart is)
+      left m t e (inr apart) = apart_from (owner, name) x.was m t x.existed (sym (x.others m apart) ∙ e) (λ _ is. apart is)
 
       still : (m : ℕ) (t : Path) → finite.get x.was.generations m ≡ Some t → (m ≡ n → ⊥) → Contains (roots_of new) (generation_root (owner, name) (m, t))
       still m t e apart = (each_root new).generation (owner, name) x.now m t x.change.exists (x.others m apart ∙ e)

@@ -93,21 +93,21 @@ module _ (dir : List ℕ) (w new : World) (sound : IsSound dir w) (owner : List 
   unfolding Stays
   forth t h = by (same_or_not nat_list_cmp_total bytes_antisymmetric t.owner owner) (same_or_not nat_cmp_total nat_antisymmetric t.session session)
     where
-      stood : ((t.owner ≡ owner) × (t.session ≡ session) → ⊥) → IsTrue (finite.contains_key w.temporary t)
-      stood apart = sym (k.others t apart) ∙ h
+      existed : ((t.owner ≡ owner) × (t.session ≡ session) → ⊥) → IsTrue (finite.contains_key w.temporary t)
+      existed apart = sym (k.others t apart) ∙ h
 
       by : (t.owner ≡ owner) ⊎ (t.owner ≡ owner → ⊥) → (t.session ≡ session) ⊎ (t.session ≡ session → ⊥) → Stays (temporary_root t)
       by (inl o) (inl n) = absurd (false≢true (sym (k.gone t o n) ∙ h))
       by (inr o) (inl n) = inl (record {
         another = t.owner;
         other = o;
-        keeps = ap (λ (m : ℕ). finite.contains_key w.temporary (record { owner = t.owner; session = m; path = t.path })) (sym n) ∙ stood (λ both. o both.0);
+        keeps = ap (λ (m : ℕ). finite.contains_key w.temporary (record { owner = t.owner; session = m; path = t.path })) (sym n) ∙ existed (λ both. o both.0);
         is = ap (λ (m : ℕ). temporary_root (record { owner = t.owner; session = m; path = t.path })) n;
       })
       by o (inr n) =
-          let was = stood (λ both. n both.1) in
+          let was = existed (λ both. n both.1) in
           inr (record {
-            stood = (each_root w).temporary t was;
+            existed = (each_root w).temporary t was;
             other = λ _ l. n (same_session t.session session (in_bounds t.session (sound.temporary_session t was)) (in_bounds session bounds) l);
           })
 
@@ -122,8 +122,8 @@ module _ (dir : List ℕ) (w new : World) (sound : IsSound dir w) (owner : List 
     λ h. elim h as (λ _. Contains (roots_of new) r) [
       | inl s ↦ subst (Contains (roots_of new)) (sym s.is) ((each_root new).temporary (record { owner = s.another; session = session; path = r.target }) (k.others _ (λ both. s.other both.0) ∙ s.keeps))
       | inr s ↦ of_kind temporary (Contains (roots_of new)) r
-          (λ is. temporaries w (λ x. (x.label ≡ temporary_label session → ⊥) → Contains (roots_of new) x) back r s.stood is (s.other is))
-          (λ apart. moved temporary w new (turned temporary new w (but_temporary w new k.rest)) r apart s.stood)
+          (λ is. temporaries w (λ x. (x.label ≡ temporary_label session → ⊥) → Contains (roots_of new) x) back r s.existed is (s.other is))
+          (λ apart. moved temporary w new (turned temporary new w (but_temporary w new k.rest)) r apart s.existed)
     ],
   )
 

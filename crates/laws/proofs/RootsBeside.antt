@@ -86,7 +86,7 @@ of_kind k P r here present = elim (same_or_not nat_cmp_total nat_antisymmetric (
 ]
 
 pub beside : (w : World) (k : Kind) (label : List ℕ) (r : Root) → Contains (roots_of w) r → (r.kind ≡ k → ⊥) → CoexistedWith w k label r
-beside w k label r c f = record { stood = c; other = λ is l. f is }
+beside w k label r c f = record { existed = c; other = λ is l. f is }
 
 module _ (w : World) (P : Root → Type 0) where
   pub permanents : ((name : List ℕ) (t : Path) → finite.get w.permanent name ≡ Some t → P (permanent_root (name, t))) → (r : Root) → Contains (roots_of w) r → r.kind ≡ permanent → P r

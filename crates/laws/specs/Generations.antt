@@ -55,7 +55,7 @@ SetsAsSpecified = (s : Settings) (w : World) (c : Caller) (owner name : List ℕ
 -- the profile was there, this number is now its current one, and its generations are as they were
 pub record MovesTo (w : World) (owned : Pair) (n : ℕ) (new : World) : Type 0 where
   pub was : Profile
-  pub stood : finite.get w.profiles owned ≡ Some was
+  pub existed : finite.get w.profiles owned ≡ Some was
   pub present : IsTrue (has_generation was n)
   pub now : Profile
   pub change : ChangesProfile w new owned now
@@ -91,7 +91,7 @@ SwitchesAsSpecified = (s : Settings) (w : World) (c : Caller) (owner name : List
 -- were
 pub record LosesGeneration (w : World) (owned : Pair) (n : ℕ) (new : World) : Type 0 where
   pub was : Profile
-  pub stood : finite.get w.profiles owned ≡ Some was
+  pub existed : finite.get w.profiles owned ≡ Some was
   pub present : IsTrue (has_generation was n)
   pub not_current : was.current ≡ n → ⊥
   pub now : Profile

@@ -17,7 +17,7 @@ use Rattle.laws.specs.Changes.{with_import, IsAsSubmitted}
 -- How an object came to its path over some calls from a world: it was there before; or it has a content address, which
 -- verifies for the path, its references and its archive; or a trusted caller imported it there as it is.
 pub data Came (s : Settings) (w : World) (calls : List (Caller × Request)) (p : Path) (o : Object) : Type 0 where
-  stood : finite.get w.objects p ≡ Some o → Came s w calls p o
+  existed : finite.get w.objects p ≡ Some o → Came s w calls p o
   addressed : (a : ContentAddress) → o.ca ≡ Some a → IsTrue (verifies a s.store_dir p (finite.keys o.references) o.nar)
       → Came s w calls p o
   imported : (c : Caller) (i : Imported) → Contains calls (c, import_object i) → IsTrue (is_trusted (class_of s c))

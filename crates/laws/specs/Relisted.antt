@@ -25,7 +25,7 @@ pub record ListsRoots (s : Settings) (w : World) (c : Caller) (Holds : Root → 
 
 -- a root of a world, and not the one of this kind that has this label
 pub record CoexistedWith (w : World) (kind : Kind) (label : List ℕ) (r : Root) : Type 0 where
-  pub stood : Contains (roots_of w) r
+  pub existed : Contains (roots_of w) r
   pub other : r.kind ≡ kind → r.label ≡ label → ⊥
 
 -- the root is that of a pair which was given, and whose target is valid

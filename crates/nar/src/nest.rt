@@ -236,23 +236,15 @@ impl Nest {
         match self.phase {
             Phase::Name => self.accept_name(alloc, text),
             Phase::Under => self.leave(text),
-            Phase::Kind => match kind_phase(text) {
-                Ok(phase) => {
-                    self.phase = phase;
-                    self.last = None;
-                    Ok(())
-                }
-                Err(fault) => Err(fault),
-            },
+            Phase::Kind => {
+                self.phase = kind_phase(text)?;
+                self.last = None;
+                Ok(())
+            }
             phase => {
                 let depth = self.names.len() + 1;
-                match next_phase(phase, depth, text) {
-                    Ok(phase) => {
-                        self.phase = phase;
-                        Ok(())
-                    }
-                    Err(fault) => Err(fault),
-                }
+                self.phase = next_phase(phase, depth, text)?;
+                Ok(())
             }
         }
     }

@@ -8,7 +8,10 @@ use Rattle.nar.specs.Archive.{IsArchive}
 use Rattle.nar.specs.Outcome.{outcome_of}
 use Rattle.paths.specs.declared.content_address.Method.{Method}
 use Rattle.paths.specs.declared.content_address.Method.TheVariants.{Text, Source}
+use Rattle.paths.specs.declared.content_address.CaError.{CaError}
+use Rattle.paths.specs.declared.content_address.CaError.TheVariants.{BadCa, Memory}
 use Rattle.paths.specs.declared.digits.Base32Error.{Base32Error}
+use Rattle.paths.specs.declared.digits.Base32Error.TheVariants as digits
 use Rattle.paths.specs.Names.{begins}
 use Rattle.paths.specs.StorePath.{name_of}
 use Rattle.paths.specs.Base32.{base32, unbase32}
@@ -38,6 +41,11 @@ pub record IsAddressText (ca : ContentAddress) (text : List ℕ) : Type 0 where
 abbrev pub with_method : Method → Result (List ℕ) Base32Error → Option ContentAddress
 with_method method (Ok digest) = Some (record { method = method; digest = digest })
 with_method method (Err e) = None
+
+-- what a fault of the digits says of the text
+abbrev pub digits_fault : Base32Error → CaError
+digits_fault digits.Memory = Memory
+digits_fault _ = BadCa
 
 -- the address that a text is, if it is one
 unfoldable pub address_of : List ℕ → Option ContentAddress

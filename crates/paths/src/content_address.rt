@@ -5,7 +5,7 @@ ghost use Rattle.std.specs.Str.{bytes_eq};
 ghost use Rattle.nar.specs.View.{tree_of};
 ghost use Rattle.nar.specs.Outcome.{outcome_of};
 ghost use Rattle.paths.specs.Base32 as spec;
-ghost use Rattle.paths.specs.ContentAddress.{ContentAddress, address_prefix, address_text, address_of, with_method, text_address, source_address, plain, plain_contents, is_made_of, method_verifies, verifies};
+ghost use Rattle.paths.specs.ContentAddress.{ContentAddress, address_prefix, address_text, address_of, with_method, digits_fault, text_address, source_address, plain, plain_contents, is_made_of, method_verifies, verifies};
 ghost use Rattle.paths.specs.Facts.{facts_of, verifies_by, HasFactsFor};
 
 use crate::computed_path::path_of;
@@ -53,6 +53,17 @@ pub enum CaError {
     /// Memory was refused.
     #[error("memory")]
     Memory,
+}
+
+impl From<Base32Error> for CaError {
+    ghost from_gives = { λ fault e. e ≡ digits_fault fault };
+
+    fn from(fault: Base32Error) -> CaError {
+        match fault {
+            Base32Error::Memory => CaError::Memory,
+            _ => CaError::BadCa,
+        }
+    }
 }
 
 /// Why a content address isn't that of an object.
@@ -110,15 +121,10 @@ impl Ca {
             (λ e. (e ≡ CaError.Memory)
             ⊎ ((e ≡ CaError.BadCa) × (with_method method (spec.unbase32 digits.now 32) ≡ None))) }
     {
-        match unbase32(alloc, digits, 32) {
-            Ok(bytes) => {
-                let mut digest = [0u8; 32];
-                digest.copy_from_slice(bytes.as_slice());
-                Ok(Ca::new(method, digest))
-            }
-            Err(Base32Error::Memory) => Err(CaError::Memory),
-            Err(_) => Err(CaError::BadCa),
-        }
+        let bytes = unbase32(alloc, digits, 32)?;
+        let mut digest = [0u8; 32];
+        digest.copy_from_slice(bytes.as_slice());
+        Ok(Ca::new(method, digest))
     }
 
     /// The address of a text object with these contents.

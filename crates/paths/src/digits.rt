@@ -1,5 +1,6 @@
 //! Nix's base 32.
 ghost use Rattle.std.specs.Prelude.{◌≡◌, ◌≢◌, ◌⊎◌, ◌+◌, ◌*◌, ◌^◌, ◌<◌, ◌≤◌, ◌/◌, ◌%◌, ℕ, nat_lt, length, None, Some, IfOk, IfErr, string_bytes, slice_index, vec_len, replicate, true, false, Err};
+ghost use Rattle.paths.specs.declared.digits.Base32Error.TheVariants.{Memory};
 ghost use Rattle.paths.specs.Base32 as spec;
 ghost use Rattle.paths.specs.Base32.{value_of, number_of, read_after, digit_count, all_digits, Spells};
 
@@ -21,6 +22,14 @@ pub enum Base32Error {
     /// Memory was refused.
     #[error("memory")]
     Memory,
+}
+
+impl From<AllocError> for Base32Error {
+    ghost from_gives = { λ _ e. e ≡ Memory };
+
+    fn from(_: AllocError) -> Base32Error {
+        Base32Error::Memory
+    }
 }
 
 const DIGITS: &[u8; 32] = b"0123456789abcdfghijklmnpqrsvwxyz";
@@ -151,10 +160,7 @@ pub fn unbase32(alloc: Global, text: &str, count: usize) -> Result<Vec<u8>, Base
     if digits.len() != (8 * count + 4) / 5 {
         return Err(Base32Error::BadLength);
     }
-    let mut bytes = match zeros(alloc, count) {
-        Ok(bytes) => bytes,
-        Err(_) => return Err(Base32Error::Memory),
-    };
+    let mut bytes = zeros(alloc, count)?;
     if !append_digits(&mut bytes, digits) {
         return Err(Base32Error::Overflow);
     }

@@ -1,6 +1,7 @@
 //! Store directories.
 ghost use Rattle.std.specs.Prelude.{◌≡◌, ◌==◌, ◌↔◌, List, ℕ, IfOk, string_bytes, true, false};
 ghost use Rattle.std.specs.List.{list_all, slice_split};
+ghost use Rattle.paths.specs.declared.store_dir.StoreDirError.TheVariants.{Memory};
 ghost use Rattle.paths.specs.Names.{is_component, is_store_dir};
 
 use crate::store_name::{all_store_bytes, is_dots};
@@ -62,6 +63,14 @@ pub enum StoreDirError {
     Memory,
 }
 
+impl From<AllocError> for StoreDirError {
+    ghost from_gives = { λ _ e. e ≡ Memory };
+
+    fn from(_: AllocError) -> StoreDirError {
+        StoreDirError::Memory
+    }
+}
+
 impl StoreDir {
     /// The store directory that a text is.
     ///
@@ -82,10 +91,9 @@ impl StoreDir {
         if !is_store_dir(text) {
             return Err(StoreDirError::BadStoreDir);
         }
-        match String::from_str(alloc, text) {
-            Ok(text) => Ok(StoreDir { text }),
-            Err(_) => Err(StoreDirError::Memory),
-        }
+        Ok(StoreDir {
+            text: String::from_str(alloc, text)?,
+        })
     }
 
     /// The text of the directory.

@@ -1,6 +1,7 @@
 //! Store names: what a store path says after its digits.
 ghost use Rattle.std.specs.Prelude.{◌≡◌, ◌↔◌, List, ℕ, IfOk, string_bytes, true, false};
 ghost use Rattle.std.specs.List.{list_all};
+ghost use Rattle.paths.specs.declared.store_name.NameError.TheVariants.{Memory};
 ghost use Rattle.paths.specs.Names.{is_store_byte, is_dots, is_store_name};
 
 use crate::plain_name::is_letter_or_digit;
@@ -72,6 +73,14 @@ pub enum NameError {
     Memory,
 }
 
+impl From<AllocError> for NameError {
+    ghost from_gives = { λ _ e. e ≡ Memory };
+
+    fn from(_: AllocError) -> NameError {
+        NameError::Memory
+    }
+}
+
 impl Name {
     /// The store name that a text is.
     ///
@@ -93,10 +102,8 @@ impl Name {
         if !is_store_name(text.as_bytes()) {
             return Err(NameError::BadStoreName);
         }
-        match String::from_str(alloc, text) {
-            Ok(text) => Ok(Name { text }),
-            Err(_) => Err(NameError::Memory),
-        }
+        let text = String::from_str(alloc, text)?;
+        Ok(Name { text })
     }
 
     /// The text of the name.

@@ -3,6 +3,7 @@ ghost use Rattle.std.specs.Prelude.{◌≡◌, ◌↔◌, List, ℕ, IfOk, strin
 ghost use Rattle.std.specs.Ordering.{nat_cmp};
 ghost use Rattle.std.specs.Cmp.{partial_equiv_from_equiv};
 ghost use Rattle.std.specs.Cmp.Lexicographic.{pointwise, slice_cmp, nat_list_eq_equiv, nat_list_cmp_total, texts_ties, texts_po};
+ghost use Rattle.paths.specs.declared.store_path.StorePathError.TheVariants.{Memory};
 ghost use Rattle.paths.specs.Base32.{all_digits};
 ghost use Rattle.paths.specs.Names.{is_store_name};
 ghost use Rattle.paths.specs.StorePath.{is_base_name, name_of, is_derivation, base_of};
@@ -71,6 +72,14 @@ pub enum StorePathError {
     Memory,
 }
 
+impl From<AllocError> for StorePathError {
+    ghost from_gives = { λ _ e. e ≡ Memory };
+
+    fn from(_: AllocError) -> StorePathError {
+        StorePathError::Memory
+    }
+}
+
 impl StorePath {
     /// The store path of a path text: a full path (the store directory, `/`, a base name), or a base name.
     ///
@@ -114,10 +123,8 @@ impl StorePath {
         if !is_base_name(text.as_bytes()) {
             return Err(StorePathError::BadStorePath);
         }
-        match String::from_str(alloc, text) {
-            Ok(base) => Ok(StorePath { base }),
-            Err(_) => Err(StorePathError::Memory),
-        }
+        let base = String::from_str(alloc, text)?;
+        Ok(StorePath { base })
     }
 
     /// The path of 32 digits and a name.

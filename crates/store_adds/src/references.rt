@@ -47,7 +47,7 @@ pub(crate) fn are_others(refs: &[StorePath], path: &StorePath) -> Result<(), Ref
 }
 
 /// Whether a reference of a path is valid or that path.
-fn is_there(outline: &Outline, path: &StorePath, reference: &StorePath) -> bool
+fn is_present(outline: &Outline, path: &StorePath, reference: &StorePath) -> bool
     ensures { result ≡ (finite.contains_key outline.now.objects reference.now || graph.same reference.now path.now) }
 {
     if outline.has(reference) {
@@ -63,7 +63,7 @@ fn is_complete(outline: &Outline, path: &StorePath, refs: &[StorePath]) -> bool
     if outline.has(path) {
         return true;
     }
-    refs.iter().all(|r| is_there(outline, path, r))
+    refs.iter().all(|r| is_present(outline, path, r))
 }
 
 /// Tests that each reference of a path is valid or that path, or the path is valid already.

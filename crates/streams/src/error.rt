@@ -1,8 +1,9 @@
 //! Why an input wasn't read to its end or its bound.
 ghost use Rattle.std.specs.Prelude.{◌≡◌};
-ghost use Rattle.streams.specs.declared.error.ReadError.TheVariants.{Memory};
+ghost use Rattle.streams.specs.declared.error.ReadError.TheVariants.{Input, Memory};
 
 use std::alloc::AllocError;
+use std::io;
 use thiserror::Error;
 
 /// Why an input wasn't read to its end or its bound.
@@ -14,6 +15,14 @@ pub enum ReadError {
     /// What came couldn't be held: memory was refused.
     #[error("memory")]
     Memory,
+}
+
+impl From<io::Error> for ReadError {
+    ghost from_gives = { λ _ e. e ≡ Input };
+
+    fn from(_failed: io::Error) -> ReadError {
+        ReadError::Input
+    }
 }
 
 impl From<AllocError> for ReadError {

@@ -32,10 +32,7 @@ pub fn send_pieces<W: Write>(output: &mut W, bytes: &Pieces) -> io::Result<()>
 {
     let count = bytes.count();
     'pieces: for i in 0..count {
-        match send_bytes(output, bytes.piece(i)) {
-            Ok(()) => {}
-            Err(fault) => return Err(fault),
-        }
+        send_bytes(output, bytes.piece(i))?;
     }
     Ok(())
 }

@@ -19,10 +19,7 @@ fn read_on<R: Read, S: Sink>(
     ensures { ReadsOn (length window.old) (R.remaining input.old) (R.remaining input.new) (S.received sink.old)
         (S.received sink.new) result }
 {
-    let count = match input.read(window) {
-        Ok(count) => count,
-        Err(_) => return Err(ReadError::Input),
-    };
+    let count = input.read(window)?;
     if count == 0 {
         return Ok(None);
     }
@@ -49,11 +46,10 @@ pub fn receive_at_most<R: Read, S: Sink>(
     let mut left = most;
     'reads: while left > 0 {
         let room = left.min(PIECE);
-        match read_on(input, &mut window[..room], sink) {
-            Ok(Some(count)) => left -= count,
-            Ok(None) => return Ok(most - left),
-            Err(fault) => return Err(fault),
-        }
+        let Some(count) = read_on(input, &mut window[..room], sink)? else {
+            return Ok(most - left);
+        };
+        left -= count;
     }
     Ok(most)
 }

@@ -15,15 +15,11 @@ pub fn send_bytes<W: Write>(output: &mut W, bytes: &[u8]) -> io::Result<()>
 {
     let mut done = 0;
     'writes: while done < bytes.len() {
-        match output.write(&bytes[done..]) {
-            Ok(count) => {
-                if count == 0 {
-                    return Err(Error::from(ErrorKind::WriteZero));
-                }
-                done += count;
-            }
-            Err(fault) => return Err(fault),
+        let count = output.write(&bytes[done..])?;
+        if count == 0 {
+            return Err(Error::from(ErrorKind::WriteZero));
         }
+        done += count;
     }
     Ok(())
 }

@@ -81,8 +81,6 @@ pub fn read_at_most<R: Read>(
     ensures memory { IsErrOf result ReadError.Memory → TakesSome most (R.remaining input.old) (R.remaining input.new) }
 {
     let mut held = Held::new(alloc, most);
-    match receive_at_most(input, most, &mut held) {
-        Ok(_) => Ok(held.into_bytes()),
-        Err(fault) => Err(fault),
-    }
+    receive_at_most(input, most, &mut held)?;
+    Ok(held.into_bytes())
 }

@@ -107,7 +107,7 @@ module _ (fs : List Parts) (apart : are_apart (map table_of fs) ≡ true) (a b :
     theirs = theirs_of a.now b.now.trees a.now.schema.tables h.kept;
     frozen = h.frozen of_store.sound;
     of_store = ours_still a.now b.now h.sound fs h.schema h.kept of_store;
-    stand = all_weaker (λ (t : Table). HasFurther b.now t × (rows_named b.now t.name ≡ [])) (HasFurther b.now) (λ t it. it.0) (map table_of fs) these;
+    exist = all_weaker (λ (t : Table). HasFurther b.now t × (rows_named b.now t.name ≡ [])) (HasFurther b.now) (λ t it. it.0) (map table_of fs) these;
     further = (pieces.exists, (temp_roots.exists, tt));
     committed = h.committed;
     mode = h.mode;

@@ -1,4 +1,4 @@
--- the store's tables are made one after another: what one text makes, what stands after so many, and why the next fails.
+-- The store's tables are made one after another: what one text makes, what stands after so many, and why the next fails.
 use Rattle.std.proofs.Common.{◌≡◌, inl, inr, ◌<◌, ◌≤◌, ◌+◌, ℕ, zero, suc, List, [], ◌∷◌, ◌++◌, map, take, drop, length, Ok, true, false, refl, sym, ap, subst, ◌∙◌, arith, IsTrue}
 use Rattle.std.proofs.lemmas.List.{take_more, take_all, take-append-drop, map-append}
 use Rattle.std.specs.Prelude.{get_or}

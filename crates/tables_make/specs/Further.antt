@@ -25,7 +25,7 @@ pub record MakesFurther (tables : List Table) (old new : State) : Type 0 where
   pub theirs : KeepsTheirs old.now new.now
   pub frozen : SparesFrozen old.now new.now
   pub of_store : IsStoreDatabase new.now
-  pub stand : AllByRecursion (HasFurther new.now) tables
+  pub exist : AllByRecursion (HasFurther new.now) tables
   pub further : KeepsFurther old.now new.now
   pub committed : new.committed ≡ old.committed
   pub mode : new.in_transaction ≡ true

@@ -121,8 +121,8 @@ pub record IsMadeOf (dir : Bytes) (db : Database) (trees : Trees) : Type 0 where
   pub empty : AllByRecursion (λ t. trees t.tree ≡ []) (others_placed db.schema)
   pub frozen : IsDatabase db → KeepsFrozen db trees
 
--- All eleven were made at once, and the connection is ready: the store's hold the settings alone, and the others the rows
--- that they had, also where the schema doesn't show them.
+-- All eleven were made at once, and the connection is ready: the store's hold the settings alone, and the others the
+-- rows that they had, also where the schema doesn't show them.
 pub record IsMade (dir : Bytes) (old new : State) : Type 0 where
   pub was_open : IsTrue old.is_open
   pub is_open : IsTrue new.is_open

@@ -1,4 +1,4 @@
--- the store's tables as they are tested: by the queries of their rowids and of their texts.
+-- The store's tables as they are tested: by the queries of their rowids and of their texts.
 use Rattle.std.specs.Prelude.{ℕ, List, codes}
 use Rattle.sqlite.specs.Effect.{Database}
 use Rattle.tables_schema.specs.OurTables.{form}

@@ -67,8 +67,8 @@ abbrev pub KeepsTheirs : Database → Database → Type 0
 KeepsTheirs old new =
     AllByRecursion (λ t. is_our_name t.name ≡ false → new.trees t.tree ≡ old.trees t.tree) old.schema.tables
 
--- what a crash may leave, or a commit: the store's tables hold this, each other table has the rows that it had, and what
--- the schema doesn't show is kept
+-- what a crash may leave, or a commit: the store's tables hold this, each other table has the rows that it had, and
+-- what the schema doesn't show is kept
 pub record Leaves (old : Database) (left : Remains) (contents : Contents) : Type 0 where
   pub of_store : contents_of (after_crash old left) ≡ contents
   pub theirs : KeepsTheirs old (after_crash old left)
@@ -80,8 +80,8 @@ pub record LeavesRows (old : Database) (left : Remains) (contents : Contents) : 
   pub rows : Leaves old left contents
   pub listed : left catalog_tree ≡ old.trees catalog_tree
 
--- Inside a transaction, which goes on: the store's tables hold what the change makes of what they held, each other table
--- has the rows that it had, what the schema doesn't show is as it was, and so are the savepoints.
+-- Inside a transaction, which goes on: the store's tables hold what the change makes of what they held, each other
+-- table has the rows that it had, what the schema doesn't show is as it was, and so are the savepoints.
 pub record Changes (old new : State) (change : Contents → Contents) : Type 0 where
   pub was_open : IsTrue old.is_open
   pub is_open : IsTrue new.is_open

@@ -1,4 +1,5 @@
--- That the texts in the store's tables can be read: another program may store one that isn't UTF-8, in a STRICT table too.
+-- That the texts in the store's tables can be read: another program may store one that isn't UTF-8, in a STRICT table
+-- too.
 use Rattle.std.specs.Prelude.{◌≡◌, ℕ, ℤ, ◌+◌, ◌<◌, List, length, IsUtf8, IfSome, Some, ⊤}
 use Rattle.std.specs.List.{AllByRecursion}
 use Rattle.std.specs.FinMap as finite

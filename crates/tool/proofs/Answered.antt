@@ -71,7 +71,7 @@ module _ (config : List ℕ) (input : Stream) (out : Option (List ℕ)) (p : Pri
 -- what stands for a command line is refused for want of memory alone
 refused_line : (words : List (List ℕ)) (line : Line) (e : CommandError) → IsLine words line → IsUsageFault words e → e ≡ Memory
 refused_line words line (Usage fault) is among = absurd (subst (IsAmong (kind_of fault)) is.no_fault among)
-refused_line words line (Misuse fault) is found = let both : Ok line ≡ Err fault = sym is.stands ∙ found.1 in cc
+refused_line words line (Misuse fault) is found = let both : Ok line ≡ Err fault = sym is.is_line ∙ found.1 in cc
 refused_line words line Memory is found = refl
 
 pub line_refused : (of_file : Doing) (words : List (List ℕ)) (e : CommandError) (console : Console) → IsUsageFault words e
@@ -83,7 +83,7 @@ line_refused of_file words e console fault explained line is =
 pub line_run : (of_file : Doing) (words : List (List ℕ)) (a b : Line) (console : Console) → IsLine words a → IsLine words b
     → RunsLine of_file a console → RunsLine of_file b console
 line_run of_file words a b console first second ran =
-    let both : ◌≡◌ {A = Result Line UsageFault} (Ok a) (Ok b) = sym first.stands ∙ second.stands in
+    let both : ◌≡◌ {A = Result Line UsageFault} (Ok a) (Ok b) = sym first.is_line ∙ second.is_line in
     let same : a ≡ b = cc in
     subst (λ l. RunsLine of_file l console) same ran
 

@@ -102,7 +102,7 @@ line_view c = record {
 -- the words stand for this command line
 pub record IsLine (words : List Text) (line : Line) : Type 0 where
   pub no_fault : faults_of words ≡ []
-  pub stands : line_of words ≡ Ok line
+  pub is_line : line_of words ≡ Ok line
 
 -- nothing was found, for a fault or out of memory
 abbrev pub Misses : {A : Type 0} → Result A UsageFault → CommandError → Type 0

@@ -1,4 +1,5 @@
 use Rattle.std.proofs.Common.{rules, ◌≡◌, ◌+◌, ◌≤◌, ◌<◌, ◌++◌, ℕ, List, Option, Err, length, length-append, arith, ◌∙◌}
+use Rattle.std.proofs.lemmas.Result.{err_from_is_err_and}
 use Rattle.std.proofs.KnownBytes.{Consumes-kept, Consumes-trans}
 use Rattle.std.specs.Io.KnownBytes.{Consumes}
 use Rattle.streams.specs.Reads.{ReadsOn, Receives}
@@ -15,8 +16,8 @@ ended old mid new most left room bs held held' held'' Memory some within taken s
     let size : length (bs ++ more) ≡ length bs + length more = length-append bs more in
     (bs ++ more, Consumes-trans old mid new bs more taken came, omega arith, omega arith)
 
--- src/receive.rt:53:27
-pub returns-in-Err : goal.returns-in-Err
-returns-in-Err g c =
+pub returns-in_err-count : goal.returns-in_err-count
+returns-in_err-count g c =
     let before = c.reads.invariant in
-    ended _ _ _ c.args.most c.reads.left _ before.0 _ _ _ c.in-Err.fault c.reads-test.true (search rules) before.1 before.2 before.3 c.in-Err.ensures
+    let p = err_from_is_err_and c.from_residual.result c.from_residual.ensures.1 in
+    rw (p.1, p.2) (ended _ _ _ c.args.most c.reads.left _ before.0 _ _ _ c.in_err-count.field-0.0 c.reads-test.true (search rules) before.1 before.2 before.3 c.in_err-count.ensures)

@@ -19,9 +19,8 @@ within bytes done count fits least =
     let size : length (take (length bytes - done) (drop done bytes)) ≡ length bytes - done = ap length (rest bytes done) ∙ length-drop done bytes in
     omega arith
 
--- src/send.rt:12:5
 pub writes-preserved : goal.writes-preserved
 writes-preserved g c = record {
-  within = within c.args.bytes.now c.writes.done c.in-Ok.count c.writes.invariant.within c.in-Ok.ensures.bound;
-  sent = more _ _ _ c.args.bytes.now c.writes.done c.in-Ok.count c.writes.invariant.sent c.in-Ok.ensures.bytes;
+  within = within c.args.bytes.now c.writes.done c.in_ok-count.count c.writes.invariant.within c.in_ok-count.ensures.bound;
+  sent = more _ _ _ c.args.bytes.now c.writes.done c.in_ok-count.count c.writes.invariant.sent c.in_ok-count.ensures.bytes;
 }

@@ -17,7 +17,7 @@ pub rewrite-requires-clause-is_open : goal.rewrite-requires-clause-is_open
 rewrite-requires-clause-is_open g c clean = (c.in_ok-make_both.ensures.done clean).is_open
 
 pub rewrite-requires-clause-exists : goal.rewrite-requires-clause-exists
-rewrite-requires-clause-exists g c clean = (c.in_ok-make_both.ensures.done clean).stand.0
+rewrite-requires-clause-exists g c clean = (c.in_ok-make_both.ensures.done clean).exist.0
 
 pub returns-clause-done : goal.returns-clause-done
 returns-clause-done g c clean =
@@ -25,7 +25,7 @@ returns-clause-done g c clean =
     let b = state g.S.Store c.make_both.new.tx.conn.now in
     let d = state g.S.Store c.rewrite.new.tx.conn.now in
     let made = c.in_ok-make_both.ensures.done (clean_before b d _ c.rewrite.ensures.survives clean) in
-    on_done c.rewrite.result _ _ (λ changed. grows _ a b d _ made changed made.stand.0 made.stand.1.0) (c.rewrite.ensures.done clean)
+    on_done c.rewrite.result _ _ (λ changed. grows _ a b d _ made changed made.exist.0 made.exist.1.0) (c.rewrite.ensures.done clean)
 
 pub returns-clause-failed : goal.returns-clause-failed
 returns-clause-failed g c clean =

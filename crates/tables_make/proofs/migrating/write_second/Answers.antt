@@ -20,7 +20,7 @@ returns-clause-done g c clean =
     let early : HasCleanDisk b = clean_before b d _ c.renumber.ensures.survives clean in
     let made = c.in_ok-make_temp_root.ensures.done early in
     let pieces = c.requires.pieces (clean_before a b _ c.make_temp_root.ensures.survives early) made.was_open in
-    on_done c.renumber.result _ _ (λ changed. grows _ a b d _ made changed (pieces_still _ a b made pieces) made.stand.0) (c.renumber.ensures.done clean)
+    on_done c.renumber.result _ _ (λ changed. grows _ a b d _ made changed (pieces_still _ a b made pieces) made.exist.0) (c.renumber.ensures.done clean)
 
 pub returns-clause-failed : goal.returns-clause-failed
 returns-clause-failed g c clean =

@@ -42,7 +42,7 @@ returns-in-Ok-clause-ok g c =
     let none = sym (ap (λ a. fault_of a words) c.in_ok-nixkeep.ensures) ∙ c.in-Ok.ensures.kinds free in
     let stated = c.in-Ok.ensures.matches (simple_if_free (app_of c.in_ok-nixkeep.nixkeep) free) in
     let line = ap₂ line_from (stated.0 ∙ ap (λ a. matches_of a words) c.in_ok-nixkeep.ensures) (stated.1 ∙ ap (λ a. subcommand_of a words) c.in_ok-nixkeep.ensures) in
-    IfOk-weaker c.read.result _ _ (λ found stands. record { no_fault = none; stands = sym line ∙ stands }) c.read.ensures.ok
+    IfOk-weaker c.read.result _ _ (λ found stands. record { no_fault = none; is_line = sym line ∙ stands }) c.read.ensures.ok
 
 pub returns-in-Ok-clause-err : goal.returns-in-Ok-clause-err
 unfolding line_of faults_of

@@ -1,7 +1,7 @@
 use Rattle.std.proofs.Common.{◌||◌, sym, ap, ◌∙◌}
 use Rattle.std.specs.Cmp.Lexicographic.{texts_ties}
 use Rattle.live.specs.Graph.{same}
-use Rattle.store_adds.proofs.references.is_there.Goals as goal
+use Rattle.store_adds.proofs.references.is_present.Goals as goal
 
 pub returns : goal.returns
 returns c =
