@@ -78,6 +78,16 @@ pub enum VerifyError {
     Memory,
 }
 
+impl From<AllocError> for VerifyError {
+    ghost use Rattle.paths.specs.declared.content_address.VerifyError.{VerifyError};
+
+    ghost from_gives = { λ _ e. e ≡ VerifyError.Memory };
+
+    fn from(_: AllocError) -> VerifyError {
+        VerifyError::Memory
+    }
+}
+
 /// What the text of an address begins with.
 fn prefix(method: Method) -> &'static str
     ensures { result.now ≡ address_prefix method }
@@ -359,11 +369,7 @@ fn verify_text(
         ⊎ ((e ≡ VerifyError.CaMismatch)
         × (method_verifies Method.Text stated.now dir.now path.now refs.now nar.now ≡ false))) }
 {
-    let found = match contents_in(alloc, nar) {
-        Ok(found) => found,
-        Err(_) => return Err(VerifyError::Memory),
-    };
-    let Some(contents) = found else {
+    let Some(contents) = contents_in(alloc, nar)? else {
         return Err(VerifyError::CaMismatch);
     };
     let inner = Sha256::digest(contents);
@@ -395,10 +401,7 @@ fn verify_made(
     if !same_bytes(stated.as_slice(), inner.as_slice()) {
         return Err(VerifyError::CaMismatch);
     }
-    let made = match path_of(alloc, kind, dir, path.name(), refs, inner) {
-        Ok(made) => made,
-        Err(_) => return Err(VerifyError::Memory),
-    };
+    let made = path_of(alloc, kind, dir, path.name(), refs, inner)?;
     if !same_bytes(path.as_str().as_bytes(), made.as_str().as_bytes()) {
         return Err(VerifyError::CaMismatch);
     }
