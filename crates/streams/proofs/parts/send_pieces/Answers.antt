@@ -21,7 +21,7 @@ pieces-preserved g c = next_sent _ _ _ c.args.bytes.now c.pieces.i c.piece.resul
 pub returns-in_err-send_bytes : goal.returns-in_err-send_bytes
 returns-in_err-send_bytes g c =
     failed_sends _ _ c.args.bytes.now c.from_residual.result _ c.from_residual.ensures.1
-        (front_sent _ _ _ c.args.bytes.now c.pieces.i c.piece.result.now c.piece.ensures c.pieces.invariant c.in_err-send_bytes.ensures)
+    (front_sent _ _ _ c.args.bytes.now c.pieces.i c.piece.result.now c.piece.ensures c.pieces.invariant c.in_err-send_bytes.ensures)
 
 pub returns : goal.returns
 returns g c =
