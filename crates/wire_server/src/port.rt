@@ -40,22 +40,25 @@ fn prepare(input: &TcpStream) -> io::Result<TcpStream> {
 impl<'a, C: Clock> Listener for Port<'a, C> {
     type Input = Incoming;
 
-    type Output = Outgoing;
+    type Output = Outgoing<'a, C>;
 
     ghost waiting = { λ _. None };
 
     ghost closed = { λ _. None };
 
     /// A connection that was accepted and can't be prepared fails at its first read: it is one that failed, and the next is served.
-    fn accept(&mut self) -> io::Result<(Incoming, Outgoing)> {
+    fn accept(&mut self) -> io::Result<(Incoming, Outgoing<'a, C>)> {
         let (input, _) = self.listener.accept()?;
         let output = prepare(&input).ok();
         let is_ready = output.is_some();
-        Ok((Incoming::new(input, is_ready), Outgoing::new(output)))
+        Ok((
+            Incoming::new(input, is_ready),
+            Outgoing::new(self.clock, output),
+        ))
     }
 
     /// The peer learns first that no more comes. Closing at once would take the last reply from one who still sends.
-    fn close(&mut self, mut input: Incoming, output: Outgoing) {
+    fn close(&mut self, mut input: Incoming, output: Outgoing<'a, C>) {
         if input.stream().shutdown(Shutdown::Write).is_ok() {
             drop(read_out(self.clock, input.stream()));
         }
