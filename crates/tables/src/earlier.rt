@@ -70,10 +70,8 @@ fn read_and_bring<S: Alter>(
         (LeavesMigration schema dir.now (state S.Store conn.old).now) }
 {
     let loaded = read_as(alloc, conn, dir, schema)?;
-    match bring(alloc, conn, schema) {
-        Ok(()) => Ok(loaded),
-        Err(failure) => Err(Cause::Failed(failure)),
-    }
+    bring(alloc, conn, schema)?;
+    Ok(loaded)
 }
 
 /// Opens a connection that holds the tables of a schema, brought to the third.

@@ -203,13 +203,9 @@ impl<S: Alter> Tables<S> {
             name,
             number,
         };
-        match change::commit(&mut self.connection, &switch) {
-            Ok(()) => {
-                self.outline.switch_generation(&key, number);
-                Ok(())
-            }
-            Err(failure) => Err(failure),
-        }
+        change::commit(&mut self.connection, &switch)?;
+        self.outline.switch_generation(&key, number);
+        Ok(())
     }
 
     /// Drops a generation of a profile that is there, if it has one of this number.
@@ -235,12 +231,8 @@ impl<S: Alter> Tables<S> {
             name,
             number,
         };
-        match change::commit(&mut self.connection, &gone) {
-            Ok(()) => {
-                self.outline.drop_generation(&key, number);
-                Ok(())
-            }
-            Err(failure) => Err(failure),
-        }
+        change::commit(&mut self.connection, &gone)?;
+        self.outline.drop_generation(&key, number);
+        Ok(())
     }
 }

@@ -2,6 +2,7 @@
 
 ghost use Rattle.std.specs.Prelude.{◌≡◌};
 ghost use Rattle.tables.specs.Causes.{cause_of};
+ghost use Rattle.tables.specs.declared.refusing.Cause.TheVariants.{Failed};
 
 use sqlite::{Alter, Connection};
 use tables_open::{Disk, file};
@@ -17,6 +18,14 @@ pub enum Cause {
     OtherStoreDir,
     /// Memory ran out, the store directory is too large for a row, or the disk failed.
     Failed(Failure),
+}
+
+impl From<Failure> for Cause {
+    ghost from_gives = { λ failure cause. cause ≡ Failed failure };
+
+    fn from(failure: Failure) -> Cause {
+        Cause::Failed(failure)
+    }
 }
 
 /// A connection that isn't opened as a store, returned.

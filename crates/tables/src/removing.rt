@@ -30,12 +30,8 @@ impl<S: Alter> Tables<S> {
         ensures frame { CommitsChange S.Store self.old self.new result (λ w. keeping w (λ p. not (holds paths.now p))) }
         ensures cause { FailsToChange S.Store self.old self.new result NoRow }
     {
-        match delete_rows(self.alloc, &mut self.connection, &self.outline, paths) {
-            Ok(()) => {
-                remove_all(&mut self.outline, paths);
-                Ok(())
-            }
-            Err(failure) => Err(failure),
-        }
+        delete_rows(self.alloc, &mut self.connection, &self.outline, paths)?;
+        remove_all(&mut self.outline, paths);
+        Ok(())
     }
 }

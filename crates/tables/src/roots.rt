@@ -62,13 +62,9 @@ impl<S: Alter> Tables<S> {
         ensures frame { CommitsChange S.Store self.old self.new result (λ w. without_permanent w name.now) }
         ensures cause { FailsToChange S.Store self.old self.new result NoRow }
     {
-        match change::commit(&mut self.connection, &DropPermanent { name }) {
-            Ok(()) => {
-                self.outline.drop_permanent(name);
-                Ok(())
-            }
-            Err(failure) => Err(failure),
-        }
+        change::commit(&mut self.connection, &DropPermanent { name })?;
+        self.outline.drop_permanent(name);
+        Ok(())
     }
 
     /// Puts a user root, whether one of this owner and name was there or not.
@@ -123,13 +119,9 @@ impl<S: Alter> Tables<S> {
         ensures cause { FailsToChange S.Store self.old self.new result NoRow }
     {
         let key = owned(self.alloc, owner, name)?;
-        match change::commit(&mut self.connection, &DropUserRoot { owner, name }) {
-            Ok(()) => {
-                self.outline.drop_user_root(&key);
-                Ok(())
-            }
-            Err(failure) => Err(failure),
-        }
+        change::commit(&mut self.connection, &DropUserRoot { owner, name })?;
+        self.outline.drop_user_root(&key);
+        Ok(())
     }
 
     /// Makes the runtime roots these, each a label and a target, in place of all that there were.

@@ -95,15 +95,11 @@ pub(crate) fn read_as<S: Alter>(
         → IsReady (state S.Store conn.new) }
     ensures survives { Survives (state S.Store conn.old) (state S.Store conn.new) (λ _. ⊥) }
 {
-    match read(alloc, conn, schema) {
-        Ok(Some(loaded)) => {
-            if is_same(&loaded.dir, dir) {
-                Ok(loaded)
-            } else {
-                Err(Cause::OtherStoreDir)
-            }
-        }
-        Ok(None) => Err(Cause::BadSchema),
-        Err(failure) => Err(Cause::Failed(failure)),
+    let Some(loaded) = read(alloc, conn, schema)? else {
+        return Err(Cause::BadSchema);
+    };
+    if !is_same(&loaded.dir, dir) {
+        return Err(Cause::OtherStoreDir);
     }
+    Ok(loaded)
 }

@@ -63,9 +63,7 @@ impl<S: Alter> Tables<S> {
             (λ w. record w { temporary = without_session owner.now session w.temporary }) }
         ensures cause { FailsToChange S.Store self.old self.new result NoRow }
     {
-        match change::commit(&mut self.connection, &EndSession { owner, session }) {
-            Ok(()) => Ok(self.outline.end_session(owner, session)),
-            Err(failure) => Err(failure),
-        }
+        change::commit(&mut self.connection, &EndSession { owner, session })?;
+        Ok(self.outline.end_session(owner, session))
     }
 }

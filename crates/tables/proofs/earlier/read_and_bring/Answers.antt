@@ -1,4 +1,5 @@
 use Rattle.std.proofs.Common.{ℕ, List, subst}
+use Rattle.std.proofs.lemmas.Result.{err_from_is_err_and}
 use Rattle.sqlite.specs.Held.{state}
 use Rattle.tables_sql.specs.Contents.{contents_of}
 use Rattle.tables_sql.proofs.Steps.{clean_before}
@@ -8,17 +9,17 @@ use Rattle.tables.proofs.Brought.{both_migrate, both_leave}
 use Rattle.tables.proofs.Causes.{migration_cause}
 use Rattle.tables.proofs.earlier.read_and_bring.Goals as goal
 
-pub returns-in-Ok-clause-brought : goal.returns-in-Ok-clause-brought
-returns-in-Ok-clause-brought g c clean =
+pub returns-clause-brought : goal.returns-clause-brought
+returns-clause-brought g c clean =
     let a = state g.S.Store c.args.conn.now in
     let b = state g.S.Store c.read_as.new.conn in
     let d = state g.S.Store c.bring.new.conn in
     both_migrate c.args.schema c.args.dir.now a b d c.in_ok-loaded.ensures.unchanged
     (λ early. subst (λ (x : List ℕ). IsSoundBy c.args.schema x (contents_of a.now)) c.in_ok-loaded.ensures.dir (c.in_ok-loaded.ensures.reported early).0)
-    (clean_before b d _ c.bring.ensures.survives clean) (c.in-Ok.ensures.done clean)
+    (clean_before b d _ c.bring.ensures.survives clean) (c.in_ok-bring.ensures.done clean)
 
-pub returns-in-Ok-clause-survives : goal.returns-in-Ok-clause-survives
-returns-in-Ok-clause-survives g c =
+pub returns-clause-survives : goal.returns-clause-survives
+returns-clause-survives g c =
     let a = state g.S.Store c.args.conn.now in
     let b = state g.S.Store c.read_as.new.conn in
     let d = state g.S.Store c.bring.new.conn in
@@ -26,8 +27,8 @@ returns-in-Ok-clause-survives g c =
     (λ early. subst (λ (x : List ℕ). IsSoundBy c.args.schema x (contents_of a.now)) c.in_ok-loaded.ensures.dir (c.in_ok-loaded.ensures.reported early).0)
     c.requires.found c.read_as.ensures.survives c.bring.ensures.survives
 
-pub returns-in-Err-clause-survives : goal.returns-in-Err-clause-survives
-returns-in-Err-clause-survives g c =
+pub returns-in_err-bring-clause-survives : goal.returns-in_err-bring-clause-survives
+returns-in_err-bring-clause-survives g c =
     let a = state g.S.Store c.args.conn.now in
     let b = state g.S.Store c.read_as.new.conn in
     let d = state g.S.Store c.bring.new.conn in
@@ -35,12 +36,13 @@ returns-in-Err-clause-survives g c =
     (λ early. subst (λ (x : List ℕ). IsSoundBy c.args.schema x (contents_of a.now)) c.in_ok-loaded.ensures.dir (c.in_ok-loaded.ensures.reported early).0)
     c.requires.found c.read_as.ensures.survives c.bring.ensures.survives
 
-pub returns-in-Err-clause-cause : goal.returns-in-Err-clause-cause
-returns-in-Err-clause-cause g c clean =
+pub returns-in_err-bring-clause-cause : goal.returns-in_err-bring-clause-cause
+returns-in_err-bring-clause-cause g c clean =
     let a = state g.S.Store c.args.conn.now in
     let b = state g.S.Store c.read_as.new.conn in
     let d = state g.S.Store c.bring.new.conn in
     let read = clean_before b d _ c.bring.ensures.survives clean in
     let early = clean_before a b _ c.read_as.ensures.survives read in
-    migration_cause c.args.dir.now a d c.in-Err.failure c.args.schema (c.requires.found early) c.in-Err.ensures.needed
-    (migrating_before c.args.schema a b d (c.in_ok-loaded.ensures.unchanged read) c.read_as.ensures.survives c.in-Err.failure (c.in-Err.ensures.cause clean))
+    let p = err_from_is_err_and c.from_residual-in_err-bring.result c.from_residual-in_err-bring.ensures.1 in
+    rw (p.1, p.2) (migration_cause c.args.dir.now a d c.in_err-bring.field-0.0 c.args.schema (c.requires.found early) c.in_err-bring.ensures.needed
+    (migrating_before c.args.schema a b d (c.in_ok-loaded.ensures.unchanged read) c.read_as.ensures.survives c.in_err-bring.field-0.0 (c.in_err-bring.ensures.cause clean)))

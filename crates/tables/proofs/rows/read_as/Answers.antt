@@ -1,3 +1,4 @@
+use Rattle.std.proofs.lemmas.Result.{err_from_is_err_and}
 use Rattle.sqlite.specs.Held.{state}
 use Rattle.tables_sql.proofs.Steps.{clean_before}
 use Rattle.tables.proofs.Causes.{read_cause}
@@ -12,5 +13,7 @@ returns-in-Ok-None-clause-cause g c clean =
     let b = state g.S.Store c.read.new.conn in
     no_store_cause c.args.dir.now a.now (unsound c.args.schema a.now (c.requires.found (clean_before a b _ c.read.ensures.survives clean)) (none_told _ _ c.in-Ok-None.field-0 c.in-Ok-None.field-0-is (c.in-Ok-None.ensures.reported clean)))
 
-pub returns-in-Err-clause-cause : goal.returns-in-Err-clause-cause
-returns-in-Err-clause-cause g c clean = read_cause c.args.dir.now (state g.S.Store c.args.conn.now) (state g.S.Store c.read.new.conn) c.in-Err.failure (c.in-Err.ensures.cause clean)
+pub returns-in_err-loaded-clause-cause : goal.returns-in_err-loaded-clause-cause
+returns-in_err-loaded-clause-cause g c clean =
+    let p = err_from_is_err_and c.from_residual.result c.from_residual.ensures.1 in
+    rw (p.1, p.2) (read_cause c.args.dir.now (state g.S.Store c.args.conn.now) (state g.S.Store c.read.new.conn) c.in_err-loaded.field-0.0 (c.in_err-loaded.ensures.cause clean))

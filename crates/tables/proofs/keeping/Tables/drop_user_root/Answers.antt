@@ -1,32 +1,24 @@
 use Rattle.std.proofs.Common.{refl, ap, ◌∙◌}
+use Rattle.std.proofs.lemmas.Result.{err_from_is_err_and}
 use Rattle.std.specs.FinMap as finite
 use Rattle.paths.specs.Root.{bytes_cmp, Set}
 use Rattle.model.specs.World.{Path, Pair, pair_cmp}
-use Rattle.tables_make.specs.Reasons.{NoRow}
-use Rattle.tables.proofs.Kept.{write_agrees, write_commits, write_fails, failure_agrees, failure_seen}
+use Rattle.tables.proofs.Kept.{write_agrees, write_commits, write_fails}
 use Rattle.tables.proofs.RootChanges.{roots_write}
 use Rattle.tables.proofs.keeping.Tables.drop_user_root.Goals as goal
 
-pub invariant_of-self : goal.invariant_of-self
-invariant_of-self g c =
-    write_agrees g.S.Store (roots_write (λ (m : finite.FinMap bytes_cmp Path). m) (λ (m : finite.FinMap pair_cmp Path). finite.remove m (c.args.owner.now, c.args.name.now)) (λ (m : Set pair_cmp). m) g.S.Store _ c.args.self.now c.self.view_is c.self.invariant c.requires.sound) c.commit.new.conn c.drop_user_root.new.self _ (c.in-Ok.ensures.frame)
+pub returns-in_err-commit-clause-frame : goal.returns-in_err-commit-clause-frame
+returns-in_err-commit-clause-frame g c =
+    let p = err_from_is_err_and c.from_residual-in_err-commit.result c.from_residual-in_err-commit.ensures.1 in
+    rw (p.1, p.2) (write_fails g.S.Store (roots_write (λ (m : finite.FinMap bytes_cmp Path). m) (λ (m : finite.FinMap pair_cmp Path). finite.remove m (c.args.owner.now, c.args.name.now)) (λ (m : Set pair_cmp). m) g.S.Store _ c.args.self.now c.self.view_is c.self.invariant c.requires.sound) c.commit.new.conn c.self.inside.outline _ (c.in_err-commit.ensures.frame)
+    (refl) _)
+
+pub invariant_of-self-2 : goal.invariant_of-self-2
+invariant_of-self-2 g c =
+    write_agrees g.S.Store (roots_write (λ (m : finite.FinMap bytes_cmp Path). m) (λ (m : finite.FinMap pair_cmp Path). finite.remove m (c.args.owner.now, c.args.name.now)) (λ (m : Set pair_cmp). m) g.S.Store _ c.args.self.now c.self.view_is c.self.invariant c.requires.sound) c.commit.new.conn c.drop_user_root.new.self _ (c.in_ok-commit.ensures.frame)
     (c.drop_user_root.ensures ∙ ap (λ (k : Pair). record c.self.inside.outline { user_roots = finite.remove c.self.inside.outline.user_roots k }) c.in_ok-key.ensures)
-
-pub invariant_of-self-in-Err : goal.invariant_of-self-in-Err
-invariant_of-self-in-Err g c =
-    failure_agrees g.S.Store (roots_write (λ (m : finite.FinMap bytes_cmp Path). m) (λ (m : finite.FinMap pair_cmp Path). finite.remove m (c.args.owner.now, c.args.name.now)) (λ (m : Set pair_cmp). m) g.S.Store _ c.args.self.now c.self.view_is c.self.invariant c.requires.sound) c.commit.new.conn c.self.inside.outline _ (c.in-Err.ensures.frame)
-    (refl)
-
-pub returns-in-Ok-clause-frame : goal.returns-in-Ok-clause-frame
-returns-in-Ok-clause-frame g c =
-    write_commits g.S.Store (roots_write (λ (m : finite.FinMap bytes_cmp Path). m) (λ (m : finite.FinMap pair_cmp Path). finite.remove m (c.args.owner.now, c.args.name.now)) (λ (m : Set pair_cmp). m) g.S.Store _ c.args.self.now c.self.view_is c.self.invariant c.requires.sound) c.commit.new.conn c.drop_user_root.new.self _ (c.in-Ok.ensures.frame)
-    (c.drop_user_root.ensures ∙ ap (λ (k : Pair). record c.self.inside.outline { user_roots = finite.remove c.self.inside.outline.user_roots k }) c.in_ok-key.ensures) _
 
 pub returns-clause-frame : goal.returns-clause-frame
 returns-clause-frame g c =
-    write_fails g.S.Store (roots_write (λ (m : finite.FinMap bytes_cmp Path). m) (λ (m : finite.FinMap pair_cmp Path). finite.remove m (c.args.owner.now, c.args.name.now)) (λ (m : Set pair_cmp). m) g.S.Store _ c.args.self.now c.self.view_is c.self.invariant c.requires.sound) c.commit.new.conn c.self.inside.outline _ (c.in-Err.ensures.frame)
-    (refl) _
-
-pub returns-clause-cause : goal.returns-clause-cause
-returns-clause-cause g c =
-    failure_seen g.S.Store c.commit.new.conn NoRow c.in-Err.failure c.self.view_is c.in-Err.ensures.cause
+    write_commits g.S.Store (roots_write (λ (m : finite.FinMap bytes_cmp Path). m) (λ (m : finite.FinMap pair_cmp Path). finite.remove m (c.args.owner.now, c.args.name.now)) (λ (m : Set pair_cmp). m) g.S.Store _ c.args.self.now c.self.view_is c.self.invariant c.requires.sound) c.commit.new.conn c.drop_user_root.new.self _ (c.in_ok-commit.ensures.frame)
+    (c.drop_user_root.ensures ∙ ap (λ (k : Pair). record c.self.inside.outline { user_roots = finite.remove c.self.inside.outline.user_roots k }) c.in_ok-key.ensures) _

@@ -1,7 +1,7 @@
 use Rattle.std.proofs.Common.{refl}
-use Rattle.tables_make.specs.Reasons.{NoRow}
+use Rattle.std.proofs.lemmas.Result.{err_from_is_err_and}
 use Rattle.tables.proofs.Covered.{covered}
-use Rattle.tables.proofs.Kept.{write_agrees, write_commits, write_fails, failure_agrees, failure_seen}
+use Rattle.tables.proofs.Kept.{write_agrees, write_commits, write_fails}
 use Rattle.tables.proofs.RemovedObjects.{removed_write}
 use Rattle.tables.proofs.keeping.Tables.remove_objects.Goals as goal
 
@@ -17,26 +17,18 @@ delete_rows-requires-clause-frame g c = record {
   whole = λ clean up. (c.self.invariant.rows clean up).whole;
 }
 
-pub invariant_of-self : goal.invariant_of-self
-invariant_of-self g c =
-    write_agrees g.S.Store (removed_write g.S.Store _ c.args.self.now c.args.paths.now c.self.view_is c.self.invariant c.requires.sound) c.delete_rows.new.conn c.remove_all.new.outline _ (c.in-Ok.ensures.frame)
+pub returns-in_err-delete_rows-clause-frame : goal.returns-in_err-delete_rows-clause-frame
+returns-in_err-delete_rows-clause-frame g c =
+    let p = err_from_is_err_and c.from_residual.result c.from_residual.ensures.1 in
+    rw (p.1, p.2) (write_fails g.S.Store (removed_write g.S.Store _ c.args.self.now c.args.paths.now c.self.view_is c.self.invariant c.requires.sound) c.delete_rows.new.conn c.self.inside.outline _ (c.in_err-delete_rows.ensures.frame)
+    (refl) _)
+
+pub invariant_of-self-2 : goal.invariant_of-self-2
+invariant_of-self-2 g c =
+    write_agrees g.S.Store (removed_write g.S.Store _ c.args.self.now c.args.paths.now c.self.view_is c.self.invariant c.requires.sound) c.delete_rows.new.conn c.remove_all.new.outline _ (c.in_ok-delete_rows.ensures.frame)
     (c.remove_all.ensures)
 
-pub invariant_of-self-in-Err : goal.invariant_of-self-in-Err
-invariant_of-self-in-Err g c =
-    failure_agrees g.S.Store (removed_write g.S.Store _ c.args.self.now c.args.paths.now c.self.view_is c.self.invariant c.requires.sound) c.delete_rows.new.conn c.self.inside.outline _ (c.in-Err.ensures.frame)
-    (refl)
-
-pub returns-in-Ok-clause-frame : goal.returns-in-Ok-clause-frame
-returns-in-Ok-clause-frame g c =
-    write_commits g.S.Store (removed_write g.S.Store _ c.args.self.now c.args.paths.now c.self.view_is c.self.invariant c.requires.sound) c.delete_rows.new.conn c.remove_all.new.outline _ (c.in-Ok.ensures.frame)
+pub returns-clause-frame : goal.returns-clause-frame
+returns-clause-frame g c =
+    write_commits g.S.Store (removed_write g.S.Store _ c.args.self.now c.args.paths.now c.self.view_is c.self.invariant c.requires.sound) c.delete_rows.new.conn c.remove_all.new.outline _ (c.in_ok-delete_rows.ensures.frame)
     (c.remove_all.ensures) _
-
-pub returns-in-Err-clause-frame : goal.returns-in-Err-clause-frame
-returns-in-Err-clause-frame g c =
-    write_fails g.S.Store (removed_write g.S.Store _ c.args.self.now c.args.paths.now c.self.view_is c.self.invariant c.requires.sound) c.delete_rows.new.conn c.self.inside.outline _ (c.in-Err.ensures.frame)
-    (refl) _
-
-pub returns-in-Err-clause-cause : goal.returns-in-Err-clause-cause
-returns-in-Err-clause-cause g c =
-    failure_seen g.S.Store c.delete_rows.new.conn NoRow c.in-Err.failure c.self.view_is c.in-Err.ensures.cause
