@@ -106,8 +106,8 @@ module _ {S : Type 0} (g : Ghosts S) where
     pub cause : FailsAlone old.now new.now result
 
   -- an insert of this row makes this change, where there was no entry of its key
-  pub record Inserts {T X : Type 0} (before after : MutBor (Held S)) (result : Result T Failure) (table : Table) (row : Row)
-      (find : Contents → Option X) (change : Contents → Contents) : Type 0 where
+  pub record Inserts {T X : Type 0} (before after : MutBor (Held S)) (result : Result T Failure) (table : Table)
+      (row : Row) (find : Contents → Option X) (change : Contents → Contents) : Type 0 where
     pub frame : StaysInside before after result
     pub done : Makes before after result change
     pub cause : FailsToPut before after result table row find
