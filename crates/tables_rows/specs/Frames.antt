@@ -80,3 +80,42 @@ module _ {S : Type 0} (g : Ghosts S) where
       HasCleanDisk (state g new.now)
       → IfErr result
       (FailsToInsert table row (IsSome (find (contents_of (state g old.now).now))) (state g old.now) (state g new.now))
+
+  -- ---- what each call on one table does
+
+  -- a read outside a transaction finds this of the contents
+  pub record Finds {T : Type 0} (old new : Held S) (result : Result T Failure) (shows : Contents → T → Type 0)
+      : Type 0 where
+    pub frame : LeftAsItWas old new
+    pub reads : Reads old new result shows
+    pub cause : FailsAlone old new result
+
+  -- so does one of a further table, which is there afterwards too
+  pub record FindsInFurther {T : Type 0} (old new : Held S) (result : Result T Failure) (table : Table)
+      (shows : Contents → T → Type 0) : Type 0 where
+    pub frame : LeftAsItWas old new
+    pub reads : Reads old new result shows
+    pub cause : FailsAlone old new result
+    pub exists : HasTable new table
+
+  -- and a read inside a transaction, of what that has written so far
+  pub record FindsInside {T : Type 0} (old new : MutBor (Held S)) (result : Result T Failure)
+      (shows : Contents → T → Type 0) : Type 0 where
+    pub frame : StaysInside old new result
+    pub reads : Reads old.now new.now result shows
+    pub cause : FailsAlone old.now new.now result
+
+  -- an insert of this row makes this change, where there was no entry of its key
+  pub record Inserts {T X : Type 0} (before after : MutBor (Held S)) (result : Result T Failure) (table : Table)
+      (row : Row) (find : Contents → Option X) (change : Contents → Contents) : Type 0 where
+    pub frame : StaysInside before after result
+    pub done : Makes before after result change
+    pub cause : FailsToPut before after result table row find
+    pub new : WasFree before after result find
+
+  -- a delete makes this change
+  pub record Removes {T : Type 0} (old new : MutBor (Held S)) (result : Result T Failure)
+      (change : Contents → Contents) : Type 0 where
+    pub frame : StaysInside old new result
+    pub done : Makes old new result change
+    pub cause : FailsAlone old.now new.now result

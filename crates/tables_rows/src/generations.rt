@@ -8,8 +8,7 @@ ghost use Rattle.std.specs.Ordering.{eq_by_cmp, int_cmp};
 ghost use Rattle.std.specs.FinMap as finite;
 ghost use Rattle.tables_sql.specs.Contents.{texts_cmp};
 ghost use Rattle.tables_sql.specs.Entries.{generation_in};
-ghost use Rattle.tables_rows.specs.Frames.{MayRead, LeftAsItWas, Reads, FailsAlone};
-ghost use Rattle.tables_rows.specs.Frames.{IsInside, StaysInside, Makes, WasFree, FailsToPut};
+ghost use Rattle.tables_rows.specs.Frames.{MayRead, IsInside, Finds, Inserts, Removes};
 
 use crate::reading;
 use sqlite::{Alter, Connection, Transaction, params};
@@ -21,10 +20,8 @@ use tables_sql::statement;
 /// All generations, in order.
 pub fn all<S: Alter>(alloc: Global, conn: &mut Connection<S>) -> Result<Vec<Generation>, Failure>
     requires frame { MayRead S.Store conn.old }
-    ensures frame { LeftAsItWas S.Store conn.old conn.new }
-    ensures reads { Reads S.Store conn.old conn.new result
+    ensures { Finds S.Store conn.old conn.new result
         (λ c all. map generation_in all.items ≡ finite.entries c.generations) }
-    ensures cause { FailsAlone S.Store conn.old conn.new result }
 {
     reading::select(
         alloc,
@@ -42,11 +39,10 @@ pub fn of<S: Alter>(
     name: &str,
 ) -> Result<Vec<Generation>, Failure>
     requires frame { MayRead S.Store conn.old }
-    ensures frame { LeftAsItWas S.Store conn.old conn.new }
-    ensures reads { Reads S.Store conn.old conn.new result (λ c all. map generation_in all.items
+    ensures { Finds S.Store conn.old conn.new result
+        (λ c all. map generation_in all.items
         ≡ finite.entries (finite.retain_keys c.generations
         (λ k. eq_by_cmp texts_cmp k.0 owner.now && eq_by_cmp texts_cmp k.1 name.now))) }
-    ensures cause { FailsAlone S.Store conn.old conn.new result }
 {
     reading::select(
         alloc,
@@ -66,14 +62,10 @@ pub fn insert<S: Alter>(
     target: &str,
 ) -> Result<(), Failure>
     requires { IsInside S.Store tx.old.conn }
-    ensures frame { StaysInside S.Store tx.old.conn tx.new.conn result }
-    ensures done { Makes S.Store tx.old.conn tx.new.conn result
-        (λ c. record c { generations = finite.insert c.generations (owner.now, name.now, (pos number)) target.now }) }
-    ensures new { WasFree S.Store tx.old.conn tx.new.conn result
-        (λ c. finite.get c.generations (owner.now, name.now, (pos number))) }
-    ensures cause { FailsToPut S.Store tx.old.conn tx.new.conn result
+    ensures { Inserts S.Store tx.old.conn tx.new.conn result
         generation (Text owner.now ∷ Text name.now ∷ Int (pos number) ∷ Text target.now ∷ [])
-        (λ c. finite.get c.generations (owner.now, name.now, (pos number))) }
+        (λ c. finite.get c.generations (owner.now, name.now, (pos number)))
+        (λ c. record c { generations = finite.insert c.generations (owner.now, name.now, (pos number)) target.now }) }
 {
     // A text is UTF-8.
     let _owner = owner.as_bytes();
@@ -94,14 +86,12 @@ pub fn delete<S: Alter>(
     number: u32,
 ) -> Result<(), Failure>
     requires { IsInside S.Store tx.old.conn }
-    ensures frame { StaysInside S.Store tx.old.conn tx.new.conn result }
-    ensures done { Makes S.Store tx.old.conn tx.new.conn result
+    ensures { Removes S.Store tx.old.conn tx.new.conn result
         (λ c. record c {
           generations = finite.retain_keys c.generations
               (λ k. not (eq_by_cmp texts_cmp k.0 owner.now && (eq_by_cmp texts_cmp k.1 name.now
               && eq_by_cmp int_cmp k.2 (pos number))));
         }) }
-    ensures cause { FailsAlone S.Store tx.old.conn.now tx.new.conn.now result }
 {
     statement::remove(
         tx,

@@ -6,7 +6,7 @@ ghost use Rattle.std.specs.Ordering.{eq_by_cmp};
 ghost use Rattle.std.specs.FinMap as finite;
 ghost use Rattle.tables_sql.specs.Contents.{texts_cmp};
 ghost use Rattle.tables_sql.specs.Entries.{stored_of, IsStored};
-ghost use Rattle.tables_rows.specs.Frames.{IsInside, StaysInside, Reads, FailsAlone};
+ghost use Rattle.tables_rows.specs.Frames.{IsInside, FindsInside};
 
 use crate::within;
 use sqlite::{Alter, Transaction, params};
@@ -21,9 +21,8 @@ pub fn get_within<S: Alter>(
     base: &str,
 ) -> Result<Option<Object>, Failure>
     requires { IsInside S.Store tx.old.conn }
-    ensures frame { StaysInside S.Store tx.old.conn tx.new.conn result }
-    ensures reads { Reads S.Store tx.old.conn.now tx.new.conn.now result (λ c o. IsStored c.objects base.now o) }
-    ensures cause { FailsAlone S.Store tx.old.conn.now tx.new.conn.now result }
+    ensures { FindsInside S.Store tx.old.conn tx.new.conn result
+        (λ c o. IsStored c.objects base.now o) }
 {
     let mut found = of_within(alloc, tx, base)?;
     Ok(found.pop())
@@ -36,10 +35,9 @@ fn of_within<S: Alter>(
     base: &str,
 ) -> Result<Vec<Object>, Failure>
     requires { IsInside S.Store tx.old.conn }
-    ensures frame { StaysInside S.Store tx.old.conn tx.new.conn result }
-    ensures reads { Reads S.Store tx.old.conn.now tx.new.conn.now result (λ c all. map stored_of all.items
+    ensures { FindsInside S.Store tx.old.conn tx.new.conn result
+        (λ c all. map stored_of all.items
         ≡ finite.entries (finite.retain_keys c.objects (λ k. eq_by_cmp texts_cmp k base.now))) }
-    ensures cause { FailsAlone S.Store tx.old.conn.now tx.new.conn.now result }
 {
     within::select(
         alloc,

@@ -8,8 +8,7 @@ ghost use Rattle.std.specs.Ordering.{eq_by_cmp};
 ghost use Rattle.std.specs.FinMap as finite;
 ghost use Rattle.tables_sql.specs.Contents.{texts_cmp};
 ghost use Rattle.tables_sql.specs.Entries.{setting_of};
-ghost use Rattle.tables_rows.specs.Frames.{MayRead, LeftAsItWas, Reads, FailsAlone};
-ghost use Rattle.tables_rows.specs.Frames.{IsInside, StaysInside, Makes, WasFree, FailsToPut};
+ghost use Rattle.tables_rows.specs.Frames.{MayRead, IsInside, Finds, Inserts, Removes};
 
 use crate::reading;
 use sqlite::{Alter, Connection, Transaction, params};
@@ -21,9 +20,8 @@ use tables_sql::statement;
 /// All settings, in order.
 pub fn all<S: Alter>(alloc: Global, conn: &mut Connection<S>) -> Result<Vec<Setting>, Failure>
     requires frame { MayRead S.Store conn.old }
-    ensures frame { LeftAsItWas S.Store conn.old conn.new }
-    ensures reads { Reads S.Store conn.old conn.new result (λ c all. map setting_of all.items ≡ finite.entries c.meta) }
-    ensures cause { FailsAlone S.Store conn.old conn.new result }
+    ensures { Finds S.Store conn.old conn.new result
+        (λ c all. map setting_of all.items ≡ finite.entries c.meta) }
 {
     reading::select(alloc, conn, "SELECT word, val FROM meta ORDER BY word", &[])
 }
@@ -35,10 +33,9 @@ pub fn of<S: Alter>(
     word: &str,
 ) -> Result<Vec<Setting>, Failure>
     requires frame { MayRead S.Store conn.old }
-    ensures frame { LeftAsItWas S.Store conn.old conn.new }
-    ensures reads { Reads S.Store conn.old conn.new result (λ c all. map setting_of all.items
+    ensures { Finds S.Store conn.old conn.new result
+        (λ c all. map setting_of all.items
         ≡ finite.entries (finite.retain_keys c.meta (λ k. eq_by_cmp texts_cmp k word.now))) }
-    ensures cause { FailsAlone S.Store conn.old conn.new result }
 {
     reading::select(
         alloc,
@@ -52,12 +49,10 @@ pub fn of<S: Alter>(
 /// otherwise.
 pub fn insert<S: Alter>(tx: &mut Transaction<'_, S>, word: &str, value: &str) -> Result<(), Failure>
     requires { IsInside S.Store tx.old.conn }
-    ensures frame { StaysInside S.Store tx.old.conn tx.new.conn result }
-    ensures done { Makes S.Store tx.old.conn tx.new.conn result
+    ensures { Inserts S.Store tx.old.conn tx.new.conn result
+        meta (Text word.now ∷ Text value.now ∷ [])
+        (λ c. finite.get c.meta word.now)
         (λ c. record c { meta = finite.insert c.meta word.now value.now }) }
-    ensures new { WasFree S.Store tx.old.conn tx.new.conn result (λ c. finite.get c.meta word.now) }
-    ensures cause { FailsToPut S.Store tx.old.conn tx.new.conn result
-        meta (Text word.now ∷ Text value.now ∷ []) (λ c. finite.get c.meta word.now) }
 {
     // A text is UTF-8.
     let _word = word.as_bytes();
@@ -72,10 +67,8 @@ pub fn insert<S: Alter>(tx: &mut Transaction<'_, S>, word: &str, value: &str) ->
 /// Removes the setting of this word, if there is one.
 pub fn delete<S: Alter>(tx: &mut Transaction<'_, S>, word: &str) -> Result<(), Failure>
     requires { IsInside S.Store tx.old.conn }
-    ensures frame { StaysInside S.Store tx.old.conn tx.new.conn result }
-    ensures done { Makes S.Store tx.old.conn tx.new.conn result
+    ensures { Removes S.Store tx.old.conn tx.new.conn result
         (λ c. record c { meta = finite.retain_keys c.meta (λ k. not (eq_by_cmp texts_cmp k word.now)) }) }
-    ensures cause { FailsAlone S.Store tx.old.conn.now tx.new.conn.now result }
 {
     statement::remove(tx, "DELETE FROM meta WHERE word = ?1", params![word])
 }

@@ -8,8 +8,7 @@ ghost use Rattle.std.specs.Ordering.{eq_by_cmp};
 ghost use Rattle.std.specs.FinMap as finite;
 ghost use Rattle.tables_sql.specs.Contents.{texts_cmp, without_archive};
 ghost use Rattle.tables_sql.specs.Entries.{text_or_null, stored_of, listed_of, IsStored, stored};
-ghost use Rattle.tables_rows.specs.Frames.{MayRead, LeftAsItWas, Reads, FailsAlone};
-ghost use Rattle.tables_rows.specs.Frames.{IsInside, StaysInside, Makes, WasFree, FailsToPut};
+ghost use Rattle.tables_rows.specs.Frames.{MayRead, IsInside, Finds, Inserts, Removes};
 
 pub use crate::getting_within::get_within;
 use crate::reading;
@@ -22,10 +21,8 @@ use tables_sql::statement;
 /// All objects without their archives, in the order of their bases.
 pub fn all<S: Alter>(alloc: Global, conn: &mut Connection<S>) -> Result<Vec<Listed>, Failure>
     requires frame { MayRead S.Store conn.old }
-    ensures frame { LeftAsItWas S.Store conn.old conn.new }
-    ensures reads { Reads S.Store conn.old conn.new result
+    ensures { Finds S.Store conn.old conn.new result
         (λ c all. map listed_of all.items ≡ map without_archive (finite.entries c.objects)) }
-    ensures cause { FailsAlone S.Store conn.old conn.new result }
 {
     reading::select(
         alloc,
@@ -38,10 +35,8 @@ pub fn all<S: Alter>(alloc: Global, conn: &mut Connection<S>) -> Result<Vec<List
 /// The bases of all objects, in order. It copies no archive.
 pub fn keys<S: Alter>(alloc: Global, conn: &mut Connection<S>) -> Result<Vec<String>, Failure>
     requires frame { MayRead S.Store conn.old }
-    ensures frame { LeftAsItWas S.Store conn.old conn.new }
-    ensures reads { Reads S.Store conn.old conn.new result
+    ensures { Finds S.Store conn.old conn.new result
         (λ c all. map string_bytes all.items ≡ finite.keys c.objects) }
-    ensures cause { FailsAlone S.Store conn.old conn.new result }
 {
     reading::select(alloc, conn, "SELECT base FROM object ORDER BY base", &[])
 }
@@ -53,9 +48,8 @@ pub fn get<S: Alter>(
     base: &str,
 ) -> Result<Option<Object>, Failure>
     requires frame { MayRead S.Store conn.old }
-    ensures frame { LeftAsItWas S.Store conn.old conn.new }
-    ensures reads { Reads S.Store conn.old conn.new result (λ c o. IsStored c.objects base.now o) }
-    ensures cause { FailsAlone S.Store conn.old conn.new result }
+    ensures { Finds S.Store conn.old conn.new result
+        (λ c o. IsStored c.objects base.now o) }
 {
     let mut found = of(alloc, conn, base)?;
     Ok(found.pop())
@@ -64,10 +58,9 @@ pub fn get<S: Alter>(
 /// The object of this base, if there is one, as a list of at most one.
 fn of<S: Alter>(alloc: Global, conn: &mut Connection<S>, base: &str) -> Result<Vec<Object>, Failure>
     requires frame { MayRead S.Store conn.old }
-    ensures frame { LeftAsItWas S.Store conn.old conn.new }
-    ensures reads { Reads S.Store conn.old conn.new result (λ c all. map stored_of all.items
+    ensures { Finds S.Store conn.old conn.new result
+        (λ c all. map stored_of all.items
         ≡ finite.entries (finite.retain_keys c.objects (λ k. eq_by_cmp texts_cmp k base.now))) }
-    ensures cause { FailsAlone S.Store conn.old conn.new result }
 {
     reading::select(
         alloc,
@@ -88,13 +81,10 @@ pub fn insert<S: Alter>(
     ca: &Option<String>,
 ) -> Result<(), Failure>
     requires { IsInside S.Store tx.old.conn }
-    ensures frame { StaysInside S.Store tx.old.conn tx.new.conn result }
-    ensures done { Makes S.Store tx.old.conn tx.new.conn result
-        (λ c. record c { objects = finite.insert c.objects base.now (stored nar.now hash.now deriver.now ca.now) }) }
-    ensures new { WasFree S.Store tx.old.conn tx.new.conn result (λ c. finite.get c.objects base.now) }
-    ensures cause { FailsToPut S.Store tx.old.conn tx.new.conn result
+    ensures { Inserts S.Store tx.old.conn tx.new.conn result
         object (Text base.now ∷ Blob nar.now ∷ Blob hash.now ∷ text_or_null deriver.now ∷ text_or_null ca.now ∷ [])
-        (λ c. finite.get c.objects base.now) }
+        (λ c. finite.get c.objects base.now)
+        (λ c. record c { objects = finite.insert c.objects base.now (stored nar.now hash.now deriver.now ca.now) }) }
 {
     // A text is UTF-8.
     let _base = base.as_bytes();
@@ -108,10 +98,8 @@ pub fn insert<S: Alter>(
 /// Removes the object of this base, if there is one.
 pub fn delete<S: Alter>(tx: &mut Transaction<'_, S>, base: &str) -> Result<(), Failure>
     requires { IsInside S.Store tx.old.conn }
-    ensures frame { StaysInside S.Store tx.old.conn tx.new.conn result }
-    ensures done { Makes S.Store tx.old.conn tx.new.conn result
+    ensures { Removes S.Store tx.old.conn tx.new.conn result
         (λ c. record c { objects = finite.retain_keys c.objects (λ k. not (eq_by_cmp texts_cmp k base.now)) }) }
-    ensures cause { FailsAlone S.Store tx.old.conn.now tx.new.conn.now result }
 {
     statement::remove(tx, "DELETE FROM object WHERE base = ?1", params![base])
 }

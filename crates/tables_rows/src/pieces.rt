@@ -8,8 +8,7 @@ ghost use Rattle.std.specs.Ordering.{eq_by_cmp};
 ghost use Rattle.std.specs.FinMap as finite;
 ghost use Rattle.tables_sql.specs.Contents.{texts_cmp};
 ghost use Rattle.tables_sql.specs.Entries.{piece_in, numbered_in};
-ghost use Rattle.tables_rows.specs.Frames.{MayRead, HasTable, LeftAsItWas, Reads, FailsAlone};
-ghost use Rattle.tables_rows.specs.Frames.{IsInside, StaysInside, Makes, WasFree, FailsToPut};
+ghost use Rattle.tables_rows.specs.Frames.{MayRead, HasTable, IsInside, FindsInFurther, Inserts, Removes};
 
 use crate::reading;
 use sqlite::{Alter, Connection, Transaction, params};
@@ -22,10 +21,8 @@ use tables_sql::statement;
 pub fn keys<S: Alter>(alloc: Global, conn: &mut Connection<S>) -> Result<Vec<PieceKey>, Failure>
     requires frame { MayRead S.Store conn.old }
     requires exists { HasTable S.Store conn.old piece }
-    ensures frame { LeftAsItWas S.Store conn.old conn.new }
-    ensures reads { Reads S.Store conn.old conn.new result (λ c all. map numbered_in all.items ≡ finite.keys c.pieces) }
-    ensures cause { FailsAlone S.Store conn.old conn.new result }
-    ensures exists { HasTable S.Store conn.new piece }
+    ensures { FindsInFurther S.Store conn.old conn.new result piece
+        (λ c all. map numbered_in all.items ≡ finite.keys c.pieces) }
 {
     reading::select(
         alloc,
@@ -39,10 +36,8 @@ pub fn keys<S: Alter>(alloc: Global, conn: &mut Connection<S>) -> Result<Vec<Pie
 pub fn all<S: Alter>(alloc: Global, conn: &mut Connection<S>) -> Result<Vec<Piece>, Failure>
     requires frame { MayRead S.Store conn.old }
     requires exists { HasTable S.Store conn.old piece }
-    ensures frame { LeftAsItWas S.Store conn.old conn.new }
-    ensures reads { Reads S.Store conn.old conn.new result (λ c all. map piece_in all.items ≡ finite.entries c.pieces) }
-    ensures cause { FailsAlone S.Store conn.old conn.new result }
-    ensures exists { HasTable S.Store conn.new piece }
+    ensures { FindsInFurther S.Store conn.old conn.new result piece
+        (λ c all. map piece_in all.items ≡ finite.entries c.pieces) }
 {
     reading::select(
         alloc,
@@ -60,11 +55,9 @@ pub fn of<S: Alter>(
 ) -> Result<Vec<Piece>, Failure>
     requires frame { MayRead S.Store conn.old }
     requires exists { HasTable S.Store conn.old piece }
-    ensures frame { LeftAsItWas S.Store conn.old conn.new }
-    ensures reads { Reads S.Store conn.old conn.new result (λ c all. map piece_in all.items
+    ensures { FindsInFurther S.Store conn.old conn.new result piece
+        (λ c all. map piece_in all.items
         ≡ finite.entries (finite.retain_keys c.pieces (λ k. eq_by_cmp texts_cmp k.0 base.now))) }
-    ensures cause { FailsAlone S.Store conn.old conn.new result }
-    ensures exists { HasTable S.Store conn.new piece }
 {
     reading::select(
         alloc,
@@ -84,13 +77,10 @@ pub fn insert<S: Alter>(
 ) -> Result<(), Failure>
     requires under { IsInside S.Store tx.old.conn }
     requires exists { HasTable S.Store tx.old.conn.now piece }
-    ensures frame { StaysInside S.Store tx.old.conn tx.new.conn result }
-    ensures done { Makes S.Store tx.old.conn tx.new.conn result
-        (λ c. record c { pieces = finite.insert c.pieces (base.now, (pos number)) bytes.now }) }
-    ensures new { WasFree S.Store tx.old.conn tx.new.conn result (λ c. finite.get c.pieces (base.now, (pos number))) }
-    ensures cause { FailsToPut S.Store tx.old.conn tx.new.conn result
+    ensures { Inserts S.Store tx.old.conn tx.new.conn result
         piece (Text base.now ∷ Int (pos number) ∷ Blob bytes.now ∷ [])
-        (λ c. finite.get c.pieces (base.now, (pos number))) }
+        (λ c. finite.get c.pieces (base.now, (pos number)))
+        (λ c. record c { pieces = finite.insert c.pieces (base.now, (pos number)) bytes.now }) }
 {
     // A text is UTF-8.
     let _base = base.as_bytes();
@@ -105,10 +95,8 @@ pub fn insert<S: Alter>(
 pub fn delete_of<S: Alter>(tx: &mut Transaction<'_, S>, base: &str) -> Result<(), Failure>
     requires under { IsInside S.Store tx.old.conn }
     requires exists { HasTable S.Store tx.old.conn.now piece }
-    ensures frame { StaysInside S.Store tx.old.conn tx.new.conn result }
-    ensures done { Makes S.Store tx.old.conn tx.new.conn result
+    ensures { Removes S.Store tx.old.conn tx.new.conn result
         (λ c. record c { pieces = finite.retain_keys c.pieces (λ k. not (eq_by_cmp texts_cmp k.0 base.now)) }) }
-    ensures cause { FailsAlone S.Store tx.old.conn.now tx.new.conn.now result }
 {
     statement::remove(tx, "DELETE FROM piece WHERE base = ?1", params![base])
 }

@@ -8,8 +8,7 @@ ghost use Rattle.std.specs.Ordering.{eq_by_cmp};
 ghost use Rattle.std.specs.FinMap as finite;
 ghost use Rattle.tables_sql.specs.Contents.{texts_cmp};
 ghost use Rattle.tables_sql.specs.Entries.{current_of};
-ghost use Rattle.tables_rows.specs.Frames.{MayRead, LeftAsItWas, Reads, FailsAlone};
-ghost use Rattle.tables_rows.specs.Frames.{IsInside, StaysInside, Makes, WasFree, FailsToPut};
+ghost use Rattle.tables_rows.specs.Frames.{MayRead, IsInside, Finds, Inserts, Removes};
 
 use crate::reading;
 use sqlite::{Alter, Connection, Transaction, params};
@@ -21,10 +20,8 @@ use tables_sql::statement;
 /// All profiles, in order.
 pub fn all<S: Alter>(alloc: Global, conn: &mut Connection<S>) -> Result<Vec<Profile>, Failure>
     requires frame { MayRead S.Store conn.old }
-    ensures frame { LeftAsItWas S.Store conn.old conn.new }
-    ensures reads { Reads S.Store conn.old conn.new result
+    ensures { Finds S.Store conn.old conn.new result
         (λ c all. map current_of all.items ≡ finite.entries c.profiles) }
-    ensures cause { FailsAlone S.Store conn.old conn.new result }
 {
     reading::select(
         alloc,
@@ -41,10 +38,9 @@ pub fn of<S: Alter>(
     owner: &str,
 ) -> Result<Vec<Profile>, Failure>
     requires frame { MayRead S.Store conn.old }
-    ensures frame { LeftAsItWas S.Store conn.old conn.new }
-    ensures reads { Reads S.Store conn.old conn.new result (λ c all. map current_of all.items
+    ensures { Finds S.Store conn.old conn.new result
+        (λ c all. map current_of all.items
         ≡ finite.entries (finite.retain_keys c.profiles (λ k. eq_by_cmp texts_cmp k.0 owner.now))) }
-    ensures cause { FailsAlone S.Store conn.old conn.new result }
 {
     reading::select(
         alloc,
@@ -62,11 +58,10 @@ pub fn at<S: Alter>(
     name: &str,
 ) -> Result<Vec<Profile>, Failure>
     requires frame { MayRead S.Store conn.old }
-    ensures frame { LeftAsItWas S.Store conn.old conn.new }
-    ensures reads { Reads S.Store conn.old conn.new result (λ c all. map current_of all.items
+    ensures { Finds S.Store conn.old conn.new result
+        (λ c all. map current_of all.items
         ≡ finite.entries (finite.retain_keys c.profiles
         (λ k. eq_by_cmp texts_cmp k.0 owner.now && eq_by_cmp texts_cmp k.1 name.now))) }
-    ensures cause { FailsAlone S.Store conn.old conn.new result }
 {
     reading::select(
         alloc,
@@ -85,13 +80,10 @@ pub fn insert<S: Alter>(
     current: u32,
 ) -> Result<(), Failure>
     requires { IsInside S.Store tx.old.conn }
-    ensures frame { StaysInside S.Store tx.old.conn tx.new.conn result }
-    ensures done { Makes S.Store tx.old.conn tx.new.conn result
-        (λ c. record c { profiles = finite.insert c.profiles (owner.now, name.now) (pos current) }) }
-    ensures new { WasFree S.Store tx.old.conn tx.new.conn result (λ c. finite.get c.profiles (owner.now, name.now)) }
-    ensures cause { FailsToPut S.Store tx.old.conn tx.new.conn result
+    ensures { Inserts S.Store tx.old.conn tx.new.conn result
         profile (Text owner.now ∷ Text name.now ∷ Int (pos current) ∷ [])
-        (λ c. finite.get c.profiles (owner.now, name.now)) }
+        (λ c. finite.get c.profiles (owner.now, name.now))
+        (λ c. record c { profiles = finite.insert c.profiles (owner.now, name.now) (pos current) }) }
 {
     // A text is UTF-8.
     let _owner = owner.as_bytes();
@@ -106,13 +98,11 @@ pub fn insert<S: Alter>(
 /// Removes the profile of this owner and this name, if there is one.
 pub fn delete<S: Alter>(tx: &mut Transaction<'_, S>, owner: &str, name: &str) -> Result<(), Failure>
     requires { IsInside S.Store tx.old.conn }
-    ensures frame { StaysInside S.Store tx.old.conn tx.new.conn result }
-    ensures done { Makes S.Store tx.old.conn tx.new.conn result
+    ensures { Removes S.Store tx.old.conn tx.new.conn result
         (λ c. record c {
           profiles = finite.retain_keys c.profiles
               (λ k. not (eq_by_cmp texts_cmp k.0 owner.now && eq_by_cmp texts_cmp k.1 name.now));
         }) }
-    ensures cause { FailsAlone S.Store tx.old.conn.now tx.new.conn.now result }
 {
     statement::remove(
         tx,

@@ -8,8 +8,7 @@ ghost use Rattle.std.specs.Ordering.{eq_by_cmp};
 ghost use Rattle.std.specs.FinMap as finite;
 ghost use Rattle.tables_sql.specs.Contents.{texts_cmp};
 ghost use Rattle.tables_sql.specs.Entries.{runtime_of};
-ghost use Rattle.tables_rows.specs.Frames.{MayRead, LeftAsItWas, Reads, FailsAlone};
-ghost use Rattle.tables_rows.specs.Frames.{IsInside, StaysInside, Makes, WasFree, FailsToPut};
+ghost use Rattle.tables_rows.specs.Frames.{MayRead, IsInside, Finds, Inserts, Removes};
 
 use crate::reading;
 use sqlite::{Alter, Connection, Transaction, params};
@@ -21,10 +20,8 @@ use tables_sql::statement;
 /// All runtime roots, in order.
 pub fn all<S: Alter>(alloc: Global, conn: &mut Connection<S>) -> Result<Vec<RuntimeRoot>, Failure>
     requires frame { MayRead S.Store conn.old }
-    ensures frame { LeftAsItWas S.Store conn.old conn.new }
-    ensures reads { Reads S.Store conn.old conn.new result
+    ensures { Finds S.Store conn.old conn.new result
         (λ c all. map runtime_of all.items ≡ finite.entries c.runtime) }
-    ensures cause { FailsAlone S.Store conn.old conn.new result }
 {
     reading::select(
         alloc,
@@ -41,10 +38,9 @@ pub fn of<S: Alter>(
     label: &str,
 ) -> Result<Vec<RuntimeRoot>, Failure>
     requires frame { MayRead S.Store conn.old }
-    ensures frame { LeftAsItWas S.Store conn.old conn.new }
-    ensures reads { Reads S.Store conn.old conn.new result (λ c all. map runtime_of all.items
+    ensures { Finds S.Store conn.old conn.new result
+        (λ c all. map runtime_of all.items
         ≡ finite.entries (finite.retain_keys c.runtime (λ k. eq_by_cmp texts_cmp k.0 label.now))) }
-    ensures cause { FailsAlone S.Store conn.old conn.new result }
 {
     reading::select(
         alloc,
@@ -62,12 +58,10 @@ pub fn insert<S: Alter>(
     target: &str,
 ) -> Result<(), Failure>
     requires { IsInside S.Store tx.old.conn }
-    ensures frame { StaysInside S.Store tx.old.conn tx.new.conn result }
-    ensures done { Makes S.Store tx.old.conn tx.new.conn result
+    ensures { Inserts S.Store tx.old.conn tx.new.conn result
+        runtime (Text label.now ∷ Text target.now ∷ [])
+        (λ c. finite.get c.runtime (label.now, target.now))
         (λ c. record c { runtime = finite.insert c.runtime (label.now, target.now) tt }) }
-    ensures new { WasFree S.Store tx.old.conn tx.new.conn result (λ c. finite.get c.runtime (label.now, target.now)) }
-    ensures cause { FailsToPut S.Store tx.old.conn tx.new.conn result
-        runtime (Text label.now ∷ Text target.now ∷ []) (λ c. finite.get c.runtime (label.now, target.now)) }
 {
     // A text is UTF-8.
     let _label = label.as_bytes();
@@ -82,10 +76,8 @@ pub fn insert<S: Alter>(
 /// Removes the runtime roots of this label.
 pub fn delete_of<S: Alter>(tx: &mut Transaction<'_, S>, label: &str) -> Result<(), Failure>
     requires { IsInside S.Store tx.old.conn }
-    ensures frame { StaysInside S.Store tx.old.conn tx.new.conn result }
-    ensures done { Makes S.Store tx.old.conn tx.new.conn result
+    ensures { Removes S.Store tx.old.conn tx.new.conn result
         (λ c. record c { runtime = finite.retain_keys c.runtime (λ k. not (eq_by_cmp texts_cmp k.0 label.now)) }) }
-    ensures cause { FailsAlone S.Store tx.old.conn.now tx.new.conn.now result }
 {
     statement::remove(tx, "DELETE FROM runtime WHERE label = ?1", params![label])
 }
@@ -93,9 +85,8 @@ pub fn delete_of<S: Alter>(tx: &mut Transaction<'_, S>, label: &str) -> Result<(
 /// Removes all runtime roots.
 pub fn delete_all<S: Alter>(tx: &mut Transaction<'_, S>) -> Result<(), Failure>
     requires { IsInside S.Store tx.old.conn }
-    ensures frame { StaysInside S.Store tx.old.conn tx.new.conn result }
-    ensures done { Makes S.Store tx.old.conn tx.new.conn result (λ c. record c { runtime = finite.from_entries [] }) }
-    ensures cause { FailsAlone S.Store tx.old.conn.now tx.new.conn.now result }
+    ensures { Removes S.Store tx.old.conn tx.new.conn result
+        (λ c. record c { runtime = finite.from_entries [] }) }
 {
     statement::remove(tx, "DELETE FROM runtime", &[])
 }

@@ -8,8 +8,7 @@ ghost use Rattle.std.specs.Ordering.{eq_by_cmp, int_cmp};
 ghost use Rattle.std.specs.FinMap as finite;
 ghost use Rattle.tables_sql.specs.Contents.{texts_cmp};
 ghost use Rattle.tables_sql.specs.Entries.{temp_root_of};
-ghost use Rattle.tables_rows.specs.Frames.{MayRead, HasTable, LeftAsItWas, Reads, FailsAlone};
-ghost use Rattle.tables_rows.specs.Frames.{IsInside, StaysInside, Makes, WasFree, FailsToPut};
+ghost use Rattle.tables_rows.specs.Frames.{MayRead, HasTable, IsInside, FindsInFurther, Inserts, Removes};
 
 use crate::reading;
 use sqlite::{Alter, Connection, Transaction, params};
@@ -22,11 +21,8 @@ pub use tables_sql::temp_roots::TempRoot;
 pub fn all<S: Alter>(alloc: Global, conn: &mut Connection<S>) -> Result<Vec<TempRoot>, Failure>
     requires frame { MayRead S.Store conn.old }
     requires exists { HasTable S.Store conn.old temp_root }
-    ensures frame { LeftAsItWas S.Store conn.old conn.new }
-    ensures reads { Reads S.Store conn.old conn.new result
+    ensures { FindsInFurther S.Store conn.old conn.new result temp_root
         (λ c all. map temp_root_of all.items ≡ finite.entries c.temp_roots) }
-    ensures cause { FailsAlone S.Store conn.old conn.new result }
-    ensures exists { HasTable S.Store conn.new temp_root }
 {
     reading::select(
         alloc,
@@ -45,12 +41,10 @@ pub fn of<S: Alter>(
 ) -> Result<Vec<TempRoot>, Failure>
     requires frame { MayRead S.Store conn.old }
     requires exists { HasTable S.Store conn.old temp_root }
-    ensures frame { LeftAsItWas S.Store conn.old conn.new }
-    ensures reads { Reads S.Store conn.old conn.new result (λ c all. map temp_root_of all.items
+    ensures { FindsInFurther S.Store conn.old conn.new result temp_root
+        (λ c all. map temp_root_of all.items
         ≡ finite.entries (finite.retain_keys c.temp_roots
         (λ k. eq_by_cmp texts_cmp k.0 owner.now && eq_by_cmp int_cmp k.1 (pos session)))) }
-    ensures cause { FailsAlone S.Store conn.old conn.new result }
-    ensures exists { HasTable S.Store conn.new temp_root }
 {
     reading::select(
         alloc,
@@ -70,14 +64,10 @@ pub fn insert<S: Alter>(
 ) -> Result<(), Failure>
     requires under { IsInside S.Store tx.old.conn }
     requires exists { HasTable S.Store tx.old.conn.now temp_root }
-    ensures frame { StaysInside S.Store tx.old.conn tx.new.conn result }
-    ensures done { Makes S.Store tx.old.conn tx.new.conn result
-        (λ c. record c { temp_roots = finite.insert c.temp_roots (owner.now, (pos session), target.now) tt }) }
-    ensures new { WasFree S.Store tx.old.conn tx.new.conn result
-        (λ c. finite.get c.temp_roots (owner.now, (pos session), target.now)) }
-    ensures cause { FailsToPut S.Store tx.old.conn tx.new.conn result
+    ensures { Inserts S.Store tx.old.conn tx.new.conn result
         temp_root (Text owner.now ∷ Int (pos session) ∷ Text target.now ∷ [])
-        (λ c. finite.get c.temp_roots (owner.now, (pos session), target.now)) }
+        (λ c. finite.get c.temp_roots (owner.now, (pos session), target.now))
+        (λ c. record c { temp_roots = finite.insert c.temp_roots (owner.now, (pos session), target.now) tt }) }
 {
     // A text is UTF-8.
     let _owner = owner.as_bytes();
@@ -97,13 +87,11 @@ pub fn delete_of<S: Alter>(
 ) -> Result<(), Failure>
     requires under { IsInside S.Store tx.old.conn }
     requires exists { HasTable S.Store tx.old.conn.now temp_root }
-    ensures frame { StaysInside S.Store tx.old.conn tx.new.conn result }
-    ensures done { Makes S.Store tx.old.conn tx.new.conn result
+    ensures { Removes S.Store tx.old.conn tx.new.conn result
         (λ c. record c {
           temp_roots = finite.retain_keys c.temp_roots
               (λ k. not (eq_by_cmp texts_cmp k.0 owner.now && eq_by_cmp int_cmp k.1 (pos session)));
         }) }
-    ensures cause { FailsAlone S.Store tx.old.conn.now tx.new.conn.now result }
 {
     statement::remove(
         tx,
@@ -121,14 +109,12 @@ pub fn delete<S: Alter>(
 ) -> Result<(), Failure>
     requires under { IsInside S.Store tx.old.conn }
     requires exists { HasTable S.Store tx.old.conn.now temp_root }
-    ensures frame { StaysInside S.Store tx.old.conn tx.new.conn result }
-    ensures done { Makes S.Store tx.old.conn tx.new.conn result
+    ensures { Removes S.Store tx.old.conn tx.new.conn result
         (λ c. record c {
           temp_roots = finite.retain_keys c.temp_roots
               (λ k. not (eq_by_cmp texts_cmp k.0 owner.now && (eq_by_cmp int_cmp k.1 (pos session)
               && eq_by_cmp texts_cmp k.2 target.now)));
         }) }
-    ensures cause { FailsAlone S.Store tx.old.conn.now tx.new.conn.now result }
 {
     statement::remove(
         tx,

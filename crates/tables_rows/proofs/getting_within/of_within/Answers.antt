@@ -2,8 +2,9 @@ use Rattle.tables_sql.proofs.ObjectLemmas.{of}
 use Rattle.tables_rows.proofs.Unsettled.{selects_within, fails_within}
 use Rattle.tables_rows.proofs.getting_within.of_within.Goals as goal
 
-pub returns-clause-reads : goal.returns-clause-reads
-returns-clause-reads g c clean = selects_within (of c.args.base.now) c.select.ensures.frame.survives c.requires (λ early up. tt) clean c.select.result (rw c.params-to_sql.ensures at (c.select.ensures.shown clean)) c.select.ensures.rises
-
-pub returns-clause-cause : goal.returns-clause-cause
-returns-clause-cause g c clean = fails_within (of c.args.base.now) c.select.ensures.frame.survives c.requires (λ early up. tt) clean c.select.result (rw c.params-to_sql.ensures at (c.select.ensures.cause clean))
+pub returns : goal.returns
+returns g c = record {
+  frame = c.select.ensures.frame;
+  reads = λ clean. selects_within (of c.args.base.now) c.select.ensures.frame.survives c.requires (λ early up. tt) clean c.select.result (rw c.params-to_sql.ensures at (c.select.ensures.shown clean)) c.select.ensures.rises;
+  cause = λ clean. fails_within (of c.args.base.now) c.select.ensures.frame.survives c.requires (λ early up. tt) clean c.select.result (rw c.params-to_sql.ensures at (c.select.ensures.cause clean));
+}

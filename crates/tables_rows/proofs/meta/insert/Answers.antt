@@ -4,11 +4,10 @@ use Rattle.tables_sql.proofs.SettingLemmas.{addition}
 use Rattle.tables_rows.proofs.Clauses.{puts, puts_new, fails_to_put}
 use Rattle.tables_rows.proofs.meta.insert.Goals as goal
 
-pub returns-clause-done : goal.returns-clause-done
-returns-clause-done g c clean = puts (addition c.args.word.now c.args.value.now) c.add.ensures.survives c.requires (λ early up. tt) clean c.add.result (subst IsUtf8 c.as_bytes-word.ensures.value c.as_bytes-word.ensures.utf8, (subst IsUtf8 c.as_bytes-value.ensures.value c.as_bytes-value.ensures.utf8, tt)) (rw (c.params-to_sql.ensures, c.params-to_sql-2.ensures) at (c.add.ensures.ran clean))
-
-pub returns-clause-new : goal.returns-clause-new
-returns-clause-new g c clean = puts_new (addition c.args.word.now c.args.value.now) c.add.ensures.survives c.requires (λ early up. tt) clean c.add.result (subst IsUtf8 c.as_bytes-word.ensures.value c.as_bytes-word.ensures.utf8, (subst IsUtf8 c.as_bytes-value.ensures.value c.as_bytes-value.ensures.utf8, tt)) (rw (c.params-to_sql.ensures, c.params-to_sql-2.ensures) at (c.add.ensures.ran clean))
-
-pub returns-clause-cause : goal.returns-clause-cause
-returns-clause-cause g c clean = fails_to_put (addition c.args.word.now c.args.value.now) c.add.ensures.survives c.requires (λ early up. tt) clean c.add.result (rw (c.params-to_sql.ensures, c.params-to_sql-2.ensures) at (c.add.ensures.cause clean))
+pub returns : goal.returns
+returns g c = record {
+  frame = record { same_reference = c.add.ensures.same_reference; failed = c.add.ensures.failed; survives = c.add.ensures.survives };
+  done = λ clean. puts (addition c.args.word.now c.args.value.now) c.add.ensures.survives c.requires (λ early up. tt) clean c.add.result (subst IsUtf8 c.as_bytes-word.ensures.value c.as_bytes-word.ensures.utf8, (subst IsUtf8 c.as_bytes-value.ensures.value c.as_bytes-value.ensures.utf8, tt)) (rw (c.params-to_sql.ensures, c.params-to_sql-2.ensures) at (c.add.ensures.ran clean));
+  new = λ clean. puts_new (addition c.args.word.now c.args.value.now) c.add.ensures.survives c.requires (λ early up. tt) clean c.add.result (subst IsUtf8 c.as_bytes-word.ensures.value c.as_bytes-word.ensures.utf8, (subst IsUtf8 c.as_bytes-value.ensures.value c.as_bytes-value.ensures.utf8, tt)) (rw (c.params-to_sql.ensures, c.params-to_sql-2.ensures) at (c.add.ensures.ran clean));
+  cause = λ clean. fails_to_put (addition c.args.word.now c.args.value.now) c.add.ensures.survives c.requires (λ early up. tt) clean c.add.result (rw (c.params-to_sql.ensures, c.params-to_sql-2.ensures) at (c.add.ensures.cause clean));
+}

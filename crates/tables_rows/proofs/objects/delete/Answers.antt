@@ -2,8 +2,9 @@ use Rattle.tables_sql.proofs.ObjectLemmas.{removal}
 use Rattle.tables_rows.proofs.Clauses.{takes, fails_to_take}
 use Rattle.tables_rows.proofs.objects.delete.Goals as goal
 
-pub returns-clause-done : goal.returns-clause-done
-returns-clause-done g c clean = takes (removal c.args.base.now) c.remove.ensures.survives c.requires (λ early up. tt) clean c.remove.result (rw c.params-to_sql.ensures at (c.remove.ensures.ran clean))
-
-pub returns-clause-cause : goal.returns-clause-cause
-returns-clause-cause g c clean = fails_to_take (removal c.args.base.now) c.remove.ensures.survives c.requires (λ early up. tt) clean c.remove.result (rw c.params-to_sql.ensures at (c.remove.ensures.cause clean))
+pub returns : goal.returns
+returns g c = record {
+  frame = record { same_reference = c.remove.ensures.same_reference; failed = c.remove.ensures.failed; survives = c.remove.ensures.survives };
+  done = λ clean. takes (removal c.args.base.now) c.remove.ensures.survives c.requires (λ early up. tt) clean c.remove.result (rw c.params-to_sql.ensures at (c.remove.ensures.ran clean));
+  cause = λ clean. fails_to_take (removal c.args.base.now) c.remove.ensures.survives c.requires (λ early up. tt) clean c.remove.result (rw c.params-to_sql.ensures at (c.remove.ensures.cause clean));
+}

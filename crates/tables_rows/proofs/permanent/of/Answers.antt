@@ -2,8 +2,9 @@ use Rattle.tables_sql.proofs.PermanentRootLemmas.{of}
 use Rattle.tables_rows.proofs.Clauses.{reads, fails_to_read}
 use Rattle.tables_rows.proofs.permanent.of.Goals as goal
 
-pub returns-clause-reads : goal.returns-clause-reads
-returns-clause-reads g c clean = reads (of c.args.name.now) c.select.ensures.frame.survives c.requires.frame.ready (λ early up. tt) clean c.select.result (rw c.params-to_sql.ensures at (c.select.ensures.shown clean)) (c.select.ensures.rises clean)
-
-pub returns-clause-cause : goal.returns-clause-cause
-returns-clause-cause g c clean = fails_to_read (of c.args.name.now) c.select.ensures.frame.survives c.requires.frame.ready (λ early up. tt) clean c.select.result (rw c.params-to_sql.ensures at (c.select.ensures.cause clean))
+pub returns : goal.returns
+returns g c = record {
+  frame = c.select.ensures.frame;
+  reads = λ clean. reads (of c.args.name.now) c.select.ensures.frame.survives c.requires.frame.ready (λ early up. tt) clean c.select.result (rw c.params-to_sql.ensures at (c.select.ensures.shown clean)) (c.select.ensures.rises clean);
+  cause = λ clean. fails_to_read (of c.args.name.now) c.select.ensures.frame.survives c.requires.frame.ready (λ early up. tt) clean c.select.result (rw c.params-to_sql.ensures at (c.select.ensures.cause clean));
+}

@@ -6,8 +6,9 @@ use Rattle.tables_sql.proofs.RuntimeRootLemmas.{removal_all}
 use Rattle.tables_rows.proofs.Clauses.{takes, fails_to_take}
 use Rattle.tables_rows.proofs.runtime.delete_all.Goals as goal
 
-pub returns-clause-done : goal.returns-clause-done
-returns-clause-done g c clean = on_ok c.remove.result _ _ (changes_by _ _ _ _ (λ x i. record x { runtime = none_kept pair_total pair_antisymmetric x.runtime i })) (takes removal_all c.remove.ensures.survives c.requires (λ early up. tt) clean c.remove.result (c.remove.ensures.ran clean))
-
-pub returns-clause-cause : goal.returns-clause-cause
-returns-clause-cause g c clean = fails_to_take removal_all c.remove.ensures.survives c.requires (λ early up. tt) clean c.remove.result (c.remove.ensures.cause clean)
+pub returns : goal.returns
+returns g c = record {
+  frame = record { same_reference = c.remove.ensures.same_reference; failed = c.remove.ensures.failed; survives = c.remove.ensures.survives };
+  done = λ clean. on_ok c.remove.result _ _ (changes_by _ _ _ _ (λ x i. record x { runtime = none_kept pair_total pair_antisymmetric x.runtime i })) (takes removal_all c.remove.ensures.survives c.requires (λ early up. tt) clean c.remove.result (c.remove.ensures.ran clean));
+  cause = λ clean. fails_to_take removal_all c.remove.ensures.survives c.requires (λ early up. tt) clean c.remove.result (c.remove.ensures.cause clean);
+}

@@ -3,8 +3,9 @@ use Rattle.tables_sql.proofs.TempRootLemmas.{removal}
 use Rattle.tables_rows.proofs.Clauses.{takes, fails_to_take}
 use Rattle.tables_rows.proofs.temp_roots.delete_of.Goals as goal
 
-pub returns-clause-done : goal.returns-clause-done
-returns-clause-done g c clean = takes (removal c.args.owner.now (pos c.args.session)) c.remove.ensures.survives c.requires.under c.requires.exists clean c.remove.result (rw (c.params-to_sql.ensures, c.params-to_sql-2.ensures) at (c.remove.ensures.ran clean))
-
-pub returns-clause-cause : goal.returns-clause-cause
-returns-clause-cause g c clean = fails_to_take (removal c.args.owner.now (pos c.args.session)) c.remove.ensures.survives c.requires.under c.requires.exists clean c.remove.result (rw (c.params-to_sql.ensures, c.params-to_sql-2.ensures) at (c.remove.ensures.cause clean))
+pub returns : goal.returns
+returns g c = record {
+  frame = record { same_reference = c.remove.ensures.same_reference; failed = c.remove.ensures.failed; survives = c.remove.ensures.survives };
+  done = λ clean. takes (removal c.args.owner.now (pos c.args.session)) c.remove.ensures.survives c.requires.under c.requires.exists clean c.remove.result (rw (c.params-to_sql.ensures, c.params-to_sql-2.ensures) at (c.remove.ensures.ran clean));
+  cause = λ clean. fails_to_take (removal c.args.owner.now (pos c.args.session)) c.remove.ensures.survives c.requires.under c.requires.exists clean c.remove.result (rw (c.params-to_sql.ensures, c.params-to_sql-2.ensures) at (c.remove.ensures.cause clean));
+}

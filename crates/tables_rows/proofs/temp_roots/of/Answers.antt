@@ -1,10 +1,13 @@
 use Rattle.std.proofs.Common.{pos}
+use Rattle.tables_schema.specs.Forms.{temp_root}
 use Rattle.tables_sql.proofs.TempRootLemmas.{of}
 use Rattle.tables_rows.proofs.Clauses.{reads, fails_to_read}
 use Rattle.tables_rows.proofs.temp_roots.of.Goals as goal
 
-pub returns-clause-reads : goal.returns-clause-reads
-returns-clause-reads g c clean = reads (of c.args.owner.now (pos c.args.session)) c.select.ensures.frame.survives c.requires.frame.ready c.requires.exists clean c.select.result (rw (c.params-to_sql.ensures, c.params-to_sql-2.ensures) at (c.select.ensures.shown clean)) (c.select.ensures.rises clean)
-
-pub returns-clause-cause : goal.returns-clause-cause
-returns-clause-cause g c clean = fails_to_read (of c.args.owner.now (pos c.args.session)) c.select.ensures.frame.survives c.requires.frame.ready c.requires.exists clean c.select.result (rw (c.params-to_sql.ensures, c.params-to_sql-2.ensures) at (c.select.ensures.cause clean))
+pub returns : goal.returns
+returns g c = record {
+  frame = c.select.ensures.frame;
+  reads = λ clean. reads (of c.args.owner.now (pos c.args.session)) c.select.ensures.frame.survives c.requires.frame.ready c.requires.exists clean c.select.result (rw (c.params-to_sql.ensures, c.params-to_sql-2.ensures) at (c.select.ensures.shown clean)) (c.select.ensures.rises clean);
+  cause = λ clean. fails_to_read (of c.args.owner.now (pos c.args.session)) c.select.ensures.frame.survives c.requires.frame.ready c.requires.exists clean c.select.result (rw (c.params-to_sql.ensures, c.params-to_sql-2.ensures) at (c.select.ensures.cause clean));
+  exists = c.select.ensures.further temp_root c.requires.exists;
+}
