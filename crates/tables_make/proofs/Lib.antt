@@ -7,6 +7,7 @@ pub mod FurtherMade
 pub mod Growing
 pub mod Grown
 pub mod InTurn
+pub mod Inside
 pub mod Kept
 pub mod Made
 pub mod MakingFailures

@@ -8,6 +8,7 @@ pub use Rattle.tables_sql.specs.Frozen
 pub use Rattle.tables_sql.specs.Calls
 pub use Rattle.tables_sql.specs.Failures
 pub mod Cutting
+pub mod Frames
 pub mod Further
 pub mod Making
 pub mod Migrated

@@ -1,12 +1,13 @@
 //! The store's tables are made next to whatever tables there are.
 
 ghost use Rattle.std.specs.Prelude.{◌≡◌, ◌<◌, true, map, length, [], ◌∷◌, ℕ, Ok, OnOk, IfErr};
-ghost use Rattle.sqlite.specs.State.{HasCleanDisk, KeepsCommit, Survives, ExecutesInside};
+ghost use Rattle.sqlite.specs.State.{HasCleanDisk, ExecutesInside};
 ghost use Rattle.sqlite.specs.Held.{state};
 ghost use Rattle.tables_schema.specs.OurTables.{form};
 ghost use Rattle.tables_sql.specs.declared.failure.Failure.{Failure};
 ghost use Rattle.tables_sql.specs.Failures.{IsWriteFailure, without_size};
 ghost use Rattle.tables_make.specs.Making.{making_text, are_apart, IsMaking, Makes, FailsToMakeThese};
+ghost use Rattle.tables_make.specs.Frames.{IfFailed, KeepsInside, OnDone};
 
 use sqlite::{Alter, Transaction};
 use tables_schema::our_table::OurTable;
@@ -56,7 +57,7 @@ fn text(table: OurTable) -> &'static str
 
 fn create<S: Alter>(tx: &mut Transaction<'_, S>, text: &str) -> Result<(), Failure>
     requires { HasCleanDisk (state S.Store tx.old.conn.now) → (state S.Store tx.old.conn.now).in_transaction ≡ true }
-    ensures same_reference { tx.new.conn.ghost_name ≡ tx.old.conn.ghost_name }
+    ensures frame { KeepsInside S.Store tx.old.conn tx.new.conn }
     ensures ran { HasCleanDisk (state S.Store tx.new.conn.now)
         → OnOk result ((count : ℕ)
         × ExecutesInside 0 text.now [] (state S.Store tx.old.conn.now) (state S.Store tx.new.conn.now) (Ok count)) }
@@ -64,9 +65,6 @@ fn create<S: Alter>(tx: &mut Transaction<'_, S>, text: &str) -> Result<(), Failu
         → IfErr result
         (λ f. (g : Failure) × (f ≡ without_size g)
         × IsWriteFailure text.now [] (state S.Store tx.old.conn.now) (state S.Store tx.new.conn.now) g) }
-    ensures kept { HasCleanDisk (state S.Store tx.new.conn.now)
-        → KeepsCommit (state S.Store tx.old.conn.now) (state S.Store tx.new.conn.now) }
-    ensures survives { Survives (state S.Store tx.old.conn.now) (state S.Store tx.new.conn.now) (λ _. ⊥) }
 {
     match tx.execute(text, &[]) {
         Ok(_) => Ok(()),
@@ -78,15 +76,9 @@ fn create<S: Alter>(tx: &mut Transaction<'_, S>, text: &str) -> Result<(), Failu
 pub(crate) fn one<S: Alter>(tx: &mut Transaction<'_, S>, table: OurTable) -> Result<(), Failure>
     requires { HasCleanDisk (state S.Store tx.old.conn.now)
         → IsMaking (form table ∷ []) (state S.Store tx.old.conn.now) }
-    ensures same_reference { tx.new.conn.ghost_name ≡ tx.old.conn.ghost_name }
-    ensures makes { HasCleanDisk (state S.Store tx.new.conn.now)
-        → OnOk result (Makes (form table ∷ []) (state S.Store tx.old.conn.now) (state S.Store tx.new.conn.now)) }
-    ensures cause { HasCleanDisk (state S.Store tx.new.conn.now)
-        → IfErr result (FailsToMakeThese (form table
-        ∷ []) ⊥ ⊥ (state S.Store tx.old.conn.now) (state S.Store tx.new.conn.now)) }
-    ensures kept { HasCleanDisk (state S.Store tx.new.conn.now)
-        → KeepsCommit (state S.Store tx.old.conn.now) (state S.Store tx.new.conn.now) }
-    ensures survives { Survives (state S.Store tx.old.conn.now) (state S.Store tx.new.conn.now) (λ _. ⊥) }
+    ensures frame { KeepsInside S.Store tx.old.conn tx.new.conn }
+    ensures makes { OnDone S.Store tx.old.conn.now tx.new.conn.now result (Makes (form table ∷ [])) }
+    ensures cause { IfFailed S.Store tx.old.conn.now tx.new.conn.now result (FailsToMakeThese (form table ∷ []) ⊥ ⊥) }
 {
     create(tx, text(table))
 }
@@ -97,15 +89,10 @@ pub(crate) fn all<S: Alter>(tx: &mut Transaction<'_, S>, tables: &[OurTable]) ->
     requires apart { are_apart (map form tables.now) ≡ true }
     requires making { HasCleanDisk (state S.Store tx.old.conn.now)
         → IsMaking (map form tables.now) (state S.Store tx.old.conn.now) }
-    ensures same_reference { tx.new.conn.ghost_name ≡ tx.old.conn.ghost_name }
-    ensures makes { HasCleanDisk (state S.Store tx.new.conn.now)
-        → OnOk result (Makes (map form tables.now) (state S.Store tx.old.conn.now) (state S.Store tx.new.conn.now)) }
-    ensures cause { HasCleanDisk (state S.Store tx.new.conn.now)
-        → IfErr result
-        (FailsToMakeThese (map form tables.now) ⊥ ⊥ (state S.Store tx.old.conn.now) (state S.Store tx.new.conn.now)) }
-    ensures kept { HasCleanDisk (state S.Store tx.new.conn.now)
-        → KeepsCommit (state S.Store tx.old.conn.now) (state S.Store tx.new.conn.now) }
-    ensures survives { Survives (state S.Store tx.old.conn.now) (state S.Store tx.new.conn.now) (λ _. ⊥) }
+    ensures frame { KeepsInside S.Store tx.old.conn tx.new.conn }
+    ensures makes { OnDone S.Store tx.old.conn.now tx.new.conn.now result (Makes (map form tables.now)) }
+    ensures cause { IfFailed S.Store tx.old.conn.now tx.new.conn.now result
+        (FailsToMakeThese (map form tables.now) ⊥ ⊥) }
 {
     'tables: for table in tables {
         one(tx, *table)?;

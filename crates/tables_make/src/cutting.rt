@@ -1,17 +1,18 @@
 //! Archives, cut: an object's row keeps the first part, and the rest goes into pieces.
 
-ghost use Rattle.std.specs.Prelude.{◌≡◌, ◌<◌, ℤ, IsTrue, OnOk, OnErr, length, map, string_bytes, Some, None};
+ghost use Rattle.std.specs.Prelude.{◌≡◌, ◌<◌, ℤ, IsTrue, length, map, string_bytes, Some, None};
 ghost use Rattle.std.specs.FinMap as finite;
-ghost use Rattle.sqlite.specs.State.{HasCleanDisk, KeepsCommit, Survives};
+ghost use Rattle.sqlite.specs.State.{HasCleanDisk};
 ghost use Rattle.sqlite.specs.Held.{state};
 ghost use Rattle.tables_schema.specs.Forms.{piece};
 ghost use Rattle.tables_sql.specs.Contents.{contents_of};
-ghost use Rattle.tables_sql.specs.Calls.{IsUnderWay, Changes, HasFurther};
 ghost use Rattle.tables_sql.specs.Entries.{stored_of};
 ghost use Rattle.tables_world.specs.Pieces.{piece_size, pieces_by};
 ghost use Rattle.tables_make.specs.Cutting.{put_pieces, cut_row, cut_object, cut_objects};
 ghost use Rattle.tables_make.specs.Migrating.{AllCutRows, CutRows, IsUncut, LongRows, PieceRow};
 ghost use Rattle.tables_make.specs.Reasons.{HasReason, RowsOf};
+ghost use Rattle.tables_rows.specs.Frames.{HasTable, IsInside, Makes, StaysInside};
+ghost use Rattle.tables_make.specs.Frames.{MayCut};
 
 use sqlite::{Alter, Transaction};
 use std::alloc::Global;
@@ -28,21 +29,14 @@ pub(crate) fn put_pieces<S: Alter>(
     base: &str,
     bytes: &[u8],
 ) -> Result<(), Failure>
-    requires under_way { HasCleanDisk (state S.Store tx.old.conn.now) → IsUnderWay (state S.Store tx.old.conn.now) }
-    requires is_open { HasCleanDisk (state S.Store tx.old.conn.now) → IsTrue (state S.Store tx.old.conn.now).is_open }
-    requires exists { HasCleanDisk (state S.Store tx.old.conn.now)
-        → HasFurther (state S.Store tx.old.conn.now).now piece }
+    requires frame { MayCut S.Store tx.old.conn }
     requires free { HasCleanDisk (state S.Store tx.old.conn.now) → (n : ℤ)
         → finite.get (contents_of (state S.Store tx.old.conn.now).now).pieces (base.now, n) ≡ None }
-    ensures same_reference { tx.new.conn.ghost_name ≡ tx.old.conn.ghost_name }
-    ensures done { HasCleanDisk (state S.Store tx.new.conn.now)
-        → OnOk result (Changes (state S.Store tx.old.conn.now) (state S.Store tx.new.conn.now)
-        (λ c. record c { pieces = put_pieces base.now (pieces_by bytes.now 1 bytes.now) c.pieces })) }
-    ensures failed { HasCleanDisk (state S.Store tx.new.conn.now)
-        → OnErr result (KeepsCommit (state S.Store tx.old.conn.now) (state S.Store tx.new.conn.now)) }
+    ensures frame { StaysInside S.Store tx.old.conn tx.new.conn result }
+    ensures done { Makes S.Store tx.old.conn tx.new.conn result
+        (λ c. record c { pieces = put_pieces base.now (pieces_by bytes.now 1 bytes.now) c.pieces }) }
     ensures cause { HasReason S.Store tx.old.conn.now tx.new.conn.now result
         (RowsOf (PieceRow base.now) (pieces_by bytes.now 1 bytes.now)) }
-    ensures survives { Survives (state S.Store tx.old.conn.now) (state S.Store tx.new.conn.now) (λ _. ⊥) }
 {
     let mut rest = bytes;
     'pieces: for number in 1..u32::MAX {
@@ -59,23 +53,15 @@ pub(crate) fn put_pieces<S: Alter>(
 
 /// Puts an object again whose archive is longer than a row takes: its first part, and the pieces of the rest.
 pub(crate) fn put_cut<S: Alter>(tx: &mut Transaction<'_, S>, object: &Object) -> Result<(), Failure>
-    requires under_way { HasCleanDisk (state S.Store tx.old.conn.now) → IsUnderWay (state S.Store tx.old.conn.now) }
-    requires is_open { HasCleanDisk (state S.Store tx.old.conn.now) → IsTrue (state S.Store tx.old.conn.now).is_open }
-    requires exists { HasCleanDisk (state S.Store tx.old.conn.now)
-        → HasFurther (state S.Store tx.old.conn.now).now piece }
+    requires frame { MayCut S.Store tx.old.conn }
     requires long { 65536 < length object.now.nar.items }
     requires free { HasCleanDisk (state S.Store tx.old.conn.now) → (n : ℤ)
         → finite.get (contents_of (state S.Store tx.old.conn.now).now).pieces ((stored_of object.now).0, n) ≡ None }
-    ensures same_reference { tx.new.conn.ghost_name ≡ tx.old.conn.ghost_name }
-    ensures done { HasCleanDisk (state S.Store tx.new.conn.now)
-        → OnOk result
-        (Changes (state S.Store tx.old.conn.now) (state S.Store tx.new.conn.now)
-        (cut_row (stored_of object.now).0 (stored_of object.now).1)) }
-    ensures failed { HasCleanDisk (state S.Store tx.new.conn.now)
-        → OnErr result (KeepsCommit (state S.Store tx.old.conn.now) (state S.Store tx.new.conn.now)) }
+    ensures frame { StaysInside S.Store tx.old.conn tx.new.conn result }
+    ensures done { Makes S.Store tx.old.conn tx.new.conn result
+        (cut_row (stored_of object.now).0 (stored_of object.now).1) }
     ensures cause { HasReason S.Store tx.old.conn.now tx.new.conn.now result
         (CutRows (stored_of object.now).0 (stored_of object.now).1) }
-    ensures survives { Survives (state S.Store tx.old.conn.now) (state S.Store tx.new.conn.now) (λ _. ⊥) }
 {
     let base = object.base.as_str();
     let (first, rest) = object.nar.split_at(PIECE_SIZE);
@@ -89,26 +75,17 @@ pub(crate) fn cut_found<S: Alter>(
     tx: &mut Transaction<'_, S>,
     object: &Object,
 ) -> Result<(), Failure>
-    requires under_way { HasCleanDisk (state S.Store tx.old.conn.now) → IsUnderWay (state S.Store tx.old.conn.now) }
-    requires is_open { HasCleanDisk (state S.Store tx.old.conn.now) → IsTrue (state S.Store tx.old.conn.now).is_open }
-    requires exists { HasCleanDisk (state S.Store tx.old.conn.now)
-        → HasFurther (state S.Store tx.old.conn.now).now piece }
+    requires frame { MayCut S.Store tx.old.conn }
     requires present { HasCleanDisk (state S.Store tx.old.conn.now)
         → finite.get (contents_of (state S.Store tx.old.conn.now).now).objects (stored_of object.now).0
         ≡ Some (stored_of object.now).1 }
     requires free { HasCleanDisk (state S.Store tx.old.conn.now) → piece_size < length (stored_of object.now).1.nar
         → (n : ℤ)
         → finite.get (contents_of (state S.Store tx.old.conn.now).now).pieces ((stored_of object.now).0, n) ≡ None }
-    ensures same_reference { tx.new.conn.ghost_name ≡ tx.old.conn.ghost_name }
-    ensures done { HasCleanDisk (state S.Store tx.new.conn.now)
-        → OnOk result
-        (Changes (state S.Store tx.old.conn.now) (state S.Store tx.new.conn.now)
-        (cut_object (stored_of object.now).0)) }
-    ensures failed { HasCleanDisk (state S.Store tx.new.conn.now)
-        → OnErr result (KeepsCommit (state S.Store tx.old.conn.now) (state S.Store tx.new.conn.now)) }
+    ensures frame { StaysInside S.Store tx.old.conn tx.new.conn result }
+    ensures done { Makes S.Store tx.old.conn tx.new.conn result (cut_object (stored_of object.now).0) }
     ensures cause { HasReason S.Store tx.old.conn.now tx.new.conn.now result
         (LongRows (stored_of object.now).0 (stored_of object.now).1) }
-    ensures survives { Survives (state S.Store tx.old.conn.now) (state S.Store tx.new.conn.now) (λ _. ⊥) }
 {
     if object.nar.len() > PIECE_SIZE {
         put_cut(tx, object)
@@ -123,19 +100,14 @@ pub(crate) fn cut<S: Alter>(
     tx: &mut Transaction<'_, S>,
     base: &str,
 ) -> Result<(), Failure>
-    requires under_way { HasCleanDisk (state S.Store tx.old.conn.now) → IsUnderWay (state S.Store tx.old.conn.now) }
-    requires exists { HasCleanDisk (state S.Store tx.old.conn.now) → IsTrue (state S.Store tx.old.conn.now).is_open
-        → HasFurther (state S.Store tx.old.conn.now).now piece }
+    requires under_way { IsInside S.Store tx.old.conn }
+    requires exists { HasTable S.Store tx.old.conn.now piece }
     requires uncut { HasCleanDisk (state S.Store tx.old.conn.now) → IsTrue (state S.Store tx.old.conn.now).is_open
         → IsUncut (contents_of (state S.Store tx.old.conn.now).now) }
-    ensures same_reference { tx.new.conn.ghost_name ≡ tx.old.conn.ghost_name }
-    ensures done { HasCleanDisk (state S.Store tx.new.conn.now)
-        → OnOk result (Changes (state S.Store tx.old.conn.now) (state S.Store tx.new.conn.now) (cut_object base.now)) }
-    ensures failed { HasCleanDisk (state S.Store tx.new.conn.now)
-        → OnErr result (KeepsCommit (state S.Store tx.old.conn.now) (state S.Store tx.new.conn.now)) }
+    ensures frame { StaysInside S.Store tx.old.conn tx.new.conn result }
+    ensures done { Makes S.Store tx.old.conn tx.new.conn result (cut_object base.now) }
     ensures cause { HasReason S.Store tx.old.conn.now tx.new.conn.now result
         (AllCutRows (contents_of (state S.Store tx.old.conn.now).now)) }
-    ensures survives { Survives (state S.Store tx.old.conn.now) (state S.Store tx.new.conn.now) (λ _. ⊥) }
 {
     let found = objects::get_within(alloc, tx, base)?;
     match found {
@@ -150,22 +122,13 @@ pub(crate) fn cut_all<S: Alter>(
     tx: &mut Transaction<'_, S>,
     bases: &[String],
 ) -> Result<(), Failure>
-    requires under_way { HasCleanDisk (state S.Store tx.old.conn.now) → IsUnderWay (state S.Store tx.old.conn.now) }
-    requires is_open { HasCleanDisk (state S.Store tx.old.conn.now) → IsTrue (state S.Store tx.old.conn.now).is_open }
-    requires exists { HasCleanDisk (state S.Store tx.old.conn.now)
-        → HasFurther (state S.Store tx.old.conn.now).now piece }
+    requires frame { MayCut S.Store tx.old.conn }
     requires uncut { HasCleanDisk (state S.Store tx.old.conn.now)
         → IsUncut (contents_of (state S.Store tx.old.conn.now).now) }
-    ensures same_reference { tx.new.conn.ghost_name ≡ tx.old.conn.ghost_name }
-    ensures done { HasCleanDisk (state S.Store tx.new.conn.now)
-        → OnOk result
-        (Changes (state S.Store tx.old.conn.now) (state S.Store tx.new.conn.now)
-        (cut_objects (map string_bytes bases.now))) }
-    ensures failed { HasCleanDisk (state S.Store tx.new.conn.now)
-        → OnErr result (KeepsCommit (state S.Store tx.old.conn.now) (state S.Store tx.new.conn.now)) }
+    ensures frame { StaysInside S.Store tx.old.conn tx.new.conn result }
+    ensures done { Makes S.Store tx.old.conn tx.new.conn result (cut_objects (map string_bytes bases.now)) }
     ensures cause { HasReason S.Store tx.old.conn.now tx.new.conn.now result
         (AllCutRows (contents_of (state S.Store tx.old.conn.now).now)) }
-    ensures survives { Survives (state S.Store tx.old.conn.now) (state S.Store tx.new.conn.now) (λ _. ⊥) }
 {
     'bases: for base in bases {
         cut(alloc, tx, base.as_str())?;

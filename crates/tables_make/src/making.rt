@@ -10,6 +10,7 @@ ghost use Rattle.tables_schema.specs.Finding.{HasNone};
 ghost use Rattle.tables_sql.specs.Failures.{IsWriteFailure};
 ghost use Rattle.tables_make.specs.Making.{IsMaking, HasMeta, Puts, MakesMeta, MakesAll, IsMade, IsMadeIn, IsMadeOf, LeavesMade, IsTooLong, FailsToMakeThese, FailsToMake, other_tables};
 ghost use Rattle.tables_sql.specs.Calls.{IsDurable};
+ghost use Rattle.tables_make.specs.Frames.{IfFailed, KeepsInside, OnDone};
 
 use crate::creating;
 use sqlite::{Alter, Connection, Transaction, params};
@@ -19,15 +20,10 @@ use tables_sql::failure::Failure;
 
 fn put<S: Alter>(tx: &mut Transaction<'_, S>, word: &str, value: &str) -> Result<(), Failure>
     requires { HasCleanDisk (state S.Store tx.old.conn.now) → HasMeta (state S.Store tx.old.conn.now) }
-    ensures same_reference { tx.new.conn.ghost_name ≡ tx.old.conn.ghost_name }
-    ensures puts { HasCleanDisk (state S.Store tx.new.conn.now)
-        → OnOk result (Puts word.now value.now (state S.Store tx.old.conn.now) (state S.Store tx.new.conn.now)) }
-    ensures cause { HasCleanDisk (state S.Store tx.new.conn.now)
-        → IfErr result (IsWriteFailure (codes "INSERT INTO meta (word, val) VALUES (?1, ?2)") (Text word.now
-        ∷ Text value.now ∷ []) (state S.Store tx.old.conn.now) (state S.Store tx.new.conn.now)) }
-    ensures kept { HasCleanDisk (state S.Store tx.new.conn.now)
-        → KeepsCommit (state S.Store tx.old.conn.now) (state S.Store tx.new.conn.now) }
-    ensures survives { Survives (state S.Store tx.old.conn.now) (state S.Store tx.new.conn.now) (λ _. ⊥) }
+    ensures frame { KeepsInside S.Store tx.old.conn tx.new.conn }
+    ensures puts { OnDone S.Store tx.old.conn.now tx.new.conn.now result (Puts word.now value.now) }
+    ensures cause { IfFailed S.Store tx.old.conn.now tx.new.conn.now result
+        (IsWriteFailure (codes "INSERT INTO meta (word, val) VALUES (?1, ?2)") (Text word.now ∷ Text value.now ∷ [])) }
 {
     tx.execute(
         "INSERT INTO meta (word, val) VALUES (?1, ?2)",
@@ -40,16 +36,10 @@ fn put<S: Alter>(tx: &mut Transaction<'_, S>, word: &str, value: &str) -> Result
 fn settle<S: Alter>(tx: &mut Transaction<'_, S>, store_dir: &str) -> Result<(), Failure>
     requires { HasCleanDisk (state S.Store tx.old.conn.now)
         → IsMaking (meta ∷ other_tables) (state S.Store tx.old.conn.now) }
-    ensures same_reference { tx.new.conn.ghost_name ≡ tx.old.conn.ghost_name }
-    ensures makes { HasCleanDisk (state S.Store tx.new.conn.now)
-        → OnOk result (MakesMeta store_dir.now (state S.Store tx.old.conn.now) (state S.Store tx.new.conn.now)) }
-    ensures cause { HasCleanDisk (state S.Store tx.new.conn.now)
-        → IfErr result (FailsToMakeThese (meta
-        ∷ []) (IsTooLong store_dir.now) (IsSome (state S.Store tx.old.conn.now).step_limit)
-        (state S.Store tx.old.conn.now) (state S.Store tx.new.conn.now)) }
-    ensures kept { HasCleanDisk (state S.Store tx.new.conn.now)
-        → KeepsCommit (state S.Store tx.old.conn.now) (state S.Store tx.new.conn.now) }
-    ensures survives { Survives (state S.Store tx.old.conn.now) (state S.Store tx.new.conn.now) (λ _. ⊥) }
+    ensures frame { KeepsInside S.Store tx.old.conn tx.new.conn }
+    ensures makes { OnDone S.Store tx.old.conn.now tx.new.conn.now result (MakesMeta store_dir.now) }
+    ensures cause { IfFailed S.Store tx.old.conn.now tx.new.conn.now result
+        (FailsToMakeThese (meta ∷ []) (IsTooLong store_dir.now) (IsSome (state S.Store tx.old.conn.now).step_limit)) }
 {
     creating::one(tx, OurTable::Meta)?;
     put(tx, "schema", "3")?;

@@ -6,7 +6,7 @@ ghost use Rattle.sqlite.specs.Held.{state};
 ghost use Rattle.tables_schema.specs.Forms.{piece};
 ghost use Rattle.tables_schema.specs.Finding.{HasFirst, HasSecond};
 ghost use Rattle.tables_sql.specs.Contents.{contents_of};
-ghost use Rattle.tables_sql.specs.Calls.{IsReady, IsUnderWay, Changes, HasFurther, KeepsShown, Leaves, IsDurable};
+ghost use Rattle.tables_sql.specs.Calls.{IsReady, IsUnderWay, HasFurther, KeepsShown, Leaves, IsDurable};
 ghost use Rattle.tables_make.specs.Further.{grown};
 ghost use Rattle.tables_schema.specs.declared.schema.Schema.TheVariants.{V1, V2};
 ghost use Rattle.tables_world.specs.Worlds.{IsSoundBy};
@@ -14,6 +14,8 @@ ghost use Rattle.tables_make.specs.Cutting.{cut_objects, renumbered};
 ghost use Rattle.tables_make.specs.Migrated.{lacking, Grows, IsGrown, IsMigrated, LeavesMigrated};
 ghost use Rattle.tables_make.specs.Migrating.{FailsToMigrate, IsUncut, MigratedRows};
 ghost use Rattle.tables_make.specs.Reasons.{HasReason};
+ghost use Rattle.tables_rows.specs.Frames.{Makes, StaysInside};
+ghost use Rattle.tables_make.specs.Frames.{MayCut};
 
 use crate::cutting::cut_all;
 use crate::further;
@@ -30,21 +32,14 @@ fn rewrite<S: Alter>(
     tx: &mut Transaction<'_, S>,
     bases: &[String],
 ) -> Result<(), Failure>
-    requires under_way { HasCleanDisk (state S.Store tx.old.conn.now) → IsUnderWay (state S.Store tx.old.conn.now) }
-    requires is_open { HasCleanDisk (state S.Store tx.old.conn.now) → IsTrue (state S.Store tx.old.conn.now).is_open }
-    requires exists { HasCleanDisk (state S.Store tx.old.conn.now)
-        → HasFurther (state S.Store tx.old.conn.now).now piece }
+    requires frame { MayCut S.Store tx.old.conn }
     requires uncut { HasCleanDisk (state S.Store tx.old.conn.now)
         → IsUncut (contents_of (state S.Store tx.old.conn.now).now) }
-    ensures same_reference { tx.new.conn.ghost_name ≡ tx.old.conn.ghost_name }
-    ensures done { HasCleanDisk (state S.Store tx.new.conn.now)
-        → OnOk result (Changes (state S.Store tx.old.conn.now) (state S.Store tx.new.conn.now)
-        (λ c. renumbered (cut_objects (map string_bytes bases.now) c))) }
-    ensures failed { HasCleanDisk (state S.Store tx.new.conn.now)
-        → OnErr result (KeepsCommit (state S.Store tx.old.conn.now) (state S.Store tx.new.conn.now)) }
+    ensures frame { StaysInside S.Store tx.old.conn tx.new.conn result }
+    ensures done { Makes S.Store tx.old.conn tx.new.conn result
+        (λ c. renumbered (cut_objects (map string_bytes bases.now) c)) }
     ensures cause { HasReason S.Store tx.old.conn.now tx.new.conn.now result
         (MigratedRows V1 (contents_of (state S.Store tx.old.conn.now).now)) }
-    ensures survives { Survives (state S.Store tx.old.conn.now) (state S.Store tx.new.conn.now) (λ _. ⊥) }
 {
     cut_all(alloc, tx, bases)?;
     renumber(tx)

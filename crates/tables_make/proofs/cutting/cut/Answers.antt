@@ -7,31 +7,15 @@ use Rattle.tables_schema.specs.Forms.{piece}
 use Rattle.tables_sql.specs.Contents.{Contents, contents_of}
 use Rattle.tables_sql.specs.Calls.{HasFurther}
 use Rattle.tables_sql.proofs.Steps.{clean_before, under_after}
-use Rattle.tables_sql.proofs.TestFailures.{passed_on, survives_both}
-use Rattle.tables_sql.proofs.Transactions.{done_both, failed_next}
+use Rattle.tables_sql.proofs.TestFailures.{passed_on}
+use Rattle.tables_sql.proofs.Transactions.{done_both}
 use Rattle.tables_sql.specs.Entries.{stored_of}
 use Rattle.tables_make.specs.Cutting.{cut_object}
 use Rattle.tables_make.specs.Migrating.{AllCutRows, LongRows}
 use Rattle.tables_make.proofs.Reasons.{as_reason, more_reason, next_reason, removal_reason}
 use Rattle.tables_make.proofs.Steps.{changes_nothing, changes_at, none_cut, found_is, none_is}
+use Rattle.tables_make.proofs.Inside.{done_stays}
 use Rattle.tables_make.proofs.cutting.cut.Goals as goal
-
-pub cut_found-requires-clause-under_way : goal.cut_found-requires-clause-under_way
-cut_found-requires-clause-under_way g c clean =
-    let a = state g.S.Store c.args.tx.now.conn.now in
-    let b = state g.S.Store c.get_within.new.tx.conn.now in
-    let early : HasCleanDisk a = clean_before a b _ c.get_within.ensures.frame.survives clean in
-    under_after a b (λ x. x) (changes_nothing a b (c.requires.under_way early) (c.in_ok-found.ensures.reads clean).0)
-
-pub cut_found-requires-clause-is_open : goal.cut_found-requires-clause-is_open
-cut_found-requires-clause-is_open g c clean = (c.in_ok-found.ensures.reads clean).0.0.is_open
-
-pub cut_found-requires-clause-exists : goal.cut_found-requires-clause-exists
-cut_found-requires-clause-exists g c clean =
-    let a = state g.S.Store c.args.tx.now.conn.now in
-    let b = state g.S.Store c.get_within.new.tx.conn.now in
-    let same = (c.in_ok-found.ensures.reads clean).0.0 in
-    subst (λ (x : Database). HasFurther x piece) (sym same.now_is) (c.requires.exists (clean_before a b _ c.get_within.ensures.frame.survives clean) same.was_open)
 
 pub cut_found-requires-clause-present : goal.cut_found-requires-clause-present
 cut_found-requires-clause-present g c clean =
@@ -44,23 +28,11 @@ returns-in-Some-clause-done g c clean =
     let a = state g.S.Store c.args.tx.now.conn.now in
     let b = state g.S.Store c.get_within.new.tx.conn.now in
     let d = state g.S.Store c.cut_found.new.tx.conn.now in
-    let early : HasCleanDisk b = clean_before b d _ c.cut_found.ensures.survives clean in
+    let early : HasCleanDisk b = clean_before b d _ c.cut_found.ensures.frame.survives clean in
     let present = found_is (contents_of a.now).objects c.args.base.now c.in_ok-found.found c.in-Some.object c.in-Some.is (c.in_ok-found.ensures.reads early).1 in
     done_both a b d (λ x. x) (cut_object (stored_of c.in-Some.object).0)
-    (λ now. changes_nothing a b (c.requires.under_way (clean_before a b _ c.get_within.ensures.frame.survives now)) (c.in_ok-found.ensures.reads now).0) c.cut_found.ensures.survives
+    (λ now. changes_nothing a b (c.requires.under_way (clean_before a b _ c.get_within.ensures.frame.survives now)) (c.in_ok-found.ensures.reads now).0) c.cut_found.ensures.frame.survives
     c.cut_found.result (cut_object c.args.base.now) (λ (x : Contents). ap (λ p. cut_object p x) present.0) c.cut_found.ensures.done clean
-
-pub returns-in-Some-clause-failed : goal.returns-in-Some-clause-failed
-returns-in-Some-clause-failed g c =
-    let a = state g.S.Store c.args.tx.now.conn.now in
-    let b = state g.S.Store c.get_within.new.tx.conn.now in
-    failed_next a b (state g.S.Store c.cut_found.new.tx.conn.now) (λ x. x) (λ x. x)
-    (λ now. changes_nothing a b (c.requires.under_way (clean_before a b _ c.get_within.ensures.frame.survives now)) (c.in_ok-found.ensures.reads now).0) c.cut_found.ensures.survives
-    c.cut_found.result c.cut_found.ensures.failed
-
-pub returns-in-Some-clause-survives : goal.returns-in-Some-clause-survives
-returns-in-Some-clause-survives g c =
-    survives_both (state g.S.Store c.args.tx.now.conn.now) (state g.S.Store c.get_within.new.tx.conn.now) (state g.S.Store c.cut_found.new.tx.conn.now) c.get_within.ensures.frame.survives c.cut_found.ensures.survives
 
 pub returns-in-None-clause-done : goal.returns-in-None-clause-done
 returns-in-None-clause-done g c clean =
@@ -92,9 +64,31 @@ returns-in-Some-clause-cause g c clean =
     let b = state g.S.Store c.get_within.new.tx.conn.now in
     let d = state g.S.Store c.cut_found.new.tx.conn.now in
     let it = stored_of c.in-Some.object in
-    let early : HasCleanDisk b = clean_before b d _ c.cut_found.ensures.survives clean in
+    let early : HasCleanDisk b = clean_before b d _ c.cut_found.ensures.frame.survives clean in
     let reads = c.in_ok-found.ensures.reads early in
     let present = found_is (contents_of a.now).objects c.args.base.now c.in_ok-found.found c.in-Some.object c.in-Some.is reads.1 in
     let nothing = changes_nothing a b (c.requires.under_way (clean_before a b _ c.get_within.ensures.frame.survives early)) reads.0 in
     as_reason _ _ (λ f h. next_reason _ a b d _ nothing c.get_within.ensures.frame.survives f
     (more_reason (LongRows it.0 it.1) (AllCutRows (contents_of a.now)) (λ t values put. (it.0, it.1, ap (finite.get (contents_of a.now).objects) present.0 ∙ present.1, put)) b d f h)) c.cut_found.result (c.cut_found.ensures.cause clean)
+
+pub cut_found-requires-clause-frame : goal.cut_found-requires-clause-frame
+cut_found-requires-clause-frame g c =
+    let a = state g.S.Store c.args.tx.now.conn.now in
+    let b = state g.S.Store c.get_within.new.tx.conn.now in
+    record {
+      under_way = λ clean.
+          let early : HasCleanDisk a = clean_before a b _ c.get_within.ensures.frame.survives clean in
+          under_after a b (λ x. x) (changes_nothing a b (c.requires.under_way early) (c.in_ok-found.ensures.reads clean).0);
+      is_open = λ clean. (c.in_ok-found.ensures.reads clean).0.0.is_open;
+      exists = λ clean.
+          let same = (c.in_ok-found.ensures.reads clean).0.0 in
+          subst (λ (x : Database). HasFurther x piece) (sym same.now_is) (c.requires.exists (clean_before a b _ c.get_within.ensures.frame.survives clean) same.was_open);
+    }
+
+pub returns-in-Some-clause-frame : goal.returns-in-Some-clause-frame
+returns-in-Some-clause-frame g c =
+    let a = state g.S.Store c.args.tx.now.conn.now in
+    let b = state g.S.Store c.get_within.new.tx.conn.now in
+    done_stays g.S.Store c.args.tx.now.conn c.get_within.new.tx.conn c.cut_found.new.tx.conn (λ x. x) c.get_within.ensures.frame.same_reference
+    (λ now. changes_nothing a b (c.requires.under_way (clean_before a b _ c.get_within.ensures.frame.survives now)) (c.in_ok-found.ensures.reads now).0) c.get_within.ensures.frame.survives
+    c.cut_found.result c.cut_found.ensures.frame

@@ -12,6 +12,7 @@ use Rattle.tables_make.specs.Migrating.{AllCutRows, IsUncut}
 use Rattle.tables_make.proofs.Reasons.{more_reason, next_reason}
 use Rattle.tables_make.proofs.Steps.{left_at, none_left}
 use Rattle.tables_make.proofs.Uncut.{rows_before, uncut_next}
+use Rattle.tables_make.proofs.Inside.{done_fails}
 use Rattle.tables_make.proofs.cutting.cut_all.Goals as goal
 
 pub bases-init : goal.bases-init
@@ -19,8 +20,8 @@ bases-init g c =
     let first = state g.S.Store c.args.tx.now.conn.now in
     record {
       same_reference = refl;
-      goes = λ clean. goes_first cut_objects (map string_bytes c.args.bases.now) first (c.requires.under_way clean) (c.requires.is_open clean);
-      exists = c.requires.exists;
+      goes = λ clean. goes_first cut_objects (map string_bytes c.args.bases.now) first (c.requires.frame.under_way clean) (c.requires.frame.is_open clean);
+      exists = c.requires.frame.exists;
       uncut = c.requires.uncut;
       among = λ clean t values h. h;
       survives = survives_none first;
@@ -40,13 +41,13 @@ bases-preserved g c =
     let same : cut_objects left was ≡ cut_objects rest (cut_object c.as_str.result.now was) =
     ap (λ (ps : List Path). cut_objects ps was) split ∙ ap (λ p. cut_objects rest (cut_object p was)) (sym c.as_str.ensures.value) in
     record {
-      same_reference = c.in_ok-cut.ensures.same_reference ∙ c.bases.invariant.same_reference;
-      goes = λ clean. goes_next cut_objects (map string_bytes all) first now next left rest _ (c.bases.invariant.goes (clean_before now next _ c.cut.ensures.survives clean)) (c.in_ok-cut.ensures.done clean) same;
-      exists = λ clean. piece_after now next _ (c.in_ok-cut.ensures.done clean) (c.bases.invariant.exists (clean_before now next _ c.cut.ensures.survives clean));
-      uncut = λ clean. subst IsUncut (sym (c.in_ok-cut.ensures.done clean).contents) (uncut_next c.as_str.result.now was (c.bases.invariant.uncut (clean_before now next _ c.cut.ensures.survives clean)));
-      among = λ clean t values h. c.bases.invariant.among (clean_before now next _ c.cut.ensures.survives clean) t values
+      same_reference = c.in_ok-cut.ensures.frame.same_reference ∙ c.bases.invariant.same_reference;
+      goes = λ clean. goes_next cut_objects (map string_bytes all) first now next left rest _ (c.bases.invariant.goes (clean_before now next _ c.cut.ensures.frame.survives clean)) (c.in_ok-cut.ensures.done clean) same;
+      exists = λ clean. piece_after now next _ (c.in_ok-cut.ensures.done clean) (c.bases.invariant.exists (clean_before now next _ c.cut.ensures.frame.survives clean));
+      uncut = λ clean. subst IsUncut (sym (c.in_ok-cut.ensures.done clean).contents) (uncut_next c.as_str.result.now was (c.bases.invariant.uncut (clean_before now next _ c.cut.ensures.frame.survives clean)));
+      among = λ clean t values h. c.bases.invariant.among (clean_before now next _ c.cut.ensures.frame.survives clean) t values
           (rows_before c.as_str.result.now was t values (subst (λ (x : Contents). AllCutRows x t values) (c.in_ok-cut.ensures.done clean).contents h));
-      survives = survives_both first now next c.bases.invariant.survives c.cut.ensures.survives;
+      survives = survives_both first now next c.bases.invariant.survives c.cut.ensures.frame.survives;
     }
 
 pub returns-clause-done : goal.returns-clause-done
@@ -64,7 +65,15 @@ returns-in_err-cut-clause-cause g c clean =
     let first = state g.S.Store c.args.tx.now.conn.now in
     let now = state g.S.Store c.bases.tx.conn.now in
     let next = state g.S.Store c.cut.new.tx.conn.now in
-    let early = clean_before now next _ c.cut.ensures.survives clean in
+    let early = clean_before now next _ c.cut.ensures.frame.survives clean in
     passed_on c.from_residual.result _ _ c.from_residual.ensures.1
     (next_reason _ first now next _ (c.bases.invariant.goes early).changes c.bases.invariant.survives _
     (more_reason (AllCutRows (contents_of now.now)) (AllCutRows (contents_of first.now)) (c.bases.invariant.among early) now next _ (c.in_err-cut.ensures.cause clean)))
+
+pub returns-in_err-cut-clause-frame : goal.returns-in_err-cut-clause-frame
+returns-in_err-cut-clause-frame g c =
+    done_fails g.S.Store c.args.tx.now.conn c.bases.tx.conn c.cut.new.tx.conn _ c.bases.invariant.same_reference (λ clean. (c.bases.invariant.goes clean).changes) c.bases.invariant.survives
+    c.from_residual.result c.cut.ensures.frame.same_reference c.in_err-cut.ensures.frame.failed c.cut.ensures.frame.survives
+
+pub returns-clause-frame : goal.returns-clause-frame
+returns-clause-frame g c = record { same_reference = c.bases.invariant.same_reference; failed = λ clean. tt; survives = c.bases.invariant.survives }

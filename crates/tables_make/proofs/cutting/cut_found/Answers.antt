@@ -16,14 +16,14 @@ returns-then-len-gt-PIECE_SIZE-clause-done g c clean =
     let a = state g.S.Store c.args.tx.now.conn.now in
     let b = state g.S.Store c.put_cut.new.tx.conn.now in
     let it = stored_of c.args.object.now in
-    on_done c.put_cut.result _ _ (changes_at a b _ _ (long_cut it.0 it.0 it.1 (contents_of a.now) refl (c.requires.present (clean_before a b _ c.put_cut.ensures.survives clean)))) (c.put_cut.ensures.done clean)
+    on_done c.put_cut.result _ _ (changes_at a b _ _ (long_cut it.0 it.0 it.1 (contents_of a.now) refl (c.requires.present (clean_before a b _ c.put_cut.ensures.frame.survives clean)))) (c.put_cut.ensures.done clean)
 
 pub returns-else-len-gt-PIECE_SIZE-clause-done : goal.returns-else-len-gt-PIECE_SIZE-clause-done
 returns-else-len-gt-PIECE_SIZE-clause-done g c clean =
     let a = state g.S.Store c.args.tx.now.conn.now in
     let it = stored_of c.args.object.now in
     let short : length it.1.nar ≤ 65536 = omega arith in
-    changes_at a a (λ x. x) _ (short_cut it.0 it.1 (contents_of a.now) short (c.requires.present clean)) (changes_none a (c.requires.under_way clean) (c.requires.is_open clean))
+    changes_at a a (λ x. x) _ (short_cut it.0 it.1 (contents_of a.now) short (c.requires.present clean)) (changes_none a (c.requires.frame.under_way clean) (c.requires.frame.is_open clean))
 
 pub put_cut-requires-clause-free : goal.put_cut-requires-clause-free
 put_cut-requires-clause-free g c clean n =

@@ -6,7 +6,7 @@ use Rattle.tables_sql.specs.Contents.{Bytes, Contents, numbered_cmp}
 use Rattle.tables_sql.proofs.Orders.{texts_total, texts_antisymmetric}
 use Rattle.tables_sql.proofs.Steps.{clean_before, under_after}
 use Rattle.tables_sql.proofs.TestFailures.{passed_on, survives_both}
-use Rattle.tables_sql.proofs.Transactions.{done_both, failed_next, steps_both}
+use Rattle.tables_sql.proofs.Transactions.{done_both, steps_both}
 use Rattle.tables_sql.proofs.Under.{piece_after}
 use Rattle.tables_sql.specs.Entries.{stored_of}
 use Rattle.tables_world.specs.Pieces.{piece_size, row_part, further_pieces}
@@ -14,52 +14,14 @@ use Rattle.tables_make.specs.Cutting.{cut_row}
 use Rattle.tables_make.specs.Migrating.{CutRows, PieceRow}
 use Rattle.tables_make.specs.Reasons.{RowsOf}
 use Rattle.tables_make.proofs.Cuts.{further, size}
-use Rattle.tables_make.proofs.Failing.{err_kept}
 use Rattle.tables_make.proofs.Reasons.{as_reason, is_none, more_reason, next_reason, put_reason, removal_reason}
 use Rattle.tables_make.proofs.Steps.{written}
 use Rattle.tables_make.proofs.Uncut.{gone, row_is}
+use Rattle.tables_make.proofs.Inside.{done_fails, done_stays}
 use Rattle.tables_make.proofs.cutting.put_cut.Goals as goal
 
 pub insert-requires : goal.insert-requires
 insert-requires g c clean = under_after (state g.S.Store c.args.tx.now.conn.now) (state g.S.Store c.delete.new.tx.conn.now) _ (c.in_ok-delete.ensures.done clean)
-
-pub returns-in_err-insert-clause-same_reference : goal.returns-in_err-insert-clause-same_reference
-returns-in_err-insert-clause-same_reference g c = c.insert.ensures.frame.same_reference ∙ c.delete.ensures.frame.same_reference
-
-pub returns-in_err-insert-clause-failed : goal.returns-in_err-insert-clause-failed
-returns-in_err-insert-clause-failed g c clean =
-    let a = state g.S.Store c.args.tx.now.conn.now in
-    let b = state g.S.Store c.delete.new.tx.conn.now in
-    let d = state g.S.Store c.insert.new.tx.conn.now in
-    err_kept a b d _ c.from_residual-in_err-insert.result c.in_ok-delete.ensures.done c.insert.ensures.frame.survives (c.in_err-insert.ensures.frame.failed clean) clean
-
-pub returns-in_err-insert-clause-survives : goal.returns-in_err-insert-clause-survives
-returns-in_err-insert-clause-survives g c =
-    let a = state g.S.Store c.args.tx.now.conn.now in
-    let b = state g.S.Store c.delete.new.tx.conn.now in
-    let d = state g.S.Store c.insert.new.tx.conn.now in
-    survives_both a b d c.delete.ensures.frame.survives c.insert.ensures.frame.survives
-
-pub put_pieces-requires-clause-under_way : goal.put_pieces-requires-clause-under_way
-put_pieces-requires-clause-under_way g c clean =
-    let a = state g.S.Store c.args.tx.now.conn.now in
-    let b = state g.S.Store c.delete.new.tx.conn.now in
-    let d = state g.S.Store c.insert.new.tx.conn.now in
-    under_after a d _ (steps_both a b d _ _ c.in_ok-delete.ensures.done c.insert.ensures.frame.survives c.in_ok-insert.ensures.done clean)
-
-pub put_pieces-requires-clause-is_open : goal.put_pieces-requires-clause-is_open
-put_pieces-requires-clause-is_open g c clean = (c.in_ok-insert.ensures.done clean).is_open
-
-pub put_pieces-requires-clause-exists : goal.put_pieces-requires-clause-exists
-put_pieces-requires-clause-exists g c clean =
-    let a = state g.S.Store c.args.tx.now.conn.now in
-    let b = state g.S.Store c.delete.new.tx.conn.now in
-    let d = state g.S.Store c.insert.new.tx.conn.now in
-    let early : HasCleanDisk b = clean_before b d _ c.insert.ensures.frame.survives clean in
-    piece_after b d _ (c.in_ok-insert.ensures.done clean) (piece_after a b _ (c.in_ok-delete.ensures.done early) (c.requires.exists (clean_before a b _ c.delete.ensures.frame.survives early)))
-
-pub returns-clause-same_reference : goal.returns-clause-same_reference
-returns-clause-same_reference g c = c.put_pieces.ensures.same_reference ∙ c.insert.ensures.frame.same_reference ∙ c.delete.ensures.frame.same_reference
 
 pub returns-clause-done : goal.returns-clause-done
 returns-clause-done g c =
@@ -75,25 +37,10 @@ returns-clause-done g c =
     let digest = c.deref-2.result.now in
     let first : front ≡ row_part nar = c.split_at.ensures.front ∙ ap (take 65536) c.deref.ensures.value ∙ ap (λ k. take k nar) (sym size) in
     let rest : after ≡ drop piece_size nar = c.split_at.ensures.back ∙ ap (drop 65536) c.deref.ensures.value ∙ ap (λ k. drop k nar) (sym size) in
-    done_both a d (state g.S.Store c.put_pieces.new.tx.conn.now) _ _ (steps_both a b d _ _ c.in_ok-delete.ensures.done c.insert.ensures.frame.survives c.in_ok-insert.ensures.done) c.put_pieces.ensures.survives
+    done_both a d (state g.S.Store c.put_pieces.new.tx.conn.now) _ _ (steps_both a b d _ _ c.in_ok-delete.ensures.done c.insert.ensures.frame.survives c.in_ok-insert.ensures.done) c.put_pieces.ensures.frame.survives
     c.put_pieces.result (cut_row (stored_of object).0 (stored_of object).1)
     (λ (x : Contents). written x base (string_bytes object.base) front digest hash after nar object.deriver object.ca c.as_str-base.ensures.value first c.deref-2.ensures.value rest)
     c.put_pieces.ensures.done
-
-pub returns-clause-failed : goal.returns-clause-failed
-returns-clause-failed g c =
-    let a = state g.S.Store c.args.tx.now.conn.now in
-    let b = state g.S.Store c.delete.new.tx.conn.now in
-    let d = state g.S.Store c.insert.new.tx.conn.now in
-    failed_next a d (state g.S.Store c.put_pieces.new.tx.conn.now) _ (λ x. x) (steps_both a b d _ _ c.in_ok-delete.ensures.done c.insert.ensures.frame.survives c.in_ok-insert.ensures.done) c.put_pieces.ensures.survives
-    c.put_pieces.result c.put_pieces.ensures.failed
-
-pub returns-clause-survives : goal.returns-clause-survives
-returns-clause-survives g c =
-    let a = state g.S.Store c.args.tx.now.conn.now in
-    let b = state g.S.Store c.delete.new.tx.conn.now in
-    let d = state g.S.Store c.insert.new.tx.conn.now in
-    survives_both a d (state g.S.Store c.put_pieces.new.tx.conn.now) (survives_both a b d c.delete.ensures.frame.survives c.insert.ensures.frame.survives) c.put_pieces.ensures.survives
 
 -- ---- why it isn't done
 
@@ -136,7 +83,34 @@ returns-clause-cause g c clean =
     let nar = object.nar.items in
     let after = c.split_at.result.1.now in
     let rest : after ≡ drop piece_size nar = c.split_at.ensures.back ∙ ap (drop 65536) c.deref.ensures.value ∙ ap (λ k. drop k nar) (sym size) in
-    let done = steps_both a b d _ _ c.in_ok-delete.ensures.done c.insert.ensures.frame.survives c.in_ok-insert.ensures.done (clean_before d e _ c.put_pieces.ensures.survives clean) in
+    let done = steps_both a b d _ _ c.in_ok-delete.ensures.done c.insert.ensures.frame.survives c.in_ok-insert.ensures.done (clean_before d e _ c.put_pieces.ensures.frame.survives clean) in
     as_reason _ _ (λ f h. next_reason _ a d e _ done (survives_both a b d c.delete.ensures.frame.survives c.insert.ensures.frame.survives) f
     (more_reason _ (CutRows (stored_of object).0 (stored_of object).1) (λ t values put. inr (subst (λ p. RowsOf (PieceRow p) (further_pieces nar) t values) c.as_str-base.ensures.value
     (subst (λ es. RowsOf (PieceRow c.as_str-base.result.now) es t values) (further nar after rest) put))) d e f h)) c.put_pieces.result (c.put_pieces.ensures.cause clean)
+
+pub put_pieces-requires-clause-frame : goal.put_pieces-requires-clause-frame
+put_pieces-requires-clause-frame g c =
+    let a = state g.S.Store c.args.tx.now.conn.now in
+    let b = state g.S.Store c.delete.new.tx.conn.now in
+    let d = state g.S.Store c.insert.new.tx.conn.now in
+    record {
+      under_way = λ clean. under_after a d _ (steps_both a b d _ _ c.in_ok-delete.ensures.done c.insert.ensures.frame.survives c.in_ok-insert.ensures.done clean);
+      is_open = λ clean. (c.in_ok-insert.ensures.done clean).is_open;
+      exists = λ clean.
+          let early : HasCleanDisk b = clean_before b d _ c.insert.ensures.frame.survives clean in
+          piece_after b d _ (c.in_ok-insert.ensures.done clean) (piece_after a b _ (c.in_ok-delete.ensures.done early) (c.requires.frame.exists (clean_before a b _ c.delete.ensures.frame.survives early)));
+    }
+
+pub returns-in_err-insert-clause-frame : goal.returns-in_err-insert-clause-frame
+returns-in_err-insert-clause-frame g c =
+    done_fails g.S.Store c.args.tx.now.conn c.delete.new.tx.conn c.insert.new.tx.conn _ c.delete.ensures.frame.same_reference c.in_ok-delete.ensures.done c.delete.ensures.frame.survives
+    c.from_residual-in_err-insert.result c.insert.ensures.frame.same_reference c.in_err-insert.ensures.frame.failed c.insert.ensures.frame.survives
+
+pub returns-clause-frame : goal.returns-clause-frame
+returns-clause-frame g c =
+    let a = state g.S.Store c.args.tx.now.conn.now in
+    let b = state g.S.Store c.delete.new.tx.conn.now in
+    let d = state g.S.Store c.insert.new.tx.conn.now in
+    done_stays g.S.Store c.args.tx.now.conn c.insert.new.tx.conn c.put_pieces.new.tx.conn _ (c.insert.ensures.frame.same_reference ∙ c.delete.ensures.frame.same_reference)
+    (steps_both a b d _ _ c.in_ok-delete.ensures.done c.insert.ensures.frame.survives c.in_ok-insert.ensures.done) (survives_both a b d c.delete.ensures.frame.survives c.insert.ensures.frame.survives)
+    c.put_pieces.result c.put_pieces.ensures.frame

@@ -20,6 +20,7 @@ use Rattle.tables_make.specs.Reasons.{RowsOf}
 use Rattle.tables_make.proofs.Cuts.{size, first_piece, no_piece, no_end, at_end}
 use Rattle.tables_make.proofs.Reasons.{is_none, next_reason, put_reason}
 use Rattle.tables_make.proofs.Uncut.{apart}
+use Rattle.tables_make.proofs.Inside.{done_fails}
 use Rattle.tables_make.proofs.cutting.put_pieces.Goals as goal
 
 pub pieces-init : goal.pieces-init
@@ -27,8 +28,8 @@ pieces-init g c =
     let first = state g.S.Store c.args.tx.now.conn.now in
     record {
       same_reference = refl;
-      goes = λ clean. goes_first (λ es (x : Contents). record x { pieces = put_pieces c.args.base.now es x.pieces }) (pieces_by c.args.bytes.now 1 c.args.bytes.now) first (c.requires.under_way clean) (c.requires.is_open clean);
-      exists = c.requires.exists;
+      goes = λ clean. goes_first (λ es (x : Contents). record x { pieces = put_pieces c.args.base.now es x.pieces }) (pieces_by c.args.bytes.now 1 c.args.bytes.now) first (c.requires.frame.under_way clean) (c.requires.frame.is_open clean);
+      exists = c.requires.frame.exists;
       free = λ clean k more. c.requires.free clean (pos k);
       among = λ t values h. h;
       survives = survives_none first;
@@ -66,9 +67,6 @@ pieces-preserved g c =
       survives = survives_both first now next c.pieces.invariant.survives c.insert.ensures.frame.survives;
     }
 
-pub returns-then-is_empty-clause-same_reference : goal.returns-then-is_empty-clause-same_reference
-returns-then-is_empty-clause-same_reference g c = c.pieces.invariant.same_reference
-
 pub returns-then-is_empty-clause-done : goal.returns-then-is_empty-clause-done
 returns-then-is_empty-clause-done g c clean =
     let first = state g.S.Store c.args.tx.now.conn.now in
@@ -78,9 +76,6 @@ returns-then-is_empty-clause-done g c clean =
     let none : pieces_by bytes c.pieces.number bytes ≡ [] = ap (pieces_by bytes c.pieces.number) end ∙ no_piece bytes c.pieces.number in
     goes_done (λ es (x : Contents). record x { pieces = put_pieces c.args.base.now es x.pieces }) (pieces_by c.args.bytes.now 1 c.args.bytes.now) first now (pieces_by bytes c.pieces.number bytes)
     (ap (λ es. record (contents_of now.now) { pieces = put_pieces c.args.base.now es (contents_of now.now).pieces }) none) (c.pieces.invariant.goes clean)
-
-pub returns-then-is_empty-clause-survives : goal.returns-then-is_empty-clause-survives
-returns-then-is_empty-clause-survives g c = c.pieces.invariant.survives
 
 -- one of them wasn't put: none was there before it
 pub returns-in_err-insert-clause-cause : goal.returns-in_err-insert-clause-cause
@@ -104,3 +99,11 @@ returns-in_err-insert-clause-cause g c clean =
     (put_reason (RowsOf (PieceRow base) (pieces_by c.args.bytes.now 1 c.args.bytes.now)) now next piece row _
     (c.pieces.invariant.among piece row (subst (λ es. RowsOf (PieceRow base) es piece row) (sym split) (inl (refl, refl))))
     (is_none _ (c.pieces.invariant.free early n (omega arith))) _ (c.in_err-insert.ensures.cause clean)))
+
+pub returns-then-is_empty-clause-frame : goal.returns-then-is_empty-clause-frame
+returns-then-is_empty-clause-frame g c = record { same_reference = c.pieces.invariant.same_reference; failed = λ clean. tt; survives = c.pieces.invariant.survives }
+
+pub returns-in_err-insert-clause-frame : goal.returns-in_err-insert-clause-frame
+returns-in_err-insert-clause-frame g c =
+    done_fails g.S.Store c.args.tx.now.conn c.pieces.tx.conn c.insert.new.tx.conn _ c.pieces.invariant.same_reference (λ clean. (c.pieces.invariant.goes clean).changes) c.pieces.invariant.survives
+    c.from_residual.result c.insert.ensures.frame.same_reference c.in_err-insert.ensures.frame.failed c.insert.ensures.frame.survives

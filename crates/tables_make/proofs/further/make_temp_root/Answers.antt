@@ -17,5 +17,5 @@ all-requires-clause-apart g c = refl
 
 pub returns-clause-done : goal.returns-clause-done
 returns-clause-done g c clean =
-    let early = clean_before _ _ _ c.all.ensures.survives clean in
+    let early = clean_before _ _ _ c.all.ensures.frame.survives clean in
     on_ok c.all.result _ _ (λ made. makes_last _ _ (c.requires.under early) (c.requires.second early made.was_open) made) (c.all.ensures.makes clean)

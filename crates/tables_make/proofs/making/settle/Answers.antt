@@ -1,65 +1,53 @@
-use Rattle.std.proofs.Common.{◌∙◌}
 use Rattle.sqlite.specs.Held.{state}
 use Rattle.tables_sql.proofs.Steps.{clean_before}
-use Rattle.tables_sql.proofs.TestFailures.{passed_on, survives_both}
+use Rattle.tables_sql.proofs.TestFailures.{passed_on}
 use Rattle.tables_sql.proofs.Scans.{on_ok, err_with}
 use Rattle.tables_make.proofs.SettingFailures.{first_fails, second_fails}
 use Rattle.tables_make.proofs.Settles.{has_meta, has_still, meta_made}
-use Rattle.tables_make.proofs.Kept.{both_keep_commit}
+use Rattle.tables_make.proofs.Inside.{both_keep}
 use Rattle.tables_make.proofs.making.settle.Goals as goal
 
 pub put-requires : goal.put-requires
 put-requires g c clean =
     let made = c.in_ok-one.ensures.makes clean in
-    has_meta _ _ ((c.requires (clean_before _ _ _ c.one.ensures.survives clean)).free made.was_open).0 made
+    has_meta _ _ ((c.requires (clean_before _ _ _ c.one.ensures.frame.survives clean)).free made.was_open).0 made
 
 pub put-requires-2 : goal.put-requires-2
 put-requires-2 g c clean =
-    let second = clean_before _ _ _ c.put.ensures.survives clean in
+    let second = clean_before _ _ _ c.put.ensures.frame.survives clean in
     let made = c.in_ok-one.ensures.makes second in
-    has_still _ _ _ _ (has_meta _ _ ((c.requires (clean_before _ _ _ c.one.ensures.survives second)).free made.was_open).0 made) (c.in_ok-put.ensures.puts clean)
+    has_still _ _ _ _ (has_meta _ _ ((c.requires (clean_before _ _ _ c.one.ensures.frame.survives second)).free made.was_open).0 made) (c.in_ok-put.ensures.puts clean)
 
 pub returns-clause-makes : goal.returns-clause-makes
 returns-clause-makes g c clean =
-    let third = clean_before _ _ _ c.put-2.ensures.survives clean in
-    let second = clean_before _ _ _ c.put.ensures.survives third in
+    let third = clean_before _ _ _ c.put-2.ensures.frame.survives clean in
+    let second = clean_before _ _ _ c.put.ensures.frame.survives third in
     let made = c.in_ok-one.ensures.makes second in
-    let free = ((c.requires (clean_before _ _ _ c.one.ensures.survives second)).free made.was_open).0 in
+    let free = ((c.requires (clean_before _ _ _ c.one.ensures.frame.survives second)).free made.was_open).0 in
     on_ok c.put-2.result _ _ (λ last. meta_made c.args.store_dir.now _ _ _ _ free made (c.in_ok-put.ensures.puts third) last) (c.put-2.ensures.puts clean)
 
 pub returns-in_err-put-clause-cause : goal.returns-in_err-put-clause-cause
 returns-in_err-put-clause-cause g c clean =
-    let second = clean_before _ _ _ c.put.ensures.survives clean in
+    let second = clean_before _ _ _ c.put.ensures.frame.survives clean in
     let made = c.in_ok-one.ensures.makes second in
-    let under = c.requires (clean_before _ _ _ c.one.ensures.survives second) in
+    let under = c.requires (clean_before _ _ _ c.one.ensures.frame.survives second) in
     passed_on c.from_residual-in_err-put.result _ _ c.from_residual-in_err-put.ensures.1
-    (first_fails _ (under.free made.was_open).0 (under.sound made.was_open) _ made c.one.ensures.survives.counts c.one.ensures.survives.limit c.args.store_dir.now
+    (first_fails _ (under.free made.was_open).0 (under.sound made.was_open) _ made c.one.ensures.frame.survives.counts c.one.ensures.frame.survives.limit c.args.store_dir.now
     (state g.S.Store c.put.new.tx.conn.now) _ (c.in_err-put.ensures.cause clean))
 
 pub returns-clause-cause : goal.returns-clause-cause
 returns-clause-cause g c clean =
-    let third = clean_before _ _ _ c.put-2.ensures.survives clean in
-    let second = clean_before _ _ _ c.put.ensures.survives third in
+    let third = clean_before _ _ _ c.put-2.ensures.frame.survives clean in
+    let second = clean_before _ _ _ c.put.ensures.frame.survives third in
     let made = c.in_ok-one.ensures.makes second in
-    let under = c.requires (clean_before _ _ _ c.one.ensures.survives second) in
+    let under = c.requires (clean_before _ _ _ c.one.ensures.frame.survives second) in
     err_with c.put-2.result _ _
-    (second_fails _ (under.free made.was_open).0 (under.sound made.was_open) _ made c.one.ensures.survives.counts c.one.ensures.survives.limit c.args.store_dir.now _ (state g.S.Store c.put-2.new.tx.conn.now)
-    (c.in_ok-put.ensures.puts third) c.put.ensures.survives.counts c.put.ensures.survives.limit) (c.put-2.ensures.cause clean)
+    (second_fails _ (under.free made.was_open).0 (under.sound made.was_open) _ made c.one.ensures.frame.survives.counts c.one.ensures.frame.survives.limit c.args.store_dir.now _ (state g.S.Store c.put-2.new.tx.conn.now)
+    (c.in_ok-put.ensures.puts third) c.put.ensures.frame.survives.counts c.put.ensures.frame.survives.limit) (c.put-2.ensures.cause clean)
 
-pub returns-in_err-put-clause-same_reference : goal.returns-in_err-put-clause-same_reference
-returns-in_err-put-clause-same_reference g c = c.put.ensures.same_reference ∙ c.one.ensures.same_reference
+pub returns-in_err-put-clause-frame : goal.returns-in_err-put-clause-frame
+returns-in_err-put-clause-frame g c = both_keep g.S.Store c.args.tx.now.conn c.one.new.tx.conn c.put.new.tx.conn c.one.ensures.frame c.put.ensures.frame
 
-pub returns-in_err-put-clause-kept : goal.returns-in_err-put-clause-kept
-returns-in_err-put-clause-kept g c = both_keep_commit _ _ _ c.one.ensures.kept c.put.ensures.kept c.put.ensures.survives
-
-pub returns-in_err-put-clause-survives : goal.returns-in_err-put-clause-survives
-returns-in_err-put-clause-survives g c = survives_both _ _ _ c.one.ensures.survives c.put.ensures.survives
-
-pub returns-clause-same_reference : goal.returns-clause-same_reference
-returns-clause-same_reference g c = c.put-2.ensures.same_reference ∙ c.put.ensures.same_reference ∙ c.one.ensures.same_reference
-
-pub returns-clause-kept : goal.returns-clause-kept
-returns-clause-kept g c = both_keep_commit _ _ _ (both_keep_commit _ _ _ c.one.ensures.kept c.put.ensures.kept c.put.ensures.survives) c.put-2.ensures.kept c.put-2.ensures.survives
-
-pub returns-clause-survives : goal.returns-clause-survives
-returns-clause-survives g c = survives_both _ _ _ (survives_both _ _ _ c.one.ensures.survives c.put.ensures.survives) c.put-2.ensures.survives
+pub returns-clause-frame : goal.returns-clause-frame
+returns-clause-frame g c =
+    both_keep g.S.Store c.args.tx.now.conn c.put.new.tx.conn c.put-2.new.tx.conn (both_keep g.S.Store c.args.tx.now.conn c.one.new.tx.conn c.put.new.tx.conn c.one.ensures.frame c.put.ensures.frame) c.put-2.ensures.frame

@@ -3,25 +3,17 @@ use Rattle.sqlite.specs.Held.{state}
 use Rattle.tables_schema.specs.declared.schema.Schema.TheVariants.{V1}
 use Rattle.tables_sql.specs.Contents.{contents_of}
 use Rattle.tables_sql.proofs.Steps.{clean_before}
-use Rattle.tables_sql.proofs.TestFailures.{passed_on, survives_both}
-use Rattle.tables_sql.proofs.Transactions.{done_both, failed_next}
+use Rattle.tables_sql.proofs.TestFailures.{passed_on}
+use Rattle.tables_sql.proofs.Transactions.{done_both}
 use Rattle.tables_make.specs.Migrating.{AllCutRows, MigratedRows, SettingRow}
 use Rattle.tables_make.proofs.Reasons.{as_reason, more_reason, next_reason}
+use Rattle.tables_make.proofs.Inside.{done_stays}
 use Rattle.tables_make.proofs.migrating.rewrite.Goals as goal
 
 pub returns-clause-done : goal.returns-clause-done
 returns-clause-done g c =
-    done_both (state g.S.Store c.args.tx.now.conn.now) (state g.S.Store c.cut_all.new.tx.conn.now) (state g.S.Store c.renumber.new.tx.conn.now) _ _ c.in_ok-cut_all.ensures.done c.renumber.ensures.survives
+    done_both (state g.S.Store c.args.tx.now.conn.now) (state g.S.Store c.cut_all.new.tx.conn.now) (state g.S.Store c.renumber.new.tx.conn.now) _ _ c.in_ok-cut_all.ensures.done c.renumber.ensures.frame.survives
     c.renumber.result _ (λ _. refl) c.renumber.ensures.done
-
-pub returns-clause-failed : goal.returns-clause-failed
-returns-clause-failed g c =
-    failed_next (state g.S.Store c.args.tx.now.conn.now) (state g.S.Store c.cut_all.new.tx.conn.now) (state g.S.Store c.renumber.new.tx.conn.now) _ (λ x. x) c.in_ok-cut_all.ensures.done c.renumber.ensures.survives
-    c.renumber.result c.renumber.ensures.failed
-
-pub returns-clause-survives : goal.returns-clause-survives
-returns-clause-survives g c =
-    survives_both (state g.S.Store c.args.tx.now.conn.now) (state g.S.Store c.cut_all.new.tx.conn.now) (state g.S.Store c.renumber.new.tx.conn.now) c.cut_all.ensures.survives c.renumber.ensures.survives
 
 pub returns-in_err-cut_all-clause-cause : goal.returns-in_err-cut_all-clause-cause
 returns-in_err-cut_all-clause-cause g c clean =
@@ -34,5 +26,10 @@ returns-clause-cause g c clean =
     let a = state g.S.Store c.args.tx.now.conn.now in
     let b = state g.S.Store c.cut_all.new.tx.conn.now in
     let d = state g.S.Store c.renumber.new.tx.conn.now in
-    as_reason _ _ (λ f h. next_reason _ a b d _ (c.in_ok-cut_all.ensures.done (clean_before b d _ c.renumber.ensures.survives clean)) c.cut_all.ensures.survives f
+    as_reason _ _ (λ f h. next_reason _ a b d _ (c.in_ok-cut_all.ensures.done (clean_before b d _ c.renumber.ensures.frame.survives clean)) c.cut_all.ensures.frame.survives f
     (more_reason SettingRow (MigratedRows V1 (contents_of a.now)) (λ t values h. inr h) b d f h)) c.renumber.result (c.renumber.ensures.cause clean)
+
+pub returns-clause-frame : goal.returns-clause-frame
+returns-clause-frame g c =
+    done_stays g.S.Store c.args.tx.now.conn c.cut_all.new.tx.conn c.renumber.new.tx.conn _ c.cut_all.ensures.frame.same_reference c.in_ok-cut_all.ensures.done c.cut_all.ensures.frame.survives
+    c.renumber.result c.renumber.ensures.frame

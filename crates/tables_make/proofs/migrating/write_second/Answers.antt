@@ -1,4 +1,4 @@
-use Rattle.std.proofs.Common.{inl}
+use Rattle.std.proofs.Common.{inl, ◌∙◌}
 use Rattle.sqlite.specs.Held.{state}
 use Rattle.sqlite.specs.State.{HasCleanDisk}
 use Rattle.tables_schema.specs.declared.schema.Schema.TheVariants.{V2}
@@ -17,9 +17,9 @@ returns-clause-done g c clean =
     let a = state g.S.Store c.args.tx.now.conn.now in
     let b = state g.S.Store c.make_temp_root.new.tx.conn.now in
     let d = state g.S.Store c.renumber.new.tx.conn.now in
-    let early : HasCleanDisk b = clean_before b d _ c.renumber.ensures.survives clean in
+    let early : HasCleanDisk b = clean_before b d _ c.renumber.ensures.frame.survives clean in
     let made = c.in_ok-make_temp_root.ensures.done early in
-    let pieces = c.requires.pieces (clean_before a b _ c.make_temp_root.ensures.survives early) made.was_open in
+    let pieces = c.requires.pieces (clean_before a b _ c.make_temp_root.ensures.frame.survives early) made.was_open in
     on_done c.renumber.result _ _ (λ changed. grows _ a b d _ made changed (pieces_still _ a b made pieces) made.exist.0) (c.renumber.ensures.done clean)
 
 pub returns-clause-failed : goal.returns-clause-failed
@@ -27,10 +27,10 @@ returns-clause-failed g c clean =
     let a = state g.S.Store c.args.tx.now.conn.now in
     let b = state g.S.Store c.make_temp_root.new.tx.conn.now in
     let d = state g.S.Store c.renumber.new.tx.conn.now in
-    keeps_then c.renumber.result a b d (c.make_temp_root.ensures.kept (clean_before b d _ c.renumber.ensures.survives clean)) (c.renumber.ensures.failed clean)
+    keeps_then c.renumber.result a b d (c.make_temp_root.ensures.frame.kept (clean_before b d _ c.renumber.ensures.frame.survives clean)) (c.renumber.ensures.frame.failed clean)
 
 pub returns-clause-survives : goal.returns-clause-survives
-returns-clause-survives g c = survives_both (state g.S.Store c.args.tx.now.conn.now) (state g.S.Store c.make_temp_root.new.tx.conn.now) (state g.S.Store c.renumber.new.tx.conn.now) c.make_temp_root.ensures.survives c.renumber.ensures.survives
+returns-clause-survives g c = survives_both (state g.S.Store c.args.tx.now.conn.now) (state g.S.Store c.make_temp_root.new.tx.conn.now) (state g.S.Store c.renumber.new.tx.conn.now) c.make_temp_root.ensures.frame.survives c.renumber.ensures.frame.survives
 
 pub returns-in_err-make_temp_root-clause-cause : goal.returns-in_err-make_temp_root-clause-cause
 returns-in_err-make_temp_root-clause-cause g c clean = passed_on c.from_residual.result _ _ c.from_residual.ensures.1 (inl (c.in_err-make_temp_root.ensures.cause clean))
@@ -40,4 +40,7 @@ returns-clause-cause g c clean =
     let a = state g.S.Store c.args.tx.now.conn.now in
     let b = state g.S.Store c.make_temp_root.new.tx.conn.now in
     let d = state g.S.Store c.renumber.new.tx.conn.now in
-    as_reason _ _ (rows_fail V2 last_named a b d (c.in_ok-make_temp_root.ensures.done (clean_before b d _ c.renumber.ensures.survives clean)) c.make_temp_root.ensures.survives) c.renumber.result (c.renumber.ensures.cause clean)
+    as_reason _ _ (rows_fail V2 last_named a b d (c.in_ok-make_temp_root.ensures.done (clean_before b d _ c.renumber.ensures.frame.survives clean)) c.make_temp_root.ensures.frame.survives) c.renumber.result (c.renumber.ensures.cause clean)
+
+pub returns-clause-same_reference : goal.returns-clause-same_reference
+returns-clause-same_reference g c = c.renumber.ensures.frame.same_reference ∙ c.make_temp_root.ensures.frame.same_reference
