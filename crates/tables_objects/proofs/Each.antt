@@ -1,6 +1,6 @@
 -- Objects that are taken one after another: what is left decides, and makes the rest.
 use Rattle.std.proofs.Common.{◌≡◌, ℕ, suc, ◌+◌, ◌<◌, List, [], ◌∷◌, map, length, get_or, drop, drop-cons, arith, Result, Ok, Err, refl, sym, ap, ap₂, subst, ◌∙◌, IsTrue, String, Global, string_bytes}
-use Rattle.std.specs.Prelude.{◌↔◌, IfOk, OnOk}
+use Rattle.std.specs.Prelude.{◌↔◌, IfOk}
 use Rattle.std.specs.List.{AllByRecursion}
 use Rattle.sqlite.specs.State.{State, IsUnchanged}
 use Rattle.tables_sql.specs.Calls.{KeepsShown}
@@ -63,10 +63,6 @@ module _ (c : Contents) (o : OutlineValue) (all : List Path) where
 pub if_ok : {A E : Type 0} (r : Result A E) (P Q : A → Type 0) → ((x : A) → P x → Q x) → IfOk r P → IfOk r Q
 if_ok (Ok x) P Q f h = f x h
 if_ok (Err e) P Q f h = h
-
-pub on_ok : {A E : Type 0} (r : Result A E) (P Q : Type 0) → (P → Q) → OnOk r P → OnOk r Q
-on_ok (Ok x) P Q f h = f h
-on_ok (Err e) P Q f h = h
 
 pub any_ok : {A E : Type 0} (r : Result A E) (Q : A → Type 0) → ((x : A) → Q x) → IfOk r Q
 any_ok (Ok x) Q f = f x

@@ -3,14 +3,19 @@ use Rattle.std.proofs.Common.{◌≡◌, ℕ, List, [], map, Bool, true, false, 
 use Rattle.std.specs.Ordering.{eq_by_cmp}
 use Rattle.std.specs.FinMap as finite
 use Rattle.sqlite_trees.specs.Tree.{Trees}
+use Rattle.sqlite_trees.specs.declared.store.Store.{Ghosts}
 use Rattle.sqlite.specs.Effect.{Database}
 use Rattle.sqlite.specs.State.{State, HasCleanDisk, Survives, IsUnchanged}
+use Rattle.sqlite.specs.Held.{Held, state}
 use Rattle.sqlite.proofs.Callers.{unchanged_then}
 use Rattle.paths.specs.Root.{bytes_cmp}
 use Rattle.tables_sql.specs.Contents.{Numbered, numbered_cmp, contents_of}
-use Rattle.tables_sql.specs.Calls.{KeepsShown}
+use Rattle.tables_sql.specs.Calls.{HasFurther}
 use Rattle.tables_sql.proofs.Orders.{numbered_total, numbered_antisymmetric}
-use Rattle.tables_sql.proofs.TestFailures.{both_keep, survives_both}
+use Rattle.tables_sql.proofs.Transactions.{survives_none}
+use Rattle.tables_schema.specs.declared.schema.Schema.{Schema}
+use Rattle.tables_schema.specs.Forms.{piece}
+use Rattle.tables_rows.specs.Frames.{MayRead, LeftAsItWas}
 use Rattle.model.proofs.Empty.{no_entries}
 use Rattle.tables_outline.proofs.Puts.{get-kept}
 use Rattle.tables_sql.specs.declared.objects.Object.{Object}
@@ -19,7 +24,9 @@ use Rattle.model.specs.World.{Path}
 use Rattle.tables_objects.specs.declared.reading.ObjectRows.{ObjectRows}
 use Rattle.tables_objects.specs.declared.joined.Joined.{Joined}
 use Rattle.tables_objects.specs.Rows.{AreRowsOf, AreJoined}
+use Rattle.tables_objects.specs.Pieces.{HasPiecesBy}
 use Rattle.tables_objects.proofs.Columns.{parts_read}
+use Rattle.tables_objects.proofs.Each.{shown_of, no_change}
 
 -- the disk was clean before, if it is after
 pub clean_before : (a b : State) (P : Trees → Type 0) → Survives a b P → HasCleanDisk b → HasCleanDisk a
@@ -70,12 +77,24 @@ further_after a b d read survives had clean =
     let same = (read clean).0 in
     further_still a b d same.now_is (had (clean_before a b (λ _. ⊥) survives clean) same.was_open)
 
--- three reads keep what is shown
-pub three_keep : (a b c d : State) → (HasCleanDisk b → KeepsShown a b) → (HasCleanDisk c → KeepsShown b c) → (HasCleanDisk d → KeepsShown c d) → Survives b c (λ _. ⊥) → Survives c d (λ _. ⊥) → HasCleanDisk d → KeepsShown a d
-three_keep a b c d first second third next last = both_keep a c d (both_keep a b c first second next) third last
+module _ {S : Type 0} {g : Ghosts S} where
+  -- no read yet
+  pub as_it_was : (a : Held S) → MayRead g a → (HasCleanDisk (state g a) → IsTrue (state g a).is_open) → LeftAsItWas g a a
+  as_it_was a may opened =
+      let s = state g a in
+      record {
+        alone = may.alone;
+        same = λ clean. shown_of s s (no_change s (opened clean));
+        ready = may.ready;
+        survives = survives_none s;
+      }
 
-pub survives_three : (a b c d : State) → Survives a b (λ _. ⊥) → Survives b c (λ _. ⊥) → Survives c d (λ _. ⊥) → Survives a d (λ _. ⊥)
-survives_three a b c d first second third = survives_both a c d (survives_both a b c first second) third
+  -- after a read there are pieces as before
+  pub pieces_after : (schema : Schema) (a b : Held S) → LeftAsItWas g a b → (HasCleanDisk (state g b) → IsUnchanged (state g a) (state g b)) → HasPiecesBy g schema a → HasPiecesBy g schema b
+  pieces_after schema a b left read had = record {
+    exists = λ clean has is_open. further_after (state g a) (state g b) (λ d. HasFurther d piece) read left.survives (λ early up. had.exists early has up) clean;
+    no_table = λ clean has is_open. further_after (state g a) (state g b) (λ d. (contents_of d).pieces ≡ finite.empty) read left.survives (λ early up. had.no_table early has up) clean;
+  }
 
 -- a state that shows the same has the same rows in other tables
 pub joined_still : (a b : State) (all : Joined) → b.now ≡ a.now → AreJoined (contents_of a.now) all → AreJoined (contents_of b.now) all

@@ -1,5 +1,6 @@
 pub mod Cut
 pub mod Known
+pub mod Pieces
 pub mod Rising
 pub mod Rows
 pub mod Loaded

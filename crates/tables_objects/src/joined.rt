@@ -1,16 +1,12 @@
 //! All rows of references and outputs, and which pieces there are: read once, and tested against the objects of the outline.
-#![tactic(auto, using(tables_sql::proofs::TestFailures::read_fails, tables_sql::proofs::TestFailures::read_passed, tables_sql::proofs::TestFailures::memory_passed, tables_sql::proofs::TestFailures::read_then, tables_sql::proofs::TestFailures::read_then_passed))]
 
-ghost use Rattle.std.specs.Prelude.{◌≡◌, ◌&&◌, false, IsTrue, IsFalse, IfOk, map};
+ghost use Rattle.std.specs.Prelude.{◌≡◌, ◌&&◌, IsTrue, IfOk, map};
 ghost use Rattle.std.specs.List.{list_all};
 ghost use Rattle.std.specs.FinMap as finite;
-ghost use Rattle.sqlite.specs.State.{HasCleanDisk, IsUnchanged, Survives};
+ghost use Rattle.sqlite.specs.State.{HasCleanDisk};
 ghost use Rattle.sqlite.specs.Held.{state};
-ghost use Rattle.tables_schema.specs.Forms.{piece};
-ghost use Rattle.tables_sql.specs.Contents.{contents_of};
-ghost use Rattle.tables_sql.specs.Calls.{HasFurther, IsReady, KeepsShown};
-ghost use Rattle.tables_rows.specs.Frames.{FailsInReads};
-ghost use Rattle.tables_schema.specs.Schemas.{has_pieces};
+ghost use Rattle.tables_rows.specs.Frames.{MayRead, FindsInReads};
+ghost use Rattle.tables_objects.specs.Pieces.{HasPiecesBy};
 ghost use Rattle.tables_sql.specs.Entries.{numbered_in, output_of, reference_of};
 ghost use Rattle.tables_objects.specs.Rows.{AreJoined};
 ghost use Rattle.tables_objects.specs.Loaded.{is_output, is_owned, is_reference};
@@ -40,24 +36,11 @@ fn keys_of<S: Alter>(
     conn: &mut Connection<S>,
     schema: Schema,
 ) -> Result<Vec<PieceKey>, Failure>
-    requires alone { conn.old.in_transaction ≡ false }
-    requires ready { HasCleanDisk (state S.Store conn.old) → IsTrue (state S.Store conn.old).is_open
-        → IsReady (state S.Store conn.old) }
+    requires frame { MayRead S.Store conn.old }
     requires opened { HasCleanDisk (state S.Store conn.old) → IsTrue (state S.Store conn.old).is_open }
-    requires exists { HasCleanDisk (state S.Store conn.old) → IsTrue (has_pieces schema)
-        → IsTrue (state S.Store conn.old).is_open → HasFurther (state S.Store conn.old).now piece }
-    requires no_table { HasCleanDisk (state S.Store conn.old) → IsFalse (has_pieces schema)
-        → IsTrue (state S.Store conn.old).is_open → (contents_of (state S.Store conn.old).now).pieces ≡ finite.empty }
-    ensures alone { conn.new.in_transaction ≡ false }
-    ensures cause { FailsInReads S.Store conn.old conn.new result }
-    ensures reads { HasCleanDisk (state S.Store conn.new)
-        → IfOk result (λ all. IsUnchanged (state S.Store conn.old) (state S.Store conn.new)
-        × (map numbered_in all.items ≡ finite.keys (contents_of (state S.Store conn.old).now).pieces)) }
-    ensures same { HasCleanDisk (state S.Store conn.new)
-        → KeepsShown (state S.Store conn.old) (state S.Store conn.new) }
-    ensures ready { HasCleanDisk (state S.Store conn.new) → IsTrue (state S.Store conn.new).is_open
-        → IsReady (state S.Store conn.new) }
-    ensures survives { Survives (state S.Store conn.old) (state S.Store conn.new) (λ _. ⊥) }
+    requires pieces { HasPiecesBy S.Store schema conn.old }
+    ensures { FindsInReads S.Store conn.old conn.new result
+        (λ c all. map numbered_in all.items ≡ finite.keys c.pieces) }
 {
     if !schema.has_pieces() {
         return Ok(Vec::new(alloc));
@@ -71,24 +54,9 @@ pub(crate) fn read_joined<S: Alter>(
     conn: &mut Connection<S>,
     schema: Schema,
 ) -> Result<Joined, Failure>
-    requires alone { conn.old.in_transaction ≡ false }
-    requires ready { HasCleanDisk (state S.Store conn.old) → IsTrue (state S.Store conn.old).is_open
-        → IsReady (state S.Store conn.old) }
-    requires exists { HasCleanDisk (state S.Store conn.old) → IsTrue (has_pieces schema)
-        → IsTrue (state S.Store conn.old).is_open → HasFurther (state S.Store conn.old).now piece }
-    requires no_table { HasCleanDisk (state S.Store conn.old) → IsFalse (has_pieces schema)
-        → IsTrue (state S.Store conn.old).is_open → (contents_of (state S.Store conn.old).now).pieces ≡ finite.empty }
-    ensures alone { conn.new.in_transaction ≡ false }
-    ensures cause { FailsInReads S.Store conn.old conn.new result }
-    ensures reads { HasCleanDisk (state S.Store conn.new)
-        → IfOk result
-        (λ all. IsUnchanged (state S.Store conn.old) (state S.Store conn.new)
-        × AreJoined (contents_of (state S.Store conn.old).now) all) }
-    ensures same { HasCleanDisk (state S.Store conn.new)
-        → KeepsShown (state S.Store conn.old) (state S.Store conn.new) }
-    ensures ready { HasCleanDisk (state S.Store conn.new) → IsTrue (state S.Store conn.new).is_open
-        → IsReady (state S.Store conn.new) }
-    ensures survives { Survives (state S.Store conn.old) (state S.Store conn.new) (λ _. ⊥) }
+    requires frame { MayRead S.Store conn.old }
+    requires pieces { HasPiecesBy S.Store schema conn.old }
+    ensures { FindsInReads S.Store conn.old conn.new result AreJoined }
 {
     let references = references::all(alloc, conn)?;
     let outputs = outputs::all(alloc, conn)?;

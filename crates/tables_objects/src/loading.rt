@@ -1,15 +1,12 @@
 //! All objects of the rows, tested and put into the outline, and what is tested with them.
-#![tactic(auto, using(tables_sql::proofs::TestFailures::read_fails, tables_sql::proofs::TestFailures::read_passed, tables_sql::proofs::TestFailures::memory_passed, tables_sql::proofs::TestFailures::read_then, tables_sql::proofs::TestFailures::read_then_passed))]
 
-ghost use Rattle.std.specs.Prelude.{◌≡◌, ◌↔◌, false, IsTrue, IsFalse, IfOk, OnOk};
+ghost use Rattle.std.specs.Prelude.{◌≡◌, ◌↔◌, IsTrue, IfOk};
 ghost use Rattle.std.specs.FinMap as finite;
-ghost use Rattle.sqlite.specs.State.{HasCleanDisk, IsUnchanged, Survives};
+ghost use Rattle.sqlite.specs.State.{HasCleanDisk};
 ghost use Rattle.sqlite.specs.Held.{state};
-ghost use Rattle.tables_schema.specs.Forms.{piece};
 ghost use Rattle.tables_sql.specs.Contents.{contents_of};
-ghost use Rattle.tables_sql.specs.Calls.{HasFurther, IsReady, KeepsShown};
-ghost use Rattle.tables_rows.specs.Frames.{FailsInReads};
-ghost use Rattle.tables_schema.specs.Schemas.{has_pieces};
+ghost use Rattle.tables_rows.specs.Frames.{MayRead, ReadsAlone};
+ghost use Rattle.tables_objects.specs.Pieces.{HasPiecesBy};
 ghost use Rattle.tables_world.specs.Worlds.{rows_of, world_in};
 ghost use Rattle.tables_outline.specs.Outline.{outline_of};
 ghost use Rattle.tables_objects.specs.Loaded.{AreSoundInPieces};
@@ -38,16 +35,10 @@ pub fn load_objects<S: Alter>(
     dir: &StoreDir,
     outline: &mut Outline,
 ) -> Result<bool, Failure>
-    requires alone { conn.old.in_transaction ≡ false }
-    requires ready { HasCleanDisk (state S.Store conn.old) → IsTrue (state S.Store conn.old).is_open
-        → IsReady (state S.Store conn.old) }
-    requires exists { HasCleanDisk (state S.Store conn.old) → IsTrue (has_pieces schema)
-        → IsTrue (state S.Store conn.old).is_open → HasFurther (state S.Store conn.old).now piece }
-    requires no_table { HasCleanDisk (state S.Store conn.old) → IsFalse (has_pieces schema)
-        → IsTrue (state S.Store conn.old).is_open → (contents_of (state S.Store conn.old).now).pieces ≡ finite.empty }
+    requires frame { MayRead S.Store conn.old }
+    requires pieces { HasPiecesBy S.Store schema conn.old }
     requires empty { outline.old.objects ≡ finite.empty }
-    ensures alone { conn.new.in_transaction ≡ false }
-    ensures cause { FailsInReads S.Store conn.old conn.new result }
+    ensures read { ReadsAlone S.Store conn.old conn.new result }
     ensures reported { HasCleanDisk (state S.Store conn.new)
         → IfOk result
         (λ ok. IsTrue ok ↔ AreSoundInPieces schema dir.now (rows_of (contents_of (state S.Store conn.old).now))) }
@@ -56,13 +47,6 @@ pub fn load_objects<S: Alter>(
         (λ ok. IsTrue ok
         → outline.new
         ≡ record outline.old { objects = (outline_of (world_in (contents_of (state S.Store conn.old).now))).objects }) }
-    ensures unchanged { HasCleanDisk (state S.Store conn.new)
-        → OnOk result (IsUnchanged (state S.Store conn.old) (state S.Store conn.new)) }
-    ensures same { HasCleanDisk (state S.Store conn.new)
-        → KeepsShown (state S.Store conn.old) (state S.Store conn.new) }
-    ensures ready { HasCleanDisk (state S.Store conn.new) → IsTrue (state S.Store conn.new).is_open
-        → IsReady (state S.Store conn.new) }
-    ensures survives { Survives (state S.Store conn.old) (state S.Store conn.new) (λ _. ⊥) }
 {
     let joined = read_joined(alloc, conn, schema)?;
     if !load_all(alloc, conn, schema, dir, outline, &joined)? {

@@ -1,17 +1,14 @@
 //! Objects, tested one after another and put into the outline.
-#![tactic(auto, using(tables_sql::proofs::TestFailures::read_fails, tables_sql::proofs::TestFailures::read_passed, tables_sql::proofs::TestFailures::memory_passed, tables_sql::proofs::TestFailures::read_then, tables_sql::proofs::TestFailures::read_then_passed))]
 
-ghost use Rattle.std.specs.Prelude.{◌≡◌, ◌↔◌, false, IsTrue, IsFalse, IfOk, OnOk, map, string_bytes};
+ghost use Rattle.std.specs.Prelude.{◌≡◌, ◌↔◌, IsTrue, IfOk, map, string_bytes};
 ghost use Rattle.std.specs.List.{AllByRecursion};
 ghost use Rattle.std.specs.FinMap as finite;
-ghost use Rattle.sqlite.specs.State.{HasCleanDisk, IsUnchanged, Survives};
+ghost use Rattle.sqlite.specs.State.{HasCleanDisk};
 ghost use Rattle.sqlite.specs.Held.{state};
-ghost use Rattle.tables_schema.specs.Forms.{piece};
 ghost use Rattle.tables_sql.specs.Contents.{contents_of};
-ghost use Rattle.tables_sql.specs.Calls.{HasFurther, IsReady, KeepsShown};
-ghost use Rattle.tables_rows.specs.Frames.{FailsInReads};
+ghost use Rattle.tables_rows.specs.Frames.{MayRead, ReadsAlone};
+ghost use Rattle.tables_objects.specs.Pieces.{HasPiecesBy};
 ghost use Rattle.tables_sql.specs.Entries.{stored_of};
-ghost use Rattle.tables_schema.specs.Schemas.{has_pieces};
 ghost use Rattle.tables_objects.specs.Cut.{parts_of, whole_of};
 ghost use Rattle.tables_objects.specs.Rows.{AreJoined};
 ghost use Rattle.tables_objects.specs.Tested.{IsSoundAt, kept_of, named_of, targets_of};
@@ -85,17 +82,11 @@ fn load_object<S: Alter>(
     joined: &Joined,
     base: &str,
 ) -> Result<bool, Failure>
-    requires alone { conn.old.in_transaction ≡ false }
-    requires ready { HasCleanDisk (state S.Store conn.old) → IsTrue (state S.Store conn.old).is_open
-        → IsReady (state S.Store conn.old) }
-    requires exists { HasCleanDisk (state S.Store conn.old) → IsTrue (has_pieces schema)
-        → IsTrue (state S.Store conn.old).is_open → HasFurther (state S.Store conn.old).now piece }
-    requires no_table { HasCleanDisk (state S.Store conn.old) → IsFalse (has_pieces schema)
-        → IsTrue (state S.Store conn.old).is_open → (contents_of (state S.Store conn.old).now).pieces ≡ finite.empty }
+    requires frame { MayRead S.Store conn.old }
+    requires pieces { HasPiecesBy S.Store schema conn.old }
     requires joined { HasCleanDisk (state S.Store conn.old)
         → AreJoined (contents_of (state S.Store conn.old).now) joined.now }
-    ensures alone { conn.new.in_transaction ≡ false }
-    ensures cause { FailsInReads S.Store conn.old conn.new result }
+    ensures read { ReadsAlone S.Store conn.old conn.new result }
     ensures reported { HasCleanDisk (state S.Store conn.new)
         → IfOk result
         (λ ok. IsTrue ok ↔ IsSoundOne schema dir.now (contents_of (state S.Store conn.old).now) base.now) }
@@ -105,13 +96,6 @@ fn load_object<S: Alter>(
         → outline.new
         ≡ record outline.old
         { objects = with_object (contents_of (state S.Store conn.old).now) base.now outline.old.objects }) }
-    ensures unchanged { HasCleanDisk (state S.Store conn.new)
-        → OnOk result (IsUnchanged (state S.Store conn.old) (state S.Store conn.new)) }
-    ensures same { HasCleanDisk (state S.Store conn.new)
-        → KeepsShown (state S.Store conn.old) (state S.Store conn.new) }
-    ensures ready { HasCleanDisk (state S.Store conn.new) → IsTrue (state S.Store conn.new).is_open
-        → IsReady (state S.Store conn.new) }
-    ensures survives { Survives (state S.Store conn.old) (state S.Store conn.new) (λ _. ⊥) }
 {
     let Some(rows) = rows_at(alloc, conn, schema, &joined.pieces, base)? else {
         return Ok(false);
@@ -131,18 +115,12 @@ fn load_each<S: Alter>(
     joined: &Joined,
     bases: &[String],
 ) -> Result<bool, Failure>
-    requires alone { conn.old.in_transaction ≡ false }
-    requires ready { HasCleanDisk (state S.Store conn.old) → IsTrue (state S.Store conn.old).is_open
-        → IsReady (state S.Store conn.old) }
+    requires frame { MayRead S.Store conn.old }
     requires opened { HasCleanDisk (state S.Store conn.old) → IsTrue (state S.Store conn.old).is_open }
-    requires exists { HasCleanDisk (state S.Store conn.old) → IsTrue (has_pieces schema)
-        → IsTrue (state S.Store conn.old).is_open → HasFurther (state S.Store conn.old).now piece }
-    requires no_table { HasCleanDisk (state S.Store conn.old) → IsFalse (has_pieces schema)
-        → IsTrue (state S.Store conn.old).is_open → (contents_of (state S.Store conn.old).now).pieces ≡ finite.empty }
+    requires pieces { HasPiecesBy S.Store schema conn.old }
     requires joined { HasCleanDisk (state S.Store conn.old)
         → AreJoined (contents_of (state S.Store conn.old).now) joined.now }
-    ensures alone { conn.new.in_transaction ≡ false }
-    ensures cause { FailsInReads S.Store conn.old conn.new result }
+    ensures read { ReadsAlone S.Store conn.old conn.new result }
     ensures reported { HasCleanDisk (state S.Store conn.new)
         → IfOk result
         (λ ok. IsTrue ok
@@ -156,13 +134,6 @@ fn load_each<S: Alter>(
           objects = with_objects (contents_of (state S.Store conn.old).now) (map string_bytes bases.now)
               outline.old.objects;
         }) }
-    ensures unchanged { HasCleanDisk (state S.Store conn.new)
-        → OnOk result (IsUnchanged (state S.Store conn.old) (state S.Store conn.new)) }
-    ensures same { HasCleanDisk (state S.Store conn.new)
-        → KeepsShown (state S.Store conn.old) (state S.Store conn.new) }
-    ensures ready { HasCleanDisk (state S.Store conn.new) → IsTrue (state S.Store conn.new).is_open
-        → IsReady (state S.Store conn.new) }
-    ensures survives { Survives (state S.Store conn.old) (state S.Store conn.new) (λ _. ⊥) }
 {
     'bases: for base in bases {
         if !load_object(alloc, conn, schema, dir, outline, joined, base.as_str())? {
@@ -181,17 +152,11 @@ pub(crate) fn load_all<S: Alter>(
     outline: &mut Outline,
     joined: &Joined,
 ) -> Result<bool, Failure>
-    requires alone { conn.old.in_transaction ≡ false }
-    requires ready { HasCleanDisk (state S.Store conn.old) → IsTrue (state S.Store conn.old).is_open
-        → IsReady (state S.Store conn.old) }
-    requires exists { HasCleanDisk (state S.Store conn.old) → IsTrue (has_pieces schema)
-        → IsTrue (state S.Store conn.old).is_open → HasFurther (state S.Store conn.old).now piece }
-    requires no_table { HasCleanDisk (state S.Store conn.old) → IsFalse (has_pieces schema)
-        → IsTrue (state S.Store conn.old).is_open → (contents_of (state S.Store conn.old).now).pieces ≡ finite.empty }
+    requires frame { MayRead S.Store conn.old }
+    requires pieces { HasPiecesBy S.Store schema conn.old }
     requires joined { HasCleanDisk (state S.Store conn.old)
         → AreJoined (contents_of (state S.Store conn.old).now) joined.now }
-    ensures alone { conn.new.in_transaction ≡ false }
-    ensures cause { FailsInReads S.Store conn.old conn.new result }
+    ensures read { ReadsAlone S.Store conn.old conn.new result }
     ensures reported { HasCleanDisk (state S.Store conn.new)
         → IfOk result
         (λ ok. IsTrue ok
@@ -205,13 +170,6 @@ pub(crate) fn load_all<S: Alter>(
           objects = with_objects (contents_of (state S.Store conn.old).now)
               (finite.keys (contents_of (state S.Store conn.old).now).objects) outline.old.objects;
         }) }
-    ensures unchanged { HasCleanDisk (state S.Store conn.new)
-        → OnOk result (IsUnchanged (state S.Store conn.old) (state S.Store conn.new)) }
-    ensures same { HasCleanDisk (state S.Store conn.new)
-        → KeepsShown (state S.Store conn.old) (state S.Store conn.new) }
-    ensures ready { HasCleanDisk (state S.Store conn.new) → IsTrue (state S.Store conn.new).is_open
-        → IsReady (state S.Store conn.new) }
-    ensures survives { Survives (state S.Store conn.old) (state S.Store conn.new) (λ _. ⊥) }
 {
     let bases = objects::keys(alloc, conn)?;
     load_each(alloc, conn, schema, dir, outline, joined, &bases)

@@ -1,7 +1,6 @@
 pub mod AllReads
 pub mod EachEntry
 pub mod Filled
-pub mod Frames
 pub mod PutAll
 pub mod Rows
 pub mod Sessions

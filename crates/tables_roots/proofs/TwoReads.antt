@@ -1,9 +1,7 @@
 -- Two reads, one after another.
 use Rattle.std.proofs.Common.{◌≡◌, Bool, true, false, ◌&&◌, Result, Ok, Err, IfOk, sym, ap, ◌∙◌, IsTrue}
-use Rattle.std.specs.Prelude.{◌↔◌, OnOk}
+use Rattle.std.specs.Prelude.{◌↔◌}
 use Rattle.std.proofs.lemmas.Bool.{false≢true}
-use Rattle.sqlite.specs.State.{State, IsUnchanged}
-use Rattle.sqlite.proofs.Callers.{unchanged_then}
 use Rattle.tables_sql.specs.declared.failure.Failure.{Failure}
 use Rattle.tables_sql.specs.Contents.{Contents}
 use Rattle.tables_world.specs.Worlds.{rows_of}
@@ -20,10 +18,6 @@ told_next (Err e) x y z first same h = tt
 pub taken_next : (r : Result Bool Failure) (o x y : OutlineValue) → x ≡ y → IfOk r (λ ok. IsTrue ok → o ≡ x) → IfOk r (λ ok. IsTrue ok → o ≡ y)
 taken_next (Ok v) o x y same h = λ ok. h ok ∙ same
 taken_next (Err e) o x y same h = tt
-
-pub unchanged_next : (r : Result Bool Failure) (a b c : State) → IsUnchanged a b → OnOk r (IsUnchanged b c) → OnOk r (IsUnchanged a c)
-unchanged_next (Ok v) a b c first next = unchanged_then a b c first next
-unchanged_next (Err e) a b c first next = tt
 
 -- ---- all roots
 

@@ -1,14 +1,13 @@
 //! Profiles, and their generations.
-#![tactic(auto, using(tables_sql::proofs::TestFailures::read_passed, tables_sql::proofs::TestFailures::memory_passed, tables_sql::proofs::TestFailures::read_then_passed))]
 
-ghost use Rattle.std.specs.Prelude.{◌≡◌, IsTrue, IfOk, OnOk};
+ghost use Rattle.std.specs.Prelude.{◌≡◌, IsTrue, IfOk};
 ghost use Rattle.std.specs.FinMap as finite;
-ghost use Rattle.sqlite.specs.State.{HasCleanDisk, IsUnchanged};
+ghost use Rattle.sqlite.specs.State.{HasCleanDisk};
 ghost use Rattle.sqlite.specs.Held.{state};
 ghost use Rattle.tables_sql.specs.Contents.{contents_of};
 ghost use Rattle.tables_world.specs.Worlds.{world_in};
 ghost use Rattle.tables_roots.specs.Loaded.{are_profiles};
-ghost use Rattle.tables_rows.specs.Frames.{MayRead, LeftAsItWas, FailsInReads};
+ghost use Rattle.tables_rows.specs.Frames.{MayRead, ReadsAlone};
 
 use crate::numbers::number_of;
 use crate::table::{RootTable, load_table};
@@ -69,15 +68,12 @@ pub fn read<S: Alter>(
 ) -> Result<bool, Failure>
     requires frame { MayRead S.Store conn.old }
     requires empty { HasCleanDisk (state S.Store conn.old) → outline.old.profiles ≡ finite.empty }
-    ensures frame { LeftAsItWas S.Store conn.old conn.new }
-    ensures cause { FailsInReads S.Store conn.old conn.new result }
+    ensures read { ReadsAlone S.Store conn.old conn.new result }
     ensures reported { HasCleanDisk (state S.Store conn.new) → IfOk result
         (λ ok. ok ≡ are_profiles outline.old.objects (contents_of (state S.Store conn.old).now)) }
     ensures loaded { HasCleanDisk (state S.Store conn.new) → IfOk result
         (λ ok. IsTrue ok → outline.new
         ≡ record outline.old { profiles = (world_in (contents_of (state S.Store conn.old).now)).profiles }) }
-    ensures unchanged { HasCleanDisk (state S.Store conn.new) → OnOk result
-        (IsUnchanged (state S.Store conn.old) (state S.Store conn.new)) }
 {
     if !load_table::<Profile, S>(alloc, conn, outline)? {
         return Ok(false);

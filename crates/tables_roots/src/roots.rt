@@ -1,9 +1,8 @@
 //! All roots.
-#![tactic(auto, using(tables_sql::proofs::TestFailures::read_then, tables_sql::proofs::TestFailures::read_then_passed))]
 
-ghost use Rattle.std.specs.Prelude.{◌≡◌, ◌↔◌, IsTrue, IsFalse, IfOk, OnOk};
+ghost use Rattle.std.specs.Prelude.{◌≡◌, ◌↔◌, IsTrue, IsFalse, IfOk};
 ghost use Rattle.std.specs.FinMap as finite;
-ghost use Rattle.sqlite.specs.State.{HasCleanDisk, IsUnchanged};
+ghost use Rattle.sqlite.specs.State.{HasCleanDisk};
 ghost use Rattle.sqlite.specs.Held.{state};
 ghost use Rattle.tables_schema.specs.Forms.{temp_root};
 ghost use Rattle.tables_sql.specs.Contents.{contents_of};
@@ -12,7 +11,7 @@ ghost use Rattle.tables_schema.specs.Schemas.{has_temporary};
 ghost use Rattle.tables_world.specs.Worlds.{rows_of, world_in};
 ghost use Rattle.tables_world.specs.Parts.{AreSoundRoots};
 ghost use Rattle.tables_roots.specs.Loaded.{are_fixed, are_moving, with_explicit, with_roots, AreAllSound, AreObjects};
-ghost use Rattle.tables_rows.specs.Frames.{MayRead, LeftAsItWas, FailsInReads};
+ghost use Rattle.tables_rows.specs.Frames.{MayRead, ReadsAlone};
 
 use crate::profiles;
 use crate::table::load_table;
@@ -35,8 +34,7 @@ fn load_fixed<S: Alter>(
     requires frame { MayRead S.Store conn.old }
     requires permanent { HasCleanDisk (state S.Store conn.old) → outline.old.permanent ≡ finite.empty }
     requires user_roots { HasCleanDisk (state S.Store conn.old) → outline.old.user_roots ≡ finite.empty }
-    ensures frame { LeftAsItWas S.Store conn.old conn.new }
-    ensures cause { FailsInReads S.Store conn.old conn.new result }
+    ensures read { ReadsAlone S.Store conn.old conn.new result }
     ensures reported { HasCleanDisk (state S.Store conn.new) → IfOk result
         (λ ok. ok ≡ are_fixed outline.old.objects (contents_of (state S.Store conn.old).now)) }
     ensures loaded { HasCleanDisk (state S.Store conn.new) → IfOk result
@@ -45,8 +43,6 @@ fn load_fixed<S: Alter>(
           permanent = (contents_of (state S.Store conn.old).now).permanent;
           user_roots = (contents_of (state S.Store conn.old).now).user_roots;
         }) }
-    ensures unchanged { HasCleanDisk (state S.Store conn.new) → OnOk result
-        (IsUnchanged (state S.Store conn.old) (state S.Store conn.new)) }
 {
     if !load_table::<PermanentRoot, S>(alloc, conn, outline)? {
         return Ok(false);
@@ -63,8 +59,7 @@ fn load_moving<S: Alter>(
     requires frame { MayRead S.Store conn.old }
     requires profiles { HasCleanDisk (state S.Store conn.old) → outline.old.profiles ≡ finite.empty }
     requires runtime { HasCleanDisk (state S.Store conn.old) → outline.old.runtime ≡ finite.empty }
-    ensures frame { LeftAsItWas S.Store conn.old conn.new }
-    ensures cause { FailsInReads S.Store conn.old conn.new result }
+    ensures read { ReadsAlone S.Store conn.old conn.new result }
     ensures reported { HasCleanDisk (state S.Store conn.new) → IfOk result
         (λ ok. ok ≡ are_moving outline.old.objects (contents_of (state S.Store conn.old).now)) }
     ensures loaded { HasCleanDisk (state S.Store conn.new) → IfOk result
@@ -73,8 +68,6 @@ fn load_moving<S: Alter>(
           profiles = (world_in (contents_of (state S.Store conn.old).now)).profiles;
           runtime = (contents_of (state S.Store conn.old).now).runtime;
         }) }
-    ensures unchanged { HasCleanDisk (state S.Store conn.new) → OnOk result
-        (IsUnchanged (state S.Store conn.old) (state S.Store conn.new)) }
 {
     if !profiles::read(alloc, conn, outline)? {
         return Ok(false);
@@ -93,15 +86,12 @@ fn load_explicit<S: Alter>(
     requires user_roots { HasCleanDisk (state S.Store conn.old) → outline.old.user_roots ≡ finite.empty }
     requires profiles { HasCleanDisk (state S.Store conn.old) → outline.old.profiles ≡ finite.empty }
     requires runtime { HasCleanDisk (state S.Store conn.old) → outline.old.runtime ≡ finite.empty }
-    ensures frame { LeftAsItWas S.Store conn.old conn.new }
-    ensures cause { FailsInReads S.Store conn.old conn.new result }
+    ensures read { ReadsAlone S.Store conn.old conn.new result }
     ensures reported { HasCleanDisk (state S.Store conn.new) → IfOk result
         (λ ok. AreObjects outline.old.objects (contents_of (state S.Store conn.old).now)
         → (IsTrue ok ↔ AreSoundRoots (rows_of (contents_of (state S.Store conn.old).now)))) }
     ensures loaded { HasCleanDisk (state S.Store conn.new) → IfOk result
         (λ ok. IsTrue ok → outline.new ≡ with_explicit outline.old (contents_of (state S.Store conn.old).now)) }
-    ensures unchanged { HasCleanDisk (state S.Store conn.new) → OnOk result
-        (IsUnchanged (state S.Store conn.old) (state S.Store conn.new)) }
 {
     if !load_fixed(alloc, conn, outline)? {
         return Ok(false);
@@ -132,15 +122,12 @@ pub fn load_roots<S: Alter>(
     requires profiles { HasCleanDisk (state S.Store conn.old) → outline.old.profiles ≡ finite.empty }
     requires runtime { HasCleanDisk (state S.Store conn.old) → outline.old.runtime ≡ finite.empty }
     requires temporary { HasCleanDisk (state S.Store conn.old) → outline.old.temporary ≡ finite.empty }
-    ensures frame { LeftAsItWas S.Store conn.old conn.new }
-    ensures cause { FailsInReads S.Store conn.old conn.new result }
+    ensures read { ReadsAlone S.Store conn.old conn.new result }
     ensures reported { HasCleanDisk (state S.Store conn.new) → IfOk result
         (λ ok. AreObjects outline.old.objects (contents_of (state S.Store conn.old).now)
         → (IsTrue ok ↔ AreAllSound (rows_of (contents_of (state S.Store conn.old).now)))) }
     ensures loaded { HasCleanDisk (state S.Store conn.new) → IfOk result
         (λ ok. IsTrue ok → outline.new ≡ with_roots outline.old (contents_of (state S.Store conn.old).now)) }
-    ensures unchanged { HasCleanDisk (state S.Store conn.new) → OnOk result
-        (IsUnchanged (state S.Store conn.old) (state S.Store conn.new)) }
 {
     if !load_explicit(alloc, conn, outline)? {
         return Ok(false);

@@ -1,15 +1,14 @@
 //! The settings.
-#![tactic(auto, using(tables_sql::proofs::TestFailures::read_passed, tables_sql::proofs::TestFailures::memory_passed))]
 
-ghost use Rattle.std.specs.Prelude.{◌≡◌, List, ℕ, IsTrue, IfOk, OnOk, MatchOption, map};
-ghost use Rattle.sqlite.specs.State.{HasCleanDisk, IsUnchanged};
+ghost use Rattle.std.specs.Prelude.{◌≡◌, List, ℕ, IsTrue, IfOk, MatchOption, map};
+ghost use Rattle.sqlite.specs.State.{HasCleanDisk};
 ghost use Rattle.sqlite.specs.Held.{state};
 ghost use Rattle.tables_sql.specs.Contents.{contents_of};
 ghost use Rattle.tables_sql.specs.Entries.{setting_of};
 ghost use Rattle.paths.specs.Names.{is_store_dir};
 ghost use Rattle.tables_world.specs.Rows.{settings};
 ghost use Rattle.tables_roots.specs.Settings.{two_settings};
-ghost use Rattle.tables_rows.specs.Frames.{MayRead, LeftAsItWas, FailsInReads};
+ghost use Rattle.tables_rows.specs.Frames.{MayRead, ReadsAlone};
 
 use paths::{StoreDir, StoreDirError};
 use sqlite::{Alter, Connection};
@@ -53,14 +52,11 @@ pub fn read<S: Alter>(
     schema: Schema,
 ) -> Result<Option<StoreDir>, Failure>
     requires frame { MayRead S.Store conn.old }
-    ensures frame { LeftAsItWas S.Store conn.old conn.new }
-    ensures cause { FailsInReads S.Store conn.old conn.new result }
+    ensures read { ReadsAlone S.Store conn.old conn.new result }
     ensures reported { HasCleanDisk (state S.Store conn.new) → IfOk result
         (λ o. MatchOption o ((dir : List ℕ) → IsTrue (is_store_dir dir)
         → ¬ ((contents_of (state S.Store conn.old).now).meta ≡ settings schema dir))
         (λ d. IsTrue (is_store_dir d) × ((contents_of (state S.Store conn.old).now).meta ≡ settings schema d))) }
-    ensures unchanged { HasCleanDisk (state S.Store conn.new) → OnOk result
-        (IsUnchanged (state S.Store conn.old) (state S.Store conn.new)) }
 {
     let all = stored::all(alloc, conn)?;
     Ok(directory_of(alloc, all.as_slice(), schema)?)

@@ -1,12 +1,11 @@
 //! A table of roots: its rows are read, tested, and put into the outline.
-#![tactic(auto, using(tables_sql::proofs::TestFailures::read_passed, tables_sql::proofs::TestFailures::memory_passed))]
 
-ghost use Rattle.std.specs.Prelude.{◌≡◌, Bool, IsTrue, IfOk, OnOk, ⊤};
+ghost use Rattle.std.specs.Prelude.{◌≡◌, Bool, IsTrue, IfOk, ⊤};
 ghost use Rattle.sqlite.specs.Effect.{Database};
-ghost use Rattle.sqlite.specs.State.{HasCleanDisk, IsUnchanged};
+ghost use Rattle.sqlite.specs.State.{HasCleanDisk};
 ghost use Rattle.sqlite.specs.Held.{state};
 ghost use Rattle.tables_sql.specs.Contents.{Contents, contents_of};
-ghost use Rattle.tables_rows.specs.Frames.{MayRead, LeftAsItWas, Reads, FailsAlone, FailsInReads};
+ghost use Rattle.tables_rows.specs.Frames.{MayRead, LeftAsItWas, Reads, FailsAlone, ReadsAlone};
 ghost use Rattle.tables_outline.specs.Outline.{OutlineValue};
 ghost use Rattle.tables_roots.specs.Loaded.{Objects, all_pass, all_put, LoadAs};
 
@@ -83,14 +82,11 @@ pub fn load_table<T: RootTable, S: Alter>(
         → T.needs (state S.Store conn.old).now }
     requires fits { HasCleanDisk (state S.Store conn.old)
         → T.fits outline.old (contents_of (state S.Store conn.old).now) }
-    ensures frame { LeftAsItWas S.Store conn.old conn.new }
-    ensures cause { FailsInReads S.Store conn.old conn.new result }
+    ensures read { ReadsAlone S.Store conn.old conn.new result }
     ensures reported { HasCleanDisk (state S.Store conn.new) → IfOk result
         (λ ok. ok ≡ T.are_sound outline.old.objects (contents_of (state S.Store conn.old).now)) }
     ensures loaded { HasCleanDisk (state S.Store conn.new) → IfOk result
         (λ ok. IsTrue ok → outline.new ≡ T.with_rows outline.old (contents_of (state S.Store conn.old).now)) }
-    ensures unchanged { HasCleanDisk (state S.Store conn.new) → OnOk result
-        (IsUnchanged (state S.Store conn.old) (state S.Store conn.new)) }
 {
     let rows = T::all(alloc, conn)?;
     let sound = load_rows::<T>(alloc, outline, rows)?;

@@ -119,3 +119,18 @@ module _ {S : Type 0} (g : Ghosts S) where
     pub frame : StaysInside old new result
     pub done : Makes old new result change
     pub cause : FailsAlone old.now new.now result
+
+  -- ---- several reads, one after another
+
+  -- all that they promise, but for what they are about: where they succeed, the connection is as it was
+  pub record ReadsAlone {T : Type 0} (old new : Held S) (result : Result T Failure) : Type 0 where
+    pub frame : LeftAsItWas old new
+    pub unchanged : HasCleanDisk (state g new) → OnOk result (IsUnchanged (state g old) (state g new))
+    pub cause : FailsInReads old new result
+
+  -- together they find this of the contents
+  pub record FindsInReads {T : Type 0} (old new : Held S) (result : Result T Failure) (shows : Contents → T → Type 0)
+      : Type 0 where
+    pub frame : LeftAsItWas old new
+    pub reads : Reads old new result shows
+    pub cause : FailsInReads old new result

@@ -34,70 +34,70 @@ load_roots-requires-clause-runtime g c clean = ap (λ (o : OutlineValue). o.runt
 
 -- ---- the further tables, as the schema has them
 
-pub load_objects-requires-clause-exists : goal.load_objects-requires-clause-exists
-load_objects-requires-clause-exists g c clean has is_open =
-    let same = (c.in_ok-dir.ensures.unchanged clean).0 in
-    subst (λ (x : Database). HasFurther x piece) (sym same.now_is) ((c.requires.further (omega (arith, c.read.ensures.frame.survives.clean)) same.was_open).pieces has)
-
-pub load_objects-requires-clause-no_table : goal.load_objects-requires-clause-no_table
-load_objects-requires-clause-no_table g c clean none is_open =
-    let same = (c.in_ok-dir.ensures.unchanged clean).0 in
-    ap (λ (x : Database). (contents_of x).pieces) same.now_is ∙ (c.requires.further (omega (arith, c.read.ensures.frame.survives.clean)) same.was_open).no_pieces none
+pub load_objects-requires-clause-pieces : goal.load_objects-requires-clause-pieces
+load_objects-requires-clause-pieces g c = record {
+  exists = λ clean has is_open.
+      let same = (c.in_ok-dir.ensures.read.unchanged clean).0 in
+      subst (λ (x : Database). HasFurther x piece) (sym same.now_is) ((c.requires.further (omega (arith, c.read.ensures.read.frame.survives.clean)) same.was_open).pieces has);
+  no_table = λ clean none is_open.
+      let same = (c.in_ok-dir.ensures.read.unchanged clean).0 in
+      ap (λ (x : Database). (contents_of x).pieces) same.now_is ∙ (c.requires.further (omega (arith, c.read.ensures.read.frame.survives.clean)) same.was_open).no_pieces none;
+}
 
 pub load_roots-requires-clause-exists : goal.load_roots-requires-clause-exists
 load_roots-requires-clause-exists g c clean has is_open =
-    let early : HasCleanDisk (state g.S.Store c.read.new.conn) = omega (arith, c.load_objects.ensures.survives.clean) in
-    let same = (c.in_ok-dir.ensures.unchanged early).0 in
-    let still = (c.in_ok-load_objects.ensures.unchanged clean).0 in
-    subst (λ (x : Database). HasFurther x temp_root) (sym (still.now_is ∙ same.now_is)) ((c.requires.further (omega (arith, c.read.ensures.frame.survives.clean)) same.was_open).temporary has)
+    let early : HasCleanDisk (state g.S.Store c.read.new.conn) = omega (arith, c.load_objects.ensures.read.frame.survives.clean) in
+    let same = (c.in_ok-dir.ensures.read.unchanged early).0 in
+    let still = (c.in_ok-load_objects.ensures.read.unchanged clean).0 in
+    subst (λ (x : Database). HasFurther x temp_root) (sym (still.now_is ∙ same.now_is)) ((c.requires.further (omega (arith, c.read.ensures.read.frame.survives.clean)) same.was_open).temporary has)
 
 pub load_roots-requires-clause-no_table : goal.load_roots-requires-clause-no_table
 load_roots-requires-clause-no_table g c clean none is_open =
-    let early : HasCleanDisk (state g.S.Store c.read.new.conn) = omega (arith, c.load_objects.ensures.survives.clean) in
-    let same = (c.in_ok-dir.ensures.unchanged early).0 in
-    let still = (c.in_ok-load_objects.ensures.unchanged clean).0 in
-    ap (λ (x : Database). (contents_of x).temp_roots) (still.now_is ∙ same.now_is) ∙ (c.requires.further (omega (arith, c.read.ensures.frame.survives.clean)) same.was_open).no_temporary none
+    let early : HasCleanDisk (state g.S.Store c.read.new.conn) = omega (arith, c.load_objects.ensures.read.frame.survives.clean) in
+    let same = (c.in_ok-dir.ensures.read.unchanged early).0 in
+    let still = (c.in_ok-load_objects.ensures.read.unchanged clean).0 in
+    ap (λ (x : Database). (contents_of x).temp_roots) (still.now_is ∙ same.now_is) ∙ (c.requires.further (omega (arith, c.read.ensures.read.frame.survives.clean)) same.was_open).no_temporary none
 
 pub load_roots-requires-clause-temporary : goal.load_roots-requires-clause-temporary
 load_roots-requires-clause-temporary g c clean = ap (λ (o : OutlineValue). o.temporary) (c.in_ok-load_objects.ensures.loaded clean c.if-not-branch.false) ∙ ap (λ (o : OutlineValue). o.temporary) c.new-outline.ensures
 
 pub returns-in_err-load_objects-clause-same : goal.returns-in_err-load_objects-clause-same
-returns-in_err-load_objects-clause-same g c = both_keep (state g.S.Store c.args.conn.now) (state g.S.Store c.read.new.conn) (state g.S.Store c.load_objects.new.conn) c.read.ensures.frame.same c.load_objects.ensures.same c.load_objects.ensures.survives
+returns-in_err-load_objects-clause-same g c = both_keep (state g.S.Store c.args.conn.now) (state g.S.Store c.read.new.conn) (state g.S.Store c.load_objects.new.conn) c.read.ensures.read.frame.same c.load_objects.ensures.read.frame.same c.load_objects.ensures.read.frame.survives
 
 pub returns-in_err-load_objects-clause-survives : goal.returns-in_err-load_objects-clause-survives
-returns-in_err-load_objects-clause-survives g c = survives_both (state g.S.Store c.args.conn.now) (state g.S.Store c.read.new.conn) (state g.S.Store c.load_objects.new.conn) c.read.ensures.frame.survives c.load_objects.ensures.survives
+returns-in_err-load_objects-clause-survives g c = survives_both (state g.S.Store c.args.conn.now) (state g.S.Store c.read.new.conn) (state g.S.Store c.load_objects.new.conn) c.read.ensures.read.frame.survives c.load_objects.ensures.read.frame.survives
 
 pub returns-then-not-branch-clause-same : goal.returns-then-not-branch-clause-same
-returns-then-not-branch-clause-same g c = both_keep (state g.S.Store c.args.conn.now) (state g.S.Store c.read.new.conn) (state g.S.Store c.load_objects.new.conn) c.read.ensures.frame.same c.load_objects.ensures.same c.load_objects.ensures.survives
+returns-then-not-branch-clause-same g c = both_keep (state g.S.Store c.args.conn.now) (state g.S.Store c.read.new.conn) (state g.S.Store c.load_objects.new.conn) c.read.ensures.read.frame.same c.load_objects.ensures.read.frame.same c.load_objects.ensures.read.frame.survives
 
 pub returns-then-not-branch-clause-survives : goal.returns-then-not-branch-clause-survives
-returns-then-not-branch-clause-survives g c = survives_both (state g.S.Store c.args.conn.now) (state g.S.Store c.read.new.conn) (state g.S.Store c.load_objects.new.conn) c.read.ensures.frame.survives c.load_objects.ensures.survives
+returns-then-not-branch-clause-survives g c = survives_both (state g.S.Store c.args.conn.now) (state g.S.Store c.read.new.conn) (state g.S.Store c.load_objects.new.conn) c.read.ensures.read.frame.survives c.load_objects.ensures.read.frame.survives
 
 pub returns-in_err-load_roots-clause-same : goal.returns-in_err-load_roots-clause-same
-returns-in_err-load_roots-clause-same g c = both_keep (state g.S.Store c.args.conn.now) (state g.S.Store c.load_objects.new.conn) (state g.S.Store c.load_roots.new.conn) (both_keep (state g.S.Store c.args.conn.now) (state g.S.Store c.read.new.conn) (state g.S.Store c.load_objects.new.conn) c.read.ensures.frame.same c.load_objects.ensures.same c.load_objects.ensures.survives) c.load_roots.ensures.frame.same c.load_roots.ensures.frame.survives
+returns-in_err-load_roots-clause-same g c = both_keep (state g.S.Store c.args.conn.now) (state g.S.Store c.load_objects.new.conn) (state g.S.Store c.load_roots.new.conn) (both_keep (state g.S.Store c.args.conn.now) (state g.S.Store c.read.new.conn) (state g.S.Store c.load_objects.new.conn) c.read.ensures.read.frame.same c.load_objects.ensures.read.frame.same c.load_objects.ensures.read.frame.survives) c.load_roots.ensures.read.frame.same c.load_roots.ensures.read.frame.survives
 
 pub returns-in_err-load_roots-clause-survives : goal.returns-in_err-load_roots-clause-survives
-returns-in_err-load_roots-clause-survives g c = survives_both (state g.S.Store c.args.conn.now) (state g.S.Store c.load_objects.new.conn) (state g.S.Store c.load_roots.new.conn) (survives_both (state g.S.Store c.args.conn.now) (state g.S.Store c.read.new.conn) (state g.S.Store c.load_objects.new.conn) c.read.ensures.frame.survives c.load_objects.ensures.survives) c.load_roots.ensures.frame.survives
+returns-in_err-load_roots-clause-survives g c = survives_both (state g.S.Store c.args.conn.now) (state g.S.Store c.load_objects.new.conn) (state g.S.Store c.load_roots.new.conn) (survives_both (state g.S.Store c.args.conn.now) (state g.S.Store c.read.new.conn) (state g.S.Store c.load_objects.new.conn) c.read.ensures.read.frame.survives c.load_objects.ensures.read.frame.survives) c.load_roots.ensures.read.frame.survives
 
 pub returns-then-not-branch-2-clause-same : goal.returns-then-not-branch-2-clause-same
-returns-then-not-branch-2-clause-same g c = both_keep (state g.S.Store c.args.conn.now) (state g.S.Store c.load_objects.new.conn) (state g.S.Store c.load_roots.new.conn) (both_keep (state g.S.Store c.args.conn.now) (state g.S.Store c.read.new.conn) (state g.S.Store c.load_objects.new.conn) c.read.ensures.frame.same c.load_objects.ensures.same c.load_objects.ensures.survives) c.load_roots.ensures.frame.same c.load_roots.ensures.frame.survives
+returns-then-not-branch-2-clause-same g c = both_keep (state g.S.Store c.args.conn.now) (state g.S.Store c.load_objects.new.conn) (state g.S.Store c.load_roots.new.conn) (both_keep (state g.S.Store c.args.conn.now) (state g.S.Store c.read.new.conn) (state g.S.Store c.load_objects.new.conn) c.read.ensures.read.frame.same c.load_objects.ensures.read.frame.same c.load_objects.ensures.read.frame.survives) c.load_roots.ensures.read.frame.same c.load_roots.ensures.read.frame.survives
 
 pub returns-then-not-branch-2-clause-survives : goal.returns-then-not-branch-2-clause-survives
-returns-then-not-branch-2-clause-survives g c = survives_both (state g.S.Store c.args.conn.now) (state g.S.Store c.load_objects.new.conn) (state g.S.Store c.load_roots.new.conn) (survives_both (state g.S.Store c.args.conn.now) (state g.S.Store c.read.new.conn) (state g.S.Store c.load_objects.new.conn) c.read.ensures.frame.survives c.load_objects.ensures.survives) c.load_roots.ensures.frame.survives
+returns-then-not-branch-2-clause-survives g c = survives_both (state g.S.Store c.args.conn.now) (state g.S.Store c.load_objects.new.conn) (state g.S.Store c.load_roots.new.conn) (survives_both (state g.S.Store c.args.conn.now) (state g.S.Store c.read.new.conn) (state g.S.Store c.load_objects.new.conn) c.read.ensures.read.frame.survives c.load_objects.ensures.read.frame.survives) c.load_roots.ensures.read.frame.survives
 
 pub returns-clause-same : goal.returns-clause-same
-returns-clause-same g c = both_keep (state g.S.Store c.args.conn.now) (state g.S.Store c.load_objects.new.conn) (state g.S.Store c.load_roots.new.conn) (both_keep (state g.S.Store c.args.conn.now) (state g.S.Store c.read.new.conn) (state g.S.Store c.load_objects.new.conn) c.read.ensures.frame.same c.load_objects.ensures.same c.load_objects.ensures.survives) c.load_roots.ensures.frame.same c.load_roots.ensures.frame.survives
+returns-clause-same g c = both_keep (state g.S.Store c.args.conn.now) (state g.S.Store c.load_objects.new.conn) (state g.S.Store c.load_roots.new.conn) (both_keep (state g.S.Store c.args.conn.now) (state g.S.Store c.read.new.conn) (state g.S.Store c.load_objects.new.conn) c.read.ensures.read.frame.same c.load_objects.ensures.read.frame.same c.load_objects.ensures.read.frame.survives) c.load_roots.ensures.read.frame.same c.load_roots.ensures.read.frame.survives
 
 pub returns-clause-survives : goal.returns-clause-survives
-returns-clause-survives g c = survives_both (state g.S.Store c.args.conn.now) (state g.S.Store c.load_objects.new.conn) (state g.S.Store c.load_roots.new.conn) (survives_both (state g.S.Store c.args.conn.now) (state g.S.Store c.read.new.conn) (state g.S.Store c.load_objects.new.conn) c.read.ensures.frame.survives c.load_objects.ensures.survives) c.load_roots.ensures.frame.survives
+returns-clause-survives g c = survives_both (state g.S.Store c.args.conn.now) (state g.S.Store c.load_objects.new.conn) (state g.S.Store c.load_roots.new.conn) (survives_both (state g.S.Store c.args.conn.now) (state g.S.Store c.read.new.conn) (state g.S.Store c.load_objects.new.conn) c.read.ensures.read.frame.survives c.load_objects.ensures.read.frame.survives) c.load_roots.ensures.read.frame.survives
 
 pub returns-then-not-branch-clause-reported : goal.returns-then-not-branch-clause-reported
 returns-then-not-branch-clause-reported g c clean =
     let a = state g.S.Store c.args.conn.now in
     let b = state g.S.Store c.read.new.conn in
     let d = state g.S.Store c.load_objects.new.conn in
-    let early : HasCleanDisk b = omega (arith, c.load_objects.ensures.survives.clean) in
-    let same : b.now ≡ a.now = (c.in_ok-dir.ensures.unchanged early).0.now_is in
+    let early : HasCleanDisk b = omega (arith, c.load_objects.ensures.read.frame.survives.clean) in
+    let same : b.now ≡ a.now = (c.in_ok-dir.ensures.read.unchanged early).0.now_is in
     let named = named_dir c.args.schema (contents_of a.now) c.in_ok-dir.field-0 c.in-Some.dir c.in-Some.is (c.in_ok-dir.ensures.reported early) in
     without_objects c.args.schema (contents_of a.now) c.in-Some.dir named.1 c.in_ok-load_objects.field-0
     (subst (λ (x : Database). IsTrue c.in_ok-load_objects.field-0 ↔ AreSoundInPieces c.args.schema c.in-Some.dir (rows_of (contents_of x))) same (c.in_ok-load_objects.ensures.reported clean)) c.if-not-branch.true
@@ -107,10 +107,10 @@ returns-then-not-branch-2-clause-reported g c clean =
     let a = state g.S.Store c.args.conn.now in
     let b = state g.S.Store c.read.new.conn in
     let d = state g.S.Store c.load_objects.new.conn in
-    let later : HasCleanDisk d = omega (arith, c.load_roots.ensures.frame.survives.clean) in
-    let early : HasCleanDisk b = omega (arith, c.load_objects.ensures.survives.clean) in
-    let same : b.now ≡ a.now = (c.in_ok-dir.ensures.unchanged early).0.now_is in
-    let still : d.now ≡ a.now = (c.in_ok-load_objects.ensures.unchanged later).0.now_is ∙ same in
+    let later : HasCleanDisk d = omega (arith, c.load_roots.ensures.read.frame.survives.clean) in
+    let early : HasCleanDisk b = omega (arith, c.load_objects.ensures.read.frame.survives.clean) in
+    let same : b.now ≡ a.now = (c.in_ok-dir.ensures.read.unchanged early).0.now_is in
+    let still : d.now ≡ a.now = (c.in_ok-load_objects.ensures.read.unchanged later).0.now_is ∙ same in
     let named = named_dir c.args.schema (contents_of a.now) c.in_ok-dir.field-0 c.in-Some.dir c.in-Some.is (c.in_ok-dir.ensures.reported early) in
     let objects : AreSoundInPieces c.args.schema c.in-Some.dir (rows_of (contents_of a.now)) =
     (subst (λ (x : Database). IsTrue c.in_ok-load_objects.field-0 ↔ AreSoundInPieces c.args.schema c.in-Some.dir (rows_of (contents_of x))) same (c.in_ok-load_objects.ensures.reported later)).0 c.if-not-branch.false in
@@ -126,11 +126,11 @@ returns-clause-reported g c clean =
     let a = state g.S.Store c.args.conn.now in
     let b = state g.S.Store c.read.new.conn in
     let d = state g.S.Store c.load_objects.new.conn in
-    let later : HasCleanDisk d = omega (arith, c.load_roots.ensures.frame.survives.clean) in
-    let early : HasCleanDisk b = omega (arith, c.load_objects.ensures.survives.clean) in
-    let further = c.requires.further (omega (arith, c.read.ensures.frame.survives.clean)) (c.in_ok-dir.ensures.unchanged early).0.was_open in
-    let same : b.now ≡ a.now = (c.in_ok-dir.ensures.unchanged early).0.now_is in
-    let still : d.now ≡ a.now = (c.in_ok-load_objects.ensures.unchanged later).0.now_is ∙ same in
+    let later : HasCleanDisk d = omega (arith, c.load_roots.ensures.read.frame.survives.clean) in
+    let early : HasCleanDisk b = omega (arith, c.load_objects.ensures.read.frame.survives.clean) in
+    let further = c.requires.further (omega (arith, c.read.ensures.read.frame.survives.clean)) (c.in_ok-dir.ensures.read.unchanged early).0.was_open in
+    let same : b.now ≡ a.now = (c.in_ok-dir.ensures.read.unchanged early).0.now_is in
+    let still : d.now ≡ a.now = (c.in_ok-load_objects.ensures.read.unchanged later).0.now_is ∙ same in
     let named = named_dir c.args.schema (contents_of a.now) c.in_ok-dir.field-0 c.in-Some.dir c.in-Some.is (c.in_ok-dir.ensures.reported early) in
     let objects : AreSoundInPieces c.args.schema c.in-Some.dir (rows_of (contents_of a.now)) =
     (subst (λ (x : Database). IsTrue c.in_ok-load_objects.field-0 ↔ AreSoundInPieces c.args.schema c.in-Some.dir (rows_of (contents_of x))) same (c.in_ok-load_objects.ensures.reported later)).0 c.if-not-branch.false in
@@ -151,9 +151,9 @@ returns-then-not-branch-2-clause-unchanged g c clean =
     let b = state g.S.Store c.read.new.conn in
     let d = state g.S.Store c.load_objects.new.conn in
     let e = state g.S.Store c.load_roots.new.conn in
-    let later : HasCleanDisk d = omega (arith, c.load_roots.ensures.frame.survives.clean) in
-    let early : HasCleanDisk b = omega (arith, c.load_objects.ensures.survives.clean) in
-    unchanged_then a d e (unchanged_then a b d (c.in_ok-dir.ensures.unchanged early) (c.in_ok-load_objects.ensures.unchanged later)) (c.in_ok-load_roots.ensures.unchanged clean)
+    let later : HasCleanDisk d = omega (arith, c.load_roots.ensures.read.frame.survives.clean) in
+    let early : HasCleanDisk b = omega (arith, c.load_objects.ensures.read.frame.survives.clean) in
+    unchanged_then a d e (unchanged_then a b d (c.in_ok-dir.ensures.read.unchanged early) (c.in_ok-load_objects.ensures.read.unchanged later)) (c.in_ok-load_roots.ensures.read.unchanged clean)
 
 pub returns-clause-unchanged : goal.returns-clause-unchanged
 returns-clause-unchanged g c clean =
@@ -161,17 +161,17 @@ returns-clause-unchanged g c clean =
     let b = state g.S.Store c.read.new.conn in
     let d = state g.S.Store c.load_objects.new.conn in
     let e = state g.S.Store c.load_roots.new.conn in
-    let later : HasCleanDisk d = omega (arith, c.load_roots.ensures.frame.survives.clean) in
-    let early : HasCleanDisk b = omega (arith, c.load_objects.ensures.survives.clean) in
-    unchanged_then a d e (unchanged_then a b d (c.in_ok-dir.ensures.unchanged early) (c.in_ok-load_objects.ensures.unchanged later)) (c.in_ok-load_roots.ensures.unchanged clean)
+    let later : HasCleanDisk d = omega (arith, c.load_roots.ensures.read.frame.survives.clean) in
+    let early : HasCleanDisk b = omega (arith, c.load_objects.ensures.read.frame.survives.clean) in
+    unchanged_then a d e (unchanged_then a b d (c.in_ok-dir.ensures.read.unchanged early) (c.in_ok-load_objects.ensures.read.unchanged later)) (c.in_ok-load_roots.ensures.read.unchanged clean)
 
 pub returns-in_err-dir-clause-cause : goal.returns-in_err-dir-clause-cause
-returns-in_err-dir-clause-cause g c clean = passed_on c.from_residual.result _ (FailsToRead (state g.S.Store c.args.conn.now) (state g.S.Store c.read.new.conn)) c.from_residual.ensures.1 (c.in_err-dir.ensures.cause clean)
+returns-in_err-dir-clause-cause g c clean = passed_on c.from_residual.result _ (FailsToRead (state g.S.Store c.args.conn.now) (state g.S.Store c.read.new.conn)) c.from_residual.ensures.1 (c.in_err-dir.ensures.read.cause clean)
 
 pub returns-in_err-load_objects-clause-cause : goal.returns-in_err-load_objects-clause-cause
 returns-in_err-load_objects-clause-cause g c clean =
     read_then_passed (state g.S.Store c.args.conn.now) (state g.S.Store c.read.new.conn) (state g.S.Store c.load_objects.new.conn) c.from_residual-in_err-load_objects.result _ c.from_residual-in_err-load_objects.ensures.1
-    c.in_ok-dir.ensures.unchanged c.read.ensures.frame.survives c.load_objects.ensures.survives clean (c.in_err-load_objects.ensures.cause clean)
+    c.in_ok-dir.ensures.read.unchanged c.read.ensures.read.frame.survives c.load_objects.ensures.read.frame.survives clean (c.in_err-load_objects.ensures.read.cause clean)
 
 pub returns-in_err-load_roots-clause-cause : goal.returns-in_err-load_roots-clause-cause
 returns-in_err-load_roots-clause-cause g c clean =
@@ -179,5 +179,5 @@ returns-in_err-load_roots-clause-cause g c clean =
     let b = state g.S.Store c.read.new.conn in
     let d = state g.S.Store c.load_objects.new.conn in
     read_then_passed a d (state g.S.Store c.load_roots.new.conn) c.from_residual-in_err-load_roots.result _ c.from_residual-in_err-load_roots.ensures.1
-    (λ later. unchanged_then a b d (c.in_ok-dir.ensures.unchanged (clean_before b d _ c.load_objects.ensures.survives later)) (c.in_ok-load_objects.ensures.unchanged later))
-    (survives_both a b d c.read.ensures.frame.survives c.load_objects.ensures.survives) c.load_roots.ensures.frame.survives clean (c.in_err-load_roots.ensures.cause clean)
+    (λ later. unchanged_then a b d (c.in_ok-dir.ensures.read.unchanged (clean_before b d _ c.load_objects.ensures.read.frame.survives later)) (c.in_ok-load_objects.ensures.read.unchanged later))
+    (survives_both a b d c.read.ensures.read.frame.survives c.load_objects.ensures.read.frame.survives) c.load_roots.ensures.read.frame.survives clean (c.in_err-load_roots.ensures.read.cause clean)
