@@ -63,7 +63,8 @@ const UNBOUNDED: usize = usize::MAX;
 /// `Input` where the reader failed, whatever the kind of its fault; `Memory` where the sink was refused memory, or the input has more
 /// bytes than memory.
 pub fn receive_input<R: Read, S: Sink>(input: &mut R, sink: &mut S) -> Result<(), Stop>
-    ensures ok { OnOk result (IfSome (R.remaining input.old) (λ all. S.received sink.new ≡ S.received sink.old ++ all)) }
+    ensures ok { OnOk result
+        (IfSome (R.remaining input.old) (λ all. S.received sink.new ≡ S.received sink.old ++ all)) }
     ensures err { IfErr result (λ e. (e ≡ Stop.Failed Failure.Memory) ⊎ (e ≡ Stop.Failed Failure.Input)) }
     ensures input { IsErrOf result (Stop.Failed Failure.Input)
         → TakesFewer UNBOUNDED (R.remaining input.old) (R.remaining input.new) }

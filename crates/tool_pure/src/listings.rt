@@ -24,7 +24,8 @@ fn listing(alloc: Global, nar: &[u8]) -> Result<String, Stop>
 }
 
 fn ls_result<R: Read>(alloc: Global, input: &mut R) -> Result<String, Stop>
-    ensures answer { IsFailure (InputFails true max_prefix (change_of R.remaining input.old input.new)) (result_text result)
+    ensures answer { IsFailure
+        (InputFails true max_prefix (change_of R.remaining input.old input.new)) (result_text result)
         ⊎ IsResultOf None ls_answer (R.remaining input.old) (result_text result) }
     ensures reads { ConsumesAtMost max_prefix (R.remaining input.old) (R.remaining input.new) }
 {

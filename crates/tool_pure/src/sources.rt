@@ -38,13 +38,14 @@ fn source_path_result<S: AsStr, R: Read>(
     references: &[S],
     input: &mut R,
 ) -> Result<String, Stop>
-    ensures answer { IsFailure (InputFails (is_none (object_fault dir.now name.now (map S.text references.now))) max_prefix
+    ensures answer { IsFailure
+        (InputFails (is_none (object_fault dir.now name.now (map S.text references.now))) max_prefix
         (change_of R.remaining input.old input.new))
         (result_text result) ⊎ IsResultOf (object_fault dir.now name.now (map S.text references.now))
         (source_path_answer dir.now name.now (map (base_of dir.now) (map S.text references.now)))
         (R.remaining input.old) (result_text result) }
-    ensures reads { ReadsFor (object_fault dir.now name.now (map S.text references.now)) max_prefix (R.remaining input.old)
-        (R.remaining input.new) }
+    ensures reads { ReadsFor (object_fault dir.now name.now (map S.text references.now)) max_prefix
+        (R.remaining input.old) (R.remaining input.new) }
 {
     let (object, nar) = read_object(alloc, dir, name, references, input, MOST_OF_ARCHIVE)?;
     source_line(alloc, dir, &object, nar.as_slice())
@@ -89,8 +90,8 @@ pub fn source_path<S: AsStr, R: Read, W: Write, E: Write>(
             status = result;
           };
         }) }
-    ensures reads { ReadsFor (object_fault dir.now name.now (map S.text references.now)) max_prefix (R.remaining input.old)
-        (R.remaining input.new) }
+    ensures reads { ReadsFor (object_fault dir.now name.now (map S.text references.now)) max_prefix
+        (R.remaining input.old) (R.remaining input.new) }
 {
     give(
         source_path_result(alloc, dir, name, references, input),

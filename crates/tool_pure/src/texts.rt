@@ -48,13 +48,14 @@ fn text_path_result<S: AsStr, R: Read>(
     references: &[S],
     input: &mut R,
 ) -> Result<String, Stop>
-    ensures answer { IsFailure (InputFails (is_none (object_fault dir.now name.now (map S.text references.now))) most_of_contents
+    ensures answer { IsFailure
+        (InputFails (is_none (object_fault dir.now name.now (map S.text references.now))) most_of_contents
         (change_of R.remaining input.old input.new))
         (result_text result) ⊎ IsResultOf (object_fault dir.now name.now (map S.text references.now))
         (text_path_answer dir.now name.now (map (base_of dir.now) (map S.text references.now))) (R.remaining input.old)
         (result_text result) }
-    ensures reads { ReadsFor (object_fault dir.now name.now (map S.text references.now)) most_of_contents (R.remaining input.old)
-        (R.remaining input.new) }
+    ensures reads { ReadsFor (object_fault dir.now name.now (map S.text references.now)) most_of_contents
+        (R.remaining input.old) (R.remaining input.new) }
 {
     let (object, contents) = read_object(alloc, dir, name, references, input, MOST_OF_CONTENTS)?;
     text_line(alloc, dir, &object, contents.as_slice())
@@ -99,8 +100,8 @@ pub fn text_path<S: AsStr, R: Read, W: Write, E: Write>(
             status = result;
           };
         }) }
-    ensures reads { ReadsFor (object_fault dir.now name.now (map S.text references.now)) most_of_contents (R.remaining input.old)
-        (R.remaining input.new) }
+    ensures reads { ReadsFor (object_fault dir.now name.now (map S.text references.now)) most_of_contents
+        (R.remaining input.old) (R.remaining input.new) }
 {
     give(
         text_path_result(alloc, dir, name, references, input),
