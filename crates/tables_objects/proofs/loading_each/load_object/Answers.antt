@@ -56,8 +56,8 @@ returns-clause-loaded g c clean ok =
 pub returns-in_err-rows-clause-read : goal.returns-in_err-rows-clause-read
 returns-in_err-rows-clause-read g c = several_failed _ _ c.from_residual.result _ c.from_residual.ensures.1 c.rows_at.ensures.frame c.in_err-rows.ensures.cause
 
-pub returns-in-None-clause-read : goal.returns-in-None-clause-read
-returns-in-None-clause-read g c = reads_done _ _ _ _ (finds_alone _ _ _ _ c.in_ok-rows.ensures)
+pub returns-in_default-clause-read : goal.returns-in_default-clause-read
+returns-in_default-clause-read g c = reads_done _ _ _ _ (finds_alone _ _ _ _ c.in_ok-rows.ensures)
 
 pub returns-in_err-load_rows-clause-read : goal.returns-in_err-load_rows-clause-read
 returns-in_err-load_rows-clause-read g c = memory_failed _ _ c.from_residual-in_err-load_rows.result c.from_residual-in_err-load_rows.ensures.1 c.rows_at.ensures.frame

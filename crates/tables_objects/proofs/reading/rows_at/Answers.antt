@@ -26,12 +26,12 @@ pub returns-in_err-object : goal.returns-in_err-object
 returns-in_err-object g c =
     finds_failed _ _ c.from_residual.result _ _ c.from_residual.ensures.1 (one_failed _ _ _ _ c.from_residual.ensures.1 c.get.ensures.frame c.in_err-object.ensures.cause)
 
-pub returns-in-None : goal.returns-in-None
-returns-in-None g c = record {
+pub returns-in_default : goal.returns-in_default
+returns-in_default g c = record {
   frame = c.get.ensures.frame;
   reads = λ clean.
       let read = c.in_ok-object.ensures.reads clean in
-      (read.0, subst (IsStored (contents_of (state g.S.Store c.args.conn.now).now).objects c.args.base.now) c.in-None.is read.1);
+      (read.0, subst (IsStored (contents_of (state g.S.Store c.args.conn.now).now).objects c.args.base.now) c.in_default.is read.1);
   cause = λ _. tt;
 }
 
