@@ -7,11 +7,11 @@ use Rattle.tables.proofs.InTheWay.{no_store_cause}
 use Rattle.tables.proofs.Joined.{none_told}
 use Rattle.tables.proofs.rows.read_as.Goals as goal
 
-pub returns-in-Ok-None-clause-cause : goal.returns-in-Ok-None-clause-cause
-returns-in-Ok-None-clause-cause g c clean =
+pub returns-in_default-clause-cause : goal.returns-in_default-clause-cause
+returns-in_default-clause-cause g c clean =
     let a = state g.S.Store c.args.conn.now in
     let b = state g.S.Store c.read.new.conn in
-    no_store_cause c.args.dir.now a.now (unsound c.args.schema a.now (c.requires.found (clean_before a b _ c.read.ensures.survives clean)) (none_told _ _ c.in-Ok-None.field-0 c.in-Ok-None.field-0-is (c.in-Ok-None.ensures.reported clean)))
+    no_store_cause c.args.dir.now a.now (unsound c.args.schema a.now (c.requires.found (clean_before a b _ c.read.ensures.survives clean)) (none_told _ _ c.in_ok-loaded.field-0 c.in_default.is (c.in_ok-loaded.ensures.reported clean)))
 
 pub returns-in_err-loaded-clause-cause : goal.returns-in_err-loaded-clause-cause
 returns-in_err-loaded-clause-cause g c clean =
