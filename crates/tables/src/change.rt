@@ -1,14 +1,15 @@
 //! Changes of the rows, each committed at once or not at all.
 
-ghost use Rattle.std.specs.Prelude.{◌≡◌, IsTrue, OnOk, OnErr};
+ghost use Rattle.std.specs.Prelude.{IsTrue};
 ghost use Rattle.sqlite_schema.specs.declared.schema.Table.{Table};
 ghost use Rattle.sqlite_value.specs.Order.{Row};
-ghost use Rattle.sqlite.specs.State.{HasCleanDisk, KeepsCommit, Survives};
+ghost use Rattle.sqlite.specs.State.{HasCleanDisk};
 ghost use Rattle.sqlite.specs.Held.{state};
 ghost use Rattle.tables_sql.specs.Contents.{Contents, contents_of};
-ghost use Rattle.tables_sql.specs.Calls.{IsUnderWay, IsWhole, Changes};
+ghost use Rattle.tables_sql.specs.Calls.{IsWhole};
 ghost use Rattle.tables_make.specs.Reasons.{HasReason};
 ghost use Rattle.tables.specs.Frames.{MayCommit, CommitsRows};
+ghost use Rattle.tables_rows.specs.Frames.{IsInside, Makes, StaysInside};
 
 use sqlite::{Alter, Connection, Transaction};
 use tables_sql::failure::Failure;
@@ -26,18 +27,14 @@ pub(crate) trait Change {
     ghost rows: { Self → Table → Row → Type 0 };
 
     fn write<S: Alter>(&self, tx: &mut Transaction<'_, S>) -> Result<(), Failure>
-        requires under_way { HasCleanDisk (state S.Store tx.old.conn.now) → IsUnderWay (state S.Store tx.old.conn.now) }
+        requires under_way { IsInside S.Store tx.old.conn }
         requires whole { HasCleanDisk (state S.Store tx.old.conn.now) → IsTrue (state S.Store tx.old.conn.now).is_open
             → IsWhole (state S.Store tx.old.conn.now).now }
         requires fits { HasCleanDisk (state S.Store tx.old.conn.now) → IsTrue (state S.Store tx.old.conn.now).is_open
             → fits self.now (contents_of (state S.Store tx.old.conn.now).now) }
-        ensures same_reference { tx.new.conn.ghost_name ≡ tx.old.conn.ghost_name }
-        ensures done { HasCleanDisk (state S.Store tx.new.conn.now)
-            → OnOk result (Changes (state S.Store tx.old.conn.now) (state S.Store tx.new.conn.now) (change self.now)) }
-        ensures failed { HasCleanDisk (state S.Store tx.new.conn.now)
-            → OnErr result (KeepsCommit (state S.Store tx.old.conn.now) (state S.Store tx.new.conn.now)) }
-        ensures cause { HasReason S.Store tx.old.conn.now tx.new.conn.now result (rows self.now) }
-        ensures survives { Survives (state S.Store tx.old.conn.now) (state S.Store tx.new.conn.now) (λ _. ⊥) };
+        ensures frame { StaysInside S.Store tx.old.conn tx.new.conn result }
+        ensures done { Makes S.Store tx.old.conn tx.new.conn result (change self.now) }
+        ensures cause { HasReason S.Store tx.old.conn.now tx.new.conn.now result (rows self.now) };
 }
 
 /// Makes a change in one transaction. A failure leaves what was there.

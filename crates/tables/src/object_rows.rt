@@ -1,17 +1,18 @@
 //! Deleting the rows that belong to an object's own: its references, its outputs and the further pieces of its archive. Nothing is asked of
 //! the disk where the outline says that it has none.
 
-ghost use Rattle.std.specs.Prelude.{◌≡◌, ◌<◌, ℕ, ℤ, List, IsTrue, OnOk, OnErr, not};
+ghost use Rattle.std.specs.Prelude.{◌<◌, ℕ, ℤ, List, IsTrue, not};
 ghost use Rattle.std.specs.FinMap as finite;
-ghost use Rattle.sqlite.specs.State.{HasCleanDisk, KeepsCommit, Survives};
+ghost use Rattle.sqlite.specs.State.{HasCleanDisk};
 ghost use Rattle.sqlite.specs.Held.{state};
 ghost use Rattle.live.specs.Graph.{same};
 ghost use Rattle.tables_schema.specs.Forms.{piece};
-ghost use Rattle.tables_sql.specs.Calls.{IsUnderWay, HasFurther, Changes};
+ghost use Rattle.tables_sql.specs.Calls.{HasFurther};
 ghost use Rattle.tables_sql.specs.Contents.{contents_of};
 ghost use Rattle.tables_world.specs.Pieces.{piece_size};
 ghost use Rattle.tables_make.specs.Reasons.{HasReason};
 ghost use Rattle.tables_make.specs.Reasons.{NoRow};
+ghost use Rattle.tables_rows.specs.Frames.{IsInside, Makes, StaysInside};
 
 use crate::cutting::PIECE_SIZE;
 use sqlite::{Alter, Transaction};
@@ -25,19 +26,15 @@ pub(crate) fn delete_references<S: Alter>(
     base: &str,
     object: &Summary,
 ) -> Result<(), Failure>
-    requires under_way { HasCleanDisk (state S.Store tx.old.conn.now) → IsUnderWay (state S.Store tx.old.conn.now) }
+    requires under_way { IsInside S.Store tx.old.conn }
     requires is_open { HasCleanDisk (state S.Store tx.old.conn.now) → IsTrue (state S.Store tx.old.conn.now).is_open }
     requires reported { HasCleanDisk (state S.Store tx.old.conn.now) → (r : List ℕ)
         → IsTrue (finite.contains_key (contents_of (state S.Store tx.old.conn.now).now).refs (base.now, r))
         → IsTrue (finite.contains_key object.now.references r) }
-    ensures same_reference { tx.new.conn.ghost_name ≡ tx.old.conn.ghost_name }
-    ensures done { HasCleanDisk (state S.Store tx.new.conn.now)
-        → OnOk result (Changes (state S.Store tx.old.conn.now) (state S.Store tx.new.conn.now)
-        (λ c. record c { refs = finite.retain_keys c.refs (λ k. not (same k.0 base.now)) })) }
-    ensures failed { HasCleanDisk (state S.Store tx.new.conn.now)
-        → OnErr result (KeepsCommit (state S.Store tx.old.conn.now) (state S.Store tx.new.conn.now)) }
+    ensures frame { StaysInside S.Store tx.old.conn tx.new.conn result }
+    ensures done { Makes S.Store tx.old.conn tx.new.conn result
+        (λ c. record c { refs = finite.retain_keys c.refs (λ k. not (same k.0 base.now)) }) }
     ensures cause { HasReason S.Store tx.old.conn.now tx.new.conn.now result NoRow }
-    ensures survives { Survives (state S.Store tx.old.conn.now) (state S.Store tx.new.conn.now) (λ _. ⊥) }
 {
     if object.references().is_empty() {
         return Ok(());
@@ -51,19 +48,15 @@ pub(crate) fn delete_outputs<S: Alter>(
     base: &str,
     object: &Summary,
 ) -> Result<(), Failure>
-    requires under_way { HasCleanDisk (state S.Store tx.old.conn.now) → IsUnderWay (state S.Store tx.old.conn.now) }
+    requires under_way { IsInside S.Store tx.old.conn }
     requires is_open { HasCleanDisk (state S.Store tx.old.conn.now) → IsTrue (state S.Store tx.old.conn.now).is_open }
     requires reported { HasCleanDisk (state S.Store tx.old.conn.now) → (name : List ℕ)
         → IsTrue (finite.contains_key (contents_of (state S.Store tx.old.conn.now).now).outs (base.now, name))
         → IsTrue (finite.contains_key object.now.outputs name) }
-    ensures same_reference { tx.new.conn.ghost_name ≡ tx.old.conn.ghost_name }
-    ensures done { HasCleanDisk (state S.Store tx.new.conn.now)
-        → OnOk result (Changes (state S.Store tx.old.conn.now) (state S.Store tx.new.conn.now)
-        (λ c. record c { outs = finite.retain_keys c.outs (λ k. not (same k.0 base.now)) })) }
-    ensures failed { HasCleanDisk (state S.Store tx.new.conn.now)
-        → OnErr result (KeepsCommit (state S.Store tx.old.conn.now) (state S.Store tx.new.conn.now)) }
+    ensures frame { StaysInside S.Store tx.old.conn tx.new.conn result }
+    ensures done { Makes S.Store tx.old.conn tx.new.conn result
+        (λ c. record c { outs = finite.retain_keys c.outs (λ k. not (same k.0 base.now)) }) }
     ensures cause { HasReason S.Store tx.old.conn.now tx.new.conn.now result NoRow }
-    ensures survives { Survives (state S.Store tx.old.conn.now) (state S.Store tx.new.conn.now) (λ _. ⊥) }
 {
     if object.outputs().is_empty() {
         return Ok(());
@@ -77,21 +70,17 @@ pub(crate) fn delete_pieces<S: Alter>(
     base: &str,
     object: &Summary,
 ) -> Result<(), Failure>
-    requires under_way { HasCleanDisk (state S.Store tx.old.conn.now) → IsUnderWay (state S.Store tx.old.conn.now) }
+    requires under_way { IsInside S.Store tx.old.conn }
     requires is_open { HasCleanDisk (state S.Store tx.old.conn.now) → IsTrue (state S.Store tx.old.conn.now).is_open }
     requires exists { HasCleanDisk (state S.Store tx.old.conn.now)
         → HasFurther (state S.Store tx.old.conn.now).now piece }
     requires reported { HasCleanDisk (state S.Store tx.old.conn.now) → (n : ℤ)
         → IsTrue (finite.contains_key (contents_of (state S.Store tx.old.conn.now).now).pieces (base.now, n))
         → piece_size < object.now.size }
-    ensures same_reference { tx.new.conn.ghost_name ≡ tx.old.conn.ghost_name }
-    ensures done { HasCleanDisk (state S.Store tx.new.conn.now)
-        → OnOk result (Changes (state S.Store tx.old.conn.now) (state S.Store tx.new.conn.now)
-        (λ c. record c { pieces = finite.retain_keys c.pieces (λ k. not (same k.0 base.now)) })) }
-    ensures failed { HasCleanDisk (state S.Store tx.new.conn.now)
-        → OnErr result (KeepsCommit (state S.Store tx.old.conn.now) (state S.Store tx.new.conn.now)) }
+    ensures frame { StaysInside S.Store tx.old.conn tx.new.conn result }
+    ensures done { Makes S.Store tx.old.conn tx.new.conn result
+        (λ c. record c { pieces = finite.retain_keys c.pieces (λ k. not (same k.0 base.now)) }) }
     ensures cause { HasReason S.Store tx.old.conn.now tx.new.conn.now result NoRow }
-    ensures survives { Survives (state S.Store tx.old.conn.now) (state S.Store tx.new.conn.now) (λ _. ⊥) }
 {
     if object.size() <= PIECE_SIZE {
         return Ok(());

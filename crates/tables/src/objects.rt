@@ -1,16 +1,16 @@
 //! Objects, as the rows have them.
 
-ghost use Rattle.std.specs.Prelude.{◌≡◌, IsTrue, OnOk, OnErr, length, map, string_bytes};
+ghost use Rattle.std.specs.Prelude.{◌≡◌, IsTrue, length, map, string_bytes};
 ghost use Rattle.std.specs.List.{zip};
 ghost use Rattle.std.specs.FinMap as finite;
-ghost use Rattle.sqlite.specs.State.{HasCleanDisk, KeepsCommit, Survives};
+ghost use Rattle.sqlite.specs.State.{HasCleanDisk};
 ghost use Rattle.sqlite.specs.Held.{state};
-ghost use Rattle.tables_sql.specs.Calls.{IsUnderWay, Changes};
 ghost use Rattle.tables_sql.specs.Contents.{contents_of};
 ghost use Rattle.tables_make.specs.Reasons.{HasReason};
 ghost use Rattle.tables.specs.Rewritten.{AreFree, put_references, put_outputs};
 ghost use Rattle.tables_make.specs.Reasons.{RowsOf};
 ghost use Rattle.tables.specs.RowsPut.{ReferenceRow, OutputRow};
+ghost use Rattle.tables_rows.specs.Frames.{IsInside, Makes, StaysInside};
 
 use crate::change::Change;
 use crate::cutting::{first_of, put_pieces};
@@ -28,19 +28,15 @@ pub(crate) fn put_references<S: Alter>(
     base: &str,
     targets: &[StorePath],
 ) -> Result<(), Failure>
-    requires under_way { HasCleanDisk (state S.Store tx.old.conn.now) → IsUnderWay (state S.Store tx.old.conn.now) }
+    requires under_way { IsInside S.Store tx.old.conn }
     requires is_open { HasCleanDisk (state S.Store tx.old.conn.now) → IsTrue (state S.Store tx.old.conn.now).is_open }
     requires free { HasCleanDisk (state S.Store tx.old.conn.now)
         → AreFree (contents_of (state S.Store tx.old.conn.now).now).refs (map (λ t. (base.now, t)) targets.now) }
-    ensures same_reference { tx.new.conn.ghost_name ≡ tx.old.conn.ghost_name }
-    ensures done { HasCleanDisk (state S.Store tx.new.conn.now)
-        → OnOk result (Changes (state S.Store tx.old.conn.now) (state S.Store tx.new.conn.now)
-        (λ c. record c { refs = put_references base.now targets.now c.refs })) }
-    ensures failed { HasCleanDisk (state S.Store tx.new.conn.now)
-        → OnErr result (KeepsCommit (state S.Store tx.old.conn.now) (state S.Store tx.new.conn.now)) }
+    ensures frame { StaysInside S.Store tx.old.conn tx.new.conn result }
+    ensures done { Makes S.Store tx.old.conn tx.new.conn result
+        (λ c. record c { refs = put_references base.now targets.now c.refs }) }
     ensures cause { HasReason S.Store tx.old.conn.now tx.new.conn.now result
         (RowsOf (ReferenceRow base.now) targets.now) }
-    ensures survives { Survives (state S.Store tx.old.conn.now) (state S.Store tx.new.conn.now) (λ _. ⊥) }
 {
     'targets: for target in targets {
         references::insert(tx, base, target.as_str())?;
@@ -55,21 +51,17 @@ pub(crate) fn put_outputs<S: Alter>(
     names: &[String],
     outputs: &[StorePath],
 ) -> Result<(), Failure>
-    requires under_way { HasCleanDisk (state S.Store tx.old.conn.now) → IsUnderWay (state S.Store tx.old.conn.now) }
+    requires under_way { IsInside S.Store tx.old.conn }
     requires is_open { HasCleanDisk (state S.Store tx.old.conn.now) → IsTrue (state S.Store tx.old.conn.now).is_open }
     requires count { length outputs.now ≡ length names.now }
     requires free { HasCleanDisk (state S.Store tx.old.conn.now)
         → AreFree (contents_of (state S.Store tx.old.conn.now).now).outs
         (map (λ e. (base.now, e.0)) (zip (map string_bytes names.now) outputs.now)) }
-    ensures same_reference { tx.new.conn.ghost_name ≡ tx.old.conn.ghost_name }
-    ensures done { HasCleanDisk (state S.Store tx.new.conn.now)
-        → OnOk result (Changes (state S.Store tx.old.conn.now) (state S.Store tx.new.conn.now)
-        (λ c. record c { outs = put_outputs base.now (zip (map string_bytes names.now) outputs.now) c.outs })) }
-    ensures failed { HasCleanDisk (state S.Store tx.new.conn.now)
-        → OnErr result (KeepsCommit (state S.Store tx.old.conn.now) (state S.Store tx.new.conn.now)) }
+    ensures frame { StaysInside S.Store tx.old.conn tx.new.conn result }
+    ensures done { Makes S.Store tx.old.conn tx.new.conn result
+        (λ c. record c { outs = put_outputs base.now (zip (map string_bytes names.now) outputs.now) c.outs }) }
     ensures cause { HasReason S.Store tx.old.conn.now tx.new.conn.now result
         (RowsOf (OutputRow base.now) (zip (map string_bytes names.now) outputs.now)) }
-    ensures survives { Survives (state S.Store tx.old.conn.now) (state S.Store tx.new.conn.now) (λ _. ⊥) }
 {
     'outputs: for i in 0..names.len() {
         outputs::insert(tx, base, names[i].as_str(), outputs[i].as_str())?;

@@ -1,12 +1,10 @@
 //! Profiles, as the rows have them.
 
-ghost use Rattle.std.specs.Prelude.{◌≡◌, OnOk, OnErr, pos};
+ghost use Rattle.std.specs.Prelude.{pos};
 ghost use Rattle.std.specs.FinMap as finite;
-ghost use Rattle.sqlite.specs.State.{HasCleanDisk, KeepsCommit, Survives};
-ghost use Rattle.sqlite.specs.Held.{state};
-ghost use Rattle.tables_sql.specs.Calls.{IsUnderWay, Changes};
 ghost use Rattle.tables_make.specs.Reasons.{HasReason};
 ghost use Rattle.tables.specs.RowsPut.{ProfileRow};
+ghost use Rattle.tables_rows.specs.Frames.{IsInside, Makes, StaysInside};
 
 use crate::change::Change;
 use sqlite::{Alter, Transaction};
@@ -20,16 +18,12 @@ pub(crate) fn put_current<S: Alter>(
     name: &str,
     current: u32,
 ) -> Result<(), Failure>
-    requires under_way { HasCleanDisk (state S.Store tx.old.conn.now) → IsUnderWay (state S.Store tx.old.conn.now) }
-    ensures same_reference { tx.new.conn.ghost_name ≡ tx.old.conn.ghost_name }
-    ensures done { HasCleanDisk (state S.Store tx.new.conn.now)
-        → OnOk result (Changes (state S.Store tx.old.conn.now) (state S.Store tx.new.conn.now)
-        (λ c. record c { profiles = finite.insert c.profiles (owner.now, name.now) (pos current) })) }
-    ensures failed { HasCleanDisk (state S.Store tx.new.conn.now)
-        → OnErr result (KeepsCommit (state S.Store tx.old.conn.now) (state S.Store tx.new.conn.now)) }
+    requires under_way { IsInside S.Store tx.old.conn }
+    ensures frame { StaysInside S.Store tx.old.conn tx.new.conn result }
+    ensures done { Makes S.Store tx.old.conn tx.new.conn result
+        (λ c. record c { profiles = finite.insert c.profiles (owner.now, name.now) (pos current) }) }
     ensures cause { HasReason S.Store tx.old.conn.now tx.new.conn.now result
         (ProfileRow (owner.now, name.now) current) }
-    ensures survives { Survives (state S.Store tx.old.conn.now) (state S.Store tx.new.conn.now) (λ _. ⊥) }
 {
     profiles::delete(tx, owner, name)?;
     profiles::insert(tx, owner, name, current)

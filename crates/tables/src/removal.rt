@@ -1,17 +1,18 @@
 //! Objects that go, as the rows and the outline have them.
 
-ghost use Rattle.std.specs.Prelude.{◌≡◌, IsTrue, OnOk, OnErr, not};
+ghost use Rattle.std.specs.Prelude.{◌≡◌, IsTrue, not};
 ghost use Rattle.std.specs.FinMap as finite;
-ghost use Rattle.sqlite.specs.State.{HasCleanDisk, KeepsCommit, Survives};
+ghost use Rattle.sqlite.specs.State.{HasCleanDisk};
 ghost use Rattle.sqlite.specs.Held.{state};
 ghost use Rattle.live.specs.Graph.{holds};
 ghost use Rattle.tables_schema.specs.Forms.{piece};
-ghost use Rattle.tables_sql.specs.Calls.{IsUnderWay, HasFurther, Changes};
+ghost use Rattle.tables_sql.specs.Calls.{HasFurther};
 ghost use Rattle.tables_sql.specs.Contents.{contents_of};
 ghost use Rattle.tables_make.specs.Reasons.{HasReason};
 ghost use Rattle.tables.specs.Frames.{CommitsRows, MayCommit};
 ghost use Rattle.tables_make.specs.Reasons.{NoRow};
 ghost use Rattle.tables.specs.Rewritten.{Covers, without_object, without_objects};
+ghost use Rattle.tables_rows.specs.Frames.{IsInside, Makes, StaysInside};
 
 use crate::change;
 use crate::change::Change;
@@ -29,19 +30,15 @@ fn delete_object<S: Alter>(
     outline: &Outline,
     path: &StorePath,
 ) -> Result<(), Failure>
-    requires under_way { HasCleanDisk (state S.Store tx.old.conn.now) → IsUnderWay (state S.Store tx.old.conn.now) }
+    requires under_way { IsInside S.Store tx.old.conn }
     requires exists { HasCleanDisk (state S.Store tx.old.conn.now) → IsTrue (state S.Store tx.old.conn.now).is_open
         → HasFurther (state S.Store tx.old.conn.now).now piece }
     requires covers { HasCleanDisk (state S.Store tx.old.conn.now) → IsTrue (state S.Store tx.old.conn.now).is_open
         → Covers outline.now (contents_of (state S.Store tx.old.conn.now).now) }
-    ensures same_reference { tx.new.conn.ghost_name ≡ tx.old.conn.ghost_name }
-    ensures done { HasCleanDisk (state S.Store tx.new.conn.now)
-        → OnOk result (Changes (state S.Store tx.old.conn.now) (state S.Store tx.new.conn.now)
-        (λ c. without_object path.now c)) }
-    ensures failed { HasCleanDisk (state S.Store tx.new.conn.now)
-        → OnErr result (KeepsCommit (state S.Store tx.old.conn.now) (state S.Store tx.new.conn.now)) }
+    ensures frame { StaysInside S.Store tx.old.conn tx.new.conn result }
+    ensures done { Makes S.Store tx.old.conn tx.new.conn result
+        (λ c. without_object path.now c) }
     ensures cause { HasReason S.Store tx.old.conn.now tx.new.conn.now result NoRow }
-    ensures survives { Survives (state S.Store tx.old.conn.now) (state S.Store tx.new.conn.now) (λ _. ⊥) }
 {
     let base = path.as_str();
     objects::delete(tx, base)?;
@@ -59,20 +56,16 @@ fn delete_objects<S: Alter>(
     outline: &Outline,
     paths: &[StorePath],
 ) -> Result<(), Failure>
-    requires under_way { HasCleanDisk (state S.Store tx.old.conn.now) → IsUnderWay (state S.Store tx.old.conn.now) }
+    requires under_way { IsInside S.Store tx.old.conn }
     requires is_open { HasCleanDisk (state S.Store tx.old.conn.now) → IsTrue (state S.Store tx.old.conn.now).is_open }
     requires exists { HasCleanDisk (state S.Store tx.old.conn.now)
         → HasFurther (state S.Store tx.old.conn.now).now piece }
     requires covers { HasCleanDisk (state S.Store tx.old.conn.now)
         → Covers outline.now (contents_of (state S.Store tx.old.conn.now).now) }
-    ensures same_reference { tx.new.conn.ghost_name ≡ tx.old.conn.ghost_name }
-    ensures done { HasCleanDisk (state S.Store tx.new.conn.now)
-        → OnOk result (Changes (state S.Store tx.old.conn.now) (state S.Store tx.new.conn.now)
-        (λ c. without_objects paths.now c)) }
-    ensures failed { HasCleanDisk (state S.Store tx.new.conn.now)
-        → OnErr result (KeepsCommit (state S.Store tx.old.conn.now) (state S.Store tx.new.conn.now)) }
+    ensures frame { StaysInside S.Store tx.old.conn tx.new.conn result }
+    ensures done { Makes S.Store tx.old.conn tx.new.conn result
+        (λ c. without_objects paths.now c) }
     ensures cause { HasReason S.Store tx.old.conn.now tx.new.conn.now result NoRow }
-    ensures survives { Survives (state S.Store tx.old.conn.now) (state S.Store tx.new.conn.now) (λ _. ⊥) }
 {
     'paths: for path in paths {
         delete_object(tx, outline, path)?;

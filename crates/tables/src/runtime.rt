@@ -1,16 +1,16 @@
 //! Runtime roots, as the rows have them.
 
-ghost use Rattle.std.specs.Prelude.{◌≡◌, IsTrue, OnOk, OnErr, map};
+ghost use Rattle.std.specs.Prelude.{◌≡◌, IsTrue, map};
 ghost use Rattle.std.specs.FinMap as finite;
-ghost use Rattle.sqlite.specs.State.{HasCleanDisk, KeepsCommit, Survives};
+ghost use Rattle.sqlite.specs.State.{HasCleanDisk};
 ghost use Rattle.sqlite.specs.Held.{state};
 ghost use Rattle.tables_sql.specs.Contents.{contents_of};
-ghost use Rattle.tables_sql.specs.Calls.{IsUnderWay, Changes};
 ghost use Rattle.tables_outline.specs.Maps.{labelled_bytes};
 ghost use Rattle.tables_make.specs.Reasons.{HasReason};
 ghost use Rattle.tables.specs.Rewritten.{put_pairs};
 ghost use Rattle.tables_make.specs.Reasons.{RowsOf};
 ghost use Rattle.tables.specs.RowsPut.{RuntimeRow};
+ghost use Rattle.tables_rows.specs.Frames.{IsInside, Makes, StaysInside};
 
 use crate::change::Change;
 use paths::StorePath;
@@ -24,19 +24,15 @@ pub(crate) fn put_runtime<S: Alter>(
     tx: &mut Transaction<'_, S>,
     roots: &BTreeSet<(String, StorePath)>,
 ) -> Result<(), Failure>
-    requires under_way { HasCleanDisk (state S.Store tx.old.conn.now) → IsUnderWay (state S.Store tx.old.conn.now) }
+    requires under_way { IsInside S.Store tx.old.conn }
     requires is_open { HasCleanDisk (state S.Store tx.old.conn.now) → IsTrue (state S.Store tx.old.conn.now).is_open }
     requires none { HasCleanDisk (state S.Store tx.old.conn.now)
         → (contents_of (state S.Store tx.old.conn.now).now).runtime ≡ finite.empty }
-    ensures same_reference { tx.new.conn.ghost_name ≡ tx.old.conn.ghost_name }
-    ensures done { HasCleanDisk (state S.Store tx.new.conn.now)
-        → OnOk result (Changes (state S.Store tx.old.conn.now) (state S.Store tx.new.conn.now)
-        (λ c. record c { runtime = put_pairs (map labelled_bytes roots.now.keys) c.runtime })) }
-    ensures failed { HasCleanDisk (state S.Store tx.new.conn.now)
-        → OnErr result (KeepsCommit (state S.Store tx.old.conn.now) (state S.Store tx.new.conn.now)) }
+    ensures frame { StaysInside S.Store tx.old.conn tx.new.conn result }
+    ensures done { Makes S.Store tx.old.conn tx.new.conn result
+        (λ c. record c { runtime = put_pairs (map labelled_bytes roots.now.keys) c.runtime }) }
     ensures cause { HasReason S.Store tx.old.conn.now tx.new.conn.now result
         (RowsOf RuntimeRow (map labelled_bytes roots.now.keys)) }
-    ensures survives { Survives (state S.Store tx.old.conn.now) (state S.Store tx.new.conn.now) (λ _. ⊥) }
 {
     // Labels and targets rise.
     let _count = roots.len();

@@ -35,13 +35,13 @@ returns-clause-frame g c =
     let same : c.commit.new.tx.0 ≡ c.conn-2-1.given.0 = search rules in
     let is = c.begin-tx.ensures.begun in
     let done = c.in_ok-write.ensures.done in
-    let all = survives_all g.S.Store before start wrote new f is c.begin-tx.ensures.under_way done c.write.ensures.survives c.commit.ensures.survives in
-    let whole : HasCleanDisk new → IsCommitted wrote new → IsWritten old new f = λ clean k. written g.S.Store before start wrote new f _ is done c.write.ensures.survives c.commit.ensures.survives c.requires.frame.whole clean k in
+    let all = survives_all g.S.Store before start wrote new f is c.begin-tx.ensures.under_way done c.write.ensures.frame.survives c.commit.ensures.survives in
+    let whole : HasCleanDisk new → IsCommitted wrote new → IsWritten old new f = λ clean k. written g.S.Store before start wrote new f _ is done c.write.ensures.frame.survives c.commit.ensures.survives c.requires.frame.whole clean k in
     subst (λ h. CommitsRows g.S.Store before h c.commit.result f) same (record {
       alone = c.commit.ensures.ended;
       done = λ clean. on_ok c.commit.result _ _ (whole clean) (c.commit.ensures.done clean);
       others = λ clean. on_ok c.commit.result _ _ (λ k. others_kept old new f _ all c.requires.frame.ready clean (whole clean k)) (c.commit.ensures.done clean);
-      failed = λ clean. undone g.S.Store before start wrote new _ _ c.commit.result is done c.write.ensures.survives c.commit.ensures.survives c.requires.frame.ready clean (c.commit.ensures.failed clean);
+      failed = λ clean. undone g.S.Store before start wrote new _ _ c.commit.result is done c.write.ensures.frame.survives c.commit.ensures.survives c.requires.frame.ready clean (c.commit.ensures.failed clean);
       durable = always_done c.commit.result _ c.commit.ensures.durable;
       was_open = λ clean. on_ok c.commit.result _ _ (λ k. ((whole clean k).was_open, (whole clean k).is_open)) (c.commit.ensures.done clean);
       survives = all;
@@ -59,4 +59,4 @@ returns-clause-cause g c =
     (λ clean.
     let late : HasCleanDisk wrote = omega (arith, c.commit.ensures.survives.clean, clean) in
     as_reason _ _ (λ e h. begun_reason g.S.Store before start rows new c.begin-tx.ensures.begun e
-    (commit_reason rows (state g.S.Store start) wrote new _ (c.in_ok-write.ensures.done late) c.write.ensures.survives e h)) c.commit.result (c.commit.ensures.cause clean))
+    (commit_reason rows (state g.S.Store start) wrote new _ (c.in_ok-write.ensures.done late) c.write.ensures.frame.survives e h)) c.commit.result (c.commit.ensures.cause clean))

@@ -20,6 +20,7 @@ use Rattle.tables_sql.proofs.Orders.{numbered_total}
 use Rattle.tables.proofs.Free.{free_next}
 use Rattle.tables_make.proofs.Reasons.{is_none, next_reason, put_reason}
 use Rattle.tables.proofs.Transactions.{pieces_stand}
+use Rattle.tables_make.proofs.Inside.{done_fails}
 use Rattle.tables.proofs.cutting.put_pieces.Goals as goal
 
 pub pieces-init : goal.pieces-init
@@ -92,3 +93,18 @@ returns-in_err-insert-clause-cause g c clean =
     passed_on c.from_residual.result _ _ c.from_residual.ensures.1
     (next_reason _ first now next _ (c.pieces.invariant.goes early).changes c.pieces.invariant.survives _
     (put_reason (RowsOf (PieceRow base) (further_pieces nar)) now next piece row _ (c.pieces.invariant.among piece row (subst (λ ps. RowsOf (PieceRow base) ps piece row) (sym (next_left n nar more)) (inl (refl, is)))) (is_none _ free.free.0) _ (c.in_err-insert.ensures.cause clean)))
+
+pub returns-in_err-insert-clause-frame : goal.returns-in_err-insert-clause-frame
+returns-in_err-insert-clause-frame g c =
+    done_fails g.S.Store c.args.tx.now.conn c.pieces.tx.conn c.insert.new.tx.conn _ c.pieces.invariant.same_reference (λ clean. (c.pieces.invariant.goes clean).changes) c.pieces.invariant.survives
+    c.from_residual.result c.insert.ensures.frame.same_reference c.in_err-insert.ensures.frame.failed c.insert.ensures.frame.survives
+
+pub returns-then-place-count-clause-frame : goal.returns-then-place-count-clause-frame
+returns-then-place-count-clause-frame g c = record { same_reference = c.pieces.invariant.same_reference; failed = λ clean. tt; survives = c.pieces.invariant.survives }
+
+pub returns-clause-frame : goal.returns-clause-frame
+returns-clause-frame g c = record {
+  same_reference = c.pieces.invariant.same_reference;
+  failed = λ clean. let done = (c.pieces.invariant.goes clean).changes in record { was_open = λ up. done.was_open; committed = λ up. done.committed };
+  survives = c.pieces.invariant.survives;
+}

@@ -3,6 +3,8 @@ use Rattle.tables_sql.specs.Contents.{contents_of}
 use Rattle.tables.proofs.Covered.{keyless, no_outputs}
 use Rattle.tables.proofs.Transactions.{changes_nothing}
 use Rattle.tables_make.proofs.Reasons.{as_reason, removal_reason}
+use Rattle.std.proofs.Common.{refl}
+use Rattle.tables_sql.proofs.Transactions.{survives_none}
 use Rattle.tables.proofs.object_rows.delete_outputs.Goals as goal
 
 -- the object has none, and so there is no row
@@ -14,3 +16,6 @@ returns-then-is_empty-clause-done g c clean =
 
 pub returns-clause-cause : goal.returns-clause-cause
 returns-clause-cause g c clean = as_reason _ _ (removal_reason _ (state g.S.Store c.args.tx.now.conn.now) (state g.S.Store c.delete_of.new.tx.conn.now)) c.delete_of.result (c.delete_of.ensures.cause clean)
+
+pub returns-then-is_empty-clause-frame : goal.returns-then-is_empty-clause-frame
+returns-then-is_empty-clause-frame g c = record { same_reference = refl; failed = λ clean. tt; survives = survives_none (state g.S.Store c.args.tx.now.conn.now) }

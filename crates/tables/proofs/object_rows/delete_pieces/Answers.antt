@@ -1,4 +1,4 @@
-use Rattle.std.proofs.Common.{◌<◌, arith}
+use Rattle.std.proofs.Common.{◌<◌, arith, refl}
 use Rattle.sqlite.specs.Held.{state}
 use Rattle.tables_sql.specs.Contents.{contents_of}
 use Rattle.tables_world.specs.Pieces.{piece_size}
@@ -6,6 +6,7 @@ use Rattle.tables.proofs.Covered.{no_pieces}
 use Rattle.tables.proofs.Cuts.{size_is}
 use Rattle.tables.proofs.Transactions.{changes_nothing}
 use Rattle.tables_make.proofs.Reasons.{as_reason, removal_reason}
+use Rattle.tables_sql.proofs.Transactions.{survives_none}
 use Rattle.tables.proofs.object_rows.delete_pieces.Goals as goal
 
 -- the row holds the whole archive, and so there is no piece
@@ -17,3 +18,6 @@ returns-then-size-le-PIECE_SIZE-clause-done g c clean =
 
 pub returns-clause-cause : goal.returns-clause-cause
 returns-clause-cause g c clean = as_reason _ _ (removal_reason _ (state g.S.Store c.args.tx.now.conn.now) (state g.S.Store c.delete_of.new.tx.conn.now)) c.delete_of.result (c.delete_of.ensures.cause clean)
+
+pub returns-then-size-le-PIECE_SIZE-clause-frame : goal.returns-then-size-le-PIECE_SIZE-clause-frame
+returns-then-size-le-PIECE_SIZE-clause-frame g c = record { same_reference = refl; failed = λ clean. tt; survives = survives_none (state g.S.Store c.args.tx.now.conn.now) }

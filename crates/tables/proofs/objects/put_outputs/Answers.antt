@@ -16,6 +16,7 @@ use Rattle.tables.proofs.Lists.{zip_at, no_pairs_left}
 use Rattle.tables_sql.proofs.Transactions.{survives_none}
 use Rattle.tables_sql.proofs.TestFailures.{passed_on, survives_both}
 use Rattle.tables_make.proofs.Reasons.{is_none, next_reason, of_item, put_reason}
+use Rattle.tables_make.proofs.Inside.{done_fails}
 use Rattle.tables.proofs.objects.put_outputs.Goals as goal
 
 pub outputs-init : goal.outputs-init
@@ -93,3 +94,11 @@ returns-in_err-insert-clause-cause g c clean =
     passed_on c.from_residual.result _ _ c.from_residual.ensures.1
     (next_reason _ first now next _ (c.outputs.invariant.goes early).changes c.outputs.invariant.survives _
     (put_reason _ now next _ row _ (of_item (OutputRow base) all rest (name, target) c.outputs.i split _ row (refl, is)) (is_none _ (ap (λ n. finite.get was.outs (base, n)) c.as_str.ensures.value ∙ free.free.0)) _ (c.in_err-insert.ensures.cause clean)))
+
+pub returns-in_err-insert-clause-frame : goal.returns-in_err-insert-clause-frame
+returns-in_err-insert-clause-frame g c =
+    done_fails g.S.Store c.args.tx.now.conn c.outputs.tx.conn c.insert.new.tx.conn _ c.outputs.invariant.same_reference (λ clean. (c.outputs.invariant.goes clean).changes) c.outputs.invariant.survives
+    c.from_residual.result c.insert.ensures.frame.same_reference c.in_err-insert.ensures.frame.failed c.insert.ensures.frame.survives
+
+pub returns-clause-frame : goal.returns-clause-frame
+returns-clause-frame g c = record { same_reference = c.outputs.invariant.same_reference; failed = λ clean. tt; survives = c.outputs.invariant.survives }

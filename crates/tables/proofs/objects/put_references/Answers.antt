@@ -15,6 +15,7 @@ use Rattle.tables_sql.proofs.TestFailures.{passed_on, survives_both}
 use Rattle.tables_sql.proofs.Orders.{pair_total}
 use Rattle.tables.proofs.Free.{free_next}
 use Rattle.tables_make.proofs.Reasons.{is_none, next_reason, of_item, put_reason}
+use Rattle.tables_make.proofs.Inside.{done_fails}
 use Rattle.tables.proofs.objects.put_references.Goals as goal
 
 pub targets-init : goal.targets-init
@@ -75,3 +76,11 @@ returns-in_err-insert-clause-cause g c clean =
     passed_on c.from_residual.result _ _ c.from_residual.ensures.1
     (next_reason _ first now next _ (c.targets.invariant.goes early).changes c.targets.invariant.survives _
     (put_reason _ now next _ row _ (of_item (ReferenceRow base) all rest item c.targets.target-index split _ row (refl, is)) (is_none _ (ap (λ t. finite.get was.refs (base, t)) c.as_str.ensures.value ∙ free.free.0)) _ (c.in_err-insert.ensures.cause clean)))
+
+pub returns-in_err-insert-clause-frame : goal.returns-in_err-insert-clause-frame
+returns-in_err-insert-clause-frame g c =
+    done_fails g.S.Store c.args.tx.now.conn c.targets.tx.conn c.insert.new.tx.conn _ c.targets.invariant.same_reference (λ clean. (c.targets.invariant.goes clean).changes) c.targets.invariant.survives
+    c.from_residual.result c.insert.ensures.frame.same_reference c.in_err-insert.ensures.frame.failed c.insert.ensures.frame.survives
+
+pub returns-clause-frame : goal.returns-clause-frame
+returns-clause-frame g c = record { same_reference = c.targets.invariant.same_reference; failed = λ clean. tt; survives = c.targets.invariant.survives }

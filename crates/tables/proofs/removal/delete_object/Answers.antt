@@ -34,22 +34,16 @@ delete_references-requires-clause-reported g c clean =
     let early : HasCleanDisk a = omega (arith, c.delete.ensures.frame.survives.clean, clean) in
     references_told c.args.outline.now (contents_of a.now) c.args.path.now c.as_str-base.result.now c.in-Some.object.now (c.requires.covers early it.was_open) c.in-Some.ensures c.as_str-base.ensures.value (contents_of b.now) (ap (λ (x : Contents). x.refs) it.contents)
 
-pub returns-in_err-delete_references-clause-same_reference : goal.returns-in_err-delete_references-clause-same_reference
-returns-in_err-delete_references-clause-same_reference g c = c.delete_references.ensures.same_reference ∙ c.delete.ensures.frame.same_reference
-
-pub returns-in_err-delete_references-clause-failed : goal.returns-in_err-delete_references-clause-failed
-returns-in_err-delete_references-clause-failed g c clean =
+pub returns-in_err-delete_references-clause-frame : goal.returns-in_err-delete_references-clause-frame
+returns-in_err-delete_references-clause-frame g c =
     let a = state g.S.Store c.args.tx.now.conn.now in
     let b = state g.S.Store c.delete.new.tx.conn.now in
     let d = state g.S.Store c.delete_references.new.tx.conn.now in
-    err_kept a b d _ c.from_residual-in_err-delete_references.result c.in_ok-delete.ensures.done c.delete_references.ensures.survives (c.in_err-delete_references.ensures.failed clean) clean
-
-pub returns-in_err-delete_references-clause-survives : goal.returns-in_err-delete_references-clause-survives
-returns-in_err-delete_references-clause-survives g c =
-    let a = state g.S.Store c.args.tx.now.conn.now in
-    let b = state g.S.Store c.delete.new.tx.conn.now in
-    let d = state g.S.Store c.delete_references.new.tx.conn.now in
-    survives_both a b d c.delete.ensures.frame.survives c.delete_references.ensures.survives
+    record {
+      same_reference = c.delete_references.ensures.frame.same_reference ∙ c.delete.ensures.frame.same_reference;
+      failed = λ clean. err_kept a b d _ c.from_residual-in_err-delete_references.result c.in_ok-delete.ensures.done c.delete_references.ensures.frame.survives (c.in_err-delete_references.ensures.frame.failed clean) clean;
+      survives = survives_both a b d c.delete.ensures.frame.survives c.delete_references.ensures.frame.survives;
+    }
 
 -- one that the outline hasn't has nothing else
 pub returns-in_default-clause-done : goal.returns-in_default-clause-done
@@ -66,42 +60,35 @@ delete_outputs-requires-clause-under_way g c clean =
     let a = state g.S.Store c.args.tx.now.conn.now in
     let b = state g.S.Store c.delete.new.tx.conn.now in
     let d = state g.S.Store c.delete_references.new.tx.conn.now in
-    under_after a d _ ((steps_both a b d _ _ c.in_ok-delete.ensures.done c.delete_references.ensures.survives c.in_ok-delete_references.ensures.done) clean)
+    under_after a d _ ((steps_both a b d _ _ c.in_ok-delete.ensures.done c.delete_references.ensures.frame.survives c.in_ok-delete_references.ensures.done) clean)
 
 pub delete_outputs-requires-clause-is_open : goal.delete_outputs-requires-clause-is_open
 delete_outputs-requires-clause-is_open g c clean =
     let a = state g.S.Store c.args.tx.now.conn.now in
     let b = state g.S.Store c.delete.new.tx.conn.now in
     let d = state g.S.Store c.delete_references.new.tx.conn.now in
-    ((steps_both a b d _ _ c.in_ok-delete.ensures.done c.delete_references.ensures.survives c.in_ok-delete_references.ensures.done) clean).is_open
+    ((steps_both a b d _ _ c.in_ok-delete.ensures.done c.delete_references.ensures.frame.survives c.in_ok-delete_references.ensures.done) clean).is_open
 
 pub delete_outputs-requires-clause-reported : goal.delete_outputs-requires-clause-reported
 delete_outputs-requires-clause-reported g c clean =
     let a = state g.S.Store c.args.tx.now.conn.now in
     let b = state g.S.Store c.delete.new.tx.conn.now in
     let d = state g.S.Store c.delete_references.new.tx.conn.now in
-    let it = (steps_both a b d _ _ c.in_ok-delete.ensures.done c.delete_references.ensures.survives c.in_ok-delete_references.ensures.done) clean in
-    let early : HasCleanDisk a = omega (arith, (survives_both a b d c.delete.ensures.frame.survives c.delete_references.ensures.survives).clean, clean) in
+    let it = (steps_both a b d _ _ c.in_ok-delete.ensures.done c.delete_references.ensures.frame.survives c.in_ok-delete_references.ensures.done) clean in
+    let early : HasCleanDisk a = omega (arith, (survives_both a b d c.delete.ensures.frame.survives c.delete_references.ensures.frame.survives).clean, clean) in
     outputs_told c.args.outline.now (contents_of a.now) c.args.path.now c.as_str-base.result.now c.in-Some.object.now (c.requires.covers early it.was_open) c.in-Some.ensures c.as_str-base.ensures.value (contents_of d.now) (ap (λ (x : Contents). x.outs) it.contents)
 
-pub returns-in_err-delete_outputs-clause-same_reference : goal.returns-in_err-delete_outputs-clause-same_reference
-returns-in_err-delete_outputs-clause-same_reference g c = c.delete_outputs.ensures.same_reference ∙ c.delete_references.ensures.same_reference ∙ c.delete.ensures.frame.same_reference
-
-pub returns-in_err-delete_outputs-clause-failed : goal.returns-in_err-delete_outputs-clause-failed
-returns-in_err-delete_outputs-clause-failed g c clean =
+pub returns-in_err-delete_outputs-clause-frame : goal.returns-in_err-delete_outputs-clause-frame
+returns-in_err-delete_outputs-clause-frame g c =
     let a = state g.S.Store c.args.tx.now.conn.now in
     let b = state g.S.Store c.delete.new.tx.conn.now in
     let d = state g.S.Store c.delete_references.new.tx.conn.now in
     let e = state g.S.Store c.delete_outputs.new.tx.conn.now in
-    err_kept a d e _ c.from_residual-in_err-delete_outputs.result (steps_both a b d _ _ c.in_ok-delete.ensures.done c.delete_references.ensures.survives c.in_ok-delete_references.ensures.done) c.delete_outputs.ensures.survives (c.in_err-delete_outputs.ensures.failed clean) clean
-
-pub returns-in_err-delete_outputs-clause-survives : goal.returns-in_err-delete_outputs-clause-survives
-returns-in_err-delete_outputs-clause-survives g c =
-    let a = state g.S.Store c.args.tx.now.conn.now in
-    let b = state g.S.Store c.delete.new.tx.conn.now in
-    let d = state g.S.Store c.delete_references.new.tx.conn.now in
-    let e = state g.S.Store c.delete_outputs.new.tx.conn.now in
-    survives_both a d e (survives_both a b d c.delete.ensures.frame.survives c.delete_references.ensures.survives) c.delete_outputs.ensures.survives
+    record {
+      same_reference = c.delete_outputs.ensures.frame.same_reference ∙ c.delete_references.ensures.frame.same_reference ∙ c.delete.ensures.frame.same_reference;
+      failed = λ clean. err_kept a d e _ c.from_residual-in_err-delete_outputs.result (steps_both a b d _ _ c.in_ok-delete.ensures.done c.delete_references.ensures.frame.survives c.in_ok-delete_references.ensures.done) c.delete_outputs.ensures.frame.survives (c.in_err-delete_outputs.ensures.frame.failed clean) clean;
+      survives = survives_both a d e (survives_both a b d c.delete.ensures.frame.survives c.delete_references.ensures.frame.survives) c.delete_outputs.ensures.frame.survives;
+    }
 
 pub delete_pieces-requires-clause-under_way : goal.delete_pieces-requires-clause-under_way
 delete_pieces-requires-clause-under_way g c clean =
@@ -109,7 +96,7 @@ delete_pieces-requires-clause-under_way g c clean =
     let b = state g.S.Store c.delete.new.tx.conn.now in
     let d = state g.S.Store c.delete_references.new.tx.conn.now in
     let e = state g.S.Store c.delete_outputs.new.tx.conn.now in
-    under_after a e _ ((steps_both a d e _ _ (steps_both a b d _ _ c.in_ok-delete.ensures.done c.delete_references.ensures.survives c.in_ok-delete_references.ensures.done) c.delete_outputs.ensures.survives c.in_ok-delete_outputs.ensures.done) clean)
+    under_after a e _ ((steps_both a d e _ _ (steps_both a b d _ _ c.in_ok-delete.ensures.done c.delete_references.ensures.frame.survives c.in_ok-delete_references.ensures.done) c.delete_outputs.ensures.frame.survives c.in_ok-delete_outputs.ensures.done) clean)
 
 pub delete_pieces-requires-clause-is_open : goal.delete_pieces-requires-clause-is_open
 delete_pieces-requires-clause-is_open g c clean =
@@ -117,7 +104,7 @@ delete_pieces-requires-clause-is_open g c clean =
     let b = state g.S.Store c.delete.new.tx.conn.now in
     let d = state g.S.Store c.delete_references.new.tx.conn.now in
     let e = state g.S.Store c.delete_outputs.new.tx.conn.now in
-    ((steps_both a d e _ _ (steps_both a b d _ _ c.in_ok-delete.ensures.done c.delete_references.ensures.survives c.in_ok-delete_references.ensures.done) c.delete_outputs.ensures.survives c.in_ok-delete_outputs.ensures.done) clean).is_open
+    ((steps_both a d e _ _ (steps_both a b d _ _ c.in_ok-delete.ensures.done c.delete_references.ensures.frame.survives c.in_ok-delete_references.ensures.done) c.delete_outputs.ensures.frame.survives c.in_ok-delete_outputs.ensures.done) clean).is_open
 
 pub delete_pieces-requires-clause-exists : goal.delete_pieces-requires-clause-exists
 delete_pieces-requires-clause-exists g c clean =
@@ -125,7 +112,7 @@ delete_pieces-requires-clause-exists g c clean =
     let b = state g.S.Store c.delete.new.tx.conn.now in
     let d = state g.S.Store c.delete_references.new.tx.conn.now in
     let e = state g.S.Store c.delete_outputs.new.tx.conn.now in
-    pieces_stand a e _ (steps_both a d e _ _ (steps_both a b d _ _ c.in_ok-delete.ensures.done c.delete_references.ensures.survives c.in_ok-delete_references.ensures.done) c.delete_outputs.ensures.survives c.in_ok-delete_outputs.ensures.done) (survives_both a d e (survives_both a b d c.delete.ensures.frame.survives c.delete_references.ensures.survives) c.delete_outputs.ensures.survives) c.requires.exists clean
+    pieces_stand a e _ (steps_both a d e _ _ (steps_both a b d _ _ c.in_ok-delete.ensures.done c.delete_references.ensures.frame.survives c.in_ok-delete_references.ensures.done) c.delete_outputs.ensures.frame.survives c.in_ok-delete_outputs.ensures.done) (survives_both a d e (survives_both a b d c.delete.ensures.frame.survives c.delete_references.ensures.frame.survives) c.delete_outputs.ensures.frame.survives) c.requires.exists clean
 
 pub delete_pieces-requires-clause-reported : goal.delete_pieces-requires-clause-reported
 delete_pieces-requires-clause-reported g c clean =
@@ -133,12 +120,22 @@ delete_pieces-requires-clause-reported g c clean =
     let b = state g.S.Store c.delete.new.tx.conn.now in
     let d = state g.S.Store c.delete_references.new.tx.conn.now in
     let e = state g.S.Store c.delete_outputs.new.tx.conn.now in
-    let it = (steps_both a d e _ _ (steps_both a b d _ _ c.in_ok-delete.ensures.done c.delete_references.ensures.survives c.in_ok-delete_references.ensures.done) c.delete_outputs.ensures.survives c.in_ok-delete_outputs.ensures.done) clean in
-    let early : HasCleanDisk a = omega (arith, (survives_both a d e (survives_both a b d c.delete.ensures.frame.survives c.delete_references.ensures.survives) c.delete_outputs.ensures.survives).clean, clean) in
+    let it = (steps_both a d e _ _ (steps_both a b d _ _ c.in_ok-delete.ensures.done c.delete_references.ensures.frame.survives c.in_ok-delete_references.ensures.done) c.delete_outputs.ensures.frame.survives c.in_ok-delete_outputs.ensures.done) clean in
+    let early : HasCleanDisk a = omega (arith, (survives_both a d e (survives_both a b d c.delete.ensures.frame.survives c.delete_references.ensures.frame.survives) c.delete_outputs.ensures.frame.survives).clean, clean) in
     pieces_told c.args.outline.now (contents_of a.now) c.args.path.now c.as_str-base.result.now c.in-Some.object.now (c.requires.covers early it.was_open) c.in-Some.ensures c.as_str-base.ensures.value (contents_of e.now) (ap (λ (x : Contents). x.pieces) it.contents)
 
-pub returns-clause-same_reference : goal.returns-clause-same_reference
-returns-clause-same_reference g c = c.delete_pieces.ensures.same_reference ∙ c.delete_outputs.ensures.same_reference ∙ c.delete_references.ensures.same_reference ∙ c.delete.ensures.frame.same_reference
+pub returns-clause-frame : goal.returns-clause-frame
+returns-clause-frame g c =
+    let a = state g.S.Store c.args.tx.now.conn.now in
+    let b = state g.S.Store c.delete.new.tx.conn.now in
+    let d = state g.S.Store c.delete_references.new.tx.conn.now in
+    let e = state g.S.Store c.delete_outputs.new.tx.conn.now in
+    let f = state g.S.Store c.delete_pieces.new.tx.conn.now in
+    record {
+      same_reference = c.delete_pieces.ensures.frame.same_reference ∙ c.delete_outputs.ensures.frame.same_reference ∙ c.delete_references.ensures.frame.same_reference ∙ c.delete.ensures.frame.same_reference;
+      failed = failed_next a e f _ (λ x. x) (steps_both a d e _ _ (steps_both a b d _ _ c.in_ok-delete.ensures.done c.delete_references.ensures.frame.survives c.in_ok-delete_references.ensures.done) c.delete_outputs.ensures.frame.survives c.in_ok-delete_outputs.ensures.done) c.delete_pieces.ensures.frame.survives c.delete_pieces.result c.delete_pieces.ensures.frame.failed;
+      survives = survives_both a e f (survives_both a d e (survives_both a b d c.delete.ensures.frame.survives c.delete_references.ensures.frame.survives) c.delete_outputs.ensures.frame.survives) c.delete_pieces.ensures.frame.survives;
+    }
 
 pub returns-clause-done : goal.returns-clause-done
 returns-clause-done g c =
@@ -147,25 +144,7 @@ returns-clause-done g c =
     let d = state g.S.Store c.delete_references.new.tx.conn.now in
     let e = state g.S.Store c.delete_outputs.new.tx.conn.now in
     let f = state g.S.Store c.delete_pieces.new.tx.conn.now in
-    done_both a e f _ _ (steps_both a d e _ _ (steps_both a b d _ _ c.in_ok-delete.ensures.done c.delete_references.ensures.survives c.in_ok-delete_references.ensures.done) c.delete_outputs.ensures.survives c.in_ok-delete_outputs.ensures.done) c.delete_pieces.ensures.survives c.delete_pieces.result _ (λ x. ap (λ p. without_object p x) c.as_str-base.ensures.value) c.delete_pieces.ensures.done
-
-pub returns-clause-failed : goal.returns-clause-failed
-returns-clause-failed g c =
-    let a = state g.S.Store c.args.tx.now.conn.now in
-    let b = state g.S.Store c.delete.new.tx.conn.now in
-    let d = state g.S.Store c.delete_references.new.tx.conn.now in
-    let e = state g.S.Store c.delete_outputs.new.tx.conn.now in
-    let f = state g.S.Store c.delete_pieces.new.tx.conn.now in
-    failed_next a e f _ (λ x. x) (steps_both a d e _ _ (steps_both a b d _ _ c.in_ok-delete.ensures.done c.delete_references.ensures.survives c.in_ok-delete_references.ensures.done) c.delete_outputs.ensures.survives c.in_ok-delete_outputs.ensures.done) c.delete_pieces.ensures.survives c.delete_pieces.result c.delete_pieces.ensures.failed
-
-pub returns-clause-survives : goal.returns-clause-survives
-returns-clause-survives g c =
-    let a = state g.S.Store c.args.tx.now.conn.now in
-    let b = state g.S.Store c.delete.new.tx.conn.now in
-    let d = state g.S.Store c.delete_references.new.tx.conn.now in
-    let e = state g.S.Store c.delete_outputs.new.tx.conn.now in
-    let f = state g.S.Store c.delete_pieces.new.tx.conn.now in
-    survives_both a e f (survives_both a d e (survives_both a b d c.delete.ensures.frame.survives c.delete_references.ensures.survives) c.delete_outputs.ensures.survives) c.delete_pieces.ensures.survives
+    done_both a e f _ _ (steps_both a d e _ _ (steps_both a b d _ _ c.in_ok-delete.ensures.done c.delete_references.ensures.frame.survives c.in_ok-delete_references.ensures.done) c.delete_outputs.ensures.frame.survives c.in_ok-delete_outputs.ensures.done) c.delete_pieces.ensures.frame.survives c.delete_pieces.result _ (λ x. ap (λ p. without_object p x) c.as_str-base.ensures.value) c.delete_pieces.ensures.done
 
 -- ---- why it failed
 
@@ -178,7 +157,7 @@ returns-in_err-delete_references-clause-cause g c clean =
     let a = state g.S.Store c.args.tx.now.conn.now in
     let b = state g.S.Store c.delete.new.tx.conn.now in
     let d = state g.S.Store c.delete_references.new.tx.conn.now in
-    let late : HasCleanDisk b = omega (arith, c.delete_references.ensures.survives.clean, clean) in
+    let late : HasCleanDisk b = omega (arith, c.delete_references.ensures.frame.survives.clean, clean) in
     passed_on c.from_residual-in_err-delete_references.result _ _ c.from_residual-in_err-delete_references.ensures.1
     (next_reason _ a b d _ (c.in_ok-delete.ensures.done late) c.delete.ensures.frame.survives _ (c.in_err-delete_references.ensures.cause clean))
 
@@ -188,10 +167,10 @@ returns-in_err-delete_outputs-clause-cause g c clean =
     let b = state g.S.Store c.delete.new.tx.conn.now in
     let d = state g.S.Store c.delete_references.new.tx.conn.now in
     let e = state g.S.Store c.delete_outputs.new.tx.conn.now in
-    let late : HasCleanDisk d = omega (arith, c.delete_outputs.ensures.survives.clean, clean) in
+    let late : HasCleanDisk d = omega (arith, c.delete_outputs.ensures.frame.survives.clean, clean) in
     passed_on c.from_residual-in_err-delete_outputs.result _ _ c.from_residual-in_err-delete_outputs.ensures.1
-    (next_reason _ a d e _ (steps_both a b d _ _ c.in_ok-delete.ensures.done c.delete_references.ensures.survives c.in_ok-delete_references.ensures.done late)
-    (survives_both a b d c.delete.ensures.frame.survives c.delete_references.ensures.survives) _ (c.in_err-delete_outputs.ensures.cause clean))
+    (next_reason _ a d e _ (steps_both a b d _ _ c.in_ok-delete.ensures.done c.delete_references.ensures.frame.survives c.in_ok-delete_references.ensures.done late)
+    (survives_both a b d c.delete.ensures.frame.survives c.delete_references.ensures.frame.survives) _ (c.in_err-delete_outputs.ensures.cause clean))
 
 pub returns-clause-cause : goal.returns-clause-cause
 returns-clause-cause g c clean =
@@ -200,7 +179,10 @@ returns-clause-cause g c clean =
     let d = state g.S.Store c.delete_references.new.tx.conn.now in
     let e = state g.S.Store c.delete_outputs.new.tx.conn.now in
     let f = state g.S.Store c.delete_pieces.new.tx.conn.now in
-    let late : HasCleanDisk e = omega (arith, c.delete_pieces.ensures.survives.clean, clean) in
+    let late : HasCleanDisk e = omega (arith, c.delete_pieces.ensures.frame.survives.clean, clean) in
     as_reason _ _ (next_reason _ a e f _
-    (steps_both a d e _ _ (steps_both a b d _ _ c.in_ok-delete.ensures.done c.delete_references.ensures.survives c.in_ok-delete_references.ensures.done) c.delete_outputs.ensures.survives c.in_ok-delete_outputs.ensures.done late)
-    (survives_both a d e (survives_both a b d c.delete.ensures.frame.survives c.delete_references.ensures.survives) c.delete_outputs.ensures.survives)) c.delete_pieces.result (c.delete_pieces.ensures.cause clean)
+    (steps_both a d e _ _ (steps_both a b d _ _ c.in_ok-delete.ensures.done c.delete_references.ensures.frame.survives c.in_ok-delete_references.ensures.done) c.delete_outputs.ensures.frame.survives c.in_ok-delete_outputs.ensures.done late)
+    (survives_both a d e (survives_both a b d c.delete.ensures.frame.survives c.delete_references.ensures.frame.survives) c.delete_outputs.ensures.frame.survives)) c.delete_pieces.result (c.delete_pieces.ensures.cause clean)
+
+pub returns-in_default-clause-frame : goal.returns-in_default-clause-frame
+returns-in_default-clause-frame g c = record { same_reference = c.delete.ensures.frame.same_reference; failed = λ clean. tt; survives = c.delete.ensures.frame.survives }

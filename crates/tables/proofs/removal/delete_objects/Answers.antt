@@ -12,6 +12,7 @@ use Rattle.tables.proofs.Removed.{without_none, without_next}
 use Rattle.tables_sql.proofs.TestFailures.{passed_on, survives_both}
 use Rattle.tables.proofs.Transactions.{pieces_stand}
 use Rattle.tables_make.proofs.Reasons.{next_reason}
+use Rattle.tables_make.proofs.Inside.{done_fails}
 use Rattle.tables.proofs.removal.delete_objects.Goals as goal
 
 pub paths-init : goal.paths-init
@@ -37,10 +38,10 @@ paths-preserved g c =
     let split : left ≡ item ∷ rest = left_at all c.paths.path-index item c.paths-test.true c.path-item.is in
     let same : without_objects left was ≡ without_objects rest (without_object item was) = ap (λ (xs : List Path). without_objects xs was) split ∙ sym (without_next item rest was) in
     record {
-      same_reference = c.in_ok-delete_object.ensures.same_reference ∙ c.paths.invariant.same_reference;
-      goes = λ clean. goes_next without_objects all first now next left rest _ (c.paths.invariant.goes (clean_before now next _ c.delete_object.ensures.survives clean)) (c.in_ok-delete_object.ensures.done clean) same;
-      covers = λ clean. subst (Covers c.args.outline.now) (sym (c.in_ok-delete_object.ensures.done clean).contents) (covers_less c.args.outline.now item was (c.paths.invariant.covers (clean_before now next _ c.delete_object.ensures.survives clean)));
-      survives = survives_both first now next c.paths.invariant.survives c.delete_object.ensures.survives;
+      same_reference = c.in_ok-delete_object.ensures.frame.same_reference ∙ c.paths.invariant.same_reference;
+      goes = λ clean. goes_next without_objects all first now next left rest _ (c.paths.invariant.goes (clean_before now next _ c.delete_object.ensures.frame.survives clean)) (c.in_ok-delete_object.ensures.done clean) same;
+      covers = λ clean. subst (Covers c.args.outline.now) (sym (c.in_ok-delete_object.ensures.done clean).contents) (covers_less c.args.outline.now item was (c.paths.invariant.covers (clean_before now next _ c.delete_object.ensures.frame.survives clean)));
+      survives = survives_both first now next c.paths.invariant.survives c.delete_object.ensures.frame.survives;
     }
 
 pub delete_object-requires-clause-exists : goal.delete_object-requires-clause-exists
@@ -65,4 +66,12 @@ returns-in_err-delete_object-clause-cause g c clean =
     let now = state g.S.Store c.paths.tx.conn.now in
     let next = state g.S.Store c.delete_object.new.tx.conn.now in
     passed_on c.from_residual.result _ _ c.from_residual.ensures.1
-    (next_reason _ first now next _ (c.paths.invariant.goes (clean_before now next _ c.delete_object.ensures.survives clean)).changes c.paths.invariant.survives _ (c.in_err-delete_object.ensures.cause clean))
+    (next_reason _ first now next _ (c.paths.invariant.goes (clean_before now next _ c.delete_object.ensures.frame.survives clean)).changes c.paths.invariant.survives _ (c.in_err-delete_object.ensures.cause clean))
+
+pub returns-in_err-delete_object-clause-frame : goal.returns-in_err-delete_object-clause-frame
+returns-in_err-delete_object-clause-frame g c =
+    done_fails g.S.Store c.args.tx.now.conn c.paths.tx.conn c.delete_object.new.tx.conn _ c.paths.invariant.same_reference (λ clean. (c.paths.invariant.goes clean).changes) c.paths.invariant.survives
+    c.from_residual.result c.delete_object.ensures.frame.same_reference c.in_err-delete_object.ensures.frame.failed c.delete_object.ensures.frame.survives
+
+pub returns-clause-frame : goal.returns-clause-frame
+returns-clause-frame g c = record { same_reference = c.paths.invariant.same_reference; failed = λ clean. tt; survives = c.paths.invariant.survives }

@@ -16,6 +16,7 @@ use Rattle.tables_sql.proofs.TestFailures.{passed_on, survives_both}
 use Rattle.tables_sql.proofs.Orders.{pair_total}
 use Rattle.tables.proofs.Free.{free_next, runtime_free}
 use Rattle.tables_make.proofs.Reasons.{is_none, next_reason, put_reason}
+use Rattle.tables_make.proofs.Inside.{done_fails}
 use Rattle.tables.proofs.runtime.put_runtime.Goals as goal
 
 pub roots-init : goal.roots-init
@@ -77,3 +78,11 @@ returns-in_err-insert-clause-cause g c clean =
     (next_reason _ first now next _ (c.roots.invariant.goes early).changes c.roots.invariant.survives _
     (put_reason (RowsOf RuntimeRow (map labelled_bytes c.args.roots.now.keys)) now next runtime row _ (subst (λ ks. RowsOf RuntimeRow (map labelled_bytes ks) runtime row) same (c.roots.invariant.among runtime row (subst (λ ps. RowsOf RuntimeRow ps runtime row) (sym split) (inl (refl, is)))))
     (is_none _ (ap₂ (λ l t. finite.get was.runtime (l, t)) c.as_str.ensures.value c.as_str-in-roots.ensures.value ∙ free.free.0)) _ (c.in_err-insert.ensures.cause clean)))
+
+pub returns-in_err-insert-clause-frame : goal.returns-in_err-insert-clause-frame
+returns-in_err-insert-clause-frame g c =
+    done_fails g.S.Store c.args.tx.now.conn c.roots.tx.conn c.insert.new.tx.conn _ c.roots.invariant.same_reference (λ clean. (c.roots.invariant.goes clean).changes) c.roots.invariant.survives
+    c.from_residual.result c.insert.ensures.frame.same_reference c.in_err-insert.ensures.frame.failed c.insert.ensures.frame.survives
+
+pub returns-clause-frame : goal.returns-clause-frame
+returns-clause-frame g c = record { same_reference = c.roots.invariant.same_reference; failed = λ clean. tt; survives = c.roots.invariant.survives }

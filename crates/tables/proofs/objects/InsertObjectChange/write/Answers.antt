@@ -36,49 +36,39 @@ put_references-requires-clause-under_way g c clean =
 pub put_references-requires-clause-is_open : goal.put_references-requires-clause-is_open
 put_references-requires-clause-is_open g c clean = (c.in_ok-insert.ensures.done clean).is_open
 
-pub returns-in_err-put_references-clause-same_reference : goal.returns-in_err-put_references-clause-same_reference
-returns-in_err-put_references-clause-same_reference g c = c.put_references.ensures.same_reference ∙ c.insert.ensures.frame.same_reference
-
-pub returns-in_err-put_references-clause-failed : goal.returns-in_err-put_references-clause-failed
-returns-in_err-put_references-clause-failed g c clean =
-    err_kept (state g.S.Store c.args.tx.now.conn.now) (state g.S.Store c.insert.new.tx.conn.now) (state g.S.Store c.put_references.new.tx.conn.now) _ c.from_residual-in_err-put_references.result c.in_ok-insert.ensures.done c.put_references.ensures.survives (c.in_err-put_references.ensures.failed clean) clean
-
-pub returns-in_err-put_references-clause-survives : goal.returns-in_err-put_references-clause-survives
-returns-in_err-put_references-clause-survives g c =
-    survives_both (state g.S.Store c.args.tx.now.conn.now) (state g.S.Store c.insert.new.tx.conn.now) (state g.S.Store c.put_references.new.tx.conn.now) c.insert.ensures.frame.survives c.put_references.ensures.survives
+pub returns-in_err-put_references-clause-frame : goal.returns-in_err-put_references-clause-frame
+returns-in_err-put_references-clause-frame g c =
+    record {
+      same_reference = c.put_references.ensures.frame.same_reference ∙ c.insert.ensures.frame.same_reference;
+      failed = λ clean. err_kept (state g.S.Store c.args.tx.now.conn.now) (state g.S.Store c.insert.new.tx.conn.now) (state g.S.Store c.put_references.new.tx.conn.now) _ c.from_residual-in_err-put_references.result c.in_ok-insert.ensures.done c.put_references.ensures.frame.survives (c.in_err-put_references.ensures.frame.failed clean) clean;
+      survives = survives_both (state g.S.Store c.args.tx.now.conn.now) (state g.S.Store c.insert.new.tx.conn.now) (state g.S.Store c.put_references.new.tx.conn.now) c.insert.ensures.frame.survives c.put_references.ensures.frame.survives;
+    }
 
 pub put_outputs-requires-clause-under_way : goal.put_outputs-requires-clause-under_way
 put_outputs-requires-clause-under_way g c clean =
     let a = state g.S.Store c.args.tx.now.conn.now in
     let b = state g.S.Store c.insert.new.tx.conn.now in
     let d = state g.S.Store c.put_references.new.tx.conn.now in
-    under_after a d _ (steps_both a b d _ _ c.in_ok-insert.ensures.done c.put_references.ensures.survives c.in_ok-put_references.ensures.done clean)
+    under_after a d _ (steps_both a b d _ _ c.in_ok-insert.ensures.done c.put_references.ensures.frame.survives c.in_ok-put_references.ensures.done clean)
 
 pub put_outputs-requires-clause-is_open : goal.put_outputs-requires-clause-is_open
 put_outputs-requires-clause-is_open g c clean =
     let a = state g.S.Store c.args.tx.now.conn.now in
     let b = state g.S.Store c.insert.new.tx.conn.now in
     let d = state g.S.Store c.put_references.new.tx.conn.now in
-    (steps_both a b d _ _ c.in_ok-insert.ensures.done c.put_references.ensures.survives c.in_ok-put_references.ensures.done clean).is_open
+    (steps_both a b d _ _ c.in_ok-insert.ensures.done c.put_references.ensures.frame.survives c.in_ok-put_references.ensures.done clean).is_open
 
-pub returns-in_err-put_outputs-clause-same_reference : goal.returns-in_err-put_outputs-clause-same_reference
-returns-in_err-put_outputs-clause-same_reference g c = c.put_outputs.ensures.same_reference ∙ c.put_references.ensures.same_reference ∙ c.insert.ensures.frame.same_reference
-
-pub returns-in_err-put_outputs-clause-failed : goal.returns-in_err-put_outputs-clause-failed
-returns-in_err-put_outputs-clause-failed g c clean =
+pub returns-in_err-put_outputs-clause-frame : goal.returns-in_err-put_outputs-clause-frame
+returns-in_err-put_outputs-clause-frame g c =
     let a = state g.S.Store c.args.tx.now.conn.now in
     let b = state g.S.Store c.insert.new.tx.conn.now in
     let d = state g.S.Store c.put_references.new.tx.conn.now in
     let e = state g.S.Store c.put_outputs.new.tx.conn.now in
-    err_kept a d e _ c.from_residual-in_err-put_outputs.result (steps_both a b d _ _ c.in_ok-insert.ensures.done c.put_references.ensures.survives c.in_ok-put_references.ensures.done) c.put_outputs.ensures.survives (c.in_err-put_outputs.ensures.failed clean) clean
-
-pub returns-in_err-put_outputs-clause-survives : goal.returns-in_err-put_outputs-clause-survives
-returns-in_err-put_outputs-clause-survives g c =
-    let a = state g.S.Store c.args.tx.now.conn.now in
-    let b = state g.S.Store c.insert.new.tx.conn.now in
-    let d = state g.S.Store c.put_references.new.tx.conn.now in
-    let e = state g.S.Store c.put_outputs.new.tx.conn.now in
-    survives_both a d e (survives_both a b d c.insert.ensures.frame.survives c.put_references.ensures.survives) c.put_outputs.ensures.survives
+    record {
+      same_reference = c.put_outputs.ensures.frame.same_reference ∙ c.put_references.ensures.frame.same_reference ∙ c.insert.ensures.frame.same_reference;
+      failed = λ clean. err_kept a d e _ c.from_residual-in_err-put_outputs.result (steps_both a b d _ _ c.in_ok-insert.ensures.done c.put_references.ensures.frame.survives c.in_ok-put_references.ensures.done) c.put_outputs.ensures.frame.survives (c.in_err-put_outputs.ensures.frame.failed clean) clean;
+      survives = survives_both a d e (survives_both a b d c.insert.ensures.frame.survives c.put_references.ensures.frame.survives) c.put_outputs.ensures.frame.survives;
+    }
 
 pub put_pieces-requires-clause-under_way : goal.put_pieces-requires-clause-under_way
 put_pieces-requires-clause-under_way g c clean =
@@ -86,7 +76,7 @@ put_pieces-requires-clause-under_way g c clean =
     let b = state g.S.Store c.insert.new.tx.conn.now in
     let d = state g.S.Store c.put_references.new.tx.conn.now in
     let e = state g.S.Store c.put_outputs.new.tx.conn.now in
-    under_after a e _ (steps_both a d e _ _ (steps_both a b d _ _ c.in_ok-insert.ensures.done c.put_references.ensures.survives c.in_ok-put_references.ensures.done) c.put_outputs.ensures.survives c.in_ok-put_outputs.ensures.done clean)
+    under_after a e _ (steps_both a d e _ _ (steps_both a b d _ _ c.in_ok-insert.ensures.done c.put_references.ensures.frame.survives c.in_ok-put_references.ensures.done) c.put_outputs.ensures.frame.survives c.in_ok-put_outputs.ensures.done clean)
 
 pub put_pieces-requires-clause-is_open : goal.put_pieces-requires-clause-is_open
 put_pieces-requires-clause-is_open g c clean =
@@ -94,7 +84,7 @@ put_pieces-requires-clause-is_open g c clean =
     let b = state g.S.Store c.insert.new.tx.conn.now in
     let d = state g.S.Store c.put_references.new.tx.conn.now in
     let e = state g.S.Store c.put_outputs.new.tx.conn.now in
-    (steps_both a d e _ _ (steps_both a b d _ _ c.in_ok-insert.ensures.done c.put_references.ensures.survives c.in_ok-put_references.ensures.done) c.put_outputs.ensures.survives c.in_ok-put_outputs.ensures.done clean).is_open
+    (steps_both a d e _ _ (steps_both a b d _ _ c.in_ok-insert.ensures.done c.put_references.ensures.frame.survives c.in_ok-put_references.ensures.done) c.put_outputs.ensures.frame.survives c.in_ok-put_outputs.ensures.done clean).is_open
 
 pub put_pieces-requires-clause-exists : goal.put_pieces-requires-clause-exists
 put_pieces-requires-clause-exists g c clean =
@@ -102,11 +92,20 @@ put_pieces-requires-clause-exists g c clean =
     let b = state g.S.Store c.insert.new.tx.conn.now in
     let d = state g.S.Store c.put_references.new.tx.conn.now in
     let e = state g.S.Store c.put_outputs.new.tx.conn.now in
-    pieces_stand a e _ (steps_both a d e _ _ (steps_both a b d _ _ c.in_ok-insert.ensures.done c.put_references.ensures.survives c.in_ok-put_references.ensures.done) c.put_outputs.ensures.survives c.in_ok-put_outputs.ensures.done)
-    (survives_both a d e (survives_both a b d c.insert.ensures.frame.survives c.put_references.ensures.survives) c.put_outputs.ensures.survives) (λ early is_open. (c.requires.whole early is_open).pieces) clean
+    pieces_stand a e _ (steps_both a d e _ _ (steps_both a b d _ _ c.in_ok-insert.ensures.done c.put_references.ensures.frame.survives c.in_ok-put_references.ensures.done) c.put_outputs.ensures.frame.survives c.in_ok-put_outputs.ensures.done)
+    (survives_both a d e (survives_both a b d c.insert.ensures.frame.survives c.put_references.ensures.frame.survives) c.put_outputs.ensures.frame.survives) (λ early is_open. (c.requires.whole early is_open).pieces) clean
 
-pub returns-clause-same_reference : goal.returns-clause-same_reference
-returns-clause-same_reference g c = c.put_pieces.ensures.same_reference ∙ c.put_outputs.ensures.same_reference ∙ c.put_references.ensures.same_reference ∙ c.insert.ensures.frame.same_reference
+pub returns-clause-frame : goal.returns-clause-frame
+returns-clause-frame g c =
+    let a = state g.S.Store c.args.tx.now.conn.now in
+    let b = state g.S.Store c.insert.new.tx.conn.now in
+    let d = state g.S.Store c.put_references.new.tx.conn.now in
+    let e = state g.S.Store c.put_outputs.new.tx.conn.now in
+    record {
+      same_reference = c.put_pieces.ensures.frame.same_reference ∙ c.put_outputs.ensures.frame.same_reference ∙ c.put_references.ensures.frame.same_reference ∙ c.insert.ensures.frame.same_reference;
+      failed = failed_next a e (state g.S.Store c.put_pieces.new.tx.conn.now) _ (λ x. x) (steps_both a d e _ _ (steps_both a b d _ _ c.in_ok-insert.ensures.done c.put_references.ensures.frame.survives c.in_ok-put_references.ensures.done) c.put_outputs.ensures.frame.survives c.in_ok-put_outputs.ensures.done) c.put_pieces.ensures.frame.survives c.put_pieces.result c.put_pieces.ensures.frame.failed;
+      survives = survives_both a e (state g.S.Store c.put_pieces.new.tx.conn.now) (survives_both a d e (survives_both a b d c.insert.ensures.frame.survives c.put_references.ensures.frame.survives) c.put_outputs.ensures.frame.survives) c.put_pieces.ensures.frame.survives;
+    }
 
 pub returns-clause-done : goal.returns-clause-done
 returns-clause-done g c =
@@ -115,25 +114,8 @@ returns-clause-done g c =
     let b = state g.S.Store c.insert.new.tx.conn.now in
     let d = state g.S.Store c.put_references.new.tx.conn.now in
     let e = state g.S.Store c.put_outputs.new.tx.conn.now in
-    done_both a e (state g.S.Store c.put_pieces.new.tx.conn.now) _ _ (steps_both a d e _ _ (steps_both a b d _ _ c.in_ok-insert.ensures.done c.put_references.ensures.survives c.in_ok-put_references.ensures.done) c.put_outputs.ensures.survives c.in_ok-put_outputs.ensures.done) c.put_pieces.ensures.survives
+    done_both a e (state g.S.Store c.put_pieces.new.tx.conn.now) _ _ (steps_both a d e _ _ (steps_both a b d _ _ c.in_ok-insert.ensures.done c.put_references.ensures.frame.survives c.in_ok-put_references.ensures.done) c.put_outputs.ensures.frame.survives c.in_ok-put_outputs.ensures.done) c.put_pieces.ensures.frame.survives
     c.put_pieces.result _ (λ x i. put_object it.base.now (stored (c.first_of.ensures i) (c.hash.ensures i) it.texts.now.deriver it.texts.now.ca) (c.references.ensures i) ((ap₂ zip c.names.ensures c.outputs.ensures ∙ zipped (finite.entries it.object.now.outputs)) i) (further_pieces it.nar.now) x) c.put_pieces.ensures.done
-
-pub returns-clause-failed : goal.returns-clause-failed
-returns-clause-failed g c =
-    let a = state g.S.Store c.args.tx.now.conn.now in
-    let b = state g.S.Store c.insert.new.tx.conn.now in
-    let d = state g.S.Store c.put_references.new.tx.conn.now in
-    let e = state g.S.Store c.put_outputs.new.tx.conn.now in
-    failed_next a e (state g.S.Store c.put_pieces.new.tx.conn.now) _ (λ x. x) (steps_both a d e _ _ (steps_both a b d _ _ c.in_ok-insert.ensures.done c.put_references.ensures.survives c.in_ok-put_references.ensures.done) c.put_outputs.ensures.survives c.in_ok-put_outputs.ensures.done) c.put_pieces.ensures.survives
-    c.put_pieces.result c.put_pieces.ensures.failed
-
-pub returns-clause-survives : goal.returns-clause-survives
-returns-clause-survives g c =
-    let a = state g.S.Store c.args.tx.now.conn.now in
-    let b = state g.S.Store c.insert.new.tx.conn.now in
-    let d = state g.S.Store c.put_references.new.tx.conn.now in
-    let e = state g.S.Store c.put_outputs.new.tx.conn.now in
-    survives_both a e (state g.S.Store c.put_pieces.new.tx.conn.now) (survives_both a d e (survives_both a b d c.insert.ensures.frame.survives c.put_references.ensures.survives) c.put_outputs.ensures.survives) c.put_pieces.ensures.survives
 
 -- ---- nothing of it is there
 
@@ -152,8 +134,8 @@ put_outputs-requires-clause-free g c clean =
     let a = state g.S.Store c.args.tx.now.conn.now in
     let b = state g.S.Store c.insert.new.tx.conn.now in
     let d = state g.S.Store c.put_references.new.tx.conn.now in
-    let done = steps_both a b d _ _ c.in_ok-insert.ensures.done c.put_references.ensures.survives c.in_ok-put_references.ensures.done clean in
-    let early : HasCleanDisk a = omega (arith, c.insert.ensures.frame.survives.clean, c.put_references.ensures.survives.clean, clean) in
+    let done = steps_both a b d _ _ c.in_ok-insert.ensures.done c.put_references.ensures.frame.survives c.in_ok-put_references.ensures.done clean in
+    let early : HasCleanDisk a = omega (arith, c.insert.ensures.frame.survives.clean, c.put_references.ensures.frame.survives.clean, clean) in
     let entries = finite.entries it.object.now.outputs in
     subst₂ (λ (x : Contents) es. AreFree x.outs (map (λ (o : List ℕ × Path). (it.base.now, o.0)) es)) (sym done.contents) (sym (ap₂ zip c.names.ensures c.outputs.ensures ∙ zipped entries))
     (outputs_free it.base.now (contents_of a.now).outs entries (c.requires.fits early done.was_open).outputs (finite.entries_sorted it.object.now.outputs))
@@ -165,8 +147,8 @@ put_pieces-requires-clause-free g c clean =
     let b = state g.S.Store c.insert.new.tx.conn.now in
     let d = state g.S.Store c.put_references.new.tx.conn.now in
     let e = state g.S.Store c.put_outputs.new.tx.conn.now in
-    let done = steps_both a d e _ _ (steps_both a b d _ _ c.in_ok-insert.ensures.done c.put_references.ensures.survives c.in_ok-put_references.ensures.done) c.put_outputs.ensures.survives c.in_ok-put_outputs.ensures.done clean in
-    let early : HasCleanDisk a = omega (arith, c.insert.ensures.frame.survives.clean, c.put_references.ensures.survives.clean, c.put_outputs.ensures.survives.clean, clean) in
+    let done = steps_both a d e _ _ (steps_both a b d _ _ c.in_ok-insert.ensures.done c.put_references.ensures.frame.survives c.in_ok-put_references.ensures.done) c.put_outputs.ensures.frame.survives c.in_ok-put_outputs.ensures.done clean in
+    let early : HasCleanDisk a = omega (arith, c.insert.ensures.frame.survives.clean, c.put_references.ensures.frame.survives.clean, c.put_outputs.ensures.frame.survives.clean, clean) in
     subst (λ (x : Contents). AreFree x.pieces (map (λ (p : ℤ × List ℕ). (it.base.now, p.0)) (further_pieces it.nar.now))) (sym done.contents)
     (pieces_free it.base.now (contents_of a.now).pieces (further_pieces it.nar.now) (c.requires.fits early done.was_open).pieces (rising it.nar.now 1 (drop piece_size it.nar.now)))
 
@@ -188,7 +170,7 @@ returns-in_err-put_references-clause-cause g c clean =
     let a = state g.S.Store c.args.tx.now.conn.now in
     let b = state g.S.Store c.insert.new.tx.conn.now in
     let d = state g.S.Store c.put_references.new.tx.conn.now in
-    let late : HasCleanDisk b = omega (arith, c.put_references.ensures.survives.clean, clean) in
+    let late : HasCleanDisk b = omega (arith, c.put_references.ensures.frame.survives.clean, clean) in
     passed_on c.from_residual-in_err-put_references.result _ _ c.from_residual-in_err-put_references.ensures.1
     (next_reason _ a b d _ (c.in_ok-insert.ensures.done late) c.insert.ensures.frame.survives _
     (more_reason (RowsOf (ReferenceRow it.base.now) c.references.result.now) (ObjectRows it.base.now (stored (row_part it.nar.now) it.object.now.hash it.texts.now.deriver it.texts.now.ca) (finite.keys it.object.now.references) (finite.entries it.object.now.outputs) (further_pieces it.nar.now)) (λ t values h. inr (inl (subst (λ ts. RowsOf (ReferenceRow it.base.now) ts t values) c.references.ensures h))) b d _ (c.in_err-put_references.ensures.cause clean)))
@@ -200,10 +182,10 @@ returns-in_err-put_outputs-clause-cause g c clean =
     let b = state g.S.Store c.insert.new.tx.conn.now in
     let d = state g.S.Store c.put_references.new.tx.conn.now in
     let e = state g.S.Store c.put_outputs.new.tx.conn.now in
-    let late : HasCleanDisk d = omega (arith, c.put_outputs.ensures.survives.clean, clean) in
+    let late : HasCleanDisk d = omega (arith, c.put_outputs.ensures.frame.survives.clean, clean) in
     let entries = finite.entries it.object.now.outputs in
     passed_on c.from_residual-in_err-put_outputs.result _ _ c.from_residual-in_err-put_outputs.ensures.1
-    (next_reason _ a d e _ (steps_both a b d _ _ c.in_ok-insert.ensures.done c.put_references.ensures.survives c.in_ok-put_references.ensures.done late) (survives_both a b d c.insert.ensures.frame.survives c.put_references.ensures.survives) _
+    (next_reason _ a d e _ (steps_both a b d _ _ c.in_ok-insert.ensures.done c.put_references.ensures.frame.survives c.in_ok-put_references.ensures.done late) (survives_both a b d c.insert.ensures.frame.survives c.put_references.ensures.frame.survives) _
     (more_reason (RowsOf (OutputRow it.base.now) (zip (map string_bytes c.names.result.now) c.outputs.result.now)) (ObjectRows it.base.now (stored (row_part it.nar.now) it.object.now.hash it.texts.now.deriver it.texts.now.ca) (finite.keys it.object.now.references) (finite.entries it.object.now.outputs) (further_pieces it.nar.now)) (λ t values h. inr (inr (inl (subst (λ es. RowsOf (OutputRow it.base.now) es t values) (ap₂ zip c.names.ensures c.outputs.ensures ∙ zipped entries) h)))) d e _ (c.in_err-put_outputs.ensures.cause clean)))
 
 pub returns-clause-cause : goal.returns-clause-cause
@@ -214,6 +196,6 @@ returns-clause-cause g c clean =
     let d = state g.S.Store c.put_references.new.tx.conn.now in
     let e = state g.S.Store c.put_outputs.new.tx.conn.now in
     let f = state g.S.Store c.put_pieces.new.tx.conn.now in
-    let late : HasCleanDisk e = omega (arith, c.put_pieces.ensures.survives.clean, clean) in
-    as_reason _ _ (λ why h. next_reason _ a e f _ (steps_both a d e _ _ (steps_both a b d _ _ c.in_ok-insert.ensures.done c.put_references.ensures.survives c.in_ok-put_references.ensures.done) c.put_outputs.ensures.survives c.in_ok-put_outputs.ensures.done late) (survives_both a d e (survives_both a b d c.insert.ensures.frame.survives c.put_references.ensures.survives) c.put_outputs.ensures.survives) why
+    let late : HasCleanDisk e = omega (arith, c.put_pieces.ensures.frame.survives.clean, clean) in
+    as_reason _ _ (λ why h. next_reason _ a e f _ (steps_both a d e _ _ (steps_both a b d _ _ c.in_ok-insert.ensures.done c.put_references.ensures.frame.survives c.in_ok-put_references.ensures.done) c.put_outputs.ensures.frame.survives c.in_ok-put_outputs.ensures.done late) (survives_both a d e (survives_both a b d c.insert.ensures.frame.survives c.put_references.ensures.frame.survives) c.put_outputs.ensures.frame.survives) why
     (more_reason (RowsOf (PieceRow it.base.now) (further_pieces it.nar.now)) (ObjectRows it.base.now (stored (row_part it.nar.now) it.object.now.hash it.texts.now.deriver it.texts.now.ca) (finite.keys it.object.now.references) (finite.entries it.object.now.outputs) (further_pieces it.nar.now)) (λ t values k. inr (inr (inr k))) e f why h)) c.put_pieces.result (c.put_pieces.ensures.cause clean)

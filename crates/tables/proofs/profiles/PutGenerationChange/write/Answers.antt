@@ -31,12 +31,13 @@ returns-in_err-put_current-clause-cause g c clean =
     passed_on c.from_residual.result _ _ c.from_residual.ensures.1
     (more_reason (ProfileRow (it.owner.now, it.name.now) it.current) (GenerationRows (it.owner.now, it.name.now) it.number it.target.now it.current) (λ t values h. inl h) (state g.S.Store c.args.tx.now.conn.now) (state g.S.Store c.put_current.new.tx.conn.now) _ (c.in_err-put_current.ensures.cause clean))
 
-pub returns-in_err-delete-clause-same_reference : goal.returns-in_err-delete-clause-same_reference
-returns-in_err-delete-clause-same_reference g c = c.delete.ensures.frame.same_reference ∙ c.put_current.ensures.same_reference
-
-pub returns-in_err-delete-clause-failed : goal.returns-in_err-delete-clause-failed
-returns-in_err-delete-clause-failed g c clean =
-    err_kept (state g.S.Store c.args.tx.now.conn.now) (state g.S.Store c.put_current.new.tx.conn.now) (state g.S.Store c.delete.new.tx.conn.now) _ c.from_residual-in_err-delete.result c.in_ok-put_current.ensures.done c.delete.ensures.frame.survives (c.in_err-delete.ensures.frame.failed clean) clean
+pub returns-in_err-delete-clause-frame : goal.returns-in_err-delete-clause-frame
+returns-in_err-delete-clause-frame g c =
+    record {
+      same_reference = c.delete.ensures.frame.same_reference ∙ c.put_current.ensures.frame.same_reference;
+      failed = λ clean. err_kept (state g.S.Store c.args.tx.now.conn.now) (state g.S.Store c.put_current.new.tx.conn.now) (state g.S.Store c.delete.new.tx.conn.now) _ c.from_residual-in_err-delete.result c.in_ok-put_current.ensures.done c.delete.ensures.frame.survives (c.in_err-delete.ensures.frame.failed clean) clean;
+      survives = survives_both (state g.S.Store c.args.tx.now.conn.now) (state g.S.Store c.put_current.new.tx.conn.now) (state g.S.Store c.delete.new.tx.conn.now) c.put_current.ensures.frame.survives c.delete.ensures.frame.survives;
+    }
 
 pub returns-in_err-delete-clause-cause : goal.returns-in_err-delete-clause-cause
 returns-in_err-delete-clause-cause g c clean =
@@ -44,14 +45,18 @@ returns-in_err-delete-clause-cause g c clean =
     let b = state g.S.Store c.put_current.new.tx.conn.now in
     let d = state g.S.Store c.delete.new.tx.conn.now in
     let early : HasCleanDisk b = omega (arith, c.delete.ensures.frame.survives.clean, clean) in
-    passed_on c.from_residual-in_err-delete.result _ _ c.from_residual-in_err-delete.ensures.1 (next_reason _ a b d _ (c.in_ok-put_current.ensures.done early) c.put_current.ensures.survives _ (removal_reason _ b d _ (c.in_err-delete.ensures.cause clean)))
+    passed_on c.from_residual-in_err-delete.result _ _ c.from_residual-in_err-delete.ensures.1 (next_reason _ a b d _ (c.in_ok-put_current.ensures.done early) c.put_current.ensures.frame.survives _ (removal_reason _ b d _ (c.in_err-delete.ensures.cause clean)))
 
-pub returns-in_err-delete-clause-survives : goal.returns-in_err-delete-clause-survives
-returns-in_err-delete-clause-survives g c =
-    survives_both (state g.S.Store c.args.tx.now.conn.now) (state g.S.Store c.put_current.new.tx.conn.now) (state g.S.Store c.delete.new.tx.conn.now) c.put_current.ensures.survives c.delete.ensures.frame.survives
-
-pub returns-clause-same_reference : goal.returns-clause-same_reference
-returns-clause-same_reference g c = c.insert.ensures.frame.same_reference ∙ c.delete.ensures.frame.same_reference ∙ c.put_current.ensures.same_reference
+pub returns-clause-frame : goal.returns-clause-frame
+returns-clause-frame g c =
+    let a = state g.S.Store c.args.tx.now.conn.now in
+    let b = state g.S.Store c.put_current.new.tx.conn.now in
+    let d = state g.S.Store c.delete.new.tx.conn.now in
+    record {
+      same_reference = c.insert.ensures.frame.same_reference ∙ c.delete.ensures.frame.same_reference ∙ c.put_current.ensures.frame.same_reference;
+      failed = failed_next a d (state g.S.Store c.insert.new.tx.conn.now) _ (λ x. x) (steps_both a b d _ _ c.in_ok-put_current.ensures.done c.delete.ensures.frame.survives c.in_ok-delete.ensures.done) c.insert.ensures.frame.survives c.insert.result c.insert.ensures.frame.failed;
+      survives = survives_both a d (state g.S.Store c.insert.new.tx.conn.now) (survives_both a b d c.put_current.ensures.frame.survives c.delete.ensures.frame.survives) c.insert.ensures.frame.survives;
+    }
 
 pub returns-clause-done : goal.returns-clause-done
 returns-clause-done g c =
@@ -64,14 +69,6 @@ returns-clause-done g c =
     c.insert.result _ (λ (x : Contents). ap (λ m. record x { profiles = finite.insert x.profiles (it.owner.now, it.name.now) (pos it.current); generations = m })
     (ap (λ m. finite.insert m key it.target.now) (without_triple x.generations key.0 key.1 key.2) ∙ put_over triple_total triple_antisymmetric x.generations key it.target.now)) c.insert.ensures.done
 
-pub returns-clause-failed : goal.returns-clause-failed
-returns-clause-failed g c =
-    let a = state g.S.Store c.args.tx.now.conn.now in
-    let b = state g.S.Store c.put_current.new.tx.conn.now in
-    let d = state g.S.Store c.delete.new.tx.conn.now in
-    failed_next a d (state g.S.Store c.insert.new.tx.conn.now) _ (λ x. x) (steps_both a b d _ _ c.in_ok-put_current.ensures.done c.delete.ensures.frame.survives c.in_ok-delete.ensures.done) c.insert.ensures.frame.survives
-    c.insert.result c.insert.ensures.frame.failed
-
 pub returns-clause-cause : goal.returns-clause-cause
 returns-clause-cause g c clean =
     let it = c.args.self.now in
@@ -82,13 +79,6 @@ returns-clause-cause g c clean =
     let n = state g.S.Store c.insert.new.tx.conn.now in
     let early : HasCleanDisk d = omega (arith, c.insert.ensures.frame.survives.clean, clean) in
     let done = steps_both a b d _ _ c.in_ok-put_current.ensures.done c.delete.ensures.frame.survives c.in_ok-delete.ensures.done early in
-    as_reason _ _ (λ e h. next_reason _ a d n _ done (survives_both a b d c.put_current.ensures.survives c.delete.ensures.frame.survives) e
+    as_reason _ _ (λ e h. next_reason _ a d n _ done (survives_both a b d c.put_current.ensures.frame.survives c.delete.ensures.frame.survives) e
     (put_reason _ d n _ _ _ (inr (refl, refl)) (is_none _ (ap (λ (x : Contents). finite.get x.generations key) done.contents
     ∙ ap (λ m. finite.get m key) (without_triple _ key.0 key.1 key.2) ∙ get-gone triple_total triple_antisymmetric _ key)) e h)) c.insert.result (c.insert.ensures.cause clean)
-
-pub returns-clause-survives : goal.returns-clause-survives
-returns-clause-survives g c =
-    let a = state g.S.Store c.args.tx.now.conn.now in
-    let b = state g.S.Store c.put_current.new.tx.conn.now in
-    let d = state g.S.Store c.delete.new.tx.conn.now in
-    survives_both a d (state g.S.Store c.insert.new.tx.conn.now) (survives_both a b d c.put_current.ensures.survives c.delete.ensures.frame.survives) c.insert.ensures.frame.survives

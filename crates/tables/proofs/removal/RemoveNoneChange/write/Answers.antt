@@ -14,3 +14,6 @@ returns-clause-done g c clean =
 pub returns-in_err-_none-clause-cause : goal.returns-in_err-_none-clause-cause
 returns-in_err-_none-clause-cause g c clean =
     passed_on c.from_residual.result _ _ c.from_residual.ensures.1 (removal_reason _ (state g.S.Store c.args.tx.now.conn.now) (state g.S.Store c.get_within.new.tx.conn.now) _ (c.in_err-_none.ensures.cause clean))
+
+pub returns-clause-frame : goal.returns-clause-frame
+returns-clause-frame g c = record { same_reference = c.get_within.ensures.frame.same_reference; failed = λ clean. tt; survives = c.get_within.ensures.frame.survives }

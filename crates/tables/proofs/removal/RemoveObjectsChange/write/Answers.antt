@@ -27,30 +27,26 @@ delete_object-requires-clause-covers g c clean is_open = c.requires.fits clean i
 pub delete_objects-requires-clause-covers : goal.delete_objects-requires-clause-covers
 delete_objects-requires-clause-covers g c clean =
     let it = c.in_ok-delete_object.ensures.done clean in
-    let early : HasCleanDisk (state g.S.Store c.args.tx.now.conn.now) = omega (arith, c.delete_object.ensures.survives.clean, clean) in
+    let early : HasCleanDisk (state g.S.Store c.args.tx.now.conn.now) = omega (arith, c.delete_object.ensures.frame.survives.clean, clean) in
     subst (Covers c.args.self.now.outline.now) (sym it.contents) (covers_less c.args.self.now.outline.now c.args.self.now.first.now _ (c.requires.fits early it.was_open))
 
 pub delete_objects-requires-clause-exists : goal.delete_objects-requires-clause-exists
 delete_objects-requires-clause-exists g c clean =
-    pieces_stand (state g.S.Store c.args.tx.now.conn.now) (state g.S.Store c.delete_object.new.tx.conn.now) _ c.in_ok-delete_object.ensures.done c.delete_object.ensures.survives (λ early is_open. (c.requires.whole early is_open).pieces) clean
+    pieces_stand (state g.S.Store c.args.tx.now.conn.now) (state g.S.Store c.delete_object.new.tx.conn.now) _ c.in_ok-delete_object.ensures.done c.delete_object.ensures.frame.survives (λ early is_open. (c.requires.whole early is_open).pieces) clean
 
-pub returns-clause-same_reference : goal.returns-clause-same_reference
-returns-clause-same_reference g c = c.delete_objects.ensures.same_reference ∙ c.delete_object.ensures.same_reference
+pub returns-clause-frame : goal.returns-clause-frame
+returns-clause-frame g c =
+    record {
+      same_reference = c.delete_objects.ensures.frame.same_reference ∙ c.delete_object.ensures.frame.same_reference;
+      failed = failed_next (state g.S.Store c.args.tx.now.conn.now) (state g.S.Store c.delete_object.new.tx.conn.now) (state g.S.Store c.delete_objects.new.tx.conn.now) _ (λ x. x) c.in_ok-delete_object.ensures.done c.delete_objects.ensures.frame.survives c.delete_objects.result c.delete_objects.ensures.frame.failed;
+      survives = survives_both (state g.S.Store c.args.tx.now.conn.now) (state g.S.Store c.delete_object.new.tx.conn.now) (state g.S.Store c.delete_objects.new.tx.conn.now) c.delete_object.ensures.frame.survives c.delete_objects.ensures.frame.survives;
+    }
 
 pub returns-clause-done : goal.returns-clause-done
 returns-clause-done g c =
     let it = c.args.self.now in
-    done_both (state g.S.Store c.args.tx.now.conn.now) (state g.S.Store c.delete_object.new.tx.conn.now) (state g.S.Store c.delete_objects.new.tx.conn.now) _ _ c.in_ok-delete_object.ensures.done c.delete_objects.ensures.survives
+    done_both (state g.S.Store c.args.tx.now.conn.now) (state g.S.Store c.delete_object.new.tx.conn.now) (state g.S.Store c.delete_objects.new.tx.conn.now) _ _ c.in_ok-delete_object.ensures.done c.delete_objects.ensures.frame.survives
     c.delete_objects.result _ (without_next it.first.now it.rest.now) c.delete_objects.ensures.done
-
-pub returns-clause-failed : goal.returns-clause-failed
-returns-clause-failed g c =
-    failed_next (state g.S.Store c.args.tx.now.conn.now) (state g.S.Store c.delete_object.new.tx.conn.now) (state g.S.Store c.delete_objects.new.tx.conn.now) _ (λ x. x) c.in_ok-delete_object.ensures.done c.delete_objects.ensures.survives
-    c.delete_objects.result c.delete_objects.ensures.failed
-
-pub returns-clause-survives : goal.returns-clause-survives
-returns-clause-survives g c =
-    survives_both (state g.S.Store c.args.tx.now.conn.now) (state g.S.Store c.delete_object.new.tx.conn.now) (state g.S.Store c.delete_objects.new.tx.conn.now) c.delete_object.ensures.survives c.delete_objects.ensures.survives
 
 pub returns-in_err-delete_object-clause-cause : goal.returns-in_err-delete_object-clause-cause
 returns-in_err-delete_object-clause-cause g c clean = passed_on c.from_residual.result _ _ c.from_residual.ensures.1 (c.in_err-delete_object.ensures.cause clean)
@@ -60,5 +56,5 @@ returns-clause-cause g c clean =
     let a = state g.S.Store c.args.tx.now.conn.now in
     let b = state g.S.Store c.delete_object.new.tx.conn.now in
     let d = state g.S.Store c.delete_objects.new.tx.conn.now in
-    let late : HasCleanDisk b = omega (arith, c.delete_objects.ensures.survives.clean, clean) in
-    as_reason _ _ (next_reason _ a b d _ (c.in_ok-delete_object.ensures.done late) c.delete_object.ensures.survives) c.delete_objects.result (c.delete_objects.ensures.cause clean)
+    let late : HasCleanDisk b = omega (arith, c.delete_objects.ensures.frame.survives.clean, clean) in
+    as_reason _ _ (next_reason _ a b d _ (c.in_ok-delete_object.ensures.done late) c.delete_object.ensures.frame.survives) c.delete_objects.result (c.delete_objects.ensures.cause clean)

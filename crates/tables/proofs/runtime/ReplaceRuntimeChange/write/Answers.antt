@@ -16,22 +16,18 @@ put_runtime-requires-clause-under_way g c clean = under_after (state g.S.Store c
 pub put_runtime-requires-clause-is_open : goal.put_runtime-requires-clause-is_open
 put_runtime-requires-clause-is_open g c clean = (c.in_ok-delete_all.ensures.done clean).is_open
 
-pub returns-clause-same_reference : goal.returns-clause-same_reference
-returns-clause-same_reference g c = c.put_runtime.ensures.same_reference ∙ c.delete_all.ensures.frame.same_reference
+pub returns-clause-frame : goal.returns-clause-frame
+returns-clause-frame g c =
+    record {
+      same_reference = c.put_runtime.ensures.frame.same_reference ∙ c.delete_all.ensures.frame.same_reference;
+      failed = failed_next (state g.S.Store c.args.tx.now.conn.now) (state g.S.Store c.delete_all.new.tx.conn.now) (state g.S.Store c.put_runtime.new.tx.conn.now) _ (λ x. x) c.in_ok-delete_all.ensures.done c.put_runtime.ensures.frame.survives c.put_runtime.result c.put_runtime.ensures.frame.failed;
+      survives = survives_both (state g.S.Store c.args.tx.now.conn.now) (state g.S.Store c.delete_all.new.tx.conn.now) (state g.S.Store c.put_runtime.new.tx.conn.now) c.delete_all.ensures.frame.survives c.put_runtime.ensures.frame.survives;
+    }
 
 pub returns-clause-done : goal.returns-clause-done
 returns-clause-done g c =
-    done_both (state g.S.Store c.args.tx.now.conn.now) (state g.S.Store c.delete_all.new.tx.conn.now) (state g.S.Store c.put_runtime.new.tx.conn.now) _ _ c.in_ok-delete_all.ensures.done c.put_runtime.ensures.survives
+    done_both (state g.S.Store c.args.tx.now.conn.now) (state g.S.Store c.delete_all.new.tx.conn.now) (state g.S.Store c.put_runtime.new.tx.conn.now) _ _ c.in_ok-delete_all.ensures.done c.put_runtime.ensures.frame.survives
     c.put_runtime.result _ (λ (x : Contents). ap (λ m. record x { runtime = m }) (all_put (map labelled_bytes c.args.self.now.roots.now.keys))) c.put_runtime.ensures.done
-
-pub returns-clause-failed : goal.returns-clause-failed
-returns-clause-failed g c =
-    failed_next (state g.S.Store c.args.tx.now.conn.now) (state g.S.Store c.delete_all.new.tx.conn.now) (state g.S.Store c.put_runtime.new.tx.conn.now) _ (λ x. x) c.in_ok-delete_all.ensures.done c.put_runtime.ensures.survives
-    c.put_runtime.result c.put_runtime.ensures.failed
-
-pub returns-clause-survives : goal.returns-clause-survives
-returns-clause-survives g c =
-    survives_both (state g.S.Store c.args.tx.now.conn.now) (state g.S.Store c.delete_all.new.tx.conn.now) (state g.S.Store c.put_runtime.new.tx.conn.now) c.delete_all.ensures.frame.survives c.put_runtime.ensures.survives
 
 pub put_runtime-requires-clause-none : goal.put_runtime-requires-clause-none
 put_runtime-requires-clause-none g c clean = ap (λ (x : Contents). x.runtime) (c.in_ok-delete_all.ensures.done clean).contents
@@ -45,5 +41,5 @@ returns-clause-cause g c clean =
     let a = state g.S.Store c.args.tx.now.conn.now in
     let b = state g.S.Store c.delete_all.new.tx.conn.now in
     let d = state g.S.Store c.put_runtime.new.tx.conn.now in
-    let late : HasCleanDisk b = omega (arith, c.put_runtime.ensures.survives.clean, clean) in
+    let late : HasCleanDisk b = omega (arith, c.put_runtime.ensures.frame.survives.clean, clean) in
     as_reason _ _ (next_reason _ a b d _ (c.in_ok-delete_all.ensures.done late) c.delete_all.ensures.frame.survives) c.put_runtime.result (c.put_runtime.ensures.cause clean)

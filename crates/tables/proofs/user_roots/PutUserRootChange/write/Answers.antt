@@ -15,8 +15,13 @@ use Rattle.tables.proofs.user_roots.PutUserRootChange.write.Goals as goal
 pub insert-requires : goal.insert-requires
 insert-requires g c clean = under_after (state g.S.Store c.args.tx.now.conn.now) (state g.S.Store c.delete.new.tx.conn.now) _ (c.in_ok-delete.ensures.done clean)
 
-pub returns-clause-same_reference : goal.returns-clause-same_reference
-returns-clause-same_reference g c = c.insert.ensures.frame.same_reference ∙ c.delete.ensures.frame.same_reference
+pub returns-clause-frame : goal.returns-clause-frame
+returns-clause-frame g c =
+    record {
+      same_reference = c.insert.ensures.frame.same_reference ∙ c.delete.ensures.frame.same_reference;
+      failed = failed_next (state g.S.Store c.args.tx.now.conn.now) (state g.S.Store c.delete.new.tx.conn.now) (state g.S.Store c.insert.new.tx.conn.now) _ (λ x. x) c.in_ok-delete.ensures.done c.insert.ensures.frame.survives c.insert.result c.insert.ensures.frame.failed;
+      survives = survives_both (state g.S.Store c.args.tx.now.conn.now) (state g.S.Store c.delete.new.tx.conn.now) (state g.S.Store c.insert.new.tx.conn.now) c.delete.ensures.frame.survives c.insert.ensures.frame.survives;
+    }
 
 pub returns-clause-done : goal.returns-clause-done
 returns-clause-done g c =
@@ -24,15 +29,6 @@ returns-clause-done g c =
     done_both (state g.S.Store c.args.tx.now.conn.now) (state g.S.Store c.delete.new.tx.conn.now) (state g.S.Store c.insert.new.tx.conn.now) _ _ c.in_ok-delete.ensures.done c.insert.ensures.frame.survives
     c.insert.result _ (λ (x : Contents). ap (λ m. record x { user_roots = m })
     (ap (λ m. finite.insert m owned c.args.self.now.target.now) (without_pair x.user_roots owned.0 owned.1) ∙ put_over pair_total pair_antisymmetric x.user_roots owned c.args.self.now.target.now)) c.insert.ensures.done
-
-pub returns-clause-failed : goal.returns-clause-failed
-returns-clause-failed g c =
-    failed_next (state g.S.Store c.args.tx.now.conn.now) (state g.S.Store c.delete.new.tx.conn.now) (state g.S.Store c.insert.new.tx.conn.now) _ (λ x. x) c.in_ok-delete.ensures.done c.insert.ensures.frame.survives
-    c.insert.result c.insert.ensures.frame.failed
-
-pub returns-clause-survives : goal.returns-clause-survives
-returns-clause-survives g c =
-    survives_both (state g.S.Store c.args.tx.now.conn.now) (state g.S.Store c.delete.new.tx.conn.now) (state g.S.Store c.insert.new.tx.conn.now) c.delete.ensures.frame.survives c.insert.ensures.frame.survives
 
 pub returns-in_err-delete-clause-cause : goal.returns-in_err-delete-clause-cause
 returns-in_err-delete-clause-cause g c clean =
