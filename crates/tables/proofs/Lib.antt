@@ -1,3 +1,6 @@
+pub use Rattle.model.proofs.SoundParts
+pub use Rattle.model.proofs.SoundProfiles
+pub use Rattle.model.proofs.SoundRoots
 pub mod AddedGenerations
 pub mod AddedObjects
 pub mod Agreed
@@ -32,6 +35,7 @@ pub mod RootChanges
 pub mod SessionChanges
 pub mod SessionRows
 pub mod SetProfiles
+pub mod SoundChanges
 pub mod Transactions
 pub mod Unlimited
 pub mod Worlds

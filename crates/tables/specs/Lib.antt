@@ -1,3 +1,10 @@
+pub use Rattle.model.specs.World
+pub use Rattle.model.specs.Objects
+pub use Rattle.model.specs.Sound
+pub use Rattle.model.specs.Profiles
+pub use Rattle.model.specs.Effects
+pub use Rattle.tables_outline.specs.Outline
+pub use Rattle.tables_outline.specs.Maps
 pub use Rattle.tables_open.specs.Disk
 pub use Rattle.tables_open.specs.DiskCalls
 pub use Rattle.tables_open.specs.Modelled

@@ -39,7 +39,7 @@ pub use refusing::{Cause, Unadopted, Unopened};
 
 // What callers name besides, so that they need no library but this one and `paths`.
 pub use paths::{Root, RootKind};
-pub use sqlite::{Alter, Connection, MemStore, Start, Unknown};
+pub use sqlite::{Alter, Connection, FileFrom, FileStore, MemStore, Start, Unknown};
 pub use streams::Pieces;
 pub use tables_open::Disk;
 pub use tables_outline::{Outline, Profile, Summary};
