@@ -34,7 +34,7 @@ use store_types::{Answer, Stop};
 use tables::Tables;
 use tables_outline::Outline;
 
-/// Tests a source object; gives the outputs that it records.
+/// Tests a source object. Returns the outputs that the object records.
 fn examine_source(
     alloc: Global,
     dir: &StoreDir,

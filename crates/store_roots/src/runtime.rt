@@ -62,7 +62,7 @@ fn valid_pairs(
     Ok(valid)
 }
 
-/// Tests runtime roots that are to be set; gives those whose target is valid.
+/// Tests runtime roots that are to be set. Returns those whose target is valid.
 pub fn prepare_runtime(
     alloc: Global,
     outline: &Outline,

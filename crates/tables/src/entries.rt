@@ -1,4 +1,4 @@
-//! What the tables hold, as a caller asks for it.
+//! Reads of what the tables hold.
 
 ghost use Rattle.std.specs.Prelude.{◌≡◌, IfOk, IsTrue, is_some, map, option_map};
 ghost use Rattle.std.specs.FinMap as finite;
@@ -24,7 +24,7 @@ use tables_outline::{Profile, Summary};
 use tables_root_list::root_list;
 use tables_sql::failure::Failure;
 
-/// An object: its archive, and all else that is known of it.
+/// An object: its archive, and the summary of its other facts.
 #[derive(Drop)]
 pub struct Object {
     /// The bytes of the archive.
@@ -36,13 +36,13 @@ pub struct Object {
 /// All objects and roots.
 #[derive(Drop)]
 pub struct Snapshot<'a> {
-    /// Each object but the bytes of its archive, by its path, in order. They are lent.
+    /// The summary of each object, by path, in order: all but the bytes of the archive. Borrowed from the tables.
     pub objects: &'a BTreeMap<StorePath, Summary>,
     /// Each root, in the order of roots.
     pub roots: Vec<Root>,
 }
 
-/// A path that is kept, if there is one.
+/// An owned copy of a path, or `None` for `None`.
 fn copied_path(path: Option<&StorePath>) -> Result<Option<StorePath>, AllocError>
     ensures { IfOk result (λ copy. copy ≡ option_map (λ q. q.now) path.entry) }
 {
@@ -52,7 +52,7 @@ fn copied_path(path: Option<&StorePath>) -> Result<Option<StorePath>, AllocError
     }
 }
 
-/// A summary that is kept.
+/// An owned copy of a summary.
 fn copied(alloc: Global, object: &Summary) -> Result<Summary, AllocError>
     ensures { IfOk result (λ copy. copy ≡ object.now) }
 {

@@ -13,8 +13,8 @@ use std::rt::HostRuntime;
 use tables_open::file;
 use tables_open::file::Opened;
 
-/// Opens the file at a path as the store of a directory; where the file is missing or has none of the store's tables, they are made.
-/// `start` is what the file held, which no code reads: a theorem is stated over any, and a program passes `Unknown`.
+/// Opens the file at a path as the store of a directory. Makes the store's tables if the file is missing or has none of them.
+/// `start` is ghost: what a theorem assumes of the file. No code reads it, and a program passes `Unknown`.
 ///
 /// ```rust
 /// use tables::Unknown;

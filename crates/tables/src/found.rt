@@ -50,7 +50,7 @@ pub(crate) fn open_existing<S: Alter>(
     }
 }
 
-/// Makes the store's tables, and opens them. The directory comes twice, lent and to be kept.
+/// Makes the store's tables, and opens them. `own` is a copy of `dir`, kept in the tables.
 fn make_new<S: Alter>(
     alloc: Global,
     mut conn: Connection<S>,

@@ -19,8 +19,8 @@ use sqlite::Alter;
 use tables_sql::failure::Failure;
 
 impl<S: Alter> Tables<S> {
-    /// Makes a number the current one of a profile, and puts a path at a number of it, if they are given, whether that had one or not.
-    /// With them the profile is made if it isn't there.
+    /// Sets the current generation of a profile. With `generation`, a number and a target, first sets the target of that number,
+    /// new or not, and creates the profile if it is missing.
     ///
     /// ```rust
     /// tables.put_profile("ann", "default", Some((1, path)), 1)?;
@@ -50,8 +50,8 @@ impl<S: Alter> Tables<S> {
         }
     }
 
-    /// Puts a path at a number of a profile, whether that had one or not, and makes a number current. The profile is made if it isn't
-    /// there.
+    /// Sets the target of generation `number`, new or not, and makes `current` the current one. Creates the profile if it is
+    /// missing.
     pub(crate) fn put_number(
         &mut self,
         owner: &str,
@@ -114,7 +114,8 @@ impl<S: Alter> Tables<S> {
         }
     }
 
-    /// Puts a path at a number that a profile hasn't, and makes a number current. The profile is made if it isn't there.
+    /// Adds generation `number`, which the profile doesn't have yet, and makes `current` the current one. Creates the profile if
+    /// it is missing.
     pub(crate) fn put_generation(
         &mut self,
         owner: &str,

@@ -39,7 +39,7 @@ impl<S: Alter> Model for Tables<S> {
 }
 
 impl<S: Alter> Tables<S> {
-    /// What is kept in memory: all that the tables hold but the bytes of archives, lent.
+    /// The outline, borrowed: what the tables hold except the bytes of archives, in memory.
     ///
     /// ```rust
     /// let object = tables.outline().object(path);
@@ -51,7 +51,7 @@ impl<S: Alter> Tables<S> {
         &self.outline
     }
 
-    /// The connection, given up. It is outside a transaction.
+    /// Drops the outline and returns the connection, which is outside a transaction.
     ///
     /// ```rust
     /// use paths::StoreDir;

@@ -11,7 +11,7 @@ use std::alloc::{AllocError, Global};
 use tables_rows::temp_roots;
 use tables_sql::failure::Failure;
 
-/// A path that a session of an owner keeps, as the outline has it.
+/// Owned copies of an owner and a target, with the session's number: the form of the outline.
 pub(crate) fn kept(
     alloc: Global,
     owner: &str,

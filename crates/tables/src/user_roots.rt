@@ -9,7 +9,7 @@ use std::alloc::{AllocError, Global};
 use tables_rows::user_roots;
 use tables_sql::failure::Failure;
 
-/// An owner and a name, kept.
+/// Owned copies of an owner and a name.
 pub(crate) fn owned(alloc: Global, owner: &str, name: &str) -> Result<(String, String), AllocError>
     ensures { IfOk result (λ owned. pair_bytes owned ≡ (owner.now, name.now)) }
 {

@@ -104,7 +104,8 @@ abbrev pub RunsLine : Doing → Line → Console → Type 0
 RunsLine of_file line console = Answers (Err (Failed NoMemory)) console.written
     ⊎ ((opened : Opened) × (is_some opened ≡ is_some line.config) × AnswersOpened of_file line opened console)
 
--- the fault of the words is that they ask for help or for the version
+-- The fault of the words is that they ask for help. `clap` has a kind for the version too, but the grammar of nixkeep
+-- has no such option.
 abbrev pub AsksHelp : CommandError → Type 0
 AsksHelp (Usage fault) = (kind_of fault ≡ DisplayHelp) ⊎ (kind_of fault ≡ DisplayVersion)
 AsksHelp (Misuse fault) = ⊥
@@ -114,13 +115,13 @@ AsksHelp Memory = ⊥
 abbrev pub Helps : Written → Type 0
 Helps w = (text : List ℕ) × Answers (Ok text) w
 
--- what is said of a fault that `clap` words: help, a usage fault, or out of memory
+-- what is printed for a fault with a text by `clap`: help, a usage fault, or out of memory
 abbrev pub ExplainsUsage : Error → Written → Type 0
 ExplainsUsage fault w =
     Answers (Err (Failed NoMemory)) w
     ⊎ ((AsksHelp (Usage fault) → Helps w) × (¬ AsksHelp (Usage fault) → RefusesWords w))
 
--- what is said of words that are no command line, by their fault
+-- what is printed for words that aren't a command line, by their fault
 abbrev pub Explains : CommandError → Written → Type 0
 Explains (Usage fault) w = ExplainsUsage fault w
 Explains (Misuse fault) w = RefusesWords w ⊎ Answers (Err (Failed NoMemory)) w

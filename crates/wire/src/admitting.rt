@@ -19,7 +19,7 @@ use wire_messages::{Head, read_caller};
 use wire_requests::{Found, Routes};
 use wire_server::Response;
 
-/// A refusal, with the methods of the route where it refuses another.
+/// A refusal. `allow` lists the route's methods, for a refused method.
 fn refuse(
     alloc: Global,
     refusal: Refusal,
@@ -32,7 +32,7 @@ fn refuse(
     Ok(Admission::Refused(Response::refused(alloc, refusal, allow)?))
 }
 
-/// A caller whom a rule forbids to connect.
+/// The denial of a caller whom a rule forbids to connect.
 fn deny(alloc: Global, dir: &StoreDir, rule: Rule) -> Result<Admission, AllocError>
     ensures decides { IfOk result (λ it. admission_view it ≡ refuses (denied dir.now rule)) }
     ensures parameters { (target : List ℕ) → IfOk result (HasParameters target) }
@@ -42,7 +42,7 @@ fn deny(alloc: Global, dir: &StoreDir, rule: Rule) -> Result<Admission, AllocErr
     Ok(Admission::Refused(response))
 }
 
-/// The method, on a route.
+/// The test of the method, on a route.
 fn on_method(
     alloc: Global,
     caller: Caller,
