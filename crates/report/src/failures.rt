@@ -1,11 +1,11 @@
-//! What gave out.
+//! Failures.
 ghost use Rattle.std.specs.Prelude.{◌≡◌};
 ghost use Rattle.report.specs.Failures.{failure_line, of_store};
 ghost use Rattle.store_types.specs.View.{failure_view};
 
 use tables_sql::failure::Failure as StoreFailure;
 
-/// Why there is neither a result nor a refusal. Users see the word.
+/// Why a command or a request has neither a result nor a refusal. Users see the word.
 #[derive(Clone, Copy, PartialEq, Eq, Debug)]
 pub enum Failure {
     /// Memory was refused.
@@ -16,7 +16,7 @@ pub enum Failure {
     Disk,
     /// The configuration file could not be read.
     File,
-    /// Standard input or a connection could not be read, or a port could not be had.
+    /// Standard input or a connection could not be read, or a port could not be bound.
     Input,
     /// Standard output or a connection could not be written.
     Output,

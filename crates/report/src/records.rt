@@ -38,7 +38,7 @@ fn push_line(text: &mut String, word: &str, value: &str) -> Result<(), AllocErro
     text.push_str("\n")
 }
 
-/// The full path of the object.
+/// Appends the line of `word` with the full path of an object.
 fn push_path_of(
     text: &mut String,
     word: &str,
@@ -54,7 +54,7 @@ fn push_path_of(
     text.push_str("\n")
 }
 
-/// Where its archive is.
+/// Appends the line of `word` with the address of an object's archive: `nar/` and the path.
 fn push_address(text: &mut String, word: &str, path: &StorePath) -> Result<(), AllocError>
     ensures { OnOk result (string_bytes text.new ≡ string_bytes text.old ++ line word.now (codes "nar/" ++ path.now)) }
 {
@@ -87,7 +87,7 @@ fn push_size(text: &mut String, word: &str, size: usize) -> Result<(), AllocErro
     write!(text, "{word}: {size}\n")
 }
 
-/// Each path after a space.
+/// Appends each path, after a space.
 fn push_further(text: &mut String, paths: &[StorePath]) -> Result<(), AllocError>
     ensures { OnOk result (string_bytes text.new ≡ string_bytes text.old ++ flat_map (λ p. 32 ∷ p) paths.now) }
 {
@@ -98,7 +98,7 @@ fn push_further(text: &mut String, paths: &[StorePath]) -> Result<(), AllocError
     Ok(())
 }
 
-/// The paths with a space between.
+/// Appends the paths, with a space between.
 fn push_joined(text: &mut String, paths: &[StorePath]) -> Result<(), AllocError>
     ensures { OnOk result (string_bytes text.new ≡ string_bytes text.old ++ join_with_byte 32 paths.now) }
 {
@@ -148,7 +148,7 @@ fn push_ca(alloc: Global, text: &mut String, ca: Option<Ca>) -> Result<(), Alloc
     }
 }
 
-/// The record of an object as the text that binary caches give.
+/// The record of an object as the text that binary caches serve.
 ///
 /// ```rust
 /// use paths::{Ca, StoreDir, StorePath};

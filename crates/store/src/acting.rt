@@ -1,4 +1,4 @@
-//! What becomes of a request that no rule forbids.
+//! Doing the requests that no rule forbids.
 
 ghost use Rattle.std.specs.Prelude.{◌≡◌, Err, IsTrue, false};
 ghost use Rattle.std.specs.List.{list_any};
@@ -29,7 +29,7 @@ use store_roots::user_roots::{drop_user_root, set_user_root};
 use store_types::{Answer, Imported, Reply, Request, Stop};
 use tables::Tables;
 
-/// Does what is asked: its tests in their order, and then its one effect and its answer.
+/// Does a request: runs its tests in their order, then makes its one change, and returns its answer.
 pub(crate) fn act<S: Alter>(
     alloc: Global,
     config: &Config,
@@ -127,7 +127,7 @@ pub(crate) fn act<S: Alter>(
     }
 }
 
-/// The reply to it.
+/// The reply for an answer, a refusal or a failure.
 pub(crate) fn reply(met: Result<Answer, Stop>) -> Reply
     ensures { reply_view result ≡ reply_to met }
 {

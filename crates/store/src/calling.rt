@@ -1,4 +1,4 @@
-//! The store: its tables, its settings, and the one way of a call.
+//! The store: its tables, its settings, and `call`, the only way to use them.
 
 ghost use Rattle.std.specs.Prelude.{◌≡◌, ◌≤◌, Err, IfOk, IsTrue, [], false, option_map, vec_capacity, vec_len};
 ghost use Rattle.std.specs.List.{list_any};
@@ -53,7 +53,7 @@ impl<S: Alter> Model for Store<S> {
 }
 
 impl<S: Alter> Store<S> {
-    /// The store of these tables, under these settings. They are of one store directory.
+    /// The store of these tables, under these settings. Tables and settings have the same store directory.
     ///
     /// ```rust
     /// use policy::{Config, keep_outputs, store_dir};
@@ -89,7 +89,7 @@ impl<S: Alter> Store<S> {
         &self.config
     }
 
-    /// The tables of the store, which is given up.
+    /// Drops the settings of the store and returns the tables.
     ///
     /// ```rust
     /// use policy::{Config, store_dir};
@@ -112,7 +112,7 @@ impl<S: Alter> Store<S> {
         tables
     }
 
-    /// Room for some replies.
+    /// An empty vector with room for `count` replies.
     pub(crate) fn room(&self, count: usize) -> Result<Vec<Reply>, AllocError>
         ensures empty { IfOk result (λ v. v.items ≡ []) }
         ensures len { IfOk result (λ v. vec_len v ≡ 0) }
@@ -121,8 +121,8 @@ impl<S: Alter> Store<S> {
         Vec::with_capacity(self.alloc, count)
     }
 
-    /// The reply to a request that a rule forbids, the first that does, or for whose denial memory was refused. None where
-    /// no rule forbids it.
+    /// The denial by the first rule that forbids a request, or out of memory while it is made. `None` if no rule forbids the
+    /// request.
     fn forbidden(&self, caller: &Caller, request: &Request) -> Option<Reply>
         ensures reported { (w : World) → HasWorld S.Store self.now.tables w
             → IsForbidden self.now.settings w caller.now (request_view request.now) (option_map reply_view result) }
@@ -146,7 +146,7 @@ impl<S: Alter> Store<S> {
         }
     }
 
-    /// Does what no rule forbids.
+    /// Does a request that no rule forbids.
     fn act(&mut self, caller: &Caller, request: Request) -> Result<Answer, Stop>
         requires { (w : World) → HasWorld S.Store self.old.tables w
             → list_any (lives self.old.settings w) (named_in (request_view request)) ≡ false }
@@ -159,9 +159,9 @@ impl<S: Alter> Store<S> {
         act(self.alloc, &self.config, caller, &mut self.tables, request)
     }
 
-    /// Does what a caller asks, or says why not: the first rule that forbids it, or else the first of its tests that
-    /// fails. What isn't done changes nothing, and neither a denial nor a refusal touches the tables. Only a call that no
-    /// rule but the one on live paths forbids fails.
+    /// Does a caller's request, or returns why not: the first rule that forbids the request, or else the first of its tests that
+    /// fails. A request that isn't done changes nothing, and neither a denial nor a refusal touches the tables. A call fails only
+    /// if no rule other than `Live` forbids it.
     ///
     /// ```rust
     /// use paths::Name;
@@ -183,11 +183,11 @@ impl<S: Alter> Store<S> {
             × StepOver (HasCleanDisk (state S.Store self.new.tables.connection))
             self.old.settings w caller.now (request_view request) (reply_view result) next
             × HasWorld S.Store self.new.tables next }
-        // A request whose archive was lost to memory is denied by a rule, or fails for memory ahead of its tests.
+        // A request whose archive was dropped because memory ran out is denied by a rule, or fails for memory ahead of its tests.
         ensures spent { IsTrue (is_spent request)
             → (reply_view result ≡ spent_reply self.old.settings caller.now (request_view request))
             × (self.new ≡ self.old) }
-        // A failure is out of memory; or the request touches the disk, and over a clean one there is a reason.
+        // A failure is out of memory; or the request touches the disk, and over a clean one a reason exists.
         ensures cause { (w : World) → HasWorld S.Store self.old.tables w
             → HasCause S.Store (request_view request) (reply_view result) self.old.tables self.new.tables }
         ensures still { IsStill (reply_view result) → self.new ≡ self.old }

@@ -1,4 +1,4 @@
-//! What is read of the disk: archives, and their listings.
+//! Reads from the disk: archives and their listings.
 
 ghost use Rattle.std.specs.Prelude.{◌≡◌, IfErr, IfOk, IsTrue, string_bytes};
 ghost use Rattle.nar.specs.Outcome.{outcome_of};
@@ -38,7 +38,7 @@ pub(crate) fn may_read(outline: &Outline, path: &StorePath) -> Result<(), Refusa
     Ok(())
 }
 
-/// The listing of an archive. What is none was read of a disk that gave back something else than it was given.
+/// The listing of an archive. `Disk` if the bytes aren't an archive, which only a faulty disk returns.
 pub(crate) fn list(alloc: Global, nar: &Pieces) -> Result<String, Failure>
     ensures listing { IfOk result (λ text. string_bytes text ≡ listing_at (outcome_of nar.now)) }
     ensures failed { IfErr result (λ failure. FailsToList failure (outcome_of nar.now)) }
@@ -51,7 +51,7 @@ pub(crate) fn list(alloc: Global, nar: &Pieces) -> Result<String, Failure>
     }
 }
 
-/// The archive of a valid path. A disk that gives back what it was given has one.
+/// The archive of a valid path. `Disk` if the tables have none, which only a faulty disk causes.
 fn read<S: Alter>(tables: &mut Tables<S>, path: &StorePath) -> Result<Pieces, Failure>
     ensures reads { OnlyReads S.Store tables.old tables.new }
     ensures archive { HasCleanDisk (state S.Store tables.new.connection) → IfOk result (λ nar. (w : World)

@@ -10,7 +10,7 @@ use std::alloc::{AllocError, Global};
 use store_types::Info;
 use tables_outline::{Outline, Summary};
 
-/// Paths, kept.
+/// Owned copies of paths.
 fn kept(alloc: Global, paths: &[StorePath]) -> Result<Vec<StorePath>, AllocError>
     ensures { IfOk result (λ v. v.items ≡ paths.now) }
 {
@@ -21,7 +21,7 @@ fn kept(alloc: Global, paths: &[StorePath]) -> Result<Vec<StorePath>, AllocError
     Ok(copies)
 }
 
-/// A path, kept, if there is one.
+/// An owned copy of a path, or `None` for `None`.
 fn kept_one(path: Option<&StorePath>) -> Result<Option<StorePath>, AllocError>
     ensures { IfOk result (λ p. p ≡ option_map (λ q. q.now) path.entry) }
 {

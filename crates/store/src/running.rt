@@ -22,7 +22,7 @@ use std::alloc::AllocError;
 use store_types::{Reply, Request};
 
 impl<S: Alter> Store<S> {
-    /// Makes calls one after another, and gives their replies in order.
+    /// Makes calls one after another, and returns their replies in the same order.
     ///
     /// ```rust
     /// use policy::Caller;

@@ -1,4 +1,4 @@
-//! Archives that have come.
+//! Archives that have arrived.
 
 ghost use Rattle.std.specs.Prelude.{◌≡◌, IfOk, IfErr, None};
 ghost use Rattle.nar.specs.Outcome.{outcome_of};
@@ -12,7 +12,7 @@ ghost use Rattle.store_types.specs.Tested.{Tested};
 use intake::{Arrived, Intake};
 use store_types::{Refusal, Stop};
 
-/// An archive at its end. Where memory was refused as it came, the call fails.
+/// The whole archive, at its end. The call fails if memory ran out while the archive arrived.
 pub(crate) fn arrived(nar: Intake) -> Result<Arrived, Stop>
     ensures pieces { IfOk result (λ a. a.pieces ≡ bytes_in nar) }
     ensures reported { IfOk result DescribesBytes }
@@ -23,7 +23,7 @@ pub(crate) fn arrived(nar: Intake) -> Result<Arrived, Stop>
     Ok(arrived)
 }
 
-/// Tests that it is an archive.
+/// Tests that the bytes are an archive.
 pub(crate) fn is_archive(nar: &Arrived) -> Result<(), Refusal>
     requires { DescribesBytes nar.now }
     ensures { Tested result (archive_fault (outcome_of nar.now.pieces)) }
@@ -31,7 +31,7 @@ pub(crate) fn is_archive(nar: &Arrived) -> Result<(), Refusal>
     let Some(fault) = nar.fault else {
         return Ok(());
     };
-    // Out of memory is no fault of bytes that have come.
+    // Out of memory isn't a fault of bytes that have arrived.
     match Refusal::of_archive(fault) {
         Some(refusal) => Err(refusal),
         None => Ok(()),

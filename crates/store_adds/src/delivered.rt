@@ -1,4 +1,4 @@
-//! Tests of what is passed with an object.
+//! Tests of an imported object.
 
 ghost use Rattle.std.specs.Prelude.{◌≡◌, ◌||◌, Some, None, IfOk, IfErr, IsTrue, not, is_none};
 ghost use Rattle.sha2.specs.Sha256.{sha256};
@@ -31,7 +31,7 @@ fn is_same(a: &[u8], b: &[u8]) -> bool
     a == b
 }
 
-/// An object that is passed with its path, whose archive has come.
+/// An imported object, with its path, whose archive has arrived.
 #[derive(Drop)]
 pub(crate) struct Delivered {
     pub(crate) path: StorePath,
@@ -42,7 +42,7 @@ pub(crate) struct Delivered {
     pub(crate) nar: Arrived,
 }
 
-/// What is passed, once its archive has come. Where memory was refused as that came, the call fails.
+/// The imported object with its whole archive. The call fails if memory ran out while the archive arrived.
 pub(crate) fn at_end(import: Imported) -> Result<Delivered, Stop>
     ensures same { IfOk result (λ d. delivered_view d ≡ import_view import) }
     ensures reported { IfOk result (λ d. DescribesBytes d.nar) }
@@ -93,7 +93,7 @@ impl Delivered {
         Ok(())
     }
 
-    /// Tests that it doesn't refer to itself, if it has a content address.
+    /// Tests that an object with a content address doesn't refer to itself.
     pub(crate) fn refers_to_others(&self) -> Result<(), Refusal>
         ensures { Tested result (unless (is_none (delivered_view self.now).ca
             || not (is_held (delivered_view self.now).refs (delivered_view self.now).path)) Refusal.SelfReference) }
@@ -104,7 +104,7 @@ impl Delivered {
         are_others(&self.refs, &self.path)
     }
 
-    /// Tests that its content address verifies, if it has one.
+    /// Tests that the content address of the object, if it has one, verifies.
     pub(crate) fn is_verified(&self, alloc: Global, dir: &StoreDir) -> Result<(), Stop>
         requires { DescribesBytes self.now.nar }
         ensures { Passes result (unless (tests.is_verified dir.now (delivered_view self.now).path
@@ -119,7 +119,7 @@ impl Delivered {
         Ok(())
     }
 
-    /// What an address of such a method asks for of the archive: contents are hashed for that of a text alone.
+    /// The facts of the archive that `method` needs; contents are hashed for `Text` alone.
     fn facts(&self, method: Method) -> Facts
         requires { DescribesBytes self.now.nar }
         ensures { HasFactsFor method self.now.nar.pieces result }
@@ -134,7 +134,7 @@ impl Delivered {
         }
     }
 
-    /// Whether an address is that of the object.
+    /// Whether `ca` is a content address of the object.
     fn fits(&self, alloc: Global, dir: &StoreDir, ca: &Ca) -> Result<bool, Stop>
         requires { DescribesBytes self.now.nar }
         ensures fits { IfOk result

@@ -1,4 +1,4 @@
-//! The tests of the objects that are passed, in their order.
+//! The tests of text objects, in their order.
 
 ghost use Rattle.std.specs.Prelude.{◌≡◌, ◌≤◌, drop};
 ghost use Rattle.nar.specs.Archive.{limit};
@@ -19,7 +19,8 @@ use std::collections::BTreeMap;
 use store_types::Stop;
 use tables_outline::Outline;
 
-/// Tests a text object of few references, whose archive is small enough, at its path; gives the outputs that it records.
+/// Tests a text object of few references, whose archive is small enough, at its path. Returns the outputs that the object
+/// records.
 pub(crate) fn examine_text(
     alloc: Global,
     dir: &StoreDir,

@@ -1,4 +1,4 @@
-//! Objects that are passed, without their archives.
+//! Objects to add, and their summaries.
 
 ghost use Rattle.std.specs.Prelude.{◌≡◌, IfOk, IsTrue, length, map, string_bytes};
 ghost use Rattle.std.specs.List.{zip};
@@ -14,18 +14,18 @@ use std::collections::BTreeMap;
 use streams::Pieces;
 use tables_outline::Summary;
 
-/// An object that is passed: its path, its archive, and all else.
+/// An object to add: its path, its archive, and the summary of its other facts.
 #[derive(Drop)]
 pub struct Added {
     /// The path.
     pub path: StorePath,
     /// The archive.
     pub nar: Pieces,
-    /// All else that is kept of it.
+    /// The other facts of the object.
     pub object: Summary,
 }
 
-/// The names of outputs in their order, and for each the path at the same place.
+/// The names and the paths of outputs: `paths[i]` belongs to `names[i]`, and the names rise.
 fn parted(
     alloc: Global,
     outputs: BTreeMap<String, StorePath>,

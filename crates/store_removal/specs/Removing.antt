@@ -10,11 +10,12 @@ use Rattle.model.specs.Tests.{refusal}
 use Rattle.model.specs.Effects.{effect, keeping}
 use Rattle.model.specs.Answers.{answer}
 
--- without these paths
+-- the world without the objects of these paths
 abbrev pub without : World → List Path → World
 without w gone = keeping w (λ p. not (holds gone p))
 
--- no test of a request fails; these paths go, it answers them with their bytes, and nothing else changes
+-- No test of a request fails. The request deletes these paths, its answer is the paths and the sum of their bytes, and
+-- nothing else changes.
 pub record Removes (s : Settings) (w : World) (c : Caller) (q : Request) (gone : List Path) (bytes : ℕ) : Type 0 where
   pub passes : refusal s w q ≡ None
   pub answers : freed gone bytes ≡ answer s w c q

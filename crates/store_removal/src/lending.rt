@@ -1,4 +1,4 @@
-//! Roots, lent.
+//! `live::Root`s that borrow from roots.
 
 ghost use Rattle.std.specs.Prelude.{◌≡◌, IfOk, filter, map};
 ghost use Rattle.std.specs.FinMap as finite;
@@ -9,7 +9,7 @@ use paths::Root;
 use std::alloc::{AllocError, Global};
 use tables_outline::Outline;
 
-/// Roots, lent.
+/// `live::Root`s that borrow from `roots`, in the same order.
 pub(crate) fn lent<'a>(alloc: Global, roots: &'a [Root]) -> Result<Vec<live::Root<'a>>, AllocError>
     ensures { IfOk result (λ v. roots_view v.items ≡ map root_view roots.now) }
 {

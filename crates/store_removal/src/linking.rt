@@ -8,7 +8,7 @@ use live::Row;
 use std::alloc::{AllocError, Global};
 use tables_outline::Outline;
 
-/// The valid paths, each with what its object points to, lent.
+/// A row for each valid path: the path and what its object points to, borrowed from the outline.
 pub(crate) fn rows<'a>(alloc: Global, outline: &'a Outline) -> Result<Vec<Row<'a>>, AllocError>
     ensures { IfOk result (λ v. rows_view v.items ≡ rows_in outline.now) }
 {

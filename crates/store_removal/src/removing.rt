@@ -1,4 +1,4 @@
-//! Objects go.
+//! Deletion of objects.
 
 ghost use Rattle.std.specs.Prelude.{◌≡◌, ◌<◌, IsTrue, true, false, [], length};
 ghost use Rattle.policy.specs.Settings.{Settings};
@@ -27,7 +27,7 @@ pub struct Found {
     pub bytes: u128,
 }
 
-/// Whether there is no path.
+/// Whether the list of paths is empty.
 fn is_nothing(paths: &[StorePath]) -> bool
     ensures none { result ≡ true → paths.now ≡ [] }
     ensures some { result ≡ false → 0 < length paths.now }
@@ -35,10 +35,10 @@ fn is_nothing(paths: &[StorePath]) -> bool
     paths.is_empty()
 }
 
-/// The objects of some paths go, if there are any. That the world is sound without them is the caller's condition.
+/// Deletes the objects of some paths, which may be none. The caller ensures that the world is sound without the objects.
 pub(crate) fn remove<S: Alter>(tables: &mut Tables<S>, gone: Found) -> Result<Answer, Stop>
     requires { (w : World) → HasWorld S.Store tables.old w → IsSound tables.old.dir (without w gone.paths.items) }
-    // A request is met on which these go, and nothing else.
+    // A request is met that deletes these objects and changes nothing else.
     ensures { (s : Settings) (c : Caller) (q : asked.Request) → IsTrue (touches_disk q)
         → ((w : World) → outline_of w ≡ tables.old.outline → Removes s w c q gone.paths.items gone.bytes)
         → IsMet S.Store s c q result tables.old tables.new }

@@ -12,7 +12,7 @@ use paths::StorePath;
 use store_types::Refusal;
 use tables_outline::Outline;
 
-/// Tests that a profile has a generation below the current one; gives the greatest number of one.
+/// Tests that a profile has a generation below the current one. Returns the greatest such number.
 pub(crate) fn has_older(outline: &Outline, owned: &(String, String)) -> Result<u32, Refusal>
     ensures { (w : World) → outline_of w ≡ outline.now → Finds (λ n. Some n) result
         (unless (is_some (previous (profile_at w (string_bytes owned.now.0, string_bytes owned.now.1))))
@@ -66,7 +66,7 @@ pub(crate) fn is_not_current(
     Ok(())
 }
 
-/// Tests that a number is left for a path in a profile; gives the number.
+/// Tests that a profile has a number left for a path. Returns the number.
 pub(crate) fn has_number_left(
     outline: &Outline,
     owned: &(String, String),

@@ -1,4 +1,4 @@
-//! Profiles are set, rolled back and switched, and lose generations.
+//! Setting, rolling back and switching profiles, and deleting their generations.
 
 ghost use Rattle.std.specs.Prelude.{◌≡◌, IsTrue, IfOk, OnOk, Some, string_bytes};
 ghost use Rattle.policy.specs.Settings.{Settings};
@@ -22,7 +22,7 @@ use store_types::{Answer, Refusal, Stop};
 use tables::Tables;
 use tables_outline::Outline;
 
-/// Tests a path that is to be set in a profile; gives the number that it gets.
+/// Tests a path that is to be set in a profile. Returns the number of its generation.
 pub fn next_number(
     outline: &Outline,
     owned: &(String, String),
@@ -40,7 +40,7 @@ pub fn next_number(
     Ok(number)
 }
 
-/// Tests a profile that is to be rolled back; gives the number that becomes current.
+/// Tests a profile that is to be rolled back. Returns the number that becomes current.
 pub fn older(outline: &Outline, owned: &(String, String)) -> Result<u32, Refusal>
     ensures reported { (s : Settings) (w : World) → outline_of w ≡ outline.now → Finds (λ n. Some n) result
         (refusal s w (asked.rollback (string_bytes owned.now.0) (string_bytes owned.now.1)))
@@ -82,7 +82,7 @@ pub fn may_delete(outline: &Outline, owned: &(String, String), number: u32) -> R
     Ok(())
 }
 
-/// A path becomes the current generation of a profile.
+/// Makes a path the current generation of a profile. The answer is the number of that generation.
 pub fn set_profile<S: Alter>(
     tables: &mut Tables<S>,
     owned: (String, String),
@@ -99,7 +99,7 @@ pub fn set_profile<S: Alter>(
     )
 }
 
-/// The generation below the current one becomes current.
+/// Makes the generation below the current one current. The answer is the number of that generation.
 pub fn rollback<S: Alter>(tables: &mut Tables<S>, owned: (String, String)) -> Result<Answer, Stop>
     ensures { (s : Settings) (c : Caller)
         → IsMet S.Store s c (asked.rollback (string_bytes owned.0) (string_bytes owned.1)) result tables.old
@@ -112,7 +112,7 @@ pub fn rollback<S: Alter>(tables: &mut Tables<S>, owned: (String, String)) -> Re
     )
 }
 
-/// A generation becomes current.
+/// Makes a generation current. The answer is the number of that generation.
 pub fn switch<S: Alter>(
     tables: &mut Tables<S>,
     owned: (String, String),
@@ -129,7 +129,7 @@ pub fn switch<S: Alter>(
     )
 }
 
-/// A generation is deleted.
+/// Deletes a generation that isn't the current one.
 pub fn delete_generation<S: Alter>(
     tables: &mut Tables<S>,
     owned: (String, String),

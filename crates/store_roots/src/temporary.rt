@@ -1,4 +1,4 @@
-//! Sessions keep paths, and end.
+//! Temporary roots: adding the paths of sessions, and ending sessions.
 
 ghost use Rattle.std.specs.Prelude.{◌≡◌, IfOk, string_bytes};
 ghost use Rattle.paths.specs.Root.{is_session};
@@ -23,14 +23,14 @@ use tables_outline::Outline;
 /// The greatest number of a session.
 const LAST_SESSION: u64 = 4_194_304;
 
-/// Whether a session has this number.
+/// Whether a session may have this number.
 fn is_session(number: u64) -> bool
     ensures { result ≡ is_session number }
 {
     1 <= number && number <= LAST_SESSION
 }
 
-/// Tests that a session has this number; gives it.
+/// Tests that a session may have this number. Returns the number.
 fn has_number(number: u64) -> Result<u32, Refusal>
     ensures reported { Tested result (unless (is_session number) Refusal.BadSession) }
     ensures number { IfOk result (λ n. n ≡ number) }
@@ -41,7 +41,7 @@ fn has_number(number: u64) -> Result<u32, Refusal>
     Ok(number as u32)
 }
 
-/// Tests a path that a session is to keep; gives the number of the session.
+/// Tests a path that a session is to keep. Returns the number of the session.
 pub fn may_keep(
     outline: &Outline,
     owner: &str,
@@ -58,7 +58,7 @@ pub fn may_keep(
     Ok(session)
 }
 
-/// Tests a session that is to end; gives its number.
+/// Tests a session that is to end. Returns its number.
 pub fn may_end(owner: &str, number: u64) -> Result<u32, Refusal>
     ensures reported { (s : Settings) (w : World) → Tested result (refusal s w (asked.end_session owner.now number)) }
     ensures number { IfOk result (λ n. n ≡ number) }
@@ -68,7 +68,7 @@ pub fn may_end(owner: &str, number: u64) -> Result<u32, Refusal>
     Ok(session)
 }
 
-/// A session keeps a path, whether it kept that already or not.
+/// Adds a path to those that a session keeps. It may be one of them already.
 pub fn add_temp<S: Alter>(
     tables: &mut Tables<S>,
     owner: String,
@@ -83,7 +83,7 @@ pub fn add_temp<S: Alter>(
     answered(tables.add_temp(text, number, &path), Answer::Changed)
 }
 
-/// A session ends: the answer is how many paths it kept.
+/// Ends a session. The answer is how many paths the session kept.
 pub fn end_session<S: Alter>(
     tables: &mut Tables<S>,
     owner: String,

@@ -1,4 +1,4 @@
--- Entries as callers give them and get them: roots by their names, generations by their numbers, objects with their
+-- Entries as callers pass and receive them: roots by their names, generations by their numbers, objects with their
 -- archives.
 use Rattle.std.specs.Prelude.{ℕ, List, Option, Some, None}
 use Rattle.std.specs.FinMap as finite
@@ -16,7 +16,7 @@ abbrev pub with_root : RootName → Path → World → World
 with_root (Permanent name) target w = with_permanent w name.now target
 with_root (User owner name) target w = with_user_root w (owner.now, name.now) target
 
--- there is no root of this name
+-- no root has this name
 abbrev pub without_root : RootName → World → World
 without_root (Permanent name) w = without_permanent w name.now
 without_root (User owner name) w = without_user_root w (owner.now, name.now)

@@ -1,5 +1,5 @@
--- When tables of other programs are in the way of the store's: then a database isn't opened, though the store's tables
--- may be there soundly, or none of them.
+-- When tables of other programs are in the way of the store's. Then a database isn't opened, also if the store's tables
+-- are sound or none of them exists.
 use Rattle.std.specs.Prelude.{Bool, not, ◌||◌, ◌&&◌, is_some}
 use Rattle.std.specs.List.{list_any}
 use Rattle.sqlite_schema.specs.declared.schema.Schema.{Schema}
@@ -14,7 +14,7 @@ use Rattle.tables_schema.specs.Finding.{is_unawaited}
 abbrev pub is_present : Schema → Table → Bool
 is_present s t = is_some (table_named s t.name)
 
--- something has its name: a table, an index, or a view, a trigger or a table that the schema doesn't show
+-- the name of a table is used: by a table, an index, or a view, a trigger or a table that the schema doesn't show
 abbrev pub is_name_used : Schema → Table → Bool
 is_name_used s t = is_present s t || (is_some (index_named s t.name) || is_some (view_named s t.name))
 
@@ -34,10 +34,10 @@ is_acted_on s t =
 abbrev pub is_awaited : Schema → Table → Bool
 is_awaited s t = not (is_present s t) && not (is_unawaited s t.name)
 
--- a table is missing and can't be made: it would need the counter of rowids, which the database hasn't
+-- a table is missing and can't be made: it needs the counter of rowids, which is missing too
 abbrev pub is_kept_out : Schema → Table → Bool
 is_kept_out s t = not (is_present s t) && lacks_sequence s
 
--- one of these of one of the store's tables: tables of other programs are in the way
+-- tables of other programs are in the way: one of the store's tables is acted on, awaited or kept out
 abbrev pub are_others_in_the_way : Schema → Bool
 are_others_in_the_way s = list_any (λ t. is_acted_on s t || (is_awaited s t || is_kept_out s t)) all_tables

@@ -1,4 +1,4 @@
--- What opening a file says of it.
+-- How a file is opened as a store, or isn't.
 use Rattle.std.specs.Prelude.{◌≡◌, ℕ, false, List, IsTrue}
 use Rattle.tables_open.specs.Disk as disk
 use Rattle.tables_open.specs.DiskCalls as calls

@@ -1,4 +1,4 @@
--- What opening a database says of it.
+-- How a database is opened as a store, why it isn't, and what a crash leaves.
 use Rattle.std.specs.Prelude.{◌≡◌, ◌≢◌, ◌⊎◌, ◌↔◌, ℕ, false, List, None, IsTrue, IsFalse}
 use Rattle.std.specs.List.{AllByRecursion}
 use Rattle.std.specs.FinMap as finite
@@ -35,7 +35,7 @@ use Rattle.tables.specs.declared.refusing.Cause.TheVariants.{BadSchema, OtherSto
 abbrev pub unlimited : State → State
 unlimited s = record s { step_limit = None }
 
--- each further table that a schema has is there, and one that it hasn't holds nothing
+-- each further table of a schema exists, and a further table that the schema doesn't have has no rows
 pub record HasFurtherOf (schema : Schema) (db : Database) : Type 0 where
   pub pieces : IsTrue (has_pieces schema) → HasFurther db piece
   pub no_pieces : IsFalse (has_pieces schema) → (contents_of db).pieces ≡ finite.empty
@@ -48,8 +48,7 @@ HasTablesOf V1 s = HasFirst s
 HasTablesOf V2 s = HasSecond s
 HasTablesOf V3 s = HasThird s
 
--- the tables of a schema are there, and of no other, and their texts can be read; the further ones too, as the schema
--- has them
+-- the tables are those of this schema alone, their texts can be read, and the further tables are those of the schema
 pub record IsFoundBy (schema : Schema) (db : Database) : Type 0 where
   pub tables : HasTablesOf schema db.schema
   pub only : (other : Schema) → HasTablesOf other db.schema → other ≡ schema
@@ -57,7 +56,7 @@ pub record IsFoundBy (schema : Schema) (db : Database) : Type 0 where
   pub readable : AreReadable (contents_of db)
   pub further : HasFurtherOf schema db
 
--- the tables of a schema are there, their texts can be read, and their rows are those of a database of this store
+-- the tables are those of a schema, their texts can be read, and their rows are those of a database of this store
 -- directory
 pub record HoldsBy (schema : Schema) (dir : List ℕ) (db : Database) : Type 0 where
   pub tables : HasTablesOf schema db.schema
@@ -74,15 +73,15 @@ AreRead schema dir db outline =
     IsSoundBy schema dir (contents_of db) × (outline_of (world_in (contents_of db)) ≡ outline)
 
 module _ {S : Type 0} (g : Ghosts S) where
-  -- A store of the third schema was there: nothing changed, the connection is open, and the tables have the world of
-  -- its rows.
+  -- The database held a store of the third schema: nothing changed, the connection is open, and the tables have the
+  -- world of its rows.
   pub record OpensExisting (dir : List ℕ) (db : Database) (t : Kept S) : Type 0 where
     pub holds : HoldsBy V3 dir db
     pub is_open : IsTrue (state g t.connection).is_open
     pub same : (state g t.connection).now ≡ db
     pub reported : HasWorld g t (world_in (contents_of db))
 
-  -- None of the store's tables was there: they were made next to the tables of other programs, and have the new world.
+  -- None of the store's tables existed: they were made next to the tables of other programs, and have the empty world.
   pub record OpensNew (db : Database) (t : Kept S) : Type 0 where
     pub none : HasNone db.schema
     pub is_open : IsTrue (state g t.connection).is_open
@@ -91,8 +90,8 @@ module _ {S : Type 0} (g : Ghosts S) where
     pub frozen : SparesFrozen db (state g t.connection).now
     pub reported : HasWorld g t no_world
 
-  -- A store of an earlier schema was there: what it held was brought to the third, next to the tables of other
-  -- programs, and the tables have the world of the rows that it had.
+  -- The database held a store of an earlier schema: its tables were migrated to the third, next to the tables of other
+  -- programs, and the tables have the world of the rows before.
   pub record OpensMigrated (from : Schema) (dir : List ℕ) (db : Database) (t : Kept S) : Type 0 where
     pub holds : HoldsBy from dir db
     pub is_open : IsTrue (state g t.connection).is_open
@@ -102,39 +101,40 @@ module _ {S : Type 0} (g : Ghosts S) where
     pub frozen : SparesFrozen db (state g t.connection).now
     pub reported : HasWorld g t (world_in (contents_of db))
 
-  -- one of these
+  -- the store is opened: with new tables, as a store of the third schema, or migrated from the first or the second
   abbrev pub OpensStore : List ℕ → Database → Kept S → Type 0
   OpensStore dir db t =
       OpensNew db t ⊎ (OpensExisting dir db t ⊎ (OpensMigrated V1 dir db t ⊎ OpensMigrated V2 dir db t))
 
--- the database had none of the store's tables, and this is what a crash may leave of making them, if it leaves any of
--- it
+-- the database had none of the store's tables, and this is what a crash may leave while they are made, apart from the
+-- state before
 abbrev pub LeavesNew : List ℕ → Database → Remains → Type 0
 LeavesNew dir db left = HasNone db.schema × LeavesMade dir db left
 
--- a store of an earlier schema was there, and this is what a crash may leave of bringing it to the third, if it leaves
--- any of it
+-- the database held a store of an earlier schema, and this is what a crash may leave while it is migrated to the third,
+-- apart from the state before
 abbrev pub LeavesMigration : Schema → List ℕ → Database → Remains → Type 0
 LeavesMigration from dir db left = HoldsBy from dir db × LeavesMigrated from dir db left
 
--- What a crash may leave of opening a database, besides what it could leave before: the new tables, or those that were
--- brought to the third schema.
+-- What a crash may leave while a database is opened, apart from what it could leave before: the new tables, or those
+-- that were migrated to the third schema.
 abbrev pub LeavesOpening : List ℕ → Database → Remains → Type 0
 LeavesOpening dir db left = LeavesNew dir db left ⊎ (LeavesMigration V1 dir db left ⊎ LeavesMigration V2 dir db left)
 
--- a table of the store's is there in exactly its form, whatever is next to it
+-- one of the store's tables exists in exactly its form, whatever other tables exist
 abbrev pub HasItsForm : Shown → Table → Type 0
 HasItsForm s t = (at : ℕ) × IsKnown s t.name at (record t { tree = tree_named s t.name })
 
--- the store's tables exist by a schema, each in exactly its form, and nothing has the name of one that it lacks
+-- the store's tables are those of a schema, each in exactly its form, and no name of a table that the schema lacks is
+-- used
 abbrev pub HasFormsOf : Schema → Shown → Type 0
 HasFormsOf V1 s =
     AllByRecursion (HasItsForm s) our_tables × (is_name_used s piece ≡ false) × (is_name_used s temp_root ≡ false)
 HasFormsOf V2 s = AllByRecursion (HasItsForm s) our_tables × HasItsForm s piece × (is_name_used s temp_root ≡ false)
 HasFormsOf V3 s = AllByRecursion (HasItsForm s) our_tables × HasItsForm s piece × HasItsForm s temp_root
 
--- the store's tables are there by a schema, their texts can be read, and their rows are those of a database of this
--- store directory, whatever is next to them
+-- the store's tables are those of a schema, their texts can be read, and their rows are those of a database of this
+-- store directory, whatever other tables exist
 pub record IsPresentBy (schema : Schema) (dir : List ℕ) (db : Database) : Type 0 where
   pub forms : HasFormsOf schema db.schema
   pub readable : AreReadable (contents_of db)
@@ -144,9 +144,8 @@ pub record IsPresentBy (schema : Schema) (dir : List ℕ) (db : Database) : Type
 abbrev pub IsPresent : List ℕ → Database → Type 0
 IsPresent dir db = (schema : Schema) × IsPresentBy schema dir db
 
--- Why a store isn't opened for a failure: what its tables are or hold can't be read, or rowids are shared or no
--- integers (FailsToOpen); where there are none, they aren't made; or those of an earlier schema aren't brought to the
--- third.
+-- The failures for which a store isn't opened: the schema or the rows can't be read, or rowids are shared or aren't
+-- integers (FailsToOpen); new tables aren't made; or the tables of an earlier schema aren't migrated to the third.
 abbrev pub FailsToAdopt : List ℕ → State → State → Failure → Type 0
 FailsToAdopt dir old new f =
     FailsToOpen old new f
@@ -154,20 +153,21 @@ FailsToAdopt dir old new f =
     ⊎ ((HasFirst old.now.schema × FailsToMigrate V1 old new f)
     ⊎ (HasSecond old.now.schema × FailsToMigrate V2 old new f)))
 
--- Why a database isn't opened: the store's tables are there soundly by no schema and for no directory, though some of
--- them are there; or tables of other programs are in their way; or the store of another directory is there.
+-- Why a database isn't opened. `BadSchema`: some of the store's tables exist, but they are sound by no schema and for
+-- no directory; or tables of other programs are in their way. `OtherStoreDir`: the database is the store of another
+-- directory.
 abbrev pub IsRefusal : List ℕ → Database → Cause → Type 0
 IsRefusal dir db BadSchema =
     (IsTrue (has_store_tables db.schema) × ((d : List ℕ) → ¬ IsPresent d db)) ⊎ IsTrue (are_others_in_the_way db.schema)
 IsRefusal dir db OtherStoreDir = (d : List ℕ) × HoldsStore d db × (d ≢ dir)
 IsRefusal dir db (Failed f) = ⊥
 
--- A cause is one of what the database shows, or of a failure on the way from one state to another.
+-- the cause of a database that isn't opened: what the database holds, or a failure between the two states
 abbrev pub IsCause : List ℕ → State → State → Cause → Type 0
 IsCause dir old new (Failed f) = FailsToAdopt dir old new f
 IsCause dir old new refusal = IsRefusal dir old.now refusal
 
--- neither is there none of the store's tables, with nothing waiting for one, nor the store of some directory
+-- the database isn't one in which new tables are made (HasNone), and it holds the store of no directory
 abbrev pub IsNoStore : Database → Type 0
 IsNoStore db = ¬ HasNone db.schema × ((d : List ℕ) → ¬ HoldsStore d db)
 

@@ -1,4 +1,4 @@
--- Rows that are added, one after another, and rows that go.
+-- Rows that are added, one after another, and rows that are deleted.
 use Rattle.std.specs.Prelude.{⊤, ◌≡◌, ◌<◌, List, [], ◌∷◌, ℕ, ℤ, false, not, pos, Some, None, IsTrue}
 use Rattle.std.specs.declared.cmp.Ordering.{Ordering}
 use Rattle.std.specs.FinMap as finite
@@ -40,19 +40,19 @@ put_object p o references outputs pieces c = record c {
   pieces = put_pieces p pieces c.pieces;
 }
 
--- no row is of the object of this path
+-- no row belongs to an object of this path
 pub record LacksObject (p : Path) (c : Contents) : Type 0 where
   pub object : finite.get c.objects p ≡ None
   pub references : (r : Path) → finite.get c.refs (p, r) ≡ None
   pub outputs : (name : List ℕ) → finite.get c.outs (p, name) ≡ None
   pub pieces : (n : ℤ) → finite.get c.pieces (p, n) ≡ None
 
--- keys in an order, each another than those after it
+-- keys in an order, each different from those after it
 abbrev pub AreApart : {K : Type 0} → (K → K → Ordering) → List K → Type 0
 AreApart R [] = ⊤
 AreApart R (k ∷ ks) = AllByRecursion (λ j. eq_by_cmp R j k ≡ false) ks × AreApart R ks
 
--- such keys, none of which a map has
+-- distinct keys, none of which a map has
 pub record AreFree {K X : Type 0} {R : K → K → Ordering} (m : finite.FinMap R X) (ks : List K) : Type 0 where
   pub apart : AreApart R ks
   pub free : AllByRecursion (λ k. finite.get m k ≡ None) ks
@@ -79,7 +79,7 @@ without_object p c = record c {
   pieces = finite.retain_keys c.pieces (λ k. not (same k.0 p));
 }
 
--- without those of the objects of some paths
+-- the rows without those of the objects of some paths
 abbrev pub without_objects : List Path → Contents → Contents
 without_objects ps c = record c {
   objects = finite.retain_keys c.objects (λ k. not (holds ps k));

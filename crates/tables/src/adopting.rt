@@ -19,7 +19,7 @@ use tables_open::file::{Opened, Unreadable};
 use tables_schema::Schema;
 use tables_schema::recognising::Recognised;
 
-/// Opens a store over a connection of which is known what its database has of the store's tables.
+/// Opens a store over a connection; `found` says which of the store's tables it has.
 pub(crate) fn take<S: Alter>(
     alloc: Global,
     conn: Connection<S>,
@@ -94,8 +94,8 @@ fn adopt_unlimited<S: Alter>(
     }
 }
 
-/// Opens a connection as the store of a directory. All of its rows are read and tested; where it has none of the store's tables, they
-/// are made, and those of an earlier schema are brought to the third. At an error the connection is returned, with the tables as they
+/// Opens a connection as the store of a directory. Reads and tests all of its rows. Makes the store's tables if the database has
+/// none of them, and migrates those of an earlier schema to schema 3. An error returns the connection, with the tables as they
 /// were. A limit on steps is cleared in either case.
 ///
 /// ```rust
@@ -116,9 +116,9 @@ fn adopt_unlimited<S: Alter>(
 ///
 /// # Errors
 ///
-/// `BadSchema` where some of the store's tables are there that make no store, or tables of other programs are in their way: they act on one
-/// that is there, wait for one that isn't, or keep one from being made. Then `OtherStoreDir` where it is the store of another
-/// directory; a failure of the database, or out of memory.
+/// `BadSchema`: some of the store's tables exist but aren't a sound store, or another program's table interferes (a foreign key,
+/// an index, a missing rowid counter). Then `OtherStoreDir`: the database is the store of another directory. `Failed`: the
+/// database failed, or memory ran out.
 pub fn adopt<S: Alter>(
     alloc: Global,
     mut conn: Connection<S>,

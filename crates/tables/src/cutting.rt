@@ -30,7 +30,7 @@ pub(crate) fn first_of(nar: &Pieces) -> &[u8]
     nar.piece(0)
 }
 
-/// Adds rows for what the row of an object doesn't hold of its archive: pieces that are numbered from 1, of which none is there.
+/// Adds a row for each piece of an archive after the first, numbered from 1. The path has none of these rows yet.
 pub(crate) fn put_pieces<S: Alter>(
     tx: &mut Transaction<'_, S>,
     base: &str,

@@ -1,4 +1,4 @@
-//! Opening tables of an earlier schema: they are brought to the third.
+//! Opening tables of an earlier schema, which migrates them to schema 3.
 
 ghost use Rattle.std.specs.Prelude.{◌≡◌, ◌≢◌, List, ℕ, false, IsTrue, IfOk, IfErr, OnOk, OnErr, MatchResult};
 ghost use Rattle.sqlite.specs.State.{HasCleanDisk, Survives};
@@ -20,7 +20,7 @@ use std::alloc::Global;
 use tables_schema::Schema;
 use tables_sql::failure::Failure;
 
-/// Brings the tables of a schema to the third, which those of the third are.
+/// Migrates the tables of a schema to schema 3. Tables of schema 3 stay as they are.
 fn bring<S: Alter>(alloc: Global, conn: &mut Connection<S>, schema: Schema) -> Result<(), Failure>
     requires alone { conn.old.in_transaction ≡ false }
     requires is_open { HasCleanDisk (state S.Store conn.old) → IsTrue (state S.Store conn.old).is_open }
@@ -46,7 +46,7 @@ fn bring<S: Alter>(alloc: Global, conn: &mut Connection<S>, schema: Schema) -> R
     }
 }
 
-/// Reads the rows, tests them by their schema and compares the directory, and then brings the tables to the third.
+/// Reads the rows, tests them by their schema, compares the directory, and then migrates the tables to schema 3.
 fn read_and_bring<S: Alter>(
     alloc: Global,
     conn: &mut Connection<S>,
@@ -74,7 +74,7 @@ fn read_and_bring<S: Alter>(
     Ok(loaded)
 }
 
-/// Opens a connection that holds the tables of a schema, brought to the third.
+/// Opens a connection that holds the tables of a schema, and migrates them to schema 3.
 pub(crate) fn open_earlier<S: Alter>(
     alloc: Global,
     mut conn: Connection<S>,

@@ -1,4 +1,4 @@
-//! What the tables hold, as a caller asks for it.
+//! Reads of what the tables hold.
 
 ghost use Rattle.std.specs.Prelude.{◌≡◌, IfOk, IsTrue, is_some, map, option_map};
 ghost use Rattle.std.specs.FinMap as finite;
@@ -24,7 +24,7 @@ use tables_outline::{Profile, Summary};
 use tables_root_list::root_list;
 use tables_sql::failure::Failure;
 
-/// An object: its archive, and all else that is known of it.
+/// An object: its archive, and the summary of its other facts.
 #[derive(Drop)]
 pub struct Object {
     /// The bytes of the archive.
@@ -36,13 +36,13 @@ pub struct Object {
 /// All objects and roots.
 #[derive(Drop)]
 pub struct Snapshot<'a> {
-    /// Each object but the bytes of its archive, by its path, in order. They are lent.
+    /// The summary of each object, by path, in order: all but the bytes of the archive. Borrowed from the tables.
     pub objects: &'a BTreeMap<StorePath, Summary>,
     /// Each root, in the order of roots.
     pub roots: Vec<Root>,
 }
 
-/// A path that is kept, if there is one.
+/// An owned copy of a path, or `None` for `None`.
 fn copied_path(path: Option<&StorePath>) -> Result<Option<StorePath>, AllocError>
     ensures { IfOk result (λ copy. copy ≡ option_map (λ q. q.now) path.entry) }
 {
@@ -52,7 +52,7 @@ fn copied_path(path: Option<&StorePath>) -> Result<Option<StorePath>, AllocError
     }
 }
 
-/// A summary that is kept.
+/// An owned copy of a summary.
 fn copied(alloc: Global, object: &Summary) -> Result<Summary, AllocError>
     ensures { IfOk result (λ copy. copy ≡ object.now) }
 {
@@ -95,7 +95,8 @@ impl<S: Alter> Tables<S> {
         Ok(Snapshot { objects, roots })
     }
 
-    /// The object of a path, if it has one. Its archive is read from the disk, the rest from memory. Nothing changes.
+    /// The object of a path, or `None` if the path isn't valid. The archive is read from the disk, the rest from memory. Nothing
+    /// changes.
     ///
     /// ```rust
     /// if let Some(object) = tables.object(path)? {
@@ -129,7 +130,7 @@ impl<S: Alter> Tables<S> {
         Ok(Some(Object { nar, summary }))
     }
 
-    /// The profile of an owner and a name, if there is one. The only error is that memory was refused.
+    /// The profile of an owner and a name, or `None` if no such profile exists. The only error is that memory was refused.
     ///
     /// ```rust
     /// assert!(rt; tables.profile("ann", "default")?.is_none());

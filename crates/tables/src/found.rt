@@ -1,4 +1,4 @@
-//! Opening what was found: the store's tables, or none of them.
+//! Opening a database with the store's tables of schema 3, or with none of them.
 
 ghost use Rattle.std.specs.Prelude.{◌≡◌, false, IfOk, IfErr, MatchResult};
 ghost use Rattle.sqlite.specs.State.{HasCleanDisk, Survives};
@@ -50,7 +50,7 @@ pub(crate) fn open_existing<S: Alter>(
     }
 }
 
-/// Makes the store's tables, and opens them. The directory comes twice, lent and to be kept.
+/// Makes the store's tables, and opens them. `own` is a copy of `dir`, kept in the tables.
 fn make_new<S: Alter>(
     alloc: Global,
     mut conn: Connection<S>,
@@ -86,7 +86,7 @@ fn make_new<S: Alter>(
     }
 }
 
-/// Makes the store's tables where none of them exists, and opens them.
+/// Makes the store's tables in a database that has none of them, and opens them.
 pub(crate) fn open_new<S: Alter>(
     alloc: Global,
     conn: Connection<S>,

@@ -1,4 +1,4 @@
-//! The tables: a connection, and the outline of what its rows say.
+//! The tables: a connection, and the outline of the rows.
 
 ghost use Rattle.std.specs.Prelude.{◌≡◌, false, None, length};
 ghost use Rattle.std.specs.FinMap as finite;
@@ -39,7 +39,7 @@ impl<S: Alter> Model for Tables<S> {
 }
 
 impl<S: Alter> Tables<S> {
-    /// What is kept in memory: all that the tables hold but the bytes of archives, lent.
+    /// The outline, borrowed: what the tables hold except the bytes of archives, in memory.
     ///
     /// ```rust
     /// let object = tables.outline().object(path);
@@ -51,7 +51,7 @@ impl<S: Alter> Tables<S> {
         &self.outline
     }
 
-    /// The connection, given up. It is outside a transaction.
+    /// Drops the outline and returns the connection, which is outside a transaction.
     ///
     /// ```rust
     /// use paths::StoreDir;
@@ -74,7 +74,8 @@ impl<S: Alter> Tables<S> {
         connection
     }
 
-    /// Adds an object under a path that has none: its archive, and the summary of it. That the world is sound then is the caller's condition.
+    /// Adds an object at a path that has none: `nar` is the archive, `object` the summary. The caller ensures that the world is
+    /// sound afterwards.
     ///
     /// ```rust
     /// use nar::Node;

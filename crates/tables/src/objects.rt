@@ -22,7 +22,7 @@ use tables_outline::Summary;
 use tables_rows::{objects, outputs, references};
 use tables_sql::failure::Failure;
 
-/// Adds rows for the references of one path that has none, each another.
+/// Adds a row for each reference of a path. The references are distinct; the path has none of these rows yet.
 pub(crate) fn put_references<S: Alter>(
     tx: &mut Transaction<'_, S>,
     base: &str,
@@ -48,7 +48,8 @@ pub(crate) fn put_references<S: Alter>(
     Ok(())
 }
 
-/// Adds rows for the outputs of one path that has none: for each name the path at the same place, in the order of names.
+/// Adds a row for each output of a path: `outputs[i]` belongs to `names[i]`. The names are distinct; the path has none of these
+/// rows yet.
 pub(crate) fn put_outputs<S: Alter>(
     tx: &mut Transaction<'_, S>,
     base: &str,
@@ -77,7 +78,7 @@ pub(crate) fn put_outputs<S: Alter>(
     Ok(())
 }
 
-/// An object is added, with its references, its outputs and the pieces of its archive.
+/// The change that adds an object, with its references, its outputs and the pieces of its archive.
 #[derive(Drop)]
 pub(crate) struct InsertObject<'a> {
     pub(crate) base: &'a str,

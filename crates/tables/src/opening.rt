@@ -1,4 +1,4 @@
-//! Tables that are made, and such as are there.
+//! New tables, and tables over existing rows.
 
 ghost use Rattle.std.specs.Prelude.{◌≡◌, IfErr, IfOk};
 ghost use Rattle.sqlite.specs.Steps.{over_memory};
@@ -35,7 +35,7 @@ impl<S: Alter> Tables<S> {
 }
 
 impl Tables<MemStore> {
-    /// The tables of a store in memory, in which there is nothing yet.
+    /// The tables of a new, empty store in memory.
     ///
     /// ```rust
     /// use paths::StoreDir;

@@ -1,4 +1,4 @@
-//! Archives, read when they are asked for.
+//! Reading of archives.
 
 ghost use Rattle.std.specs.Prelude.{◌≡◌, ◌++◌, false, is_some, IfOk, IsTrue, Some, length, option_map};
 ghost use Rattle.std.specs.List.{flat_map};
@@ -26,8 +26,8 @@ use tables_rows::pieces::Piece;
 use tables_rows::{objects, pieces};
 use tables_sql::failure::Failure;
 
-/// What a row holds of an archive, and its further pieces in their order. They are moved: none is copied where each but the
-/// last has 65,536 bytes.
+/// Joins the part of an archive in the row with the later pieces, in their order, without a copy if each but the last has 65,536
+/// bytes.
 fn joined(alloc: Global, row: Vec<u8>, further: Vec<Piece>) -> Result<Pieces, AllocError>
     ensures { IfOk result (λ nar. nar ≡ row.items ++ flat_map (λ p. p.bytes.items) further.items) }
 {
@@ -39,8 +39,8 @@ fn joined(alloc: Global, row: Vec<u8>, further: Vec<Piece>) -> Result<Pieces, Al
     Ok(nar)
 }
 
-/// The archive of a path, if it has an object: what the object's row holds, and its further pieces, which are asked for
-/// where there are some. It has `length` bytes.
+/// The archive of a path, or `None` if the path has no object. `size` is the size of the archive in bytes; the table of pieces is
+/// read only for an archive larger than the object's row holds.
 pub(crate) fn read_archive<S: Alter>(
     alloc: Global,
     conn: &mut Connection<S>,
@@ -82,7 +82,7 @@ pub(crate) fn read_archive<S: Alter>(
 }
 
 impl<S: Alter> Tables<S> {
-    /// The archive of a path, if it is valid. It is read from the disk, and nothing changes.
+    /// The archive of a path, read from the disk, or `None` if the path isn't valid. Nothing changes.
     ///
     /// ```rust
     /// assert_eq!(rt; tables.archive(path)?.map(|nar| nar.len()), Some(128));

@@ -11,8 +11,9 @@ use tables_sql::failure::Failure;
 /// Why a database isn't opened as a store.
 #[derive(Clone, Copy, Debug, PartialEq, Eq)]
 pub enum Cause {
-    /// Some of the store's tables are there, but no store: a table is missing or has another form, or the rows aren't sound. Or tables of other
-    /// programs are in the way of the store's, which may be there soundly, or not at all: they act on one, wait for one, or keep one from being made.
+    /// Some of the store's tables exist but aren't a sound store: a table is missing or has another form, or the rows aren't
+    /// sound. Or another program's table interferes (a foreign key, an index, a missing rowid counter), also if the store's
+    /// tables are sound or none of them exists.
     BadSchema,
     /// The database is the store of another directory.
     OtherStoreDir,
@@ -28,26 +29,26 @@ impl From<Failure> for Cause {
     }
 }
 
-/// A connection that isn't opened as a store, returned.
+/// A connection that isn't opened as a store, and why.
 #[derive(Drop)]
 pub struct Unadopted<S: Alter> {
     /// The connection, outside a transaction.
     pub conn: Connection<S>,
-    /// Why it isn't opened.
+    /// Why the connection isn't opened as a store.
     pub cause: Cause,
 }
 
 /// Why a file isn't opened as a store, and what is left of it. `cause` says why. `S` is the store of a connection, over files `D`.
 #[derive(Drop)]
 pub enum Unopened<S: Alter, D: Disk> {
-    /// The file wasn't opened, or what it holds can't be read.
+    /// The file wasn't opened, or its database can't be read.
     File(file::Unopened<S, D>),
-    /// What it holds isn't opened as a store.
+    /// The database of the file isn't opened as a store.
     Store(Unadopted<S>),
 }
 
 impl<S: Alter, D: Disk> Unopened<S, D> {
-    /// Why the file isn't opened as a store. What isn't a database is no store: `BadSchema`.
+    /// Why the file isn't opened as a store. `BadSchema` for a file that isn't a database.
     ///
     /// ```rust
     /// use tables::Cause;

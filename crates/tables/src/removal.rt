@@ -1,4 +1,4 @@
-//! Objects that go, as the rows and the outline have them.
+//! Deletion of objects, from the rows and from the outline.
 
 ghost use Rattle.std.specs.Prelude.{◌≡◌, IsTrue, OnOk, OnErr, not};
 ghost use Rattle.std.specs.FinMap as finite;
@@ -23,7 +23,7 @@ use tables_outline::Outline;
 use tables_rows::objects;
 use tables_sql::failure::Failure;
 
-/// Removes the rows of one object, if it is there: its own, and those that belong to it by the outline.
+/// Deletes the rows of one object, if it exists: its own, and those of its references, outputs and pieces by the outline.
 fn delete_object<S: Alter>(
     tx: &mut Transaction<'_, S>,
     outline: &Outline,
@@ -53,7 +53,7 @@ fn delete_object<S: Alter>(
     delete_pieces(tx, base, object)
 }
 
-/// Removes the rows of some objects.
+/// Deletes the rows of some objects.
 fn delete_objects<S: Alter>(
     tx: &mut Transaction<'_, S>,
     outline: &Outline,
@@ -80,7 +80,7 @@ fn delete_objects<S: Alter>(
     Ok(())
 }
 
-/// Takes some objects out of an outline. It takes no memory.
+/// Removes some objects from an outline. Allocates no memory.
 pub(crate) fn remove_all(outline: &mut Outline, paths: &[StorePath])
     ensures { outline.new
         ≡ record outline.old { objects = finite.retain_keys outline.old.objects (λ p. not (holds paths.now p)) } }
@@ -90,7 +90,7 @@ pub(crate) fn remove_all(outline: &mut Outline, paths: &[StorePath])
     }
 }
 
-/// Some objects go, if they are there: a first one and the rest. The outline is that of the rows before.
+/// The change that deletes some objects, those that exist: `first` and `rest`. `outline` is that of the rows before the change.
 #[derive(Drop)]
 pub(crate) struct RemoveObjects<'a> {
     pub(crate) outline: &'a Outline,
@@ -113,7 +113,7 @@ impl<'a> Change for RemoveObjects<'a> {
     }
 }
 
-/// No object is deleted. An object that isn't there is asked for, which succeeds only over an open connection.
+/// The change that deletes nothing. Queries a missing object, so that it fails on a shut connection.
 #[derive(Drop)]
 pub(crate) struct RemoveNone {
     pub(crate) alloc: Global,
@@ -134,7 +134,7 @@ impl Change for RemoveNone {
     }
 }
 
-/// Removes the rows of some objects in one transaction. The outline is that of the rows before.
+/// Deletes the rows of some objects in one transaction. `outline` is that of the rows before the change.
 pub(crate) fn delete_rows<S: Alter>(
     alloc: Global,
     conn: &mut Connection<S>,

@@ -1,4 +1,4 @@
-//! Objects are removed, one transaction a call.
+//! Deletion of objects, one transaction a call.
 
 ghost use Rattle.std.specs.Prelude.{not};
 ghost use Rattle.live.specs.Graph.{holds};
@@ -13,8 +13,8 @@ use sqlite::Alter;
 use tables_sql::failure::Failure;
 
 impl<S: Alter> Tables<S> {
-    /// Removes the objects of these paths, those that are there. That the world is sound then is the caller's condition: what stays
-    /// refers to none of them, and no root is on one.
+    /// Deletes the objects of these paths, those that exist. The caller ensures that the world is sound afterwards: no object
+    /// that stays refers to a deleted one, and no root points to one.
     ///
     /// ```rust
     /// let paths = [path.clone()?];

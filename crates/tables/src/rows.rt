@@ -1,4 +1,4 @@
-//! All rows, read and tested, and the directory compared.
+//! Reading and testing of all rows, and the comparison of the directory.
 
 ghost use Rattle.std.specs.Prelude.{◌≡◌, ◌↔◌, List, ℕ, false, IsTrue, IfOk, IfErr, OnOk, MatchOption};
 ghost use Rattle.sqlite.specs.State.{HasCleanDisk, IsUnchanged, Survives};
@@ -20,14 +20,14 @@ use tables_roots::{load_roots, settings};
 use tables_schema::Schema;
 use tables_sql::failure::Failure;
 
-/// What the rows of a store say: its directory, and all that is kept in memory.
+/// The contents of a store's rows: the directory, and the outline, which stays in memory.
 #[derive(Drop)]
 pub(crate) struct Loaded {
     pub(crate) dir: StoreDir,
     pub(crate) outline: Outline,
 }
 
-/// The store directory and the outline of the rows, if they are sound by their schema.
+/// The store directory and the outline of the rows. `None` if the rows aren't sound by the schema.
 fn read<S: Alter>(
     alloc: Global,
     conn: &mut Connection<S>,
@@ -71,7 +71,8 @@ fn is_same(a: &StoreDir, b: &StoreDir) -> bool
     a.as_str() == b.as_str()
 }
 
-/// What the rows say, if they are sound by their schema, and then the directory that they name is this one.
+/// The contents of the rows. `BadSchema` if the rows aren't sound by the schema; then `OtherStoreDir` if they name a directory
+/// other than `dir`.
 pub(crate) fn read_as<S: Alter>(
     alloc: Global,
     conn: &mut Connection<S>,

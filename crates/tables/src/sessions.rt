@@ -1,5 +1,5 @@
-//! Sessions keep paths, and end, one transaction a call. That the world is sound then is the caller's condition. A call fails when it runs out
-//! of memory, for a row too large, or for a fault of the disk, and then nothing has changed.
+//! Adding the paths that sessions keep, and ending sessions, one transaction a call. The caller ensures that the world is sound
+//! after each call. A call fails if memory runs out, a row is too large or the disk fails; then nothing has changed.
 
 ghost use Rattle.std.specs.Prelude.{◌≡◌, IfOk};
 ghost use Rattle.std.specs.FinMap as finite;
@@ -18,7 +18,7 @@ use sqlite::Alter;
 use tables_sql::failure::Failure;
 
 impl<S: Alter> Tables<S> {
-    /// Keeps a path for a session of an owner, whether that kept it already or not.
+    /// Adds a path to those that a session of an owner keeps. It may be one of them already.
     ///
     /// ```rust
     /// tables.add_temp("ann", 7, path)?;
@@ -48,7 +48,8 @@ impl<S: Alter> Tables<S> {
         }
     }
 
-    /// Ends a session of an owner, and deletes what it kept. The answer is how many paths those were, 0 too.
+    /// Ends a session of an owner, and deletes the roots of the paths that the session kept. Returns how many they were, which
+    /// may be 0.
     ///
     /// ```rust
     /// tables.add_temp("ann", 7, path)?;

@@ -29,7 +29,7 @@ AnswersCause dir BadSchema w = Answers (Err (Refused refusal.BadSchema)) w
 AnswersCause dir OtherStoreDir w = Answers (Err (Refused refusal.OtherStoreDir)) w
 AnswersCause dir (Lacks f) w = IsPrinted dir (failed (failure_view f)) w
 
--- `start` says what the file had. No code reads it, so these definitions are true for every value.
+-- `start` is ghost: what a theorem assumes of the file. No code reads it, so the definitions cover every value.
 module _ {S : Type 0} {host : calls.Ghosts Host} (start : Ghosts S) (g : disk.Ghosts (Modelled Host S host start)) where
   -- the file was opened as the store of the directory, and the work is done over its tables
   abbrev pub DoesOpened : Doing
@@ -41,6 +41,6 @@ module _ {S : Type 0} {host : calls.Ghosts Host} (start : Ghosts S) (g : disk.Gh
   AnswersUnopened dir w = (e : Unopened (FileStore (Modelled Host S host start) g) (Modelled Host S host start) g)
       × IsUnopened (image_at start) dir e × AnswersCause dir (cause_of e) w
 
-  -- one of both
+  -- the file is opened and the work is done, or the file isn't opened and the cause is reported
   abbrev pub DoesFile : Doing
   DoesFile s d console = DoesOpened s d console ⊎ AnswersUnopened s.store_dir console.written

@@ -1,4 +1,4 @@
--- What a subcommand asks of a store.
+-- The request that a subcommand makes to a store.
 use Rattle.std.specs.Prelude.{◌≡◌, ⊤, ℕ, Bool, true, false, is_ok, if◌then◌else◌, List, map, Option, Some, None, Result, Ok, Err}
 use Rattle.std.specs.List.{list_all}
 use Rattle.std.specs.Option.{option_map_or}
@@ -30,44 +30,44 @@ use Rattle.tool_pure.specs.Archive.{max_prefix}
 use Rattle.tool_pure.specs.Object.{is_path_text, most_of_contents, named_fault}
 use Rattle.tool_pure.specs.Stream.{InputFails}
 
--- a request on a path, where the text is one
+-- a request on a path, if the text is a path
 abbrev pub on_path : List ℕ → Text → (Path → Request) → Result Request Refusal
 on_path dir text ask = if is_path_text dir text then Ok (ask (base_of dir text)) else Err BadStorePath
 
--- a request on paths, where all texts are such
+-- a request on paths, if all texts are paths
 abbrev pub on_paths : List ℕ → List Text → (List Path → Request) → Result Request Refusal
 on_paths dir texts ask =
     if list_all (is_path_text dir) texts then Ok (ask (map (base_of dir) texts)) else Err BadStorePath
 
--- a request on a name, references and the bytes of the input, where the first two are such
+-- a request on a name, references and the bytes of the input, if the texts are a name and references
 abbrev pub on_object : List ℕ → Text × List Text → (List ℕ → List Path → List ℕ → Request)
     → Result (List ℕ → Request) Refusal
 on_object dir o ask = option_map_or Err (named_fault dir o.0 o.1) (Ok (ask o.0 (map (base_of dir) o.1)))
 
--- whose a root is: the caller's, where nobody is named
+-- the owner of a root: the caller, if no owner is named
 abbrev pub owner_of : Caller → Option Text → List ℕ
 owner_of c None = c.name
 owner_of c (Some owner) = owner
 
--- a root of a kind is set: nobody's, or the caller's
+-- the request that sets a root: a permanent one, or that of the caller
 abbrev pub set_root : RootKind → Caller → Text → Path → Request
 set_root Permanent c name p = request.set_permanent name p
 set_root User c name p = request.set_user_root c.name name p
 
--- a root is dropped: nobody's, or that of its owner
+-- the request that drops a root: a permanent one, or that of a user
 abbrev pub drop_root : Unrooted → Caller → Text → Request
 drop_root unrooted.Permanent c name = request.drop_permanent name
 drop_root (unrooted.User owner) c name = request.drop_user_root (owner_of c (optional_text owner)) name
 
--- what happens to a profile: a path becomes its current generation, where the text is one; it is rolled back; or a
--- generation of it becomes current, or is deleted
+-- the request about a profile: a path becomes its current generation, if the text is one; the profile is rolled back;
+-- or a generation of the profile becomes current, or is deleted
 abbrev pub change_profile : List ℕ → List ℕ → Text → OnProfile → Result Request Refusal
 change_profile dir owner name (asked.set text) = on_path dir text (request.set_profile owner name)
 change_profile dir owner name asked.rollback = Ok (request.rollback owner name)
 change_profile dir owner name (asked.switch n) = Ok (request.switch owner name n)
 change_profile dir owner name (asked.delete_generation n) = Ok (request.delete_generation owner name n)
 
--- what happens to a session's temporary roots: a path becomes one of them, where the text is one; or they all go
+-- the request about a session's temporary roots: a path is added, if the text is one; or all of them are deleted
 abbrev pub change_session : List ℕ → List ℕ → ℕ → OnSession → Result Request Refusal
 change_session dir owner n (asked.add_temp text) = on_path dir text (request.add_temp owner n)
 change_session dir owner n asked.end_session = Ok (request.end_session owner n)
@@ -78,7 +78,7 @@ pub data Ask : Type 0 where
   at_once : (List ℕ → Caller → Result Request Refusal) → Ask
   -- a request with the bytes of the input, of which no more than this number are read, or why the arguments are refused
   with_input : ℕ → (List ℕ → Caller → Result (List ℕ → Request) Refusal) → Ask
-  -- what the body says that the input is
+  -- the request of the body on the input: an import, or the runtime roots
   import_body : Ask
   runtime_body : Ask
 
@@ -87,22 +87,22 @@ abbrev pub with_bytes : List ℕ → Result (List ℕ → Request) Refusal → R
 with_bytes bytes (Ok ask) = Ok (ask bytes)
 with_bytes bytes (Err refusal) = Err refusal
 
--- so the bytes of the input are asked, or refused
+-- what is asked by the bytes of the input: this request, or this refusal
 abbrev pub Demands : Ask → List ℕ → Caller → List ℕ → Result Request Refusal → Type 0
 Demands (at_once ask) dir c bytes wanted = ask dir c ≡ wanted
 Demands (with_input most ask) dir c bytes wanted = with_bytes bytes (ask dir c) ≡ wanted
 Demands import_body dir c bytes wanted = Imports dir bytes wanted
 Demands runtime_body dir c bytes wanted = Replaces dir bytes wanted
 
--- The input may have failed for that. It isn't read where nothing of it is asked, or where the arguments are refused;
--- and where it is read to a bound, fewer bytes came.
+-- The input may have failed for this subcommand. The input isn't read if none of it is needed, or if the arguments are
+-- refused; and if it is read to a bound, it failed after fewer bytes.
 abbrev pub LosesInput : Ask → List ℕ → Caller → Stream → Type 0
 LosesInput (at_once ask) dir c input = ⊥
 LosesInput (with_input most ask) dir c input = InputFails (is_ok (ask dir c)) most input
 LosesInput import_body dir c input = ⊤
 LosesInput runtime_body dir c input = ⊤
 
--- what a subcommand asks of a store; the others ask nothing
+-- the request of a subcommand to a store; the other subcommands make none
 abbrev pub asks : Asked → Option Ask
 asks list_paths = Some (at_once (λ dir c. Ok request.list))
 asks list_live = Some (at_once (λ dir c. Ok request.list_live))
@@ -136,13 +136,13 @@ reads_all _ = false
 
 -- ---- what a program makes of the words and the input
 
--- whatever the one request may be replied, and do, the other may
+-- each reply and each step of the first request is one of the second too
 abbrev pub StepsAs : Request → Request → Type 0
 StepsAs made wanted =
     (s : Settings) (w : World) (c : Caller) (reply : Reply) (next : World) → Step s w c made reply next
     → Step s w c wanted reply next
 
--- just this is asked
+-- this is asked, and nothing else
 abbrev pub Gives : Result Request Refusal → Result Request Refusal → Type 0
 Gives said wanted = said ≡ wanted
 
@@ -155,7 +155,7 @@ IsAsked fails asks (Err (Failed Memory)) = ⊤
 IsAsked fails asks (Err (Failed Input)) = fails
 IsAsked fails asks (Err (Failed _)) = ⊥
 
--- what is asked by the bytes of the input: by some bytes, where it doesn't say them
+-- what is asked by the bytes of the input: by some bytes, if the stream's contents are unknown
 abbrev pub IsAskedOver : Type 0 → (List ℕ → Result Request Refusal → Type 0) → Option (List ℕ) → Result Made Stop
     → Type 0
 IsAskedOver fails ask None made = (bytes : List ℕ) × IsAsked fails (ask bytes) made

@@ -1,4 +1,4 @@
--- What a command line does with a store: it asks it something, or serves it.
+-- What a command line does with a store: makes a request, or serves the store.
 use Rattle.std.specs.Prelude.{◌⊎◌, Bool, true, Option, Some, None, option_map}
 use Rattle.clap.specs.Walk.{Text}
 use Rattle.sqlite_trees.specs.declared.memory.MemStore.{MemStore}
@@ -23,17 +23,17 @@ use Rattle.tool.specs.Serving.{ServesBy}
 
 -- what is done with a store
 pub data OnStore : Type 0 where
-  -- a caller asks something of it
+  -- a caller makes a request
   calls : Caller → Ask → OnStore
   -- the store is served over HTTP
   serves : ServeArguments → OnStore
 
--- the work of the code, seen so; none where the subcommand asks nothing of a store
+-- the work of the code, as contracts see it; `None` where the subcommand makes no request to a store
 abbrev pub work_view : Work → Option OnStore
 work_view (work.Call c t) = option_map (calls c.now) (asks (asked_view t.now))
 work_view (work.Serve a) = Some (serves a)
 
--- whether the input may be read to its end for it, however long it is
+-- whether the input may be read to its end for this work, however long it is
 abbrev pub reads_whole : Work → Bool
 reads_whole (work.Call c t) = reads_all (asked_view t.now)
 reads_whole (work.Serve a) = true
@@ -50,12 +50,11 @@ DoesIn s w (calls c ask) console =
     AnswersIn (AnswersStep s w c console.written) ask s.store_dir c console.input console.written
 DoesIn s w (serves a) console = ServesBy (AnswersFrom s) a console w
 
--- how it is done with some store, under settings
+-- how work is done with some store, under settings
 abbrev pub Doing : Type 1
 Doing = Settings → OnStore → Console → Type 0
 
--- in a store in memory there is nothing yet, and it is done over tables in memory; or memory ran out before there was a
--- store
+-- the work is done over new, empty tables in memory; or memory ran out before they were made
 abbrev pub DoesNew : Doing
 DoesNew s d console =
     (DoesIn s no_world d console

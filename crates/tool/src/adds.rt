@@ -1,4 +1,4 @@
-//! What is asked of a store to which an object is added.
+//! Requests that add an object.
 ghost use Rattle.std.specs.Prelude.{◌≡◌, IfOk, IfErr, IsOkAnd, Ok, Err, List, ℕ, is_ok};
 ghost use Rattle.intake.specs.Arriving.{bytes_in};
 ghost use Rattle.tool_words.specs.Asked.{object_view};
@@ -19,7 +19,7 @@ use store_types::Request;
 use tool_pure::{MOST_OF_CONTENTS, Object, Stop, parse_object, read_input, receive_archive};
 use tool_words::ObjectArguments;
 
-/// The name and the references of an object that is to be added.
+/// The name and the references of an object to add, parsed.
 fn parse_arguments(
     alloc: Global,
     dir: &StoreDir,
@@ -33,7 +33,7 @@ fn parse_arguments(
     parse_object(alloc, dir, object.name, object.references.as_slice())
 }
 
-/// A text object with the contents that came is to be added; or why none came.
+/// The request that adds a text object with the contents read, or why they couldn't be read.
 fn text_of(object: Object, came: Result<Vec<u8>, Stop>) -> Result<Request, Stop>
     ensures came { IfOk came
         (λ bytes. IsOkAnd result
@@ -48,7 +48,7 @@ fn text_of(object: Object, came: Result<Vec<u8>, Stop>) -> Result<Request, Stop>
     })
 }
 
-/// A text is to be added. Nothing is read where the name or a reference is refused.
+/// The request that adds a text object. Nothing is read if the name or a reference is refused.
 pub(crate) fn add_text<R: Read>(
     alloc: Global,
     dir: &StoreDir,
@@ -68,7 +68,7 @@ pub(crate) fn add_text<R: Read>(
     text_of(arguments, read_input(alloc, input, MOST_OF_CONTENTS))
 }
 
-/// A source object with the archive that came is to be added; or why none came.
+/// The request that adds a source object with the archive read, or why it couldn't be read.
 fn source_of(object: Object, came: Result<Intake, Stop>) -> Result<Request, Stop>
     ensures came { IfOk came
         (λ nar. IsOkAnd result
@@ -83,7 +83,7 @@ fn source_of(object: Object, came: Result<Intake, Stop>) -> Result<Request, Stop
     })
 }
 
-/// An archive is to be added, at its own path. Nothing is read where the name or a reference is refused.
+/// The request that adds a source object. Nothing is read if the name or a reference is refused.
 pub(crate) fn add_source<R: Read>(
     alloc: Global,
     dir: &StoreDir,

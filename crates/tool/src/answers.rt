@@ -1,4 +1,4 @@
-//! What a command line answers, by the text of its configuration.
+//! Answering a command line by the text of its configuration.
 ghost use Rattle.std.specs.Prelude.{◌≡◌, None, false};
 ghost use Rattle.report.specs.Outputs.{change_of};
 ghost use Rattle.tool.specs.Answer.{AnswersAlone, AnswersLine, AnswersLs, AnswersSourcePath, AnswersTextPath};
@@ -104,7 +104,7 @@ fn source_path_under<R: Read, W: Write, E: Write>(
     }
 }
 
-/// Answers a command line of a subcommand that asks nothing of a store itself.
+/// Answers a command line whose subcommand makes no request to a store itself.
 fn answer_alone<F: Start, R: Read, W: Write, E: Write>(
     rt: &HostRuntime,
     start: F,
@@ -141,13 +141,13 @@ fn answer_alone<F: Start, R: Read, W: Write, E: Write>(
     }
 }
 
-/// Answers a command line by the text of its configuration, and gives the exit status: 0 done, 1
+/// Answers a command line by the text of its configuration, and returns the exit status: 0 done, 1
 /// failed, 3 refused, 4 denied.
 ///
 /// Results go to `output`; refusals and failures go to `errors`, but for `who`, which puts everything
 /// on `output`. The configuration file that the command line names isn't read. No more than 16,777,224 bytes of the input
 /// are, but for `import` and `runtime`, which read all of it, and `serve`, which reads what its connection sends.
-/// `start` is what a database file held, as for `run`.
+/// `start` is ghost, as in `run`: what a theorem assumes of the database file.
 ///
 /// ```rust
 /// use tool::Unknown;

@@ -1,4 +1,4 @@
-//! What is asked of a store from which objects go.
+//! Requests that delete objects.
 ghost use Rattle.clap.specs.Walk.{texts};
 ghost use Rattle.model.specs.Request as asked;
 ghost use Rattle.tool.specs.Requests.{Gives, IsAsked, on_paths};
@@ -9,7 +9,7 @@ use store_types::Request;
 use tool_pure::{Stop, parse_references};
 use tool_words::DeleteArguments;
 
-/// Objects are to be deleted.
+/// The request that deletes objects.
 pub(crate) fn delete_paths(
     alloc: Global,
     dir: &StoreDir,

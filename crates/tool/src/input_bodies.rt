@@ -1,4 +1,4 @@
-//! What is asked of a store by a body on the input.
+//! Requests made from a body on the input.
 ghost use Rattle.std.specs.Prelude.{◌≡◌, ◌⊎◌, IfOk, IfErr, IfSome, ⊤};
 ghost use Rattle.tool.specs.Bodies as spec;
 ghost use Rattle.tool.specs.Requests.{IsAsked, IsAskedOver};
@@ -21,7 +21,7 @@ fn read_whole<R: Read>(alloc: Global, input: &mut R) -> Result<Vec<u8>, Stop>
     Ok(bytes)
 }
 
-/// Why a body asks nothing.
+/// The stop for the error of a body.
 fn stop_by(fault: BodyError) -> Stop
     ensures { result ≡ spec.body_stop fault }
 {
@@ -31,7 +31,7 @@ fn stop_by(fault: BodyError) -> Stop
     }
 }
 
-/// The object that a body passes, at its path.
+/// The request that imports the object of a body, at its path.
 fn parse_import(alloc: Global, dir: &StoreDir, body: Body) -> Result<Request, Stop>
     ensures { IsAsked ⊥ (spec.Imports dir.now body) result }
 {
@@ -41,7 +41,7 @@ fn parse_import(alloc: Global, dir: &StoreDir, body: Body) -> Result<Request, St
     }
 }
 
-/// The runtime roots that a body names.
+/// The request that sets the runtime roots named in a body.
 fn parse_runtime(alloc: Global, dir: &StoreDir, body: &[u8]) -> Result<Request, Stop>
     ensures { IsAsked ⊥ (spec.Replaces dir.now body.now) result }
 {
@@ -51,7 +51,7 @@ fn parse_runtime(alloc: Global, dir: &StoreDir, body: &[u8]) -> Result<Request, 
     }
 }
 
-/// An object is to be added at the path that the input says. Its archive is checked and hashed as it comes.
+/// The request that imports an object at the path named on the input. The archive is checked and hashed as it arrives.
 pub(crate) fn import<R: Read>(alloc: Global, dir: &StoreDir, input: &mut R) -> Result<Request, Stop>
     ensures { IsAskedOver ⊤ (spec.Imports dir.now) (R.remaining input.old) result }
 {
@@ -60,7 +60,7 @@ pub(crate) fn import<R: Read>(alloc: Global, dir: &StoreDir, input: &mut R) -> R
     parse_import(alloc, dir, body)
 }
 
-/// The runtime roots are to be those on the input.
+/// The request that sets the runtime roots to those on the input.
 pub(crate) fn replace_runtime<R: Read>(
     alloc: Global,
     dir: &StoreDir,

@@ -27,19 +27,19 @@ use tables::Disk;
 use tool_pure::{Failure, Stop, config_text, give, open_config, say};
 use tool_words::{CommandError, CommandLine, Task, UsageFault, command};
 
-/// The exit status of words that are no command line.
+/// The exit status of words that aren't a command line.
 const USAGE: u8 = 2;
 
 const NOT_UTF8: &str = "error: a word of the command line isn't UTF-8\n";
 
-/// Runs a command line, whose first word is the program's name, and gives the exit status: 0 done
-/// (help too), 1 failed, 2 no command line, 3 refused, 4 denied.
+/// Runs a command line, whose first word is the program's name, and returns the exit status: 0 done
+/// (help too), 1 failed, 2 not a command line, 3 refused, 4 denied.
 ///
 /// The configuration is read from its file, if one is named. Results go to `output`; refusals,
 /// failures and what is wrong with the words go to `errors`, but for `who`, which puts everything
 /// on `output` once its words are read. No more than 16,777,224 bytes of the input are read, but by `import`,
-/// `runtime` and `serve`. `start` is what a database file held, which no code reads: what is said here holds over any,
-/// and a program passes `Unknown`.
+/// `runtime` and `serve`. `start` is ghost: what a theorem assumes of the database file. No code reads it, and a program passes
+/// `Unknown`.
 ///
 /// ```rust
 /// use tool::Unknown;
@@ -108,7 +108,7 @@ fn execute<F: Start, R: Read, W: Write, E: Write>(
     answer_by(rt, start, file, line, input, output, errors)
 }
 
-/// Answers a command line by its configuration file, or by why that wasn't opened.
+/// Answers a command line by its configuration file, or by why the file wasn't opened.
 fn answer_by<F: Start, C: Read + Drop, R: Read, W: Write, E: Write>(
     rt: &HostRuntime,
     start: F,
@@ -140,7 +140,7 @@ fn answer_by<F: Start, C: Read + Drop, R: Read, W: Write, E: Write>(
     }
 }
 
-/// Says why words are no command line, or gives the help that they ask for.
+/// Prints why words aren't a command line, or the help that they ask for. Returns the exit status.
 fn explain<W: Write, E: Write>(
     alloc: Global,
     fault: &CommandError,
@@ -160,7 +160,7 @@ fn explain<W: Write, E: Write>(
     }
 }
 
-/// Says what is wrong with words in which `clap` finds no fault.
+/// Prints the fault of words in which `clap` finds none. Returns the exit status.
 fn explain_misuse<W: Write, E: Write>(
     alloc: Global,
     fault: UsageFault,
@@ -179,7 +179,7 @@ fn explain_misuse<W: Write, E: Write>(
     }
 }
 
-/// Gives the text of a fault in the form of `clap`, or the help that words ask for.
+/// Prints a fault in the form of `clap`, or the help that words ask for. Returns the exit status.
 fn explain_usage<W: Write, E: Write>(
     alloc: Global,
     fault: &Error,
@@ -196,7 +196,7 @@ fn explain_usage<W: Write, E: Write>(
     explain_by(fault.use_stderr(), text, output, errors)
 }
 
-/// Gives the text of a usage fault, or of help; or says that there was no memory for it.
+/// Prints the text of a usage fault or of help, or that memory ran out. Returns the exit status.
 fn explain_by<W: Write, E: Write>(
     is_fault: bool,
     text: Result<String, AllocError>,
@@ -227,7 +227,7 @@ fn explain_by<W: Write, E: Write>(
     give(Ok(text), output, errors)
 }
 
-/// Says that the words of the program could not be had, and gives the exit status: 1 where memory
+/// Prints that the words of the program couldn't be read, and returns the exit status: 1 if memory
 /// was refused, else 2, since a word isn't UTF-8.
 ///
 /// ```rust

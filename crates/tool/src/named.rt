@@ -1,4 +1,4 @@
-//! What is asked of roots that have names.
+//! Requests about permanent roots and roots of users.
 ghost use Rattle.std.specs.Prelude.{◌≡◌, IfOk, Ok, string_bytes};
 ghost use Rattle.tool_words.specs.Asked.{optional_text};
 ghost use Rattle.store_types.specs.View.{request_view};
@@ -12,7 +12,7 @@ use store_types::Request;
 use tool_pure::{Stop, parse_reference};
 use tool_words::{RootArguments, RootKind, UnrootArguments, Unrooted};
 
-/// The owner who is named, else the caller.
+/// The name of the owner: `named`, or that of the caller if `named` is `None`.
 pub(crate) fn owner(
     alloc: Global,
     caller: &Caller,
@@ -26,7 +26,7 @@ pub(crate) fn owner(
     }
 }
 
-/// A root at a path.
+/// The request that sets a root to a path.
 fn root_at(
     alloc: Global,
     caller: &Caller,
@@ -49,7 +49,7 @@ fn root_at(
     }
 }
 
-/// A root is to be set.
+/// The request that sets a root. Refused if the text isn't a path.
 pub(crate) fn set_root(
     alloc: Global,
     dir: &StoreDir,
@@ -63,7 +63,7 @@ pub(crate) fn set_root(
     Ok(root_at(alloc, caller, root, path)?)
 }
 
-/// A root that is dropped.
+/// The request that drops a root, or out of memory.
 fn dropped(
     alloc: Global,
     caller: &Caller,
@@ -81,7 +81,7 @@ fn dropped(
     }
 }
 
-/// A root is to be dropped.
+/// The request that drops a root.
 pub(crate) fn drop_root(
     alloc: Global,
     caller: &Caller,

@@ -1,4 +1,4 @@
-//! What is asked of profiles.
+//! Requests about profiles.
 ghost use Rattle.std.specs.Prelude.{◌≡◌, IfOk, string_bytes};
 ghost use Rattle.tool_words.specs.Asked.{on_profile_view, optional_text};
 ghost use Rattle.model.specs.Request as asked;
@@ -14,7 +14,7 @@ use store_types::Request;
 use tool_pure::{Stop, parse_reference};
 use tool_words::{ProfileAction, ProfileArguments};
 
-/// A profile's owner, and its name.
+/// The owner and the name of a profile. The owner is the caller if none is named.
 fn names(
     alloc: Global,
     caller: &Caller,
@@ -28,7 +28,7 @@ fn names(
     Ok((owner, name))
 }
 
-/// A path becomes the current generation.
+/// The request that makes a path the current generation of a profile.
 fn set(
     alloc: Global,
     caller: &Caller,
@@ -47,7 +47,7 @@ fn set(
     })
 }
 
-/// The generation below the current one becomes current.
+/// The request that makes the generation below the current one current.
 fn rollback(
     alloc: Global,
     caller: &Caller,
@@ -64,7 +64,7 @@ fn rollback(
     })
 }
 
-/// The generation of a number becomes current.
+/// The request that makes the generation of a number current.
 fn switch(
     alloc: Global,
     caller: &Caller,
@@ -83,7 +83,7 @@ fn switch(
     })
 }
 
-/// Deletes the generation of a number.
+/// The request that deletes the generation of a number.
 fn delete(
     alloc: Global,
     caller: &Caller,
@@ -102,7 +102,7 @@ fn delete(
     })
 }
 
-/// Something is to happen to a profile.
+/// The request that changes a profile.
 pub(crate) fn change_profile(
     alloc: Global,
     dir: &StoreDir,

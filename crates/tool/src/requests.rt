@@ -1,4 +1,4 @@
-//! What a subcommand asks of a store: its arguments, and its input where it reads one.
+//! The request of a subcommand, by its arguments, and by its input if it reads one.
 ghost use Rattle.std.specs.Prelude.{◌≡◌, IsSome, Some, is_some, false};
 ghost use Rattle.tool_words.specs.Asked.{asked_view};
 ghost use Rattle.model.specs.Request as asked;
@@ -21,7 +21,7 @@ use store_types::Request;
 use tool_pure::{Stop, parse_reference};
 use tool_words::Task;
 
-/// Whether a subcommand asks something of a store.
+/// Whether a subcommand makes a request to a store.
 pub(crate) fn is_asked(task: &Task<'_>) -> bool
     ensures { result ≡ is_some (asks (asked_view task.now)) }
 {
@@ -34,7 +34,7 @@ pub(crate) fn is_asked(task: &Task<'_>) -> bool
     }
 }
 
-/// The roots that reach a path are asked for.
+/// The request for the roots that reach a path.
 fn why(alloc: Global, dir: &StoreDir, text: &str) -> Result<Request, Stop>
     ensures { IsAsked ⊥ (Gives (on_path dir.now text.now asked.list_roots_of)) result }
 {
@@ -42,7 +42,7 @@ fn why(alloc: Global, dir: &StoreDir, text: &str) -> Result<Request, Stop>
     Ok(Request::RootsOf(path))
 }
 
-/// The record of an object is asked for.
+/// The request for the record of an object.
 fn info(alloc: Global, dir: &StoreDir, text: &str) -> Result<Request, Stop>
     ensures { IsAsked ⊥ (Gives (on_path dir.now text.now asked.info)) result }
 {
@@ -50,7 +50,7 @@ fn info(alloc: Global, dir: &StoreDir, text: &str) -> Result<Request, Stop>
     Ok(Request::Info(path))
 }
 
-/// The archive of an object is asked for.
+/// The request for the archive of an object.
 fn cat_nar(alloc: Global, dir: &StoreDir, text: &str) -> Result<Request, Stop>
     ensures { IsAsked ⊥ (Gives (on_path dir.now text.now asked.nar)) result }
 {
@@ -58,7 +58,7 @@ fn cat_nar(alloc: Global, dir: &StoreDir, text: &str) -> Result<Request, Stop>
     Ok(Request::Nar(path))
 }
 
-/// What a subcommand asks of a store.
+/// The request that a subcommand makes to a store.
 pub(crate) fn request<R: Read>(
     alloc: Global,
     dir: &StoreDir,

@@ -17,7 +17,7 @@ use store_types::Reply;
 use tables::{Disk, Tables};
 use tool_pure::print_reply;
 
-/// Does some work with a store that is in memory, for this run.
+/// Does some work with a new store in memory, for this run.
 fn in_memory<R: Read, W: Write, E: Write>(
     rt: &HostRuntime,
     config: Config,
@@ -51,8 +51,8 @@ fn in_memory<R: Read, W: Write, E: Write>(
     }
 }
 
-/// Does some work with the store of the database file at a path, which is made where it isn't there. `start` is what the
-/// file held.
+/// Does some work with the store of the database file at a path, which is made if it is missing. `start` is ghost: what a theorem
+/// assumes of the file.
 fn in_file<F: Start, R: Read, W: Write, E: Write>(
     rt: &HostRuntime,
     start: F,
@@ -88,7 +88,7 @@ fn in_file<F: Start, R: Read, W: Write, E: Write>(
     }
 }
 
-/// Does some work with the store of a database file, or with one in memory where none is named.
+/// Does some work with the store of a database file, or with one in memory if no file is named.
 #[tactic(auto, unfolding(crate::specs::Works::DoesWith))]
 pub(crate) fn with_tables<F: Start, R: Read, W: Write, E: Write>(
     rt: &HostRuntime,

@@ -1,4 +1,4 @@
-//! What is asked of a session's temporary roots.
+//! Requests about the temporary roots of a session.
 ghost use Rattle.std.specs.Prelude.{◌≡◌, IfOk};
 ghost use Rattle.tool_words.specs.Asked.{on_session_view, optional_text};
 ghost use Rattle.model.specs.Request as asked;
@@ -14,7 +14,7 @@ use store_types::Request;
 use tool_pure::{Stop, parse_reference};
 use tool_words::{TempAction, TempArguments};
 
-/// A path becomes one of them.
+/// The request that adds a path to the temporary roots of a session.
 fn add(
     alloc: Global,
     caller: &Caller,
@@ -46,7 +46,7 @@ fn end(alloc: Global, caller: &Caller, session: &TempArguments<'_>) -> Result<Re
     })
 }
 
-/// Something is to happen to a session's temporary roots.
+/// The request that adds to a session's temporary roots, or ends the session.
 pub(crate) fn change_session(
     alloc: Global,
     dir: &StoreDir,

@@ -1,4 +1,4 @@
-//! What a fault of the libraries below ends a command with.
+//! The stop for each library error.
 ghost use Rattle.std.specs.Prelude.{◌≡◌};
 ghost use Rattle.report.specs.declared.failures.Failure.TheVariants.{Memory};
 ghost use Rattle.tool_pure.specs.Archive.{archive_stop};

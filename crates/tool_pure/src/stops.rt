@@ -8,14 +8,14 @@ use streams::ReadError;
 /// Why a command ends without its result.
 #[derive(Clone, Copy, PartialEq, Eq, Debug)]
 pub enum Stop {
-    /// What is asked can't be had: exit status 3.
+    /// The command is refused: exit status 3.
     Refused(Refusal),
     /// Memory, the disk, a file or a stream failed: exit status 1.
     Failed(Failure),
 }
 
 impl Stop {
-    /// The line that says why, with its line feed.
+    /// The line of the refusal or the failure, with its line feed.
     ///
     /// ```rust
     /// use tool::{Refusal, Stop};
@@ -49,7 +49,7 @@ impl Stop {
     }
 }
 
-/// Standard input that wasn't read.
+/// The stop for an error while standard input is read.
 impl From<ReadError> for Stop {
     ghost from_gives = { λ fault stop. stop ≡ stop_by fault };
 

@@ -1,4 +1,4 @@
-//! An answer to the two outputs.
+//! Printing of a result on the two outputs.
 ghost use Rattle.report.specs.Outputs.{change_of};
 ghost use Rattle.tool_pure.specs.Stream.{Says, result_text, Answers};
 
@@ -7,18 +7,18 @@ use report::{Failure, print};
 use std::io::Write;
 use streams::send_bytes;
 
-/// Says why a command ends without its result, and answers the exit status.
+/// Prints why a command ends without its result, and returns the exit status.
 pub fn say<W: Write>(stop: Stop, writer: &mut W) -> u8
     ensures { Says stop (record { writer = change_of W.contents writer.old writer.new; status = result }) }
 {
     print(stop.text(), stop.status(), writer)
 }
 
-/// Gives a text to standard output, or the line that says why there is none to standard error, and
-/// answers the exit status.
+/// Prints a text on standard output, or on standard error the line that says why no text exists, and
+/// returns the exit status.
 ///
-/// Where standard output fails, whatever the kind of its fault, standard error is given `failed: output`. Where standard error
-/// fails, the status is 1.
+/// If standard output fails, whatever its error, `failed: output` is printed on standard error. If standard error fails, the
+/// status is 1.
 pub fn give<W: Write, E: Write>(answer: Result<String, Stop>, output: &mut W, errors: &mut E) -> u8
     ensures { Answers (result_text answer) (record {
       output = change_of W.contents output.old output.new;

@@ -3,15 +3,14 @@ use policy::Caller;
 use wire_requests::{Kind, Parameters};
 use wire_server::Response;
 
-/// What the head of a message decides: a reply, whatever the body is; or that a caller, who may connect, asks something of a kind.
+/// What the head of a message decides: a reply at once, or a caller who may connect with a kind of request.
 #[derive(Drop)]
 pub(crate) enum Admission {
     Refused(Response),
     Admitted(Endpoint),
 }
 
-/// What a message asks that was admitted: something of a kind, for a caller, with the parameters of its target. Its body decides
-/// the rest.
+/// An admitted message: its caller, the kind of its request, and the parameters of its target. The body has the rest.
 #[derive(Drop)]
 pub(crate) struct Endpoint {
     pub caller: Caller,

@@ -19,7 +19,7 @@ use wire_messages::{Head, read_caller};
 use wire_requests::{Found, Routes};
 use wire_server::Response;
 
-/// A refusal, with the methods of the route where it refuses another.
+/// A refusal. `allow` lists the route's methods, for a refused method.
 fn refuse(
     alloc: Global,
     refusal: Refusal,
@@ -32,7 +32,7 @@ fn refuse(
     Ok(Admission::Refused(Response::refused(alloc, refusal, allow)?))
 }
 
-/// A caller whom a rule forbids to connect.
+/// The denial of a caller whom a rule forbids to connect.
 fn deny(alloc: Global, dir: &StoreDir, rule: Rule) -> Result<Admission, AllocError>
     ensures decides { IfOk result (λ it. admission_view it ≡ refuses (denied dir.now rule)) }
     ensures parameters { (target : List ℕ) → IfOk result (HasParameters target) }
@@ -42,7 +42,7 @@ fn deny(alloc: Global, dir: &StoreDir, rule: Rule) -> Result<Admission, AllocErr
     Ok(Admission::Refused(response))
 }
 
-/// The method, on a route.
+/// The test of the method, on a route.
 fn on_method(
     alloc: Global,
     caller: Caller,
@@ -68,7 +68,7 @@ fn on_method(
     }
 }
 
-/// The route, and the method.
+/// The tests of the route and the method.
 fn on_route(
     alloc: Global,
     routes: &Routes,
@@ -85,7 +85,7 @@ fn on_route(
     }
 }
 
-/// The rule `Connect`, the route, and the method.
+/// The tests of the rule `Connect`, the route and the method.
 fn on_caller(
     alloc: Global,
     routes: &Routes,
@@ -103,7 +103,7 @@ fn on_caller(
     }
 }
 
-/// What the head of a message decides, which is held.
+/// The decision by the head of a message, which is in `held`.
 ///
 /// # Errors
 ///

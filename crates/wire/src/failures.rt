@@ -1,4 +1,4 @@
-//! Lines that say why nothing more is served.
+//! Failures that end the serving of connections.
 ghost use Rattle.report.specs.Failures.{failure_line};
 ghost use Rattle.report.specs.Outputs.{Prints, change_of};
 
@@ -11,7 +11,7 @@ pub(crate) const NO_MEMORY: Failure = Failure::Memory;
 /// A port couldn't be bound, or no connection could be accepted on it.
 pub(crate) const NO_INPUT: Failure = Failure::Input;
 
-/// Gives the line of a failure to a writer, whether or not it takes it, and answers the exit status.
+/// Writes the line of a failure, ignores a write error, and returns 1.
 pub(crate) fn say<E: Write>(failure: Failure, errors: &mut E) -> u8
     ensures { Prints (failure_line failure) 1
         (record { writer = change_of E.contents errors.old errors.new; status = result }) }

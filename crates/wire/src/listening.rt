@@ -1,4 +1,4 @@
-//! A store that is lent, served on the connections of a listener.
+//! Serving a borrowed store on the connections of a listener.
 ghost use Rattle.std.specs.Prelude.{◌≡◌};
 ghost use Rattle.wire.specs.Answers.{Answers};
 ghost use Rattle.wire.specs.Ends.{ServesOver};
@@ -14,9 +14,9 @@ use std::rt::Clock;
 use store::Store;
 use wire_server::Port;
 
-/// Serves a store on a number of connections of a listener, one after another, and returns how many failed. For each of these a
-/// line on `errors` says why: `failed: input`, `failed: output` or `failed: memory`. The clock bounds how long a connection that is
-/// closed waits for its peer.
+/// Serves a store on a number of connections of a listener, one after another, and returns how many failed. For each failed
+/// one, a line on `errors` says why: `failed: input`, `failed: output` or `failed: memory`. The clock bounds how long
+/// the closing of a connection waits for the peer.
 ///
 /// ```rust
 /// use std::io::Write;
@@ -33,7 +33,8 @@ use wire_server::Port;
 ///
 /// # Errors
 ///
-/// The fault of an accept, which ends it; and `OutOfMemory` where there was no memory to begin with, and nothing was served.
+/// The error of the first accept that fails, after which nothing more is served; `OutOfMemory` if memory ran out before the first
+/// accept.
 pub fn serve_on<C: Clock, S: Alter, E: Write>(
     clock: &C,
     alloc: Global,

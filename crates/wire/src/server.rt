@@ -1,4 +1,4 @@
-//! What answers messages from a store.
+//! The server: answers messages from a store.
 ghost use Rattle.std.specs.Prelude.{◌≡◌, []};
 ghost use Rattle.wire.specs.Answers.{Answers, Admits};
 
@@ -25,7 +25,7 @@ pub(crate) struct Server {
 }
 
 impl Server {
-    /// Makes the table of routes; it fails only when it runs out of memory.
+    /// A server with the table of routes. The only error is out of memory.
     pub(crate) fn new(alloc: Global) -> Result<Server, AllocError> {
         Ok(Server {
             alloc,
@@ -34,7 +34,7 @@ impl Server {
     }
 }
 
-/// What takes the body of a message of a kind, whose length is given: an archive is checked and hashed as it arrives.
+/// An empty body for a message of a kind, of `size` bytes in the end. An archive is checked and hashed as it arrives.
 fn body_for(alloc: Global, kind: Kind, size: usize) -> Body
     ensures { result ≡ [] }
 {

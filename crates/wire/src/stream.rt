@@ -57,7 +57,7 @@ fn serve<S: Alter + Drop, R: Read, W: Write, E: Write>(
     }
 }
 
-/// Serves the store of these tables on one connection, and gives the exit status: 0 where it was served to its end, else 1, and a
+/// Serves the store of these tables on one connection, and returns the exit status: 0 if it was served to its end, else 1. Then a
 /// line on `errors` says why: `failed: input`, `failed: output` or `failed: memory`.
 ///
 /// ```rust

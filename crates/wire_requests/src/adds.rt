@@ -21,7 +21,7 @@ use store_types::Request;
 use streams::Sink;
 use wire_bodies::{BodyError, ImportHead, NamedHead, named_body};
 
-/// The bytes after the first, of a given number, in the same buffer.
+/// The bytes after the first `n`, in the same buffer.
 fn without_prefix(mut bytes: Vec<u8>, n: usize) -> Vec<u8>
     requires { n ≤ length bytes.items }
     ensures { result.items ≡ drop n bytes.items }
@@ -32,7 +32,7 @@ fn without_prefix(mut bytes: Vec<u8>, n: usize) -> Vec<u8>
     bytes
 }
 
-/// The add that a body is, and where its contents begin.
+/// The head of an add, read from a body, and the offset of the contents in the body.
 fn text_prefix(alloc: Global, dir: &StoreDir, body: &[u8]) -> Result<(NamedHead, usize), BodyError>
     ensures within { IfOk result (λ add. add.1 ≤ length body.now) }
     ensures ok { IfOk result (λ add. IsNamedBody dir.now body.now add.0 (drop add.1 body.now)) }
@@ -43,7 +43,7 @@ fn text_prefix(alloc: Global, dir: &StoreDir, body: &[u8]) -> Result<(NamedHead,
     Ok((head, body.len().saturating_sub(contents.len())))
 }
 
-/// A text, of a body in one buffer.
+/// The request that adds a text object, from a body in one buffer.
 fn read_text(alloc: Global, dir: &StoreDir, body: Vec<u8>) -> Result<Request, AskError>
     ensures { (target : List ℕ) → Reads dir.now kinds.AddText target body.items result }
 {
@@ -56,7 +56,7 @@ fn read_text(alloc: Global, dir: &StoreDir, body: Vec<u8>) -> Result<Request, As
     })
 }
 
-/// A text. Its contents stay in the buffer of the body.
+/// The request that adds a text object. The contents stay in the buffer of the body.
 pub(crate) fn add_text(alloc: Global, dir: &StoreDir, body: Body) -> Result<Request, AskError>
     ensures { (target : List ℕ) → Reads dir.now kinds.AddText target body result }
 {
@@ -64,7 +64,7 @@ pub(crate) fn add_text(alloc: Global, dir: &StoreDir, body: Body) -> Result<Requ
     read_text(alloc, dir, body)
 }
 
-/// The add that a body is, read of its lines before the payload.
+/// The head of an add, read from the lines of a body before the payload.
 fn named_prefix(alloc: Global, dir: &StoreDir, body: &Parted) -> Result<NamedHead, BodyError>
     ensures ok { IfOk result (λ head. IsNamedBody dir.now body.now head (rest_of body.now)) }
     ensures bad { result ≡ Err BodyError.BadBodyHead → (head : NamedOf) (nar : List ℕ)
@@ -74,7 +74,7 @@ fn named_prefix(alloc: Global, dir: &StoreDir, body: &Parted) -> Result<NamedHea
     Ok(head)
 }
 
-/// The import that a body is, read of its lines before the archive.
+/// The head of an import, read from the lines of a body before the archive.
 fn import_prefix(alloc: Global, dir: &StoreDir, body: &Parted) -> Result<ImportHead, BodyError>
     ensures ok { IfOk result (λ head. IsImportBody dir.now body.now head (rest_of body.now)) }
     ensures bad { result ≡ Err BodyError.BadBodyHead → (head : ImportOf) (nar : List ℕ)
@@ -84,7 +84,7 @@ fn import_prefix(alloc: Global, dir: &StoreDir, body: &Parted) -> Result<ImportH
     Ok(head)
 }
 
-/// An archive, at the path that it is given.
+/// The request that adds a source object with the archive of a body.
 pub(crate) fn add_source(alloc: Global, dir: &StoreDir, body: Body) -> Result<Request, AskError>
     ensures { (target : List ℕ) → Reads dir.now kinds.AddSource target body result }
 {
@@ -98,7 +98,7 @@ pub(crate) fn add_source(alloc: Global, dir: &StoreDir, body: Body) -> Result<Re
     })
 }
 
-/// The import of a body's head and an archive.
+/// The request that imports an object, by the head of a body and an archive.
 fn imported(head: ImportHead, nar: Intake) -> Request
     ensures { request_view result ≡ import_object (given.imported head (bytes_in nar)) }
 {
@@ -119,11 +119,11 @@ fn imported(head: ImportHead, nar: Intake) -> Request
     }
 }
 
-/// The import that a body of `POST /import` asks for. The archive is not copied where the body keeps it apart.
+/// The request of a body of `POST /import`. The archive isn't copied if the body has it apart from the lines.
 ///
 /// # Errors
 ///
-/// `BadBodyHead` exactly where the body is no import, and `Memory`.
+/// `BadBodyHead` exactly if the body isn't an import; `Memory` if memory runs out.
 pub fn read_import(alloc: Global, dir: &StoreDir, body: Body) -> Result<Request, BodyError>
     ensures ok { IfOk result (λ q. (head : ImportOf) × (nar : List ℕ) × IsImportBody dir.now body head nar
         × (request_view q ≡ import_object (given.imported head nar))) }
@@ -135,7 +135,7 @@ pub fn read_import(alloc: Global, dir: &StoreDir, body: Body) -> Result<Request,
     Ok(imported(head, body.into_archive()))
 }
 
-/// The import that the whole body of `POST /import` asks for: its head, and the archive after its empty line.
+/// The request of a whole body of `POST /import`: an import by the lines of the body, with the archive after the empty line.
 ///
 /// ```rust
 /// use paths::StoreDir;
@@ -150,7 +150,7 @@ pub fn read_import(alloc: Global, dir: &StoreDir, body: Body) -> Result<Request,
 ///
 /// # Errors
 ///
-/// `BadBodyHead` exactly where the body is no import, and `Memory`.
+/// `BadBodyHead` exactly if the body isn't an import; `Memory` if memory runs out.
 pub fn import_body(alloc: Global, dir: &StoreDir, body: &[u8]) -> Result<Request, BodyError>
     ensures ok { IfOk result (λ q. (head : ImportOf) × (nar : List ℕ) × IsImportBody dir.now body.now head nar
         × (request_view q ≡ import_object (given.imported head nar))) }
@@ -162,7 +162,7 @@ pub fn import_body(alloc: Global, dir: &StoreDir, body: &[u8]) -> Result<Request
     read_import(alloc, dir, parted)
 }
 
-/// An object with its path.
+/// The request that imports an object at its path.
 pub(crate) fn import(alloc: Global, dir: &StoreDir, body: Body) -> Result<Request, AskError>
     ensures { (target : List ℕ) → Reads dir.now kinds.Import target body result }
 {

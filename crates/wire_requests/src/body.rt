@@ -1,4 +1,4 @@
-//! The body of a message, as it comes.
+//! The body of a message, as it arrives.
 ghost use Rattle.std.specs.Prelude.{◌≡◌, ◌++◌, List, ℕ, [], IfOk, OnOk, OnErr};
 ghost use Rattle.wire_bodies.specs.Prefix.{prefix_of};
 ghost use Rattle.wire_requests.specs.Asks as spec;
@@ -12,7 +12,7 @@ use std::marker::Model;
 use streams::Sink;
 use wire_bodies::lines_of;
 
-/// How a body is kept.
+/// The form in which a body is held.
 #[derive(Drop)]
 enum Kept {
     /// In one buffer.
@@ -21,7 +21,7 @@ enum Kept {
     Parted(Parted),
 }
 
-/// The body of a message, which comes in pieces, however they are cut. Contracts see all bytes that have come.
+/// The body of a message, which arrives in pieces of any size. Contracts see all bytes that have arrived.
 #[derive(Drop)]
 pub struct Body {
     kept: Kept,
@@ -37,7 +37,7 @@ impl Model for Body {
     ghost view = { λ body. bytes_of body.kept };
 }
 
-/// Whether the payload of such a request is an archive.
+/// Whether the payload of a request of a kind is an archive.
 pub fn is_archive(kind: Kind) -> bool
     ensures { result ≡ spec.is_archive kind }
 {
@@ -48,7 +48,7 @@ pub fn is_archive(kind: Kind) -> bool
 }
 
 impl Body {
-    /// No bytes yet of a body of this length, which is kept in one buffer. It takes no memory.
+    /// An empty body, to be held in one buffer, of `size` bytes in the end. Allocates no memory yet.
     pub fn held(alloc: Global, size: usize) -> Body
         ensures { result ≡ [] }
     {
@@ -57,7 +57,7 @@ impl Body {
         }
     }
 
-    /// No bytes yet of a body whose payload is an archive: it goes into an intake as it comes. It takes no memory.
+    /// An empty body whose payload is an archive, which passes into an intake as it arrives. Allocates no memory yet.
     pub fn parted(alloc: Global) -> Body
         ensures { result ≡ [] }
     {
@@ -70,7 +70,8 @@ impl Body {
     ///
     /// # Errors
     ///
-    /// Memory was refused. Of a body whose payload is an archive the lines before it stay, if they are all there; else no byte is kept.
+    /// Memory was refused. If the payload is an archive and all lines before it have arrived, these lines stay; else no byte
+    /// stays.
     pub fn push(&mut self, piece: &[u8]) -> Result<(), AllocError>
         ensures ok { OnOk result (self.new ≡ self.old ++ piece.now) }
         ensures err { OnErr result ((more : List ℕ) → IsLeftOf self.new ((self.old ++ piece.now) ++ more)) }

@@ -1,4 +1,4 @@
-//! Why a message asks nothing.
+//! Why a message isn't a request.
 ghost use Rattle.std.specs.Prelude.{◌≡◌};
 ghost use Rattle.wire_requests.specs.Faults.{path_fault, body_fault};
 ghost use Rattle.wire_requests.specs.declared.error.AskError.TheVariants.{Memory};
@@ -8,10 +8,10 @@ use std::alloc::AllocError;
 use thiserror::Error;
 use wire_bodies::BodyError;
 
-/// Why a message asks nothing.
+/// Why a message isn't a request.
 #[derive(Clone, Copy, Debug, PartialEq, Eq, Error)]
 pub enum AskError {
-    /// The target names a path that is no base name.
+    /// The target names a path that isn't a base name.
     #[error("bad-store-path")]
     BadPath,
     /// The body isn't one that the request takes.

@@ -1,6 +1,6 @@
-//! What may be asked.
+//! The kinds of requests.
 
-/// What may be asked of a store, without the values that go with it.
+/// The kind of a request to a store, without the values of the request.
 #[derive(Clone, Copy, Debug, PartialEq, Eq)]
 pub enum Kind {
     AddText,

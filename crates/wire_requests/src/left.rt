@@ -1,4 +1,4 @@
-//! What is still known of a body for which memory was refused.
+//! Facts of a body of which a part was dropped because memory ran out.
 ghost use Rattle.std.specs.Prelude.{◌≡◌, Err, Ok, None, [], IfOk, IfSome, List, ℕ, is_some};
 ghost use Rattle.wire_bodies.specs.Bodies.{IsImportBody};
 ghost use Rattle.wire_bodies.specs.Prefix.{rest_of};
@@ -10,15 +10,15 @@ use crate::error::AskError;
 use paths::StoreDir;
 use std::alloc::Global;
 
-/// Whether an import is of an object with a content address, by the lines that are left of its body. Nothing where none is left.
+/// Whether an imported object has a content address, by the lines that are left of the body. `None` if no line is left.
 ///
 /// # Errors
 ///
-/// `BadBodyHead` where lines are left and no import begins with them, and `Memory`.
+/// `BadBodyHead` if lines are left and no import begins with them; `Memory` if memory runs out.
 pub fn left_address(alloc: Global, dir: &StoreDir, body: &Body) -> Result<Option<bool>, AskError>
     ensures ok { IfOk result (λ reported. IfSome reported (λ has. (all : List ℕ) → IsLeftOf body.now all
         → (head : ImportOf) × IsImportBody dir.now all head (rest_of all) × (is_some head.ca ≡ has))) }
-    // Only where no lines are left nothing is known.
+    // The result is `None` only if no lines are left.
     ensures none { result ≡ Ok None → body.now ≡ [] }
     ensures bad { result ≡ Err AskError.BadBodyHead → (all : List ℕ) → IsLeftOf body.now all
         → (head : ImportOf) (nar : List ℕ) → IsImportBody dir.now all head nar → ⊥ }

@@ -10,7 +10,7 @@ use std::alloc::Global;
 use store_types::Request;
 use wire_bodies::path_body;
 
-/// A permanent root.
+/// The request that sets a permanent root.
 pub(crate) fn set_permanent(
     alloc: Global,
     dir: &StoreDir,
@@ -26,7 +26,7 @@ pub(crate) fn set_permanent(
     })
 }
 
-/// A root of a user.
+/// The request that sets a root of a user.
 pub(crate) fn set_user_root(
     alloc: Global,
     dir: &StoreDir,
@@ -43,7 +43,7 @@ pub(crate) fn set_user_root(
     })
 }
 
-/// A generation of a profile.
+/// The request that makes a path the current generation of a profile.
 pub(crate) fn set_profile(
     alloc: Global,
     dir: &StoreDir,
@@ -60,7 +60,7 @@ pub(crate) fn set_profile(
     })
 }
 
-/// A root of a session.
+/// The request that adds a path to those that a session keeps.
 pub(crate) fn add_temp(
     alloc: Global,
     dir: &StoreDir,

@@ -1,4 +1,4 @@
-//! A body whose payload is an archive, as it comes.
+//! A body whose payload is an archive, as it arrives.
 ghost use Rattle.std.specs.Prelude.{◌≡◌, ◌++◌, List, ℕ, [], IfOk, OnOk, OnErr};
 ghost use Rattle.wire_bodies.specs.Prefix.{prefix_of, rest_of};
 ghost use Rattle.intake.specs.Arriving.{bytes_in};
@@ -10,7 +10,7 @@ use std::marker::Model;
 use std::str;
 use wire_bodies::Prefix;
 
-/// The lines of a body, and the archive after them, which is checked and hashed as it comes. Contracts see all bytes.
+/// The lines of a body, and the archive after them, which is checked and hashed as it arrives. Contracts see all bytes.
 #[derive(Drop)]
 pub(crate) struct Parted {
     alloc: Global,
@@ -32,8 +32,8 @@ impl Model for Parted {
     ghost invariant = { λ parted. prefix_of (parted.prefix ++ bytes_in parted.archive) ≡ parted.prefix };
 }
 
-/// Whether the lines name the address of a text, which asks for the contents of the archive. No answer hangs on it: where
-/// it isn't seen here, they are hashed once that address is tested.
+/// Whether the lines name the content address of a text, which needs the digest of the contents. No result depends on it:
+/// contents that aren't hashed as they arrive are hashed when the address is tested.
 fn names_text_address(prefix: &[u8]) -> bool {
     match str::from_utf8(prefix) {
         Ok(text) => text.starts_with("ca: text:") || text.contains("\nca: text:"),
@@ -41,8 +41,8 @@ fn names_text_address(prefix: &[u8]) -> bool {
     }
 }
 
-/// Before the first bytes of the archive come: contents that will be asked for are hashed as they come. Gives whether
-/// the archive has begun.
+/// Prepares the intake before the first bytes of the archive: contents that the lines need are hashed as they arrive. Returns
+/// whether the archive has begun.
 fn begin(has_begun: bool, prefix: &[u8], rest: &[u8], archive: &mut Intake) -> bool
     ensures { archive.new ≡ archive.old }
 {
@@ -56,7 +56,7 @@ fn begin(has_begun: bool, prefix: &[u8], rest: &[u8], archive: &mut Intake) -> b
 }
 
 impl Parted {
-    /// No bytes yet. It takes no memory.
+    /// An empty body. Allocates no memory.
     pub(crate) fn new(alloc: Global) -> Parted
         ensures { result ≡ [] }
     {
@@ -68,11 +68,11 @@ impl Parted {
         }
     }
 
-    /// Takes the next piece. Where memory is refused for the archive its lines stay, and where it is refused for these no byte is kept.
+    /// Takes the next piece. If memory is refused for the archive, the lines stay; if it is refused for the lines, no byte stays.
     pub(crate) fn push(&mut self, piece: &[u8]) -> Result<(), AllocError>
         ensures ok { OnOk result (self.new ≡ self.old ++ piece.now) }
         ensures err { OnErr result ((more : List ℕ) → IsLeftOf self.new ((self.old ++ piece.now) ++ more)) }
-        // Once bytes of the archive have come, the lines before it stay.
+        // Once bytes of the archive have arrived, the lines before it stay.
         ensures lines { OnErr result ((rest_of self.old ≡ [] → ⊥) → self.new ≡ prefix_of self.old) }
     {
         let Ok(rest) = self.prefix.take(piece) else {

@@ -10,7 +10,7 @@ use std::alloc::Global;
 use store_types::Request;
 use wire_bodies::is_blank;
 
-/// The path that a base name in the target names, where nothing is wanted of the body.
+/// The path of the base name in the target. The body has to be blank.
 fn path_alone(alloc: Global, parameters: &Parameters, body: &[u8]) -> Result<StorePath, AskError>
     ensures { ReadsPath (string_bytes parameters.now.path) body.now result }
 {
@@ -22,14 +22,14 @@ fn path_alone(alloc: Global, parameters: &Parameters, body: &[u8]) -> Result<Sto
     }
 }
 
-/// The record of an object.
+/// The request for the record of an object.
 pub(crate) fn info(alloc: Global, parameters: &Parameters, body: &[u8]) -> Result<Request, AskError>
     ensures { (dir : List ℕ) → ReadsBy dir kinds.Info parameters.now body.now result }
 {
     Ok(Request::Info(path_alone(alloc, parameters, body)?))
 }
 
-/// The archive of a path.
+/// The request for the archive of a path.
 pub(crate) fn archive(
     alloc: Global,
     parameters: &Parameters,
@@ -40,7 +40,7 @@ pub(crate) fn archive(
     Ok(Request::Nar(path_alone(alloc, parameters, body)?))
 }
 
-/// The listing of a path.
+/// The request for the listing of a path.
 pub(crate) fn listing(
     alloc: Global,
     parameters: &Parameters,
@@ -51,7 +51,7 @@ pub(crate) fn listing(
     Ok(Request::Ls(path_alone(alloc, parameters, body)?))
 }
 
-/// The roots that reach it.
+/// The request for the roots that reach the path.
 pub(crate) fn roots_of(
     alloc: Global,
     parameters: &Parameters,

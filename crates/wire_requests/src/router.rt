@@ -1,4 +1,4 @@
-//! The table of routes, and the router that is made of it.
+//! The table of routes, and a router with all of them.
 ghost use Rattle.std.specs.Prelude.{◌≡◌, [], true, IfOk, IfSome, OnOk, map, option_map};
 ghost use Rattle.matchit.specs.Route.{parse_route};
 ghost use Rattle.matchit.specs.Router.{RouteOf};
@@ -60,7 +60,7 @@ fn rows() -> &'static [(&'static str, Requests)]
     &TABLE
 }
 
-/// The fault of a route that conflicts with none, and reads well.
+/// The error of adding a valid route that conflicts with no other: out of memory.
 fn no_conflict(fault: InsertError) -> AllocError
     requires { fault ≡ InsertError.OutOfMemory }
 {
@@ -70,7 +70,7 @@ fn no_conflict(fault: InsertError) -> AllocError
     }
 }
 
-/// Adds a route that reads well and conflicts with none: only memory may be refused.
+/// Adds a valid route that conflicts with no other. The only error is out of memory.
 fn add(router: &mut Router<Requests>, route: &str, requests: Requests) -> Result<(), AllocError>
     requires { (rows : RowsOf (RouteOf RequestsOf)) × AreRows router.old rows
         × (can_add (parse_route route.now) rows ≡ true) }
@@ -101,14 +101,14 @@ fn make_router(alloc: Global) -> Result<Router<Requests>, AllocError>
     router_of(alloc, rows())
 }
 
-/// What a target names: the requests of its route, and what it has in place of the parameters.
+/// The requests of a target's route, and the values of the route's parameters in the target.
 #[derive(Drop)]
 pub struct Found {
     pub requests: Requests,
     pub parameters: Parameters,
 }
 
-/// The route that a whole target names.
+/// The route that matches a whole target. `None` if no route matches.
 fn find_route(
     alloc: Global,
     router: &Router<Requests>,
@@ -152,14 +152,14 @@ impl Model for Routes {
 }
 
 impl Routes {
-    /// The routes of the table; it fails only when it runs out of memory.
+    /// The routes of the table. The only error is out of memory.
     pub fn new(alloc: Global) -> Result<Routes, AllocError> {
         Ok(Routes {
             router: make_router(alloc)?,
         })
     }
 
-    /// The route that a whole target names, and its parameters: none where no pattern fits it.
+    /// The route that matches a whole target, with the target's parameters. `None` if no route matches.
     ///
     /// # Errors
     ///

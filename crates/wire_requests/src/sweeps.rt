@@ -1,4 +1,4 @@
-//! Requests that a body says whole.
+//! Requests made from the body alone.
 ghost use Rattle.std.specs.Prelude.{◌≡◌, IfOk, Err, List, ℕ};
 ghost use Rattle.wire_bodies.specs.Bodies.{Says, IsRuntime};
 ghost use Rattle.model.specs.World.{Pair};
@@ -13,7 +13,7 @@ use std::alloc::Global;
 use store_types::Request;
 use wire_bodies::{BodyError, DeleteHead, collect_body, delete_body};
 
-/// The runtime roots that the whole body of `POST /runtime` asks for, in place of all others.
+/// The request of a whole body of `POST /runtime`, which sets runtime roots in place of all others.
 ///
 /// ```rust
 /// use paths::StoreDir;
@@ -29,7 +29,7 @@ use wire_bodies::{BodyError, DeleteHead, collect_body, delete_body};
 ///
 /// # Errors
 ///
-/// `BadBodyHead` exactly where the body isn't such roots, and `Memory`.
+/// `BadBodyHead` exactly if the body isn't a list of runtime roots; `Memory` if memory runs out.
 pub fn runtime_body(alloc: Global, dir: &StoreDir, body: &[u8]) -> Result<Request, BodyError>
     ensures ok { IfOk result (λ q. (named : List Pair) × Says (IsRuntime dir.now) body.now named
         × (request_view q ≡ asked named)) }
@@ -40,7 +40,7 @@ pub fn runtime_body(alloc: Global, dir: &StoreDir, body: &[u8]) -> Result<Reques
     Ok(Request::ReplaceRuntime(roots))
 }
 
-/// Runtime roots in place of all others.
+/// The request that sets runtime roots in place of all others.
 pub(crate) fn replace_runtime(
     alloc: Global,
     dir: &StoreDir,
@@ -51,7 +51,7 @@ pub(crate) fn replace_runtime(
     Ok(runtime_body(alloc, dir, body)?)
 }
 
-/// A collection.
+/// The request for a collection.
 pub(crate) fn collect(alloc: Global, body: &[u8]) -> Result<Request, AskError>
     ensures { (dir target : List ℕ) → Reads dir kinds.Collect target body.now result }
 {
@@ -62,7 +62,7 @@ pub(crate) fn collect(alloc: Global, body: &[u8]) -> Result<Request, AskError>
     })
 }
 
-/// A deletion.
+/// The request that deletes objects.
 pub(crate) fn delete(alloc: Global, dir: &StoreDir, body: &[u8]) -> Result<Request, AskError>
     ensures { (target : List ℕ) → Reads dir.now kinds.Delete target body.now result }
 {

@@ -1,4 +1,4 @@
-//! Requests that a target says whole.
+//! Requests made from the target alone.
 ghost use Rattle.std.specs.Prelude.{◌≡◌, List, ℕ, option_map};
 ghost use Rattle.wire_requests.specs.Asks as spec;
 ghost use Rattle.wire_requests.specs.Parameters.{AreParameters};
@@ -12,14 +12,14 @@ use paths::numbers::{generation, session};
 use store_types::Request;
 use wire_bodies::is_blank;
 
-/// The number of a generation that a text writes; any other text gives 0, which no profile has.
+/// The number of a generation in a text. Any other text is 0, a number that no profile has.
 fn generation_of(text: &str) -> u32
     ensures { result ≡ spec.generation_in text.now }
 {
     generation(text) as u32
 }
 
-/// The request of a kind that names what it is about in the target alone.
+/// The request of a kind whose values are all names in the target. `None` for any other kind.
 fn by_names(kind: Kind, parameters: Parameters) -> Option<Request>
     ensures { (target : List ℕ) → AreParameters kind target parameters
         → option_map request_view result ≡ spec.by_names kind target }
@@ -54,7 +54,7 @@ fn by_names(kind: Kind, parameters: Parameters) -> Option<Request>
     }
 }
 
-/// The request of a kind that says all by itself, or by names in the target.
+/// The request of a kind without values, or whose values are all names in the target. `None` for any other kind.
 fn by_target(kind: Kind, parameters: Parameters) -> Option<Request>
     ensures { (target : List ℕ) → AreParameters kind target parameters
         → option_map request_view result ≡ spec.by_target kind target }
@@ -69,7 +69,7 @@ fn by_target(kind: Kind, parameters: Parameters) -> Option<Request>
     }
 }
 
-/// The request of a kind that says all by itself, or by names in the target, where the body is blank.
+/// The request of a kind without values, or whose values are all names in the target. `BadBodyHead` if the body isn't blank.
 pub(crate) fn bare(kind: Kind, parameters: Parameters, body: &[u8]) -> Result<Request, AskError>
     ensures { (target : List ℕ) → AreParameters kind target parameters → ReadsTarget kind target body.now result }
 {

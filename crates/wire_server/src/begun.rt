@@ -1,11 +1,11 @@
 //! What the head of a message decides.
 use crate::response::Response;
 
-/// What the head of a message decides, before its body comes.
+/// What the head of a message decides, before the body arrives.
 #[derive(Drop)]
 pub enum Begun<C, B> {
-    /// How the message is answered once its body has come, and what keeps the body.
+    /// How the message is answered once its body has arrived, and the keeper of the body.
     Accepted(C, B),
-    /// The response, whatever the body is. The body isn't kept.
+    /// The response, whatever the body is. The body is dropped.
     Refused(Response),
 }

@@ -8,12 +8,13 @@ use std::alloc::Global;
 use std::io;
 use std::io::Write;
 
-/// Serves a number of connections, one after another, and returns how many failed. For each of these a line on `errors` says why; the next
-/// is served all the same. One whose input gives up waiting between two messages is closed, and hasn't failed.
+/// Serves a number of connections, one after another, and returns how many failed. For each failed one, a line on `errors` says
+/// why; the next connection is served all the same. An idle connection, whose input gives up waiting between two messages, is
+/// closed and not counted.
 ///
 /// # Errors
 ///
-/// The fault of an accept, which ends it.
+/// The error of the first accept that fails, after which nothing more is served.
 pub fn serve_on<L: Listener, E: Write, T, A: Responder<T>>(
     alloc: Global,
     listener: &mut L,

@@ -28,7 +28,7 @@ impl From<AllocError> for WireError {
     }
 }
 
-/// The fault of a writer. A reader's is none of these: it comes as a `ReceiveError`.
+/// A write error, never a receive error: that is a `ReceiveError`.
 impl From<io::Error> for WireError {
     ghost from_gives = { λ _ e. e ≡ Write };
 

@@ -1,4 +1,4 @@
-//! What a connection brings next, and its response.
+//! The next message of a connection, and its response.
 ghost use Rattle.std.specs.Prelude.{IfOk, List, ℕ, Option};
 ghost use Rattle.httparse.specs.Grammar.{RequestHead};
 ghost use Rattle.wire_messages.specs.Heads.{Holds};
@@ -22,7 +22,7 @@ pub(crate) struct Exchange {
     pub close: bool,
 }
 
-/// The response to an input that begins with no message, after which the connection is closed.
+/// The response to an input that doesn't begin with a message, after which the connection is closed.
 fn refused(alloc: Global, fault: Fault) -> Result<Exchange, AllocError>
     ensures { IfOk result (IsRefusal fault) }
 {
@@ -32,7 +32,7 @@ fn refused(alloc: Global, fault: Fault) -> Result<Exchange, AllocError>
     })
 }
 
-/// The response to a message whose head is held and whose body has come.
+/// The response to a message whose head is in `held` and whose body has arrived.
 fn respond<T, A: Responder<T>>(
     responder: &A,
     state: &mut T,
@@ -53,7 +53,7 @@ fn respond<T, A: Responder<T>>(
     }
 }
 
-/// Has a message answered, whose head is held and whose body has come, and takes it off the buffer.
+/// Answers a message whose head is in the buffer and whose body has arrived, and drains the message from the buffer.
 fn answer_message<T, A: Responder<T>>(
     responder: &A,
     state: &mut T,
@@ -74,11 +74,11 @@ fn answer_message<T, A: Responder<T>>(
     Ok(Exchange { response, close })
 }
 
-/// Has answered what a connection brings next: nothing where the input is at its end. It reads nothing.
+/// Answers the next message, which has arrived; `None` at the end of the input.
 ///
 /// # Errors
 ///
-/// Memory was refused: a message was not answered, or it was and its response is lost.
+/// Memory was refused: the message wasn't answered, or was answered and the response is dropped.
 pub(crate) fn answer_next<T, A: Responder<T>>(
     alloc: Global,
     responder: &A,

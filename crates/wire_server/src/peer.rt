@@ -8,38 +8,38 @@ use std::net::TcpStream;
 use std::rt::Clock;
 use std::time::{Duration, Instant};
 
-/// How many seconds a short write takes at least where its time limit is over. The limit is 60 seconds by the ticks of the system,
+/// The least number of seconds that a write takes if its time limit is over. The limit is 60 seconds by the ticks of the system,
 /// which may end a little earlier than 60 seconds by the clock.
 const OVER: u64 = 59;
 
-/// What a peer sends. Where the connection couldn't be prepared, each read fails.
+/// The input of a connection. Each read fails if the connection couldn't be prepared.
 #[derive(Drop)]
 pub struct Incoming {
     stream: TcpStream,
     is_ready: bool,
 }
 
-/// What a peer is sent. Where the connection couldn't be prepared, each write fails, and so does each after one whose time limit was
-/// over before all of its bytes were sent.
+/// The output of a connection. Each write fails if the connection couldn't be prepared, and after a write that hit its time limit
+/// before all of its bytes were sent.
 #[derive(Drop)]
 pub struct Outgoing<'a, C: Clock> {
     stream: Option<TcpStream>,
     clock: &'a C,
 }
 
-/// Why nothing is read or written on a connection that couldn't be prepared.
+/// The error of each read and write on a connection that couldn't be prepared.
 fn unprepared() -> Error {
     Error::from(ErrorKind::NotConnected)
 }
 
-/// Whether a write was short. It may be for two reasons: its time limit is over, or a signal came that stops the process.
+/// Whether a write was short. A write is short if it hit its time limit, or if a signal came that stops the process.
 fn is_short(count: usize, len: usize) -> bool
     ensures { result ≡ nat_lt count len }
 {
     count < len
 }
 
-/// Whether the time limit of a short write is over, which waited so long.
+/// Whether a short write that waited so long hit its time limit.
 fn is_over(waited: Duration) -> bool
     ensures { result ≡ nat_le 59_000_000_000 (as_nanos waited) }
 {
@@ -47,7 +47,7 @@ fn is_over(waited: Duration) -> bool
 }
 
 impl Incoming {
-    /// What comes on a connection that is prepared, or isn't.
+    /// The input; `is_ready` is whether the connection could be prepared.
     pub(crate) fn new(stream: TcpStream, is_ready: bool) -> Incoming {
         Incoming { stream, is_ready }
     }
@@ -59,7 +59,7 @@ impl Incoming {
 }
 
 impl<'a, C: Clock> Outgoing<'a, C> {
-    /// What goes on a connection, where it is prepared, by a clock.
+    /// The output; `stream` is `None` if the connection couldn't be prepared.
     pub(crate) fn new(clock: &'a C, stream: Option<TcpStream>) -> Outgoing<'a, C> {
         Outgoing { stream, clock }
     }
@@ -75,8 +75,8 @@ impl Read for Incoming {
 }
 
 impl<'a, C: Clock> Write for Outgoing<'a, C> {
-    /// A count below the length is no sign of a peer who reads: the system may have found some more room of its own. So the connection
-    /// ends after a write that was short at the end of its time limit.
+    /// Writes some bytes. After a short write that hit its time limit, each further write fails: a count above 0 may come from
+    /// room in the system's own buffer, and is no sign of a peer who reads.
     fn write(&mut self, buf: &[u8]) -> io::Result<usize> {
         let Some(stream) = &mut self.stream else {
             return Err(unprepared());

@@ -12,8 +12,8 @@ use std::time::Duration;
 /// How many seconds a connection waits for a peer: for the next byte of an input, and until a piece of a reply is sent.
 const LIMIT: u64 = 60;
 
-/// The connections of a listener. A peer who sends nothing for 60 seconds makes the read fail that waits for it. One who doesn't
-/// take a piece of a reply in 60 seconds makes its next write fail.
+/// The connections of a listener. If a peer sends nothing for 60 seconds, the read that waits for it fails. If a peer doesn't
+/// take a piece of a reply in 60 seconds, the next write fails.
 #[derive(Drop)]
 pub struct Port<'a, C: Clock> {
     listener: &'a TcpListener,
@@ -27,10 +27,10 @@ impl<'a, C: Clock> Port<'a, C> {
     }
 }
 
-/// Sets the time limits of a connection, and gives another handle of it, to write by.
+/// Sets the time limits of a connection, and returns a second handle of it, for writing.
 fn prepare(input: &TcpStream) -> io::Result<TcpStream> {
     // Head and text of a reply are two writes, and none waits for the other to arrive. Where the system doesn't allow that, replies
-    // only take longer: no reason to serve nobody any more.
+    // only take longer, which is no reason to end the connection.
     drop(input.set_nodelay(true));
     input.set_read_timeout(Some(Duration::from_secs(LIMIT)))?;
     input.set_write_timeout(Some(Duration::from_secs(LIMIT)))?;
@@ -46,7 +46,7 @@ impl<'a, C: Clock> Listener for Port<'a, C> {
 
     ghost closed = { λ _. None };
 
-    /// A connection that was accepted and can't be prepared fails at its first read: it is one that failed, and the next is served.
+    /// Accepts a connection and sets its limits; if that fails, its first read fails. Then the next connection can be served.
     fn accept(&mut self) -> io::Result<(Incoming, Outgoing<'a, C>)> {
         let (input, _) = self.listener.accept()?;
         let output = prepare(&input).ok();
@@ -57,7 +57,7 @@ impl<'a, C: Clock> Listener for Port<'a, C> {
         ))
     }
 
-    /// The peer learns first that no more comes. Closing at once would take the last reply from one who still sends.
+    /// Shuts down writing, drains the input, closes. Closing at once could lose the last reply.
     fn close(&mut self, mut input: Incoming, output: Outgoing<'a, C>) {
         if input.stream().shutdown(Shutdown::Write).is_ok() {
             drop(read_out(self.clock, input.stream()));

@@ -1,4 +1,4 @@
-//! The next message of a connection, as it comes.
+//! The next message of a connection, as it arrives.
 ghost use Rattle.std.specs.Prelude.{◌≡◌, ◌<◌, IfErr, length};
 ghost use Rattle.httparse.specs.Grammar.{RequestHead};
 ghost use Rattle.wire_messages.specs.Heads.{Holds};
@@ -18,22 +18,22 @@ use wire_messages::{
     Fate, Fault, Head, ReceiveError, Received, pass_body, receive_body, receive_head,
 };
 
-/// What a connection brings next.
+/// What is next on a connection.
 #[derive(Drop)]
 pub(crate) enum Next<C, B> {
     /// The input is at its end.
     End,
-    /// A head, the length of the body after it, which came whole, and how the message is answered.
+    /// A message that has arrived whole: its head, the length of its body, and how it is answered.
     Message(Head, usize, Ready<C, B>),
-    /// The input begins with no message.
+    /// The input doesn't begin with a message.
     Faulty(Fault),
 }
 
-/// Why nothing is received.
+/// Why no message is received.
 #[derive(Clone, Copy)]
 pub(crate) enum Halt {
     Failed(WireError),
-    /// Nothing of the next message came for as long as the input waits.
+    /// No byte of the next message came for as long as the input waits.
     Silent,
 }
 
@@ -45,7 +45,7 @@ impl From<AllocError> for Halt {
     }
 }
 
-/// No writer has part in it.
+/// A receive error, never a write error.
 impl From<ReceiveError> for Halt {
     ghost from_gives = { λ fault halt. halt ≡ halt_of fault };
 
@@ -58,8 +58,8 @@ impl From<ReceiveError> for Halt {
     }
 }
 
-/// Receives the body of a message whose head is held, by what the head decided. One that isn't wanted is read all the same, and not
-/// kept; and so is the rest of one for which memory is refused, which ends no connection.
+/// Receives the body of a message whose head is in `held`, as the head decided. The body of a refused message is read and
+/// dropped. So is the rest of a body for which memory is refused; the connection goes on.
 fn receive_rest<R: Read, T, A: Responder<T>>(
     input: &mut R,
     held: &[u8],
@@ -94,7 +94,7 @@ fn receive_rest<R: Read, T, A: Responder<T>>(
     }
 }
 
-/// Receives the body of a message whose head is held.
+/// Receives the body of a message whose head is in `held`.
 fn receive_message<R: Read, T, A: Responder<T>>(
     input: &mut R,
     held: &[u8],
@@ -116,8 +116,8 @@ fn receive_message<R: Read, T, A: Responder<T>>(
 ///
 /// # Errors
 ///
-/// `Failed` with `Read` where the reader failed, and with `Memory` where it was refused for a head or for what the head decides;
-/// `Silent` where the reader gave up waiting before a message.
+/// `Failed` with `Read` if the reader failed, and with `Memory` if memory was refused for a head or for what the head decides;
+/// `Silent` if the reader gave up waiting before a message.
 pub(crate) fn receive_next<R: Read, T, A: Responder<T>>(
     input: &mut R,
     window: &mut [u8],

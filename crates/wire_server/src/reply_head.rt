@@ -5,13 +5,13 @@ ghost use Rattle.wire_server.specs.ReplyHead.{reply_head, leading_lines, allow_f
 use http::StatusCode;
 use std::alloc::AllocError;
 
-/// What a reply says before its text.
+/// The values in the head of a reply.
 #[derive(Clone, Copy)]
 pub struct ReplyHead<'a> {
     pub status: StatusCode,
     /// The media type of the text.
     pub kind: &'a str,
-    /// The methods of the route, where the request has another.
+    /// The methods of the route, if the method of the request is refused.
     pub allow: Option<&'a str>,
     /// Whether the connection is closed.
     pub close: bool,
@@ -19,7 +19,7 @@ pub struct ReplyHead<'a> {
     pub size: usize,
 }
 
-/// The status, and the kind of the text.
+/// Writes the status line, and the field with the media type of the text.
 #[tactic(auto, unfolding(crate::specs::ReplyHead::leading_lines))]
 fn write_start(out: &mut String, status: StatusCode, kind: &str) -> Result<(), AllocError>
     ensures { OnOk result (string_bytes out.new ≡ string_bytes out.old ++ leading_lines status kind.now) }
@@ -27,7 +27,7 @@ fn write_start(out: &mut String, status: StatusCode, kind: &str) -> Result<(), A
     write!(out, "HTTP/1.1 {status}\r\ncontent-type: {kind}\r\n")
 }
 
-/// The methods of the route, where another was asked for.
+/// Writes the field `allow`. `allow` lists the route's methods, for a refused method.
 #[tactic(auto, unfolding(crate::specs::ReplyHead::allow_field))]
 fn write_allow(out: &mut String, allow: Option<&str>) -> Result<(), AllocError>
     ensures { OnOk result (string_bytes out.new
@@ -39,7 +39,7 @@ fn write_allow(out: &mut String, allow: Option<&str>) -> Result<(), AllocError>
     }
 }
 
-/// The field by which the connection is closed, where it is.
+/// Writes the field `connection: close`, if the connection is closed.
 #[tactic(auto, unfolding(crate::specs::ReplyHead::close_field))]
 fn write_close(out: &mut String, close: bool) -> Result<(), AllocError>
     ensures { OnOk result (string_bytes out.new ≡ string_bytes out.old ++ close_field close) }
@@ -51,7 +51,7 @@ fn write_close(out: &mut String, close: bool) -> Result<(), AllocError>
     }
 }
 
-/// How many bytes the text has, and the empty line.
+/// Writes the field with the number of the text's bytes, and the empty line.
 #[tactic(auto, unfolding(crate::specs::ReplyHead::last_lines))]
 fn write_last(out: &mut String, size: usize) -> Result<(), AllocError>
     ensures { OnOk result (string_bytes out.new ≡ string_bytes out.old ++ last_lines size) }
@@ -59,8 +59,8 @@ fn write_last(out: &mut String, size: usize) -> Result<(), AllocError>
     write!(out, "content-length: {size}\r\n\r\n")
 }
 
-/// Appends the head of a reply: a status line of HTTP/1.1, the fields, and an empty line, each with CR LF. Where memory is refused
-/// a prefix of it may have been appended.
+/// Appends the head of a reply: a status line of HTTP/1.1, the fields, and an empty line, each with CR LF. If memory is
+/// refused, a prefix of the head may have been appended.
 pub fn write_reply_head(out: &mut String, head: &ReplyHead) -> Result<(), AllocError>
     ensures { OnOk result (string_bytes out.new ≡ string_bytes out.old
         ++ reply_head head.now.status head.now.kind.now (option_map (λ methods. methods.now) head.now.allow)

@@ -1,4 +1,4 @@
-//! What answers the messages of a connection.
+//! The trait of servers that answer the messages of a connection.
 ghost use Rattle.std.specs.Prelude.{ℕ, List, IfOk};
 ghost use Rattle.httparse.specs.Grammar.{RequestHead};
 ghost use Rattle.wire_messages.specs.Heads.{Holds};
@@ -12,10 +12,10 @@ use wire_messages::{Head, Keeper};
 
 /// Answers messages, one after another, from a state that it changes.
 pub trait Responder<T> {
-    /// How a message is answered once its body has come, as its head decides.
+    /// How a message is answered once its body has arrived, as its head decides.
     type Course: Drop;
 
-    /// What keeps a body as it arrives.
+    /// The keeper of a body as it arrives.
     type Body: Keeper + Drop;
 
     /// What a head and a body may be answered with from a state, and the state afterwards.
@@ -24,7 +24,7 @@ pub trait Responder<T> {
     /// A head decides this from a state.
     ghost decides: { T → RequestHead → Self.Course → Type 0 };
 
-    /// What is decided by the head of a message, which is held before some bytes. Its body, of a given length, hasn't come yet.
+    /// The decision by the head of a message, which is a prefix of `held`. The body, of `size` bytes, hasn't arrived yet.
     ///
     /// # Errors
     ///
@@ -40,8 +40,8 @@ pub trait Responder<T> {
         ensures { (h : RequestHead) → Holds held.now head.now h
             → IfOk result (IsBegun answers decides Self.Body.kept state.now h) };
 
-    /// The response to a message, of which the head is held and the whole body has come. Where memory is refused the message was not
-    /// answered, or it was and its response is lost.
+    /// The response to a message whose head is a prefix of `held` and whose whole body has arrived. If memory is refused, the
+    /// message wasn't answered, or was answered and the response is dropped.
     fn answer(
         &self,
         state: &mut T,
@@ -54,8 +54,8 @@ pub trait Responder<T> {
         ensures { (h : RequestHead) → Holds held.now head.now h → decides state.old h course
             → Answered answers state.old h (Self.Body.kept body) result state.new };
 
-    /// The response to a message, of which the head is held, and whose whole body has come and was refused memory. The state stays.
-    /// Where memory is refused again there is none.
+    /// The response to a message whose head is a prefix of `held`, and whose body has arrived but couldn't be held for lack of
+    /// memory. The state stays the same. An error if memory is refused again.
     fn answer_lost(
         &self,
         state: &T,

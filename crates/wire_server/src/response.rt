@@ -1,4 +1,4 @@
-//! Responses: what is replied to a message.
+//! The responses to messages.
 ghost use Rattle.std.specs.Prelude.{◌≡◌, IfOk, length, option_map, string_bytes};
 ghost use Rattle.wire_server.specs.ReplyHead.{reply_head};
 ghost use Rattle.wire_server.specs.Responses.{replied, plain, refused};
@@ -10,19 +10,19 @@ use report::{Refusal, refusal_line};
 use std::alloc::{AllocError, Global};
 use streams::{Pieces, in_pieces};
 
-/// What is replied to a message.
+/// The response to a message.
 #[derive(Drop)]
 pub struct Response {
     pub status: StatusCode,
     /// The media type of the text.
     pub kind: &'static str,
-    /// The methods of the route, where the request has another.
+    /// The methods of the route, if the method of the request is refused.
     pub allow: Option<&'static str>,
     pub text: Pieces,
 }
 
 impl Response {
-    /// The head of the reply: it says whether the connection is closed, and how many bytes the text has.
+    /// The head of the reply, with the number of the text's bytes. `close`: whether the connection is closed after the reply.
     pub fn head(&self, alloc: Global, close: bool) -> Result<String, AllocError>
         ensures { IfOk result (λ head. string_bytes head
             ≡ reply_head self.now.status self.now.kind.now (option_map (λ methods. methods.now) self.now.allow) close
@@ -40,7 +40,7 @@ impl Response {
         Ok(head)
     }
 
-    /// A text of a status.
+    /// A response with a status and a plain text.
     pub fn plain(alloc: Global, status: StatusCode, text: &str) -> Result<Response, AllocError>
         ensures { IfOk result (λ r. replied r ≡ plain status text.now) }
     {
@@ -52,7 +52,7 @@ impl Response {
         })
     }
 
-    /// A refusal, with the methods of the route where it refuses another.
+    /// The response for a refusal. `allow` lists the route's methods, for a refused method.
     pub fn refused(
         alloc: Global,
         refusal: Refusal,

@@ -17,7 +17,7 @@ use std::io::{Read, Write};
 #[derive(Clone, Copy)]
 pub(crate) enum Stop {
     Failed(WireError),
-    /// Nothing of a message came for as long as the input waits. The number is that of the messages answered until then.
+    /// No byte of a message came for as long as the input waits. The number is that of the messages answered before.
     Silent(u64),
 }
 
@@ -37,7 +37,7 @@ impl From<WireError> for Stop {
     }
 }
 
-/// A number of messages as it is reported: it stays at the greatest value.
+/// The number of messages that is reported: the count, or the greatest value if the count is larger.
 fn reported(count: u128) -> u64
     ensures { result ≡ reported count }
 {
@@ -48,7 +48,8 @@ fn reported(count: u128) -> u64
     }
 }
 
-/// Answers the messages of an input one after another, as `serve` does, and keeps a silent peer apart from a reader that failed.
+/// Answers the messages of an input one after another, as `serve` does. Returns how many were answered, or why the
+/// connection ended before its input did. A silent peer isn't a failed reader.
 pub(crate) fn run<R: Read, W: Write, T, A: Responder<T>>(
     alloc: Global,
     input: &mut R,
@@ -79,11 +80,11 @@ pub(crate) fn run<R: Read, W: Write, T, A: Responder<T>>(
 }
 
 /// Answers the messages of an input one after another, up to its end, the first that closes the connection, or an input that
-/// begins with no message; and how many were answered, a number that stays at its greatest value.
+/// doesn't begin with a message. Returns how many were answered, a number that stays at its greatest value.
 ///
 /// # Errors
 ///
-/// `Read` where the reader failed; `Write` where the writer did, or took no byte; `Memory` where it was refused.
+/// `Read` if the reader failed; `Write` if the writer failed, or took no byte; `Memory` if memory ran out.
 pub fn serve<R: Read, W: Write, T, A: Responder<T>>(
     alloc: Global,
     input: &mut R,

@@ -23,7 +23,7 @@ pub enum End {
     Unreported(WireError),
 }
 
-/// How the connection of a peer came to be closed.
+/// Why the connection of a peer was closed.
 #[derive(Clone, Copy, PartialEq, Eq, Debug)]
 pub(crate) enum Close {
     /// The connection ended, or failed.
@@ -33,7 +33,7 @@ pub(crate) enum Close {
 }
 
 impl Close {
-    /// How many failures it counts for.
+    /// How many failures this counts as: 0 or 1.
     pub(crate) fn failures(self) -> u32
         ensures { result ≡ failed self }
     {
@@ -55,7 +55,7 @@ fn line_of(fault: WireError) -> &'static str
     }
 }
 
-/// Says on `errors` why a connection failed.
+/// Writes on `errors` why a connection failed. Returns whether the line was written whole.
 fn report_end<E: Write>(fault: WireError, errors: &mut E) -> End
     ensures { SaysOf fault result (E.contents errors.old) (E.contents errors.new) }
 {
@@ -65,7 +65,7 @@ fn report_end<E: Write>(fault: WireError, errors: &mut E) -> End
     }
 }
 
-/// Serves one connection. Where it fails, a line on `errors` says why: `failed: input`, `failed: output` or `failed: memory`.
+/// Serves one connection. If it fails, a line on `errors` says why: `failed: input`, `failed: output` or `failed: memory`.
 pub fn serve_connection<R: Read, W: Write, E: Write, T, A: Responder<T>>(
     alloc: Global,
     input: &mut R,
@@ -84,8 +84,8 @@ pub fn serve_connection<R: Read, W: Write, E: Write, T, A: Responder<T>>(
     }
 }
 
-/// Serves the connection of a peer. Where it fails, a line on `errors` says why. Where the peer is silent for too long between two
-/// messages, nothing is said.
+/// Serves the connection of a peer. If it fails, a line on `errors` says why. If the peer is silent for too long between two
+/// messages, nothing is written.
 pub(crate) fn serve_peer<R: Read, W: Write, E: Write, T, A: Responder<T>>(
     alloc: Global,
     input: &mut R,
