@@ -1,4 +1,4 @@
--- What gave out: the line that says so.
+-- Failures, and the line of each.
 use Rattle.std.specs.Prelude.{ℕ, List, codes}
 use Rattle.model.specs.Reply.{Failure as OfStore, memory, size, disk}
 use Rattle.report.specs.declared.failures.Failure.{Failure}

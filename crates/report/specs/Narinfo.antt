@@ -1,4 +1,4 @@
--- The record of an object as the text that binary caches give: a line for each of its words.
+-- The record of an object as the text that binary caches serve: a line for each word.
 use Rattle.std.specs.Prelude.{ℕ, List, [], ◌++◌, codes, decimal, Option, Some, None, option_map}
 use Rattle.std.specs.List.{join_with_byte}
 use Rattle.paths.specs.Base32.{base32}
@@ -10,7 +10,7 @@ use Rattle.model.specs.Reply.{Info}
 abbrev pub line : List ℕ → List ℕ → List ℕ
 line word value = word ++ codes ": " ++ value ++ codes "\n"
 
--- a line for a value, if there is one
+-- a line for a value, or nothing for `None`
 abbrev pub line_if : List ℕ → Option (List ℕ) → List ℕ
 line_if word None = []
 line_if word (Some value) = line word value

@@ -57,6 +57,6 @@ pub record GivesOut (text : List ℕ) (w : Written) : Type 0 where
 abbrev pub Offers : List ℕ → Written → Type 0
 Offers text w = Gives text w ⊎ GivesOut text w
 
--- there was no memory for a text, and standard error has a line on that
+-- memory ran out for a text, and standard error has a line on that
 abbrev pub LacksMemory : Written → Type 0
 LacksMemory w = Keeps w.output.old w.output.new × Prints (failure_line Memory) 1 (on_errors w)

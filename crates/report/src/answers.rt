@@ -78,7 +78,7 @@ pub(crate) fn answer_bytes(
     Ok(text.into_bytes())
 }
 
-/// The text of an archive's listing in pieces. It isn't copied where it fits one, and is copied once otherwise.
+/// The text of an archive's listing in pieces. The text isn't copied if it fits one piece, and is copied once otherwise.
 fn listing_pieces(alloc: Global, text: String) -> Result<Pieces, AllocError>
     ensures { IfOk result (λ pieces. pieces ≡ string_bytes text) }
 {

@@ -1,10 +1,10 @@
-//! Texts, given to writers.
+//! Printing of texts on writers.
 ghost use Rattle.report.specs.Outputs.{Prints, change_of};
 
 use std::io::Write;
 use streams::send_bytes;
 
-/// Gives a text to a writer, and returns `status`, or 1 where the writer fails: it then has a prefix of the text.
+/// Writes a text on a writer, and returns `status`; or 1 if the writer fails, which then has a prefix of the text.
 ///
 /// ```rust
 /// let mut output = Vec::new(alloc);

@@ -148,7 +148,7 @@ fn push_ca(alloc: Global, text: &mut String, ca: Option<Ca>) -> Result<(), Alloc
     }
 }
 
-/// The record of an object as the text that binary caches give.
+/// The record of an object as the text that binary caches serve.
 ///
 /// ```rust
 /// use paths::{Ca, StoreDir, StorePath};

@@ -1,4 +1,4 @@
--- What becomes of a store of which something is asked.
+-- A call of a store: the reply, and the store afterwards.
 use Rattle.std.specs.Prelude.{◌≡◌}
 use Rattle.sqlite_trees.specs.declared.store.Store.{Ghosts}
 use Rattle.sqlite.specs.State.{HasCleanDisk, Survives}
@@ -32,7 +32,7 @@ module _ {S : Type 0} (g : Ghosts S) where
     pub others : LeavesOthers g old.tables new.tables
     -- what is done outlives a crash
     pub lasts : IsDone reply → StaysDurable g old.tables new.tables
-    -- at any exit a crash leaves what it could leave before, or the tables of the done case, if there is one
+    -- at any exit a crash leaves what it could leave before, or the tables of the done case, if one exists
     pub survives : (w : World) → HasWorld g old.tables w
         → Survives (state g old.tables.connection) (state g new.tables.connection)
         (λ db. LeavesDone old.tables.dir (state g old.tables.connection).now db old.settings w c q)

@@ -1,4 +1,4 @@
--- What the rules say of a request before it is done.
+-- The decision of the rules on a request before it is done.
 use Rattle.std.specs.Prelude.{◌≡◌, false, Option, Some, None, option_map}
 use Rattle.std.specs.List.{list_any}
 use Rattle.policy.specs.Settings.{Settings}
@@ -16,8 +16,8 @@ use Rattle.model.specs.Step.{Step}
 abbrev pub denial_by_rules : Settings → Caller → Request → Option Reply
 denial_by_rules s c q = option_map (λ rule. denied rule None) (first_broken (class_of s c) c (operation_of q))
 
--- The reply to a request that is not done: a denial or out of memory, a step that leaves the world as it is. There is
--- none where no rule forbids the request, and nothing that it deletes by name lives.
+-- The reply to a request that is not done: a denial or out of memory, a step that leaves the world as it is. `None`
+-- if no rule forbids the request, and no path that it deletes by name is live.
 abbrev pub IsForbidden : Settings → World → Caller → Request → Option Reply → Type 0
 IsForbidden s w c q None =
     (first_broken (class_of s c) c (operation_of q) ≡ None) × (list_any (lives s w) (named_in q) ≡ false)

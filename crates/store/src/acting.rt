@@ -1,4 +1,4 @@
-//! What becomes of a request that no rule forbids.
+//! Doing the requests that no rule forbids.
 
 ghost use Rattle.std.specs.Prelude.{◌≡◌, Err, IsTrue, false};
 ghost use Rattle.std.specs.List.{list_any};

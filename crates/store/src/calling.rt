@@ -53,7 +53,7 @@ impl<S: Alter> Model for Store<S> {
 }
 
 impl<S: Alter> Store<S> {
-    /// The store of these tables, under these settings. They are of one store directory.
+    /// The store of these tables, under these settings. Tables and settings have the same store directory.
     ///
     /// ```rust
     /// use policy::{Config, keep_outputs, store_dir};
@@ -89,7 +89,7 @@ impl<S: Alter> Store<S> {
         &self.config
     }
 
-    /// The tables of the store, which is given up.
+    /// Drops the settings of the store and returns the tables.
     ///
     /// ```rust
     /// use policy::{Config, store_dir};
@@ -112,7 +112,7 @@ impl<S: Alter> Store<S> {
         tables
     }
 
-    /// Room for some replies.
+    /// An empty vector with room for `count` replies.
     pub(crate) fn room(&self, count: usize) -> Result<Vec<Reply>, AllocError>
         ensures empty { IfOk result (λ v. v.items ≡ []) }
         ensures len { IfOk result (λ v. vec_len v ≡ 0) }
@@ -187,7 +187,7 @@ impl<S: Alter> Store<S> {
         ensures spent { IsTrue (is_spent request)
             → (reply_view result ≡ spent_reply self.old.settings caller.now (request_view request))
             × (self.new ≡ self.old) }
-        // A failure is out of memory; or the request touches the disk, and over a clean one there is a reason.
+        // A failure is out of memory; or the request touches the disk, and over a clean one a reason exists.
         ensures cause { (w : World) → HasWorld S.Store self.old.tables w
             → HasCause S.Store (request_view request) (reply_view result) self.old.tables self.new.tables }
         ensures still { IsStill (reply_view result) → self.new ≡ self.old }

@@ -1,4 +1,4 @@
-//! What is read of the disk: archives, and their listings.
+//! Reads from the disk: archives and their listings.
 
 ghost use Rattle.std.specs.Prelude.{◌≡◌, IfErr, IfOk, IsTrue, string_bytes};
 ghost use Rattle.nar.specs.Outcome.{outcome_of};

@@ -1,4 +1,4 @@
-//! What lives and what is dead.
+//! The live and the dead paths, and the usage report.
 
 ghost use Rattle.std.specs.Prelude.{◌≡◌};
 ghost use Rattle.policy.specs.Caller.{Caller};

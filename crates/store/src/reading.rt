@@ -1,4 +1,4 @@
-//! What is read of the outline alone.
+//! Reads from the outline alone.
 
 ghost use Rattle.policy.specs.Settings.{Settings};
 ghost use Rattle.policy.specs.Caller.{Caller};

@@ -1,4 +1,4 @@
--- Parts of an object that is passed, and what an outline says of them.
+-- Parts of an object to add, and tests of them by an outline.
 use Rattle.std.specs.Prelude.{◌||◌, Bool, List, String, string_bytes}
 use Rattle.std.specs.List.{list_all}
 use Rattle.std.specs.FinMap as finite

@@ -21,7 +21,7 @@ use std::alloc::Global;
 use store_types::{Answer, Stop};
 use tables::Tables;
 
-/// An object is put at its path, unless the path is valid already.
+/// Adds an object at its path, unless the path is valid already. The answer is the path.
 pub fn add<S: Alter>(tables: &mut Tables<S>, added: Added) -> Result<Answer, Stop>
     requires size { added.object.size ≡ length added.nar }
     requires hash { added.object.hash ≡ sha256 added.nar }
@@ -37,7 +37,7 @@ pub fn add<S: Alter>(tables: &mut Tables<S>, added: Added) -> Result<Answer, Sto
     Ok(Answer::Path(path))
 }
 
-/// A text is added.
+/// Adds a text object. The answer is its path.
 pub fn add_text<S: Alter>(
     alloc: Global,
     config: &Config,

@@ -31,7 +31,7 @@ pub(crate) fn is_archive(nar: &Arrived) -> Result<(), Refusal>
     let Some(fault) = nar.fault else {
         return Ok(());
     };
-    // Out of memory is no fault of bytes that have come.
+    // Out of memory isn't a fault of bytes that have arrived.
     match Refusal::of_archive(fault) {
         Some(refusal) => Err(refusal),
         None => Ok(()),

@@ -1,4 +1,4 @@
-//! Tests of what is passed with an object.
+//! Tests of an imported object.
 
 ghost use Rattle.std.specs.Prelude.{◌≡◌, ◌||◌, Some, None, IfOk, IfErr, IsTrue, not, is_none};
 ghost use Rattle.sha2.specs.Sha256.{sha256};

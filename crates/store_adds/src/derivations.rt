@@ -83,7 +83,7 @@ fn outputs_from(
     }
 }
 
-/// The outputs of an archive in pieces, which is joined.
+/// The outputs of an archive as a derivation. The pieces are joined.
 fn outputs_joined(
     alloc: Global,
     dir: &StoreDir,

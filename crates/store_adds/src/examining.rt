@@ -1,4 +1,4 @@
-//! The tests of the objects that are passed, in their order.
+//! The tests of text objects, in their order.
 
 ghost use Rattle.std.specs.Prelude.{◌≡◌, ◌≤◌, drop};
 ghost use Rattle.nar.specs.Archive.{limit};

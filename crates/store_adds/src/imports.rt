@@ -35,7 +35,7 @@ use store_types::{Answer, Imported, Stop};
 use tables::Tables;
 use tables_outline::Outline;
 
-/// Tests an object that is passed with its path; returns the outputs that it records.
+/// Tests an imported object. Returns the outputs that the object records.
 fn examine_import(
     alloc: Global,
     dir: &StoreDir,
@@ -60,7 +60,7 @@ fn examine_import(
     Ok(outputs)
 }
 
-/// The object of an import, tested. Where memory was refused as its archive came, the call fails ahead of the tests.
+/// The object of an import, tested. The call fails ahead of the tests if memory ran out while the archive arrived.
 pub fn prepare_import(
     alloc: Global,
     dir: &StoreDir,
@@ -93,7 +93,7 @@ pub fn prepare_import(
     })
 }
 
-/// An object is added at a path.
+/// Adds an object at a given path.
 pub fn import_object<S: Alter>(
     alloc: Global,
     config: &Config,
@@ -103,7 +103,7 @@ pub fn import_object<S: Alter>(
     requires dir { tables.old.dir ≡ config.now.store_dir }
     ensures met { (c : Caller) → IsMet S.Store config.now c (asked.import_object (import_view import)) result
         tables.old tables.new }
-    // An archive that was lost to memory is ahead of all tests.
+    // An archive that was dropped because memory ran out fails the call ahead of all tests.
     ensures spent { import.nar ≡ None → (result ≡ Err (failed memory)) × (tables.new ≡ tables.old) }
 {
     let dir = store_dir(config);

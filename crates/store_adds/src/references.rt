@@ -1,4 +1,4 @@
-//! References of objects that are passed.
+//! Tests of the references of objects to add.
 
 ghost use Rattle.std.specs.Prelude.{◌≡◌, ◌||◌, not, length, nat_le};
 ghost use Rattle.std.specs.FinMap as finite;
@@ -16,7 +16,7 @@ use paths::StorePath;
 use store_types::Refusal;
 use tables_outline::Outline;
 
-/// The most references that an object may be passed with.
+/// The most references of an object to add.
 const MOST_REFERENCES: usize = 4096;
 
 /// Tests that there aren't too many references, repeats counted.

@@ -56,7 +56,7 @@ fn examine_source(
     Ok(outputs)
 }
 
-/// The object of a source, tested. Where memory was refused as its archive came, the call fails ahead of the tests.
+/// The object of a source, tested. The call fails ahead of the tests if memory ran out while the archive arrived.
 pub fn prepare_source(
     alloc: Global,
     dir: &StoreDir,
@@ -91,7 +91,7 @@ pub fn prepare_source(
     })
 }
 
-/// An archive is added.
+/// Adds a source object.
 pub fn add_source<S: Alter>(
     alloc: Global,
     config: &Config,
@@ -103,7 +103,7 @@ pub fn add_source<S: Alter>(
     requires dir { tables.old.dir ≡ config.now.store_dir }
     ensures met { (c : Caller) → IsMet S.Store config.now c (asked.add_source name refs.items (bytes_in nar)) result
         tables.old tables.new }
-    // An archive that was lost to memory is ahead of all tests.
+    // An archive that was dropped because memory ran out fails the call ahead of all tests.
     ensures spent { nar ≡ None → (result ≡ Err (failed memory)) × (tables.new ≡ tables.old) }
 {
     // A store name is a text.

@@ -1,4 +1,4 @@
-//! Objects that are passed, without their archives.
+//! Objects to add, and their summaries.
 
 ghost use Rattle.std.specs.Prelude.{◌≡◌, IfOk, IsTrue, length, map, string_bytes};
 ghost use Rattle.std.specs.List.{zip};

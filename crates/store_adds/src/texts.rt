@@ -1,4 +1,4 @@
-//! Texts that are passed.
+//! Text objects to add.
 
 ghost use Rattle.std.specs.Prelude.{◌≡◌, IfOk, OnOk, length};
 ghost use Rattle.sha2.specs.Sha256.{sha256};

@@ -21,7 +21,7 @@ abbrev pub deletes : Request → Bool
 deletes (delete named ignores) = true
 deletes _ = false
 
--- where a path that a request names lives, what a denial shows; else nothing
+-- the root that a denial shows, if a path that a request names is live; else nothing
 abbrev pub IsDenial : Settings → World → Caller → Request → Option (String Global × Path) → Type 0
 IsDenial s w c q (Some root) =
     (list_any (lives s w) (named_in q) ≡ true) × (shown s w c q Live ≡ Some (labelled_bytes root))

@@ -1,4 +1,4 @@
--- What keeps the first of some paths that lives.
+-- The root that keeps the first live path of some paths.
 use Rattle.std.specs.Prelude.{◌≡◌, ℕ, ◌<◌, List, [], ◌∷◌, length, filter, Option, None}
 use Rattle.std.specs.Option.{option_map, option_or}
 use Rattle.paths.specs.Root.{Root}

@@ -1,4 +1,4 @@
--- How much paths of an outline take.
+-- The sizes of the archives of an outline's paths.
 use Rattle.std.specs.Prelude.{ℕ, List}
 use Rattle.std.specs.List.{sum_by}
 use Rattle.std.specs.Option.{option_map_or}

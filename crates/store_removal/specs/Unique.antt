@@ -1,4 +1,4 @@
--- Pairs that a caller has got.
+-- Pairs that a caller has seen.
 use Rattle.std.specs.Prelude.{◌≡◌, false, List, ℕ, map, String}
 use Rattle.std.specs.declared.alloc.Global.{Global}
 use Rattle.policy.specs.declared.kinds.Class.{Class}

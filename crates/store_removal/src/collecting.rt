@@ -1,4 +1,4 @@
-//! Dead objects are collected.
+//! Collection of dead objects.
 
 ghost use Rattle.std.specs.Prelude.{◌≡◌, ◌<◌, ℕ, All, IfOk, Some, length, map, not};
 ghost use Rattle.std.specs.List.{slice_index};

@@ -1,4 +1,4 @@
-//! Objects are deleted by name.
+//! Deletion of objects by name.
 
 ghost use Rattle.std.specs.Prelude.{◌≡◌, ◌<◌, All, Bool, [], None, Ok, IfOk, false, filter, length, map, not};
 ghost use Rattle.std.specs.List.{list_any, list_all};
@@ -94,8 +94,8 @@ pub fn deleted_paths(
     referring(alloc, &rows, &places)
 }
 
-/// What denies a deletion of a live path: the first root of the first named path that is live, as the caller sees it. `None` if all
-/// are dead.
+/// The root that denies a deletion: the first root of the first named path that is live, as the caller sees it. `None` if all
+/// named paths are dead.
 pub fn denial(
     alloc: Global,
     config: &Config,

@@ -1,4 +1,4 @@
-//! What keeps the first of some paths that lives.
+//! The root that keeps the first live path of some paths.
 
 ghost use Rattle.std.specs.Prelude.{◌≡◌, ◌<◌, ℕ, IfOk, IfSome, Option, find, is_some, length, option_map};
 ghost use Rattle.std.specs.List.{list_any};
@@ -53,8 +53,8 @@ fn first_mark(rows: &[Row], marks: &Marks, named: &[StorePath]) -> Option<usize>
     None
 }
 
-/// The label and the target of the first root of the first of some paths that lives, as a caller of a class sees them; none where
-/// each is dead.
+/// The label and the target of the first root of the first of some paths that lives, as a caller of a class sees them.
+/// `None` if all paths are dead.
 pub fn first_kept(
     alloc: Global,
     config: &Config,

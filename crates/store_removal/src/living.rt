@@ -1,4 +1,4 @@
-//! What lives.
+//! The live and the dead paths.
 
 ghost use Rattle.std.specs.Prelude.{◌≡◌, Bool, IfOk, filter, is_some, length, map};
 ghost use Rattle.std.specs.List.{range_with_len};
@@ -22,7 +22,7 @@ use std::alloc::{AllocError, Global};
 use tables_outline::Outline;
 use tables_root_list::root_list;
 
-/// What is kept alive besides references, as the configuration says.
+/// What live objects keep alive in addition to their references, by the configuration.
 pub(crate) fn keep_of(config: &Config) -> Keep
     ensures { keep_view result ≡ spec.keep_of config.now }
 {

@@ -23,7 +23,7 @@ use std::alloc::{AllocError, Global};
 use tables_outline::Outline;
 use tables_root_list::root_list;
 
-/// The place of a path among rows, if it is there.
+/// The place of a path among rows, or `None` if no row has it.
 pub(crate) fn place_of(rows: &[Row], path: &StorePath) -> Option<usize>
     ensures found { IfSome result (λ i. (i < length rows.now) × (path_at (rows_view rows.now) i ≡ path.now)) }
     ensures none { IfNone result (filter (same path.now) (paths_of (rows_view rows.now)) ≡ []) }

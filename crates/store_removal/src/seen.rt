@@ -54,7 +54,7 @@ pub(crate) fn seen_root(
     Ok((label, target))
 }
 
-/// Notes that a pair is listed, and returns whether that is the first time. For trusted callers each pair is listed as often as it comes.
+/// Notes that a pair is listed, and returns whether it is to be listed: the first time, and for trusted callers every time.
 fn note(
     class: Class,
     reported: &mut BTreeSet<(String, StorePath)>,

@@ -1,4 +1,4 @@
-//! How much paths take.
+//! The sizes of archives.
 
 ghost use Rattle.std.specs.Prelude.{◌≡◌};
 ghost use Rattle.model.specs.World.{World};

@@ -1,4 +1,4 @@
-//! Permanent roots are set and dropped.
+//! Setting and dropping permanent roots.
 
 ghost use Rattle.std.specs.Prelude.{◌≡◌, string_bytes};
 ghost use Rattle.policy.specs.Settings.{Settings};
@@ -39,7 +39,7 @@ pub fn may_drop(outline: &Outline, name: &str) -> Result<(), Refusal>
     Ok(())
 }
 
-/// A permanent root is set or replaced.
+/// Sets or replaces a permanent root.
 pub fn set_permanent<S: Alter>(
     tables: &mut Tables<S>,
     name: String,
@@ -53,7 +53,7 @@ pub fn set_permanent<S: Alter>(
     answered(tables.put_permanent(text, &path), Answer::Changed)
 }
 
-/// A permanent root is dropped.
+/// Drops a permanent root.
 pub fn drop_permanent<S: Alter>(tables: &mut Tables<S>, name: String) -> Result<Answer, Stop>
     ensures { (s : Settings) (c : Caller)
         → IsMet S.Store s c (asked.drop_permanent (string_bytes name)) result tables.old tables.new }

@@ -1,4 +1,4 @@
-//! The runtime roots are replaced.
+//! Replacing the runtime roots.
 
 ghost use Rattle.std.specs.Prelude.{◌≡◌, IfOk, OnOk, if◌then◌else◌, map};
 ghost use Rattle.std.specs.List.{filter};
@@ -25,7 +25,7 @@ use store_types::{Answer, Refusal, Stop};
 use tables::Tables;
 use tables_outline::Outline;
 
-/// Puts a pair among others, if its target is valid.
+/// Adds a pair to a set, if the target of the pair is valid.
 fn put_valid(
     outline: &Outline,
     valid: &mut BTreeSet<(String, StorePath)>,
@@ -87,7 +87,7 @@ pub fn count_of(roots: &BTreeSet<(String, StorePath)>) -> usize
     roots.len()
 }
 
-/// The runtime roots become the pairs whose target is valid.
+/// Replaces the runtime roots by the pairs whose target is valid. The answer is how many these pairs are.
 pub fn replace_runtime<S: Alter>(
     alloc: Global,
     tables: &mut Tables<S>,

@@ -1,4 +1,4 @@
-//! User roots are set and dropped.
+//! Setting and dropping user roots.
 
 ghost use Rattle.std.specs.Prelude.{◌≡◌, string_bytes};
 ghost use Rattle.policy.specs.Settings.{Settings};
@@ -40,7 +40,7 @@ pub fn may_drop(outline: &Outline, owned: &(String, String)) -> Result<(), Refus
     Ok(())
 }
 
-/// A user root is set or replaced.
+/// Sets or replaces a user root.
 pub fn set_user_root<S: Alter>(
     tables: &mut Tables<S>,
     owned: (String, String),
@@ -57,7 +57,7 @@ pub fn set_user_root<S: Alter>(
     )
 }
 
-/// A user root is dropped.
+/// Drops a user root.
 pub fn drop_user_root<S: Alter>(
     tables: &mut Tables<S>,
     owned: (String, String),

@@ -35,7 +35,7 @@ puts_rows (nar p) = false
 puts_rows (ls p) = false
 puts_rows q = touches_disk q
 
--- there is no rowid left for a row of some table, as a transaction over the database may show it
+-- no rowid is left for a row of some table, as a transaction over the database may show it
 abbrev pub LacksRowid : Database → Type 0
 LacksRowid old = (db : Database) × IsWithin old db × (t : Table) × HasNoRowidLeft db t
 
@@ -49,7 +49,7 @@ IsDiskReason q disk old new =
     HasDiskCause old new ⊎ (IsSome old.step_limit ⊎ (IsTrue (puts_rows q) × LacksRowid old.now))
 
 module _ {S : Type 0} (g : Ghosts S) where
-  -- a failed call ran out of memory; or it touched the disk, and over a clean one there is a reason that it failed
+  -- a failed call ran out of memory; or it touched the disk, and over a clean one a reason exists that it failed
   abbrev pub HasCause : Request → Reply → Kept S → Kept S → Type 0
   HasCause q (failed memory) old new = Unit {0}
   HasCause q (failed f) old new =

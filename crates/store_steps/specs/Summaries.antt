@@ -1,10 +1,10 @@
--- What is known of an object without its archive.
+-- The record of an object by its summary, without its archive.
 use Rattle.std.specs.FinMap as finite
 use Rattle.model.specs.World.{Path}
 use Rattle.tables_outline.specs.Outline.{Outlined}
 use Rattle.model.specs.Reply.{Info}
 
--- its record
+-- the record of an object
 abbrev pub info_in : Path → Outlined → Info
 info_in p o =
     record {

@@ -1,4 +1,4 @@
-//! Tests that what a request names is there.
+//! Tests that what a request names exists.
 
 ghost use Rattle.std.specs.Prelude.{◌≡◌, IsTrue, OnOk, string_bytes};
 ghost use Rattle.std.specs.List.{list_all};
@@ -41,7 +41,7 @@ pub fn are_valid(outline: &Outline, paths: &[StorePath]) -> Result<(), Refusal>
     Ok(())
 }
 
-/// Tests that there is a permanent root of this name.
+/// Tests that a permanent root of this name exists.
 pub fn has_permanent(outline: &Outline, name: &str) -> Result<(), Refusal>
     ensures { (w : World) → outline_of w ≡ outline.now
         → Tested result (unless (finite.contains_key w.permanent name.now) Refusal.NoRoot) }
@@ -52,7 +52,7 @@ pub fn has_permanent(outline: &Outline, name: &str) -> Result<(), Refusal>
     Ok(())
 }
 
-/// Tests that there is a user root of this owner and name.
+/// Tests that a user root of this owner and name exists.
 pub fn has_user_root(outline: &Outline, owned: &(String, String)) -> Result<(), Refusal>
     ensures { (w : World) → outline_of w ≡ outline.now
         → Tested result
@@ -65,7 +65,7 @@ pub fn has_user_root(outline: &Outline, owned: &(String, String)) -> Result<(), 
     Ok(())
 }
 
-/// Tests that there is a profile of this owner and name.
+/// Tests that a profile of this owner and name exists.
 pub fn has_profile(outline: &Outline, owned: &(String, String)) -> Result<(), Refusal>
     ensures reported { (w : World) → outline_of w ≡ outline.now
         → Tested result

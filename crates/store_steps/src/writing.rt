@@ -1,4 +1,4 @@
-//! What a write answers.
+//! The answer to a write.
 
 ghost use Rattle.std.specs.Prelude.{◌≡◌};
 ghost use Rattle.store_steps.specs.Writing.{answered as answer_of};
@@ -6,7 +6,7 @@ ghost use Rattle.store_steps.specs.Writing.{answered as answer_of};
 use store_types::{Answer, Stop};
 use tables_sql::failure::Failure;
 
-/// The answer where it was written, and else the failure.
+/// `answer` if the write was done, else its failure.
 pub fn answered(written: Result<(), Failure>, answer: Answer) -> Result<Answer, Stop>
     ensures { result ≡ answer_of written answer }
 {

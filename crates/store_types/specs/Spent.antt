@@ -1,4 +1,4 @@
--- Requests whose archive was lost to memory as it came.
+-- Requests whose archive was dropped because memory ran out while it arrived.
 use Rattle.std.specs.Prelude.{◌≡◌, Bool, false, List, [], ◌∷◌, None, is_none, IsTrue}
 use Rattle.std.specs.Option.{option_map_or}
 use Rattle.policy.specs.Settings.{Settings}
@@ -12,7 +12,7 @@ use Rattle.store_types.specs.declared.requests.Request.{Request}
 use Rattle.store_types.specs.declared.requests.Request.TheVariants.{AddSource, Import}
 use Rattle.store_types.specs.View.{request_view}
 
--- whether the archive that a request adds was lost: its intake was refused memory, and has no bytes any more
+-- whether the archive that a request adds was dropped: its intake was refused memory, and has no bytes any more
 abbrev pub is_spent : Request → Bool
 is_spent (AddSource name refs nar) = is_none nar
 is_spent (Import p hash refs deriver ca nar) = is_none nar

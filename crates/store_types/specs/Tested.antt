@@ -1,4 +1,4 @@
--- What a test answers.
+-- What a test returns.
 use Rattle.std.specs.Prelude.{◌≡◌, Option, Some, None, Result, Ok, Err}
 use Rattle.model.specs.declared.refusal.Refusal.{Refusal}
 use Rattle.tables_sql.specs.declared.failure.Failure.TheVariants.{Memory}
@@ -10,7 +10,7 @@ abbrev pub Tested : {A : Type 0} → Result A Refusal → Option Refusal → Typ
 Tested (Ok a) fault = fault ≡ None
 Tested (Err r) fault = fault ≡ Some r
 
--- such a test finds a value, as it is seen, where there's no fault; or the fault is reported
+-- a test that takes no memory returns a value, as contracts see it, if no fault is found; or the fault is reported
 abbrev pub Finds : {A B : Type 0} → (A → B) → Result A Refusal → Option Refusal → B → Type 0
 Finds view (Ok a) fault b = (fault ≡ None) × (view a ≡ b)
 Finds view (Err r) fault b = fault ≡ Some r
@@ -25,7 +25,8 @@ abbrev pub Passes : {A : Type 0} → Result A Stop → Option Refusal → Type 0
 Passes (Ok a) fault = fault ≡ None
 Passes (Err stop) fault = Stops stop fault
 
--- such tests give a value, as it is seen, where there's no fault; or the fault is reported, or memory runs out
+-- tests that take memory return a value, as contracts see it, if no fault is found; or the fault is reported, or memory
+-- runs out
 abbrev pub Gives : {A B : Type 0} → (A → B) → Result A Stop → Option Refusal → B → Type 0
 Gives view (Ok a) fault b = (fault ≡ None) × (view a ≡ b)
 Gives view (Err stop) fault b = Stops stop fault

@@ -1,4 +1,4 @@
-//! What a store replies.
+//! The replies of a store.
 
 ghost use Rattle.std.specs.Prelude.{◌≡◌};
 ghost use Rattle.store_types.specs.Stops.{archive_stop, derivation_stop};
@@ -69,7 +69,7 @@ pub enum Answer {
     Usage(Usage, Usage, Usage),
 }
 
-/// What a store replies.
+/// The reply of a store to a request.
 #[derive(Drop)]
 pub enum Reply {
     /// The request is done.
@@ -83,7 +83,7 @@ pub enum Reply {
     Failed(Failure),
 }
 
-/// Why a request isn't done, where no rule forbids it.
+/// Why a request that no rule forbids isn't done.
 #[derive(Clone, Copy)]
 pub enum Stop {
     /// The first test that fails.

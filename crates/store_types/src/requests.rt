@@ -1,14 +1,14 @@
-//! What is asked of a store.
+//! The requests to a store.
 
 use intake::Intake;
 use paths::{Ca, Name, StorePath};
 
-/// An object that is passed with its path.
+/// An object to import, with its path.
 #[derive(Drop)]
 pub struct Imported {
     /// The path.
     pub path: StorePath,
-    /// The SHA-256 digest that the archive is said to have.
+    /// The SHA-256 digest that the archive is to have.
     pub nar_hash: [u8; 32],
     /// The references.
     pub refs: Vec<StorePath>,
@@ -16,11 +16,11 @@ pub struct Imported {
     pub deriver: Option<StorePath>,
     /// The content address, if it is given.
     pub ca: Option<Ca>,
-    /// The archive, as it came in.
+    /// The archive, as it arrived.
     pub nar: Intake,
 }
 
-/// What a caller asks of a store.
+/// The request of a caller to a store.
 #[derive(Drop)]
 pub enum Request {
     /// Adds a text.

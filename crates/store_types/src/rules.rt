@@ -1,4 +1,4 @@
-//! What the rules ask of a request.
+//! The operations on which the rules decide.
 
 ghost use Rattle.std.specs.Prelude.{◌≡◌};
 ghost use Rattle.policy.specs.Operation as operations;
@@ -8,7 +8,7 @@ ghost use Rattle.store_types.specs.View.{request_view};
 use crate::requests::Request;
 use policy::Op;
 
-/// The operation that the rules decide on.
+/// The operation of a request, on which the rules decide.
 pub fn operation(request: &Request) -> Op<'_>
     ensures { operations.operation_of result ≡ verdicts.operation_of (request_view request.now) }
 {

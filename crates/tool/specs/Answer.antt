@@ -1,4 +1,4 @@
--- What a command line answers, by the text of its configuration.
+-- The answer to a command line, by the text of its configuration.
 use Rattle.std.specs.Prelude.{◌≡◌, ◌⊎◌, ℕ, MatchOption, List, map, Option, None, is_some, Result, Ok, Err}
 use Rattle.std.specs.Io.KnownBytes.{Keeps}
 use Rattle.clap.specs.Values.{kind_of}
@@ -28,7 +28,7 @@ use Rattle.tool.specs.Works.{DoesWith, Doing, calls, serves}
 use Rattle.tool_pure.specs.Stream.{Answers, AnswersTo, Says}
 use Rattle.tool_pure.specs.Who.{AnswersWho, verdict_of}
 
--- an answer under the settings of a configuration, or the line of its first key word; or memory gave out
+-- an answer under the settings of a configuration, or the line of its first key word; or memory ran out
 abbrev pub AnswersUnder : Result Settings KeyWord → (Settings → Type 0) → Written → Type 0
 AnswersUnder (Ok s) answered w = answered s
 AnswersUnder (Err word) answered w = Answers (Err (Refused (BadConfig word))) w ⊎ Answers (Err (Failed NoMemory)) w
@@ -60,7 +60,7 @@ AnswersAsking of_file config line ask console = AnswersUnder (config_of config)
     (λ s. AnswersNamed (λ c. DoesWith of_file line.db s (calls c ask) console) line console.written) console.written
 
 -- the store of a file, or one in memory where none is named, is served under the settings of the configuration; or
--- memory gave out before
+-- memory ran out before
 abbrev pub AnswersServing : Doing → List ℕ → Option Text → ServeArguments → Console → Type 0
 AnswersServing of_file config db a console = AnswersUnder (config_of config)
     (λ s. Answers (Err (Failed NoMemory)) console.written ⊎ DoesWith of_file db s (serves a) console) console.written
@@ -83,22 +83,22 @@ AnswersLine of_file config line console =
     MatchOption (asks line.asked) (AnswersAlone of_file config line line.asked console)
     (λ ask. AnswersAsking of_file config line ask console)
 
--- a stop before there is anything to answer by is said by `who` on standard output, and else on standard error
+-- a stop while the configuration is read is printed by `who` on standard output, and else on standard error
 abbrev pub Stops : Asked → Stop → Written → Type 0
 Stops who stop w = Says stop (on_output w) × Keeps w.errors.old w.errors.new
 Stops _ stop w = Answers (Err stop) w
 
--- the answer by the text of the configuration, or by why there is none
+-- the answer by the text of the configuration, or by why the text couldn't be read
 abbrev pub AnswersRead : Doing → Line → Result (List ℕ) Stop → Console → Type 0
 AnswersRead of_file line (Ok config) console = AnswersLine of_file config line console
 AnswersRead of_file line (Err stop) console = Stops line.asked stop console.written
 
--- the answer by what came of the configuration file
+-- the answer by the opened configuration file, or by why it wasn't opened
 abbrev pub AnswersOpened : Doing → Line → Opened → Console → Type 0
 AnswersOpened of_file line opened console =
     (read : Result (List ℕ) Stop) × IsConfig opened read × AnswersRead of_file line read console
 
--- what running a command line does: it answers by what came of the file that it names, if it names one; or memory gave
+-- what running a command line does: it answers by the configuration file that it names, if it names one; or memory ran
 -- out while the words were read. No contract says what a file holds, or why it can't be opened.
 abbrev pub RunsLine : Doing → Line → Console → Type 0
 RunsLine of_file line console = Answers (Err (Failed NoMemory)) console.written

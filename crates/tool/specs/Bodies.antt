@@ -1,4 +1,4 @@
--- What a body on the input asks of a store.
+-- The request of a body on the input to a store.
 use Rattle.std.specs.Prelude.{◌≡◌, ℕ, List, Result, Ok, Err}
 use Rattle.model.specs.World.{Pair}
 use Rattle.model.specs.Request as request
@@ -24,7 +24,7 @@ IsImported dir body q =
 abbrev pub IsReplaced : List ℕ → List ℕ → Request → Type 0
 IsReplaced dir body q = (named : List Pair) × Says (IsRuntime dir) body named × (q ≡ request.replace_runtime named)
 
--- a request that a body says; or it says none, and is refused
+-- the request of a body; or the body isn't one, and is refused
 abbrev pub ReadAs : (Request → Type 0) → Result Request Refusal → Type 0
 ReadAs says (Ok q) = says q
 ReadAs says (Err refusal) = (refusal ≡ BadBodyHead) × ((q : Request) → says q → ⊥)
@@ -35,7 +35,7 @@ Imports dir body wanted = ReadAs (IsImported dir body) wanted
 abbrev pub Replaces : List ℕ → List ℕ → Result Request Refusal → Type 0
 Replaces dir body wanted = ReadAs (IsReplaced dir body) wanted
 
--- why a body asks nothing
+-- the stop for the error of a body
 abbrev pub body_stop : BodyError → Stop
 body_stop body_error.BadBodyHead = Refused BadBodyHead
 body_stop body_error.Memory = Failed Memory

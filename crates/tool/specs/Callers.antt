@@ -1,4 +1,4 @@
--- What the caller is answered whom a command line names.
+-- The answer to the caller whom a command line names.
 use Rattle.std.specs.Prelude.{◌⊎◌, Option, Some, None, Err}
 use Rattle.policy.specs.Caller.{Caller}
 use Rattle.model.specs.declared.refusal.Refusal.TheVariants.{BadCaller}
@@ -9,12 +9,12 @@ use Rattle.tool_pure.specs.Who.{caller_by}
 use Rattle.tool_pure.specs.Stream.{Answers}
 use Rattle.tool_words.specs.Line.{Line}
 
--- a caller is answered, where there is one
+-- a caller is answered; without a caller the answer is the refusal `BadCaller`
 abbrev pub AnswersCalled : (Caller → Type 0) → Option Caller → Written → Type 0
 AnswersCalled answered None w = Answers (Err (Refused BadCaller)) w
 AnswersCalled answered (Some c) w = answered c
 
--- the caller of the names is answered, or refused where they aren't plain; or memory gave out before
+-- the caller of the names is answered, or refused where they aren't plain; or memory ran out before
 abbrev pub AnswersNamed : (Caller → Type 0) → Line → Written → Type 0
 AnswersNamed answered line w =
     Answers (Err (Failed Memory)) w ⊎ AnswersCalled answered (caller_by line.user line.group) w

@@ -1,4 +1,4 @@
--- What is answered to a subcommand that asks something of a store.
+-- The answer to a subcommand that makes a request to a store.
 use Rattle.std.specs.Prelude.{◌⊎◌, ℕ, List, Option, Some, None, Result, Ok, Err}
 use Rattle.sqlite_trees.specs.declared.store.Store.{Ghosts}
 use Rattle.model.specs.World.{World}
@@ -34,7 +34,8 @@ abbrev pub AnswersOver : (Request → Type 0) → (List ℕ → Result Request R
 AnswersOver answered ask None w = (bytes : List ℕ) × AnswersRequested answered (ask bytes) w
 AnswersOver answered ask (Some bytes) w = AnswersRequested answered (ask bytes) w
 
--- what is asked of a store is answered; or memory gave out before there was a request, or the input where it is read
+-- what is asked of a store is answered; or memory ran out before a request was made, or the input failed where it is
+-- read
 abbrev pub AnswersIn : (Request → Type 0) → Ask → List ℕ → Caller → Stream → Written → Type 0
 AnswersIn answered ask dir c input w =
     GivesUp (LosesInput ask dir c input) w ⊎ AnswersOver answered (Demands ask dir c) input.old w

@@ -1,4 +1,4 @@
-//! What a command line answers, by the text of its configuration.
+//! Answering a command line by the text of its configuration.
 ghost use Rattle.std.specs.Prelude.{◌≡◌, None, false};
 ghost use Rattle.report.specs.Outputs.{change_of};
 ghost use Rattle.tool.specs.Answer.{AnswersAlone, AnswersLine, AnswersLs, AnswersSourcePath, AnswersTextPath};

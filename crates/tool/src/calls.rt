@@ -1,4 +1,4 @@
-//! Subcommands that ask something of a store.
+//! Subcommands that make a request to a store.
 ghost use Rattle.std.specs.Prelude.{◌≡◌, IsSome, Some, false};
 ghost use Rattle.tool_words.specs.Asked.{asked_view};
 ghost use Rattle.tool_words.specs.Line.{line_view};
@@ -23,7 +23,7 @@ use tables::{Disk, Tables};
 use tool_pure::{parse_caller, say, serve, settings};
 use tool_words::{CommandLine, Task};
 
-/// Asks a store over these tables.
+/// Makes the request of a subcommand to a store over these tables, prints the reply, and returns the exit status.
 pub(crate) fn call_over<S: Alter + Drop, R: Read, W: Write, E: Write>(
     alloc: Global,
     config: Config,
@@ -64,7 +64,7 @@ pub(crate) fn call_over<S: Alter + Drop, R: Read, W: Write, E: Write>(
     }
 }
 
-/// Asks a store, by the text of the configuration.
+/// Makes the request of a command line to its store, by the text of the configuration, and returns the exit status.
 pub(crate) fn call<F: Start, R: Read, W: Write, E: Write>(
     rt: &HostRuntime,
     start: F,

@@ -10,7 +10,7 @@ use store_types::Reply;
 use tables::Cause;
 use tool_pure::{Stop, print_reply, say};
 
-/// Says why a file isn't opened as a store, and returns the exit status.
+/// Prints why a file isn't opened as a store, and returns the exit status.
 pub(crate) fn refuse_file<W: Write, E: Write>(
     alloc: Global,
     dir: &StoreDir,

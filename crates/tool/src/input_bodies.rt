@@ -60,7 +60,7 @@ pub(crate) fn import<R: Read>(alloc: Global, dir: &StoreDir, input: &mut R) -> R
     parse_import(alloc, dir, body)
 }
 
-/// The runtime roots are to be those on the input.
+/// The request that sets the runtime roots to those on the input.
 pub(crate) fn replace_runtime<R: Read>(
     alloc: Global,
     dir: &StoreDir,

@@ -12,7 +12,7 @@ use store_types::Request;
 use tool_pure::{Stop, parse_reference};
 use tool_words::{RootArguments, RootKind, UnrootArguments, Unrooted};
 
-/// The owner `named`, or the caller if it is `None`.
+/// The name of the owner: `named`, or that of the caller if `named` is `None`.
 pub(crate) fn owner(
     alloc: Global,
     caller: &Caller,

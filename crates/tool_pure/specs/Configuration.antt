@@ -5,8 +5,8 @@ use Rattle.report.specs.declared.failures.Failure.TheVariants.{Memory, File}
 use Rattle.tool_pure.specs.declared.stops.Stop.{Stop}
 use Rattle.tool_pure.specs.declared.stops.Stop.TheVariants.{Failed}
 
--- what came of the configuration file: none is named; it wasn't opened; or it was, and has these bytes, where it says
--- them
+-- the configuration file: none is named; the file wasn't opened; or it was opened and has these bytes, if the stream
+-- shows them
 abbrev pub Opened : Type 0
 Opened = Option (Result (Option (List ℕ)) Error)
 
@@ -16,13 +16,13 @@ opened_by remaining None = None
 opened_by remaining (Some (Ok input)) = Some (Ok (remaining input))
 opened_by remaining (Some (Err fault)) = Some (Err fault)
 
--- how many bytes of it are read: one more than a configuration has at most
+-- how many bytes of a configuration file are read: one more than a configuration has at most
 abbrev pub most_of_config : ℕ
 most_of_config = 1048577
 
--- The text by that: the empty one where no file is named, and else the bytes of the file, no more of them than decide
--- that they are too many; or why there is none: the file wasn't opened or can't be read, or memory was refused for
--- bytes that it has.
+-- The text of the configuration: the empty text if no file is named, else the bytes of the file, no more of them than
+-- decide that they are too many. Or why the text can't be read: the file wasn't opened or can't be read, or memory was
+-- refused for bytes of the file.
 abbrev pub IsConfig : Opened → Result (List ℕ) Stop → Type 0
 IsConfig None read = read ≡ Ok []
 IsConfig (Some (Err fault)) (Ok text) = ⊥

@@ -1,4 +1,4 @@
--- What a fault of the libraries below ends a command with.
+-- The stop for each library error.
 use Rattle.paths.specs.declared.store_name.NameError.{NameError}
 use Rattle.paths.specs.declared.store_name.NameError.TheVariants as name
 use Rattle.paths.specs.declared.store_path.StorePathError.{StorePathError}

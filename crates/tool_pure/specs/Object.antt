@@ -1,4 +1,4 @@
--- The answers that give an object its store path.
+-- The answers of `text-path` and `source-path`: the store paths of objects.
 use Rattle.std.specs.Prelude.{ℕ, ◌++◌, Bool, not, if◌then◌else◌, nat_lt, List, length, codes, Option, Some, None, Result, Ok, Err}
 use Rattle.std.specs.List.{list_all}
 use Rattle.std.specs.Option.{option_map_or}

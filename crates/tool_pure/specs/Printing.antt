@@ -23,6 +23,6 @@ PrintsReply dir (refused r) w =
 PrintsReply dir (failed f) w =
     Keeps w.output.old w.output.new × Prints (reply_text dir (failed f)) (status_of (failed f)) (on_errors w)
 
--- a reply was written; or there was no memory for its text
+-- a reply was written; or memory ran out for its text
 abbrev pub IsPrinted : List ℕ → Reply → Written → Type 0
 IsPrinted dir reply w = PrintsReply dir reply w ⊎ LacksMemory w

@@ -10,7 +10,7 @@ use Rattle.tool_pure.specs.declared.stops.Stop.TheVariants.{Refused, Failed}
 use Rattle.report.specs.Outputs.{Console, Offers, Printed, Prints, Stream, Written, on_errors}
 use Rattle.tool_pure.specs.Stop.{stop_text, stop_status}
 
--- an input is read to a bound, and not at all where a fault is there before
+-- an input is read to a bound, and not at all if a fault is found before
 abbrev pub ReadsFor : Option Refusal → ℕ → Option (List ℕ) → Option (List ℕ) → Type 0
 ReadsFor (Some fault) most old new = Keeps old new
 ReadsFor None most old new = ConsumesAtMost most old new
@@ -28,7 +28,7 @@ Answers (Err stop) w = Keeps w.output.old w.output.new × Says stop (on_errors w
 abbrev pub InputFails : Bool → ℕ → Stream → Type 0
 InputFails reads most input = (reads ≡ true) × TakesFewer most input.old input.new
 
--- memory gave out before there was an answer; or the input did, where that may be
+-- memory ran out before an answer was made; or the input failed, where that may be
 abbrev pub GivesUp : Type 0 → Written → Type 0
 GivesUp fails w = Answers (Err (Failed Memory)) w ⊎ (fails × Answers (Err (Failed Input)) w)
 
@@ -44,8 +44,8 @@ AnswersBy (Some fault) answer known w = Answers (Err (Refused fault)) w
 AnswersBy None answer None w = (bytes : List ℕ) × Answers (answer bytes) w
 AnswersBy None answer (Some bytes) w = Answers (answer bytes) w
 
--- the answer to an input, which is read to a bound, was given; or memory gave out before, or the input, which isn't
--- read where a fault is there before
+-- the answer to an input, which is read to a bound, was given; or memory ran out before, or the input failed, which
+-- isn't read where a fault is found before
 abbrev pub AnswersTo : Option Refusal → ℕ → (List ℕ → Result (List ℕ) Stop) → Console → Type 0
 AnswersTo fault most answer c =
     GivesUp (InputFails (is_none fault) most c.input) c.written ⊎ AnswersBy fault answer c.input.old c.written
@@ -68,7 +68,7 @@ IsResultOf None answer (Some bytes) result = result ≡ answer bytes
 abbrev pub IsStopBy : Option Refusal → Stop → Type 0
 IsStopBy fault stop = (stop ≡ Failed Memory) ⊎ (option_map Refused fault ≡ Some stop)
 
--- why there is nothing to answer to: a fault is there before the input is read, or that or memory gave out
+-- why no answer is made: a fault is found before the input is read, the input failed, or memory ran out
 abbrev pub IsStopAt : Option Refusal → ℕ → Stream → Stop → Type 0
 IsStopAt fault most input stop =
     IsFailure (InputFails (is_none fault) most input) (Err stop) ⊎ (option_map Refused fault ≡ Some stop)

@@ -61,8 +61,8 @@ abbrev pub who_status : Result Verdict Stop → ℕ
 who_status (Ok verdict) = denial_status verdict.denial
 who_status (Err stop) = stop_status stop
 
--- the answer went to the writer and gave its status, or the writer failed; or memory gave out before there was an
--- answer
+-- the answer went to the writer and gave its status, or the writer failed; or memory ran out before an answer
+-- was made
 abbrev pub AnswersWho : Result Verdict Stop → Printed → Type 0
 AnswersWho answer p = Prints (who_text answer) (who_status answer) p ⊎ Says (Failed Memory) p
 
@@ -70,7 +70,7 @@ AnswersWho answer p = Prints (who_text answer) (who_status answer) p ⊎ Says (F
 abbrev pub StopsWho : Result Verdict Stop → Stop → Type 0
 StopsWho answer stop = (stop ≡ Failed Memory) ⊎ (answer ≡ Err stop)
 
--- why a configuration gives no settings: out of memory, or its first key word
+-- why a configuration has no settings: out of memory, or its first key word
 abbrev pub StopsFor : Result Settings KeyWord → Stop → Type 0
 StopsFor outcome stop =
     (stop ≡ Failed Memory) ⊎ ((word : KeyWord) × (outcome ≡ Err word) × (stop ≡ Refused (BadConfig word)))

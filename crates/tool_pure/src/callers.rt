@@ -11,7 +11,7 @@ use std::alloc::Global;
 ///
 /// # Errors
 ///
-/// `BadCaller` where no user is named or a name isn't plain; `Memory` where memory was refused.
+/// `BadCaller` if no user is named or a name isn't plain; `Memory` if memory was refused.
 pub fn parse_caller(alloc: Global, user: Option<&str>, group: Option<&str>) -> Result<Caller, Stop>
     ensures ok { IfOk result
         (λ c. caller_by (option_map (λ s. s.now) user.entry) (option_map (λ s. s.now) group.entry) ≡ Some c) }

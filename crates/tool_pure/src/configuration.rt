@@ -16,7 +16,7 @@ use streams::{ReadError, read_at_most};
 /// One byte more than a configuration has at most.
 const MOST_READ: usize = MAX_CONFIG_BYTES + 1;
 
-/// The configuration file of this path, opened, or why it wasn't; nothing where no path is given.
+/// The opened configuration file of a path, or why it wasn't opened. `None` if no path is given.
 pub fn open_config<Rt: Files>(rt: &Rt, path: Option<&str>) -> Option<io::Result<Rt::File>>
     ensures { is_some result ≡ is_some path.entry }
 {
@@ -48,12 +48,11 @@ fn file_text<R: Read + Drop>(alloc: Global, file: io::Result<R>) -> Result<Vec<u
 }
 
 /// The text of the configuration by its file, of which no more than one byte above the limit is read; the
-/// empty text where there is no file.
+/// empty text if no file is named.
 ///
 /// # Errors
 ///
-/// `File` where the file wasn't opened or can't be read, whatever the kind of the fault; `Memory` where memory was refused for
-/// bytes that the file has.
+/// `File` if the file wasn't opened or can't be read, whatever the error; `Memory` if memory was refused for bytes of the file.
 pub fn config_text<R: Read + Drop>(
     alloc: Global,
     file: Option<io::Result<R>>,

@@ -33,7 +33,7 @@ fn ls_result<R: Read>(alloc: Global, input: &mut R) -> Result<String, Stop>
     listing(alloc, nar.as_slice())
 }
 
-/// Prints the listing of the archive that is read, and gives the exit status.
+/// Prints the listing of the archive on `input`, and returns the exit status.
 ///
 /// The listing goes to `output`, with status 0: a line for each node, parents first, entries in
 /// order. Else one line goes to `errors`: the archive's fault, `refused: 1 truncated` to

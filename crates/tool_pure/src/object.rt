@@ -16,7 +16,7 @@ use std::alloc::{AllocError, Global};
 use std::convert::AsStr;
 use std::io::Read;
 
-/// The most references that an object may be passed with.
+/// The most references of an object to add.
 const MAX_REFERENCES: usize = 4_096;
 
 /// The name of a store object.
@@ -72,11 +72,11 @@ pub struct Object {
     pub references: Vec<StorePath>,
 }
 
-/// The object that a name and the path texts of its references say.
+/// The object of a name and the path texts of its references.
 ///
 /// # Errors
 ///
-/// `BadStoreName`, else `BadStorePath` where a reference is no path text; `Memory` where memory was refused.
+/// `BadStoreName` if the name isn't one; else `BadStorePath` if a reference isn't a path text; `Memory` if memory was refused.
 pub fn parse_object<S: AsStr>(
     alloc: Global,
     dir: &StoreDir,
@@ -93,7 +93,7 @@ pub fn parse_object<S: AsStr>(
     Ok(Object { name, references })
 }
 
-/// The object that a name and no more path texts of references say than an object may be passed with.
+/// The object of a name and the path texts of its references, refused above the limit of references.
 fn parse_small<S: AsStr>(
     alloc: Global,
     dir: &StoreDir,

@@ -18,7 +18,7 @@ use std::io::Write;
 use store_types::{Answer, Reply};
 use streams::{Pieces, send_pieces};
 
-/// Writes a text to the first writer; where it fails, the second gets a line on that.
+/// Writes a text on `output`. If `output` fails, writes the line of that failure on `errors`.
 fn offer<W: Write, E: Write>(text: &Pieces, output: &mut W, errors: &mut E) -> u8
     ensures { Offers text.now (record {
       output = change_of W.contents output.old output.new;
@@ -78,9 +78,9 @@ fn print_denial<E: Write>(
 
 /// Writes a reply, and returns the exit status: 0 done, 1 failed, 3 refused, 4 denied.
 ///
-/// The answer to a request that is done goes to `output`; the line of any other reply goes to `errors`. Where `output` fails, whatever
-/// the kind of its fault, `errors` is given `failed: output`; where memory for the text is refused, `failed: memory`. Where
-/// `errors` fails, the status is 1.
+/// The answer to a request that is done goes to `output`; the line of any other reply goes to `errors`. If `output` fails,
+/// whatever its error, `failed: output` is printed on `errors`; if memory for the text is refused, `failed: memory`. If `errors`
+/// fails, the status is 1.
 pub fn print_reply<W: Write, E: Write>(
     alloc: Global,
     dir: &StoreDir,

@@ -13,10 +13,10 @@ use std::io::Write;
 use store::Store;
 use store_types::Request;
 
-/// Does what a caller asks of a store, writes the reply on the two writers, and returns the exit status: 0 done, 1 failed, 3
+/// Does a caller's request to a store, writes the reply on the two writers, and returns the exit status: 0 done, 1 failed, 3
 /// refused, 4 denied.
 ///
-/// What was done stays done, also where a writer fails afterwards or memory for the text is refused.
+/// A request that was done stays done, also if a writer fails afterwards or memory for the text is refused.
 pub fn serve<S: Alter, W: Write, E: Write>(
     alloc: Global,
     store: &mut Store<S>,

@@ -52,7 +52,7 @@ fn source_path_result<S: AsStr, R: Read>(
 }
 
 /// Prints the path of a source object, by its name, the path texts of its references and the archive
-/// that is read, and gives the exit status.
+/// that is read, and returns the exit status.
 ///
 /// The path and a line feed go to `output`, with status 0. Else one line goes to `errors`, by the
 /// first that applies: `refused: 12 bad-store-name`, `refused: 14 bad-store-path`, `refused: 33

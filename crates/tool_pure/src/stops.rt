@@ -15,7 +15,7 @@ pub enum Stop {
 }
 
 impl Stop {
-    /// The line that says why, with its line feed.
+    /// The line of the refusal or the failure, with its line feed.
     ///
     /// ```rust
     /// use tool::{Refusal, Stop};

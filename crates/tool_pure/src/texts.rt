@@ -62,7 +62,7 @@ fn text_path_result<S: AsStr, R: Read>(
 }
 
 /// Prints the path of a text object, by its name, the path texts of its references and the contents
-/// that are read, and gives the exit status.
+/// that are read, and returns the exit status.
 ///
 /// The path and a line feed go to `output`, with status 0. Else one line goes to `errors`, by the
 /// first that applies: `refused: 12 bad-store-name`, `refused: 14 bad-store-path`, `refused: 33

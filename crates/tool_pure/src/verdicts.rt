@@ -22,7 +22,7 @@ pub struct Verdict {
 }
 
 impl Verdict {
-    /// The exit status: 0 where the caller may connect, else 4.
+    /// The exit status: 0 if the caller may connect, else 4.
     fn status(&self) -> u8
         ensures { result ≡ denial_status self.now.denial }
     {
@@ -32,7 +32,7 @@ impl Verdict {
         }
     }
 
-    /// The two lines that say it.
+    /// The two lines of the verdict.
     fn text(&self, alloc: Global) -> Result<String, AllocError>
         ensures { IfOk result (λ text. string_bytes text ≡ verdict_text self.now) }
     {
@@ -70,8 +70,8 @@ fn push_denial(denial: Option<Rule>, text: &mut String) -> Result<(), AllocError
 ///
 /// # Errors
 ///
-/// `BadConfig` with the first key word that applies, else `BadCaller` where no user is named or a
-/// name isn't plain; `Memory` where memory was refused.
+/// `BadConfig` with the first key word that applies, else `BadCaller` if no user is named or a
+/// name isn't plain; `Memory` if memory was refused.
 pub fn judge(
     alloc: Global,
     config: &[u8],
@@ -93,8 +93,8 @@ pub fn judge(
 /// Prints the class of a caller and whether they may connect, and returns the exit status.
 ///
 /// Everything goes to the one writer: the two lines with status 0 or 4, or the one line of a bad
-/// configuration or caller with status 3, or of refused memory with status 1. Where the writer
-/// fails, the status is 1 and nothing more is written: it holds a prefix of these lines.
+/// configuration or caller with status 3, or of refused memory with status 1. If the writer
+/// fails, the status is 1 and nothing more is written: the writer holds a prefix of these lines.
 ///
 /// ```rust
 /// let mut output = Vec::new(alloc);

@@ -68,7 +68,7 @@ fn on_method(
     }
 }
 
-/// The route, and the method.
+/// The tests of the route and the method.
 fn on_route(
     alloc: Global,
     routes: &Routes,
@@ -85,7 +85,7 @@ fn on_route(
     }
 }
 
-/// The rule `Connect`, the route, and the method.
+/// The tests of the rule `Connect`, the route and the method.
 fn on_caller(
     alloc: Global,
     routes: &Routes,
@@ -103,7 +103,7 @@ fn on_caller(
     }
 }
 
-/// What the head of a message decides, which is held.
+/// The decision by the head of a message, which is in `held`.
 ///
 /// # Errors
 ///

@@ -1,11 +1,11 @@
-//! Bodies on their way in.
+//! Bodies, as they arrive.
 ghost use Rattle.wire_requests.specs.Left.{IsLeftOf};
 
 use std::alloc::AllocError;
 use wire_messages::Keeper;
 use wire_requests::Body;
 
-/// The body of a message, as it comes.
+/// The body of a message, as it arrives.
 #[derive(Drop)]
 pub(crate) struct Arriving {
     pub body: Body,

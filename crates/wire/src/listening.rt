@@ -14,8 +14,8 @@ use std::rt::Clock;
 use store::Store;
 use wire_server::Port;
 
-/// Serves a store on a number of connections of a listener, one after another, and returns how many failed. For each of these a
-/// line on `errors` says why: `failed: input`, `failed: output` or `failed: memory`. The clock bounds how long
+/// Serves a store on a number of connections of a listener, one after another, and returns how many failed. For each failed
+/// one, a line on `errors` says why: `failed: input`, `failed: output` or `failed: memory`. The clock bounds how long
 /// the closing of a connection waits for the peer.
 ///
 /// ```rust

@@ -17,7 +17,7 @@ use store_types::{Failed, Reply};
 use wire_requests::{AskError, Body, Kind, left_address, part};
 use wire_server::Response;
 
-/// What the rules ask of a request, as far as its kind and its target say.
+/// The operation on which the rules decide, by the kind and the target of a request alone.
 pub(crate) fn operation_at<'t>(kind: Kind, target: &'t str) -> Op<'t>
     ensures { operation_of result ≡ spec.operation_at kind target.now }
 {
@@ -46,11 +46,12 @@ pub(crate) fn operation_at<'t>(kind: Kind, target: &'t str) -> Op<'t>
     }
 }
 
-/// What the rules ask of an import, by the lines that are left of its body. Where any are left, these decide.
+/// The operation of an import on which the rules decide, by the lines that are left of the body; by the kind alone if none is
+/// left.
 ///
 /// # Errors
 ///
-/// `BadBodyHead` where lines are left and no import begins with them; `Memory` where it was refused for reading them.
+/// `BadBodyHead` if lines are left and no import begins with them; `Memory` if memory is refused while they are read.
 fn import_left<'t>(
     alloc: Global,
     dir: &StoreDir,
@@ -69,8 +70,8 @@ fn import_left<'t>(
     }
 }
 
-/// What the rules ask of a request by its kind, its target, and the lines that are left of its body. `None` if lines are left and no
-/// request begins with them.
+/// The operation on which the rules decide, by the kind, the target and the lines that are left of a request's body. `None` if
+/// lines are left and no request begins with them.
 pub(crate) fn operation_left<'t>(
     alloc: Global,
     dir: &StoreDir,
@@ -103,7 +104,7 @@ fn lost_reply(config: &Config, caller: &Caller, op: &Op<'_>) -> Reply
     }
 }
 
-/// The response to a message for whose body memory was refused, by what the rules ask.
+/// The response to a message for whose body memory was refused, by the operation on which the rules decide.
 pub(crate) fn respond_lost(
     alloc: Global,
     config: &Config,

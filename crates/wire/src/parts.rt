@@ -1,11 +1,11 @@
-//! The parts of a message whose head is held.
+//! The parts of a message whose head is in a buffer.
 ghost use Rattle.std.specs.Prelude.{◌≡◌, IsUtf8};
 ghost use Rattle.httparse.specs.Spans.{IsRequestWithin, span_bytes};
 
 use std::str;
 use wire_messages::Head;
 
-/// The word of its method.
+/// The word of the message's method.
 pub(crate) fn method_of<'b>(held: &'b [u8], head: &Head) -> &'b [u8]
     requires { IsRequestWithin held.now head.now.fields head.now.spans }
     ensures { result.now ≡ span_bytes held.now head.now.spans.method }

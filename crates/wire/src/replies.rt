@@ -34,7 +34,7 @@ fn kind_of(reply: &Reply) -> &'static str
     }
 }
 
-/// The response that a reply of the store is given as.
+/// The response for a reply of the store.
 pub(crate) fn respond(alloc: Global, dir: &StoreDir, reply: Reply) -> Result<Response, AllocError>
     ensures { IfOk result (λ r. replied r ≡ response_to dir.now (reply_view reply)) }
 {

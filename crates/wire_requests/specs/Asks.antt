@@ -21,7 +21,7 @@ use Rattle.wire_requests.specs.View.{imported, flag}
 abbrev pub is_blank : List ℕ → Bool
 is_blank body = bytes_eq (spelled body) (10 ∷ [])
 
--- the numbers that parts of a target write; any other text gives 0, which is no generation's and no session's
+-- the numbers that parts of a target write; any other text is 0, which no generation and no session has
 abbrev pub generation_in : List ℕ → ℕ
 generation_in text = number_up_to 9999 text
 

@@ -1,4 +1,4 @@
--- Why a message asks nothing, by the fault of a path in its target or of its body.
+-- Why a message isn't a request, by the fault of a path in its target or of its body.
 use Rattle.paths.specs.declared.store_path.StorePathError.{StorePathError}
 use Rattle.paths.specs.declared.store_path.StorePathError.TheVariants as path
 use Rattle.wire_bodies.specs.declared.error.BodyError.{BodyError}

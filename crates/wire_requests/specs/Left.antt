@@ -1,4 +1,4 @@
--- What is still known of a body for which memory was refused.
+-- What is left of a body for which memory was refused.
 use Rattle.std.specs.Prelude.{◌≡◌, ◌⊎◌, ℕ, List, []}
 use Rattle.wire_bodies.specs.Prefix.{prefix_of}
 

@@ -1,4 +1,4 @@
--- The parameters of a target, as they are kept until its body has come.
+-- The parameters of a target, as they are held until the body has arrived.
 use Rattle.std.specs.Prelude.{◌≡◌, ℕ, List, [], codes, string_bytes, unwrap_or, ⊤}
 use Rattle.matchit.specs.Params.{walk, named}
 use Rattle.matchit.specs.declared.params.Params.{Params}

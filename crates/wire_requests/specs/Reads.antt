@@ -1,4 +1,4 @@
--- What is read of a message, or why nothing is.
+-- The request that is read from a message, or why none is.
 use Rattle.std.specs.Prelude.{◌≡◌, ℕ, true, false, List, Some, Result, Ok, Err, ⊤}
 use Rattle.paths.specs.StorePath.{is_base_name}
 use Rattle.wire_requests.specs.declared.kind.Kind.{Kind}
@@ -11,7 +11,7 @@ use Rattle.wire_requests.specs.Parameters.{AreParameters}
 use Rattle.wire_requests.specs.declared.parameters.Parameters.{Parameters}
 use Rattle.wire_requests.specs.Asks.{is_blank, by_target, Asks, has_bad_path}
 
--- why a message asks nothing: a path in the target is tested before the body
+-- why a message isn't a request: a path in the target is tested before the body
 abbrev pub AsksNothing : List ℕ → Kind → List ℕ → List ℕ → AskError → Type 0
 AsksNothing dir kind target body BadPath = has_bad_path kind target ≡ true
 AsksNothing dir kind target body BadBodyHead =

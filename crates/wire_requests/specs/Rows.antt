@@ -37,7 +37,7 @@ abbrev pub AddsRow : List ℕ → Requests → RowsOf (RouteOf Requests) → Row
 AddsRow text requests old new =
     (table : RowsOf (RouteOf Requests)) → AreRows old table → AreRows new (table ++ row_of (text, requests) ∷ [])
 
--- the text of a route as it is lent, with its requests
+-- the borrowed text of a route, with its requests
 abbrev pub text_of : Bor (List ℕ) × Requests → List ℕ × Requests
 text_of row = (row.0.now, row.1)
 

@@ -1,4 +1,4 @@
-//! The body of a message, as it comes.
+//! The body of a message, as it arrives.
 ghost use Rattle.std.specs.Prelude.{◌≡◌, ◌++◌, List, ℕ, [], IfOk, OnOk, OnErr};
 ghost use Rattle.wire_bodies.specs.Prefix.{prefix_of};
 ghost use Rattle.wire_requests.specs.Asks as spec;
@@ -21,7 +21,7 @@ enum Kept {
     Parted(Parted),
 }
 
-/// The body of a message, which comes in pieces, however they are cut. Contracts see all bytes that have come.
+/// The body of a message, which arrives in pieces of any size. Contracts see all bytes that have arrived.
 #[derive(Drop)]
 pub struct Body {
     kept: Kept,

@@ -1,10 +1,10 @@
-//! A body in one buffer, as it comes.
+//! A body in one buffer, as it arrives.
 ghost use Rattle.std.specs.Prelude.{◌≡◌, ◌++◌, [], OnOk, OnErr};
 
 use std::alloc::{AllocError, Global};
 use std::marker::Model;
 
-/// The bytes of a body whose length is known: room for all of them is made when the first come, and then the buffer doesn't grow.
+/// The bytes of a body whose length is known. The first bytes that arrive make room for all, and then the buffer doesn't grow.
 /// Contracts see the bytes.
 #[derive(Drop)]
 pub(crate) struct Held {
@@ -21,7 +21,7 @@ impl Model for Held {
 }
 
 impl Held {
-    /// No bytes yet, of a body of this length. It takes no memory.
+    /// An empty body, of `size` bytes in the end. Allocates no memory yet.
     pub(crate) fn new(alloc: Global, size: usize) -> Held
         ensures { result ≡ [] }
     {
@@ -31,7 +31,7 @@ impl Held {
         }
     }
 
-    /// Appends the next piece, where there is memory for it.
+    /// Appends the next piece. The only error is that memory is refused.
     fn append(&mut self, piece: &[u8]) -> Result<(), AllocError>
         ensures { OnOk result (self.new ≡ self.old ++ piece.now) }
     {
@@ -40,7 +40,7 @@ impl Held {
         self.bytes.extend_from_slice(piece)
     }
 
-    /// Takes the next piece. Where memory is refused no byte is kept.
+    /// Takes the next piece. If memory is refused, no byte stays.
     pub(crate) fn push(&mut self, piece: &[u8]) -> Result<(), AllocError>
         ensures ok { OnOk result (self.new ≡ self.old ++ piece.now) }
         ensures err { OnErr result (self.new ≡ []) }
@@ -52,14 +52,14 @@ impl Held {
         appended
     }
 
-    /// What has come.
+    /// The bytes that have arrived.
     pub(crate) fn bytes(&self) -> &[u8]
         ensures { result.now ≡ self.now }
     {
         &self.bytes
     }
 
-    /// What has come, as its own.
+    /// The bytes that have arrived, owned.
     pub(crate) fn into_bytes(self) -> Vec<u8>
         ensures { result.items ≡ self }
     {

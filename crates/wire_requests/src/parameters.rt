@@ -6,7 +6,7 @@ ghost use Rattle.wire_requests.specs.Parameters.{AreNamed, pairs_of};
 use matchit::Params;
 use std::alloc::{AllocError, Global};
 
-/// What a target has in place of each parameter of its route. One that the route doesn't have is empty.
+/// The values of a route's parameters in a target. A parameter that the route doesn't have is empty.
 #[derive(Drop)]
 pub struct Parameters {
     pub(crate) path: String,
@@ -16,7 +16,7 @@ pub struct Parameters {
     pub(crate) session: String,
 }
 
-/// A copy of what the target has in place of the parameter of a name.
+/// A copy of the value of the parameter of a name. The empty text if the route doesn't have that parameter.
 fn copy(alloc: Global, params: &Params, name: &str) -> Result<String, AllocError>
     requires { AllText (pairs_of params.now) }
     ensures { IfOk result (λ text. string_bytes text ≡ unwrap_or (named name.now (pairs_of params.now)) []) }
@@ -28,7 +28,7 @@ fn copy(alloc: Global, params: &Params, name: &str) -> Result<String, AllocError
 }
 
 impl Parameters {
-    /// Copies of all, which don't borrow the target.
+    /// Copies of all values, which don't borrow the target.
     pub(crate) fn of(alloc: Global, params: &Params) -> Result<Parameters, AllocError>
         requires { AllText (pairs_of params.now) }
         ensures { IfOk result (AreNamed (pairs_of params.now)) }

@@ -1,4 +1,4 @@
-//! A body whose payload is an archive, as it comes.
+//! A body whose payload is an archive, as it arrives.
 ghost use Rattle.std.specs.Prelude.{◌≡◌, ◌++◌, List, ℕ, [], IfOk, OnOk, OnErr};
 ghost use Rattle.wire_bodies.specs.Prefix.{prefix_of, rest_of};
 ghost use Rattle.intake.specs.Arriving.{bytes_in};
@@ -10,7 +10,7 @@ use std::marker::Model;
 use std::str;
 use wire_bodies::Prefix;
 
-/// The lines of a body, and the archive after them, which is checked and hashed as it comes. Contracts see all bytes.
+/// The lines of a body, and the archive after them, which is checked and hashed as it arrives. Contracts see all bytes.
 #[derive(Drop)]
 pub(crate) struct Parted {
     alloc: Global,
@@ -72,7 +72,7 @@ impl Parted {
     pub(crate) fn push(&mut self, piece: &[u8]) -> Result<(), AllocError>
         ensures ok { OnOk result (self.new ≡ self.old ++ piece.now) }
         ensures err { OnErr result ((more : List ℕ) → IsLeftOf self.new ((self.old ++ piece.now) ++ more)) }
-        // Once bytes of the archive have come, the lines before it stay.
+        // Once bytes of the archive have arrived, the lines before it stay.
         ensures lines { OnErr result ((rest_of self.old ≡ [] → ⊥) → self.new ≡ prefix_of self.old) }
     {
         let Ok(rest) = self.prefix.take(piece) else {

@@ -3,7 +3,7 @@ ghost use Rattle.std.specs.Prelude.{◌≡◌};
 ghost use Rattle.std.specs.List.{before_first, after_first};
 ghost use Rattle.wire_requests.specs.Parts.{is_slash, part, after_slashes};
 
-/// What comes before the first slash.
+/// The text before the first slash.
 fn before_slash(text: &str) -> &str
     ensures { result.now ≡ before_first is_slash text.now }
 {
@@ -13,7 +13,7 @@ fn before_slash(text: &str) -> &str
     }
 }
 
-/// What comes after the first slash.
+/// The text after the first slash.
 fn after_slash(text: &str) -> &str
     ensures { result.now ≡ after_first is_slash text.now }
 {

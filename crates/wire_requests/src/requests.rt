@@ -1,4 +1,4 @@
-//! The request that a route means, by method.
+//! The requests of a route, by method.
 ghost use Rattle.std.specs.Prelude.{◌≡◌};
 ghost use Rattle.wire_requests.specs.Methods as spec;
 ghost use Rattle.wire_requests.specs.Methods.{allowed};
@@ -18,7 +18,7 @@ pub enum Requests {
 }
 
 impl Requests {
-    /// The request that a method means, if the route has it.
+    /// The request of the route for a method, if the route has the method.
     fn kind_of(self, method: &Method) -> Option<Kind>
         ensures { result ≡ spec.kind_of self method.now }
     {

@@ -1,4 +1,4 @@
-//! The table of routes, and the router that is made of it.
+//! The table of routes, and a router with all of them.
 ghost use Rattle.std.specs.Prelude.{◌≡◌, [], true, IfOk, IfSome, OnOk, map, option_map};
 ghost use Rattle.matchit.specs.Route.{parse_route};
 ghost use Rattle.matchit.specs.Router.{RouteOf};
@@ -152,7 +152,7 @@ impl Model for Routes {
 }
 
 impl Routes {
-    /// The routes of the table; it fails only when it runs out of memory.
+    /// The routes of the table. The only error is out of memory.
     pub fn new(alloc: Global) -> Result<Routes, AllocError> {
         Ok(Routes {
             router: make_router(alloc)?,

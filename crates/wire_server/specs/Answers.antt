@@ -14,7 +14,7 @@ use Rattle.wire_server.specs.Responses.{Replied, replied}
 abbrev pub body_in : List ℕ → Head → ℕ → List ℕ
 body_in held head size = take size (drop head.spans.len held)
 
--- answered with that response; or, where memory was refused, unanswered, or answered with a response that is lost
+-- answered with that response; or, where memory was refused, unanswered, or answered with a response that is dropped
 abbrev pub Answered : {S : Type 0} → (S → RequestHead → List ℕ → Replied → S → Type 0) → S → RequestHead → List ℕ
     → Result Response AllocError → S → Type 0
 Answered answers old h body (Ok response) new = answers old h body (replied response) new

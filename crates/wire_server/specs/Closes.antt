@@ -1,4 +1,4 @@
--- How the connection of a peer came to be closed, and what was said of it.
+-- Why the connection of a peer was closed, and what was reported.
 use Rattle.std.specs.Prelude.{ℕ, List, Option}
 use Rattle.std.specs.Io.KnownBytes.{Keeps}
 use Rattle.httparse.specs.Grammar.{RequestHead}
@@ -8,12 +8,12 @@ use Rattle.wire_server.specs.Sessions.{Says, failure, result_of}
 use Rattle.wire_server.specs.declared.sessions.Close.{Close}
 use Rattle.wire_server.specs.declared.sessions.Close.TheVariants.{Ended, Idle}
 
--- nothing is said of a peer who was silent between two messages
+-- nothing is reported of a peer who was silent between two messages
 abbrev pub Reports : Close → Option (List ℕ) → Option (List ℕ) → Type 0
 Reports (Ended end) err err' = Says end err err'
 Reports (Idle count) err err' = Keeps err err'
 
--- and that is no failure
+-- the number of failures: a silent peer isn't one
 abbrev pub failed : Close → ℕ
 failed (Ended end) = failure end
 failed (Idle count) = 0

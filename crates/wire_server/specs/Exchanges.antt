@@ -1,4 +1,4 @@
--- What becomes of what a connection brings next.
+-- The response to what is next on a connection.
 use Rattle.std.specs.Prelude.{◌≡◌, ◌⊎◌, ℕ, ◌+◌, ◌<◌, true, List, [], ◌++◌, length, drop, Option, Some, None, Result, Ok, Err, IfSome}
 use Rattle.std.specs.Io.KnownBytes.{Consumes, IsAtEnd}
 use Rattle.std.specs.declared.alloc.AllocError.{AllocError}
@@ -16,7 +16,7 @@ use Rattle.wire_server.specs.Serves.{refusal_of}
 abbrev pub IsRefusal : Fault → Exchange → Type 0
 IsRefusal fault x = (replied x.response ≡ refused (refusal_of fault) None) × (x.close ≡ true)
 
--- All the bytes, and what may follow them, begin with no message, and the fault is reported.
+-- All the bytes, with what may follow them, don't begin with a message, and the fault is reported.
 abbrev pub HasFault : List ℕ → Option (List ℕ) → Exchange → Type 0
 HasFault all rest x =
     (fault : Fault) × (0 < length all) × IfSome rest (λ more. IsFault (all ++ more) fault) × IsRefusal fault x
@@ -36,7 +36,7 @@ module _ {S : Type 0} (answers : S → RequestHead → List ℕ → Replied → 
       (a : Answers all s (replied x.response) s') × (x.close ≡ closes a.h)
       × (held' ≡ drop (a.head.spans.len + a.size) all)
 
-  -- nothing was answered, or the response is lost
+  -- nothing was answered, or the response is dropped
   abbrev pub IsLost : List ℕ → S → S → Type 0
   IsLost all s s' = (s' ≡ s) ⊎ ((r : Replied) × Answers all s r s')
 

@@ -6,7 +6,7 @@ use Rattle.report.specs.Refusals.{refusal_line}
 use Rattle.wire_server.specs.ReplyHead.{reply_head}
 use Rattle.wire_server.specs.declared.response.Response.{Response}
 
--- a status, a media type, the methods of a route where another was asked for, and a text
+-- a status, a media type, the methods of the route for a refused method, and a text
 pub record Replied : Type 0 where
   pub status : ℕ
   pub kind : List ℕ
@@ -24,7 +24,8 @@ reply_bytes close r = reply_head r.status r.kind r.allow close (length r.text) +
 
 -- ---- statuses
 
--- the one table of the statuses of refusals: 404 for what isn't there, 405 for a method that a route hasn't, else 400
+-- the one table of the statuses of refusals: 404 for something missing, 405 for a method that a route doesn't have,
+-- else 400
 abbrev pub status_of : Refusal → ℕ
 status_of NotValid = 404
 status_of NoRoot = 404

@@ -13,13 +13,13 @@ use Rattle.wire_server.specs.Responses.{Replied, refused, reply_bytes}
 use Rattle.wire_server.specs.declared.error.WireError.{WireError}
 use Rattle.wire_server.specs.declared.error.WireError.TheVariants.{Read, Write, Memory}
 
--- the refusal of an input that begins with no message
+-- the refusal of an input that doesn't begin with a message
 abbrev pub refusal_of : Fault → Refusal
 refusal_of BadHead = refusals.BadHead
 refusal_of BadLength = refusals.BadBodyLength
 refusal_of TooLarge = refusals.BodyTooLarge
 
--- its reply, after which the connection is closed
+-- the reply for that refusal, after which the connection is closed
 abbrev pub fault_reply : Fault → List ℕ
 fault_reply fault = reply_bytes true (refused (refusal_of fault) None)
 

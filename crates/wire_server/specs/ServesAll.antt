@@ -1,4 +1,4 @@
--- What a server does on connections that come one after another.
+-- Serving of connections, one after another.
 use Rattle.std.specs.Prelude.{◌≡◌, ℕ, ◌<◌, ◌+◌, List, [], ◌∷◌, length, map, Option, Result, Ok, Err}
 use Rattle.std.specs.Io.KnownBytes.{Keeps}
 use Rattle.std.specs.declared.io.Error.{Error}
@@ -8,13 +8,13 @@ use Rattle.wire_server.specs.Peers.{IsFresh, ClosesPeers, AcceptsPeers}
 use Rattle.wire_server.specs.Closes.{Closes, Reports, failed}
 use Rattle.wire_server.specs.declared.sessions.Close.{Close}
 
--- a connection: what its peer sent, what was written to it, and how it came to be closed
+-- a connection: what its peer sent, what was written to the peer, and why it was closed
 pub record Session : Type 0 where
   pub input : Option (List ℕ)
   pub output : Option (List ℕ)
   pub close : Close
 
--- how many failed
+-- how many connections failed
 abbrev pub failures : List Session → ℕ
 failures [] = 0
 failures (session ∷ sessions) = failed session.close + failures sessions

@@ -1,4 +1,4 @@
--- How a connection ended, and what was said of it.
+-- How a connection ended, and what was reported.
 use Rattle.std.specs.Prelude.{◌≡◌, ℕ, List, Option, Result, Ok, Err}
 use Rattle.std.specs.Io.KnownBytes.{Appends, Keeps}
 use Rattle.streams.specs.Sends.{AppendsPrefix}
@@ -9,7 +9,7 @@ use Rattle.wire_server.specs.declared.error.WireError.TheVariants.{Read, Write, 
 use Rattle.wire_server.specs.declared.sessions.End.{End}
 use Rattle.wire_server.specs.declared.sessions.End.TheVariants.{Served, Reported, Unreported}
 
--- the line that says why one failed
+-- the line that says why a connection failed
 abbrev pub failure_line : WireError → List ℕ
 failure_line Read = lines.failure_line gone.Input
 failure_line Write = lines.failure_line gone.Output
@@ -21,8 +21,8 @@ result_of (Served count) = Ok count
 result_of (Reported fault) = Err fault
 result_of (Unreported fault) = Err fault
 
--- nothing is said of one that was served to its end; of one that failed its line, or a prefix of it where that couldn't
--- be written
+-- nothing is reported of a connection that was served to its end; of a failed one its line, or a prefix of the line if
+-- the rest couldn't be written
 abbrev pub Says : End → Option (List ℕ) → Option (List ℕ) → Type 0
 Says (Served count) err err' = Keeps err err'
 Says (Reported fault) err err' = Appends err err' (failure_line fault)
@@ -32,7 +32,7 @@ Says (Unreported fault) err err' = AppendsPrefix err err' (failure_line fault)
 abbrev pub SaysOf : WireError → End → Option (List ℕ) → Option (List ℕ) → Type 0
 SaysOf fault end err err' = (result_of end ≡ Err fault) × Says end err err'
 
--- how many failures it counts for
+-- how many failures an end counts as
 abbrev pub failure : End → ℕ
 failure (Served count) = 0
 failure (Reported fault) = 1

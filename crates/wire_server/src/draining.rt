@@ -1,4 +1,4 @@
-//! What a peer still sends where a connection is closed.
+//! Draining of the bytes that a peer still sends when a connection is closed.
 ghost use Rattle.std.specs.Prelude.{◌≤◌, ◌<◌, IfOk, IfSome};
 ghost use Rattle.std.specs.Duration.{as_nanos};
 

@@ -1,4 +1,4 @@
-//! Inputs that begin with no message.
+//! Inputs that don't begin with a message.
 ghost use Rattle.std.specs.Prelude.{◌≡◌, IfOk, None};
 ghost use Rattle.wire_server.specs.Responses.{replied, refused};
 ghost use Rattle.wire_server.specs.Serves.{refusal_of};
@@ -8,7 +8,7 @@ use report::Refusal;
 use std::alloc::{AllocError, Global};
 use wire_messages::Fault;
 
-/// The response to an input that begins with no message.
+/// The response to an input that doesn't begin with a message.
 pub(crate) fn refuse(alloc: Global, fault: Fault) -> Result<Response, AllocError>
     ensures { IfOk result (λ r. replied r ≡ refused (refusal_of fault) None) }
 {

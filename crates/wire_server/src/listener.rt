@@ -1,25 +1,25 @@
-//! Where connections come from.
+//! The trait of sources of connections.
 ghost use Rattle.std.specs.Prelude.{ℕ, List, [], ◌∷◌, Option, IfOk, OnErr};
 ghost use Rattle.wire_server.specs.Peers.{IsFresh, ClosesPeers, AcceptsPeers};
 
 use std::io;
 use std::io::{Read, Write};
 
-/// Accepts connections, one after another.
+/// A source of connections, which are accepted one after another.
 pub trait Listener {
-    /// What a peer sends.
+    /// The input of a connection: what a peer sends.
     type Input: Read + Drop;
 
-    /// What a peer is sent.
+    /// The output of a connection: what is sent to a peer.
     type Output: Write + Drop;
 
-    /// What each of the peers that wait is going to send, where the listener says.
+    /// What each of the waiting peers is going to send, if the listener shows it.
     ghost waiting: { Self → Option (List (List ℕ)) };
 
-    /// What was written to each peer whose connection was closed, where it says.
+    /// What was written to each peer whose connection was closed, if the listener shows it.
     ghost closed: { Self → Option (List (List ℕ)) };
 
-    /// The connection of the next peer, on which nothing was read or written yet.
+    /// Accepts the connection of the next peer, on which nothing was read or written yet.
     fn accept(&mut self) -> io::Result<(Self::Input, Self::Output)>
         ensures accepted { IfOk result (λ c. AcceptsPeers (waiting self.old) (waiting self.new)
             (Self.Input.remaining c.0 ∷ [])) }

@@ -12,8 +12,8 @@ use std::time::Duration;
 /// How many seconds a connection waits for a peer: for the next byte of an input, and until a piece of a reply is sent.
 const LIMIT: u64 = 60;
 
-/// The connections of a listener. A peer who sends nothing for 60 seconds makes the read fail that waits for it. One who doesn't
-/// take a piece of a reply in 60 seconds makes its next write fail.
+/// The connections of a listener. If a peer sends nothing for 60 seconds, the read that waits for it fails. If a peer doesn't
+/// take a piece of a reply in 60 seconds, the next write fails.
 #[derive(Drop)]
 pub struct Port<'a, C: Clock> {
     listener: &'a TcpListener,

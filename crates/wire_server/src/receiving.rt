@@ -1,4 +1,4 @@
-//! The next message of a connection, as it comes.
+//! The next message of a connection, as it arrives.
 ghost use Rattle.std.specs.Prelude.{◌≡◌, ◌<◌, IfErr, length};
 ghost use Rattle.httparse.specs.Grammar.{RequestHead};
 ghost use Rattle.wire_messages.specs.Heads.{Holds};
@@ -18,14 +18,14 @@ use wire_messages::{
     Fate, Fault, Head, ReceiveError, Received, pass_body, receive_body, receive_head,
 };
 
-/// What a connection brings next.
+/// What is next on a connection.
 #[derive(Drop)]
 pub(crate) enum Next<C, B> {
     /// The input is at its end.
     End,
-    /// A head, the length of the body after it, which came whole, and how the message is answered.
+    /// A message that has arrived whole: its head, the length of its body, and how it is answered.
     Message(Head, usize, Ready<C, B>),
-    /// The input begins with no message.
+    /// The input doesn't begin with a message.
     Faulty(Fault),
 }
 
@@ -33,7 +33,7 @@ pub(crate) enum Next<C, B> {
 #[derive(Clone, Copy)]
 pub(crate) enum Halt {
     Failed(WireError),
-    /// Nothing of the next message came for as long as the input waits.
+    /// No byte of the next message came for as long as the input waits.
     Silent,
 }
 
@@ -94,7 +94,7 @@ fn receive_rest<R: Read, T, A: Responder<T>>(
     }
 }
 
-/// Receives the body of a message whose head is held.
+/// Receives the body of a message whose head is in `held`.
 fn receive_message<R: Read, T, A: Responder<T>>(
     input: &mut R,
     held: &[u8],

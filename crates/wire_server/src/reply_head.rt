@@ -59,8 +59,8 @@ fn write_last(out: &mut String, size: usize) -> Result<(), AllocError>
     write!(out, "content-length: {size}\r\n\r\n")
 }
 
-/// Appends the head of a reply: a status line of HTTP/1.1, the fields, and an empty line, each with CR LF. Where memory is refused
-/// a prefix of it may have been appended.
+/// Appends the head of a reply: a status line of HTTP/1.1, the fields, and an empty line, each with CR LF. If memory is
+/// refused, a prefix of the head may have been appended.
 pub fn write_reply_head(out: &mut String, head: &ReplyHead) -> Result<(), AllocError>
     ensures { OnOk result (string_bytes out.new ≡ string_bytes out.old
         ++ reply_head head.now.status head.now.kind.now (option_map (λ methods. methods.now) head.now.allow)

@@ -15,7 +15,7 @@ pub trait Responder<T> {
     /// How a message is answered once its body has arrived, as its head decides.
     type Course: Drop;
 
-    /// What keeps a body as it arrives.
+    /// The keeper of a body as it arrives.
     type Body: Keeper + Drop;
 
     /// What a head and a body may be answered with from a state, and the state afterwards.

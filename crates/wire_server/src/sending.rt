@@ -1,4 +1,4 @@
-//! Replies, written whole or up to where the writer fails.
+//! Writing of replies.
 ghost use Rattle.std.specs.Prelude.{◌≡◌, ◌++◌};
 ghost use Rattle.streams.specs.Sends.{Sends};
 ghost use Rattle.wire_server.specs.Responses.{replied, reply_bytes};
@@ -23,8 +23,8 @@ fn send_both<W: Write>(output: &mut W, head: &[u8], text: &Pieces) -> io::Result
 ///
 /// # Errors
 ///
-/// `Write` where the writer fails, which has a prefix of the reply then, and not all; `Memory` where it was refused, and nothing is
-/// written.
+/// `Write` if the writer fails, which then has a prefix of the reply, and not all; `Memory` if memory is refused, and then
+/// nothing is written.
 pub(crate) fn send_reply<W: Write>(
     alloc: Global,
     output: &mut W,

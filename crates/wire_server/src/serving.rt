@@ -48,8 +48,8 @@ fn reported(count: u128) -> u64
     }
 }
 
-/// Answers the messages of an input one after another, as `serve` does. Returns how many, or the error, by which a silent peer
-/// isn't a failed reader.
+/// Answers the messages of an input one after another, as `serve` does. Returns how many were answered, or why the
+/// connection ended before its input did. A silent peer isn't a failed reader.
 pub(crate) fn run<R: Read, W: Write, T, A: Responder<T>>(
     alloc: Global,
     input: &mut R,
