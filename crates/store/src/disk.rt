@@ -59,11 +59,10 @@ fn read<S: Alter>(tables: &mut Tables<S>, path: &StorePath) -> Result<Pieces, Fa
     ensures cause { (w : World) → HasWorld S.Store tables.old w → IsTrue (has w path.now)
         → FailsToAsk S.Store tables.old tables.new result }
 {
-    match tables.archive(path) {
-        Ok(Some(nar)) => Ok(nar),
-        Ok(None) => Err(Failure::Disk),
-        Err(failure) => Err(failure),
-    }
+    let Some(nar) = tables.archive(path)? else {
+        return Err(Failure::Disk);
+    };
+    Ok(nar)
 }
 
 /// The archive of an object.

@@ -19,7 +19,6 @@ use std::alloc::{AllocError, Global};
 use std::collections::BTreeMap;
 use store_types::{Refusal, Stop};
 use streams::Pieces;
-use tables_sql::failure::Failure;
 
 /// The paths of outputs by their names.
 fn by_name(
@@ -76,11 +75,10 @@ fn outputs_from(
         (λ map. outputs_view map.entries) result (tree_fault dir.now (outcome_of nar.now))
         (objects.tree_outputs dir.now (outcome_of nar.now)) }
 {
-    match file_contents(alloc, nar) {
-        Ok(Some(text)) => outputs_of(alloc, dir, text),
-        Ok(None) => Err(Stop::Refused(Refusal::BadDerivation)),
-        Err(_) => Err(Stop::Failed(Failure::Memory)),
-    }
+    let Some(text) = file_contents(alloc, nar)? else {
+        return Err(Stop::Refused(Refusal::BadDerivation));
+    };
+    outputs_of(alloc, dir, text)
 }
 
 /// The outputs of an archive as a derivation. The pieces are joined.

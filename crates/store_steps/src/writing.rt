@@ -10,8 +10,6 @@ use tables_sql::failure::Failure;
 pub fn answered(written: Result<(), Failure>, answer: Answer) -> Result<Answer, Stop>
     ensures { result ≡ answer_of written answer }
 {
-    match written {
-        Ok(()) => Ok(answer),
-        Err(failure) => Err(Stop::Failed(failure)),
-    }
+    written?;
+    Ok(answer)
 }
