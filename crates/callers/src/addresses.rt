@@ -1,9 +1,10 @@
 //! A caller of `paths`: computed paths and content addresses.
 use crate::fixtures::{ADDRESS, MY_FILE, MY_HASH, SOURCE, TEXT, path};
 use paths::{
-    Ca, CaError, Facts, Name, StoreDir, StorePath, VerifyError, source_path, source_path_of,
-    text_path,
+    Ca, CaError, Facts, Method, Name, StoreDir, StorePath, VerifyError, source_path,
+    source_path_of, text_path, text_path_of,
 };
+use sha2::{Digest, Sha256};
 use std::alloc::Global;
 use std::test::Fail;
 
@@ -22,6 +23,8 @@ fn computed_paths(rt: HostRuntime) -> Result<(), Fail> {
     let name = Name::parse(alloc, "myfile")?;
     let text = text_path(alloc, &dir, &name, &[], b"mycontent\n")?;
     assert!(rt; text.as_str() == TEXT);
+    let digest = Sha256::digest(b"mycontent\n");
+    assert!(rt; text_path_of(alloc, &dir, &name, &[], &digest)? == text);
     let source = source_path(alloc, &dir, &name, &[], MY_FILE)?;
     assert!(rt; source.as_str() == SOURCE);
     assert!(rt; source_path_of(alloc, &dir, &name, &[], &MY_HASH)? == source);
@@ -50,6 +53,17 @@ fn references_as_a_set(rt: HostRuntime) -> Result<(), Fail> {
     let found = path_with(alloc, &[b, a, b])?;
     assert!(rt; found == path_with(alloc, &[a, b])?);
     assert!(rt; found != path_with(alloc, &[a])?);
+    Ok(())
+}
+
+// An address is made of an archive, and written.
+#[test]
+fn made_addresses(rt: HostRuntime) -> Result<(), Fail> {
+    let alloc = rt.alloc();
+    let address = Ca::of_source(MY_FILE);
+    assert!(rt; matches!(address.method(), Method::Source));
+    let text = address.to_text(alloc)?;
+    assert!(rt; text.as_str() == ADDRESS);
     Ok(())
 }
 
