@@ -1,45 +1,86 @@
 //! A caller of `paths`: computed paths and content addresses.
-use crate::fixtures::{ADDRESS, MY_FILE, MY_HASH, SOURCE, TEXT, path};
+use crate::fixtures::{ADDRESS, MY_FILE, MY_HASH, SOURCE, TEXT, path, store_dir};
 use paths::{
-    Ca, CaError, Facts, Method, Name, StoreDir, StorePath, VerifyError, source_path,
+    Ca, CaError, Facts, Method, Name, NameError, StoreDir, StorePath, VerifyError, source_path,
     source_path_of, text_path, text_path_of,
 };
 use sha2::{Digest, Sha256};
-use std::alloc::Global;
+use std::alloc::{AllocError, Global};
 use std::test::Fail;
 
-/// The fault of a test of a content address, if it has one.
-fn fault_of(answer: Result<(), VerifyError>) -> Option<VerifyError> {
-    match answer {
-        Ok(()) => None,
-        Err(e) => Some(e),
-    }
+fn name(alloc: Global, text: &str) -> Result<Name, NameError> {
+    Name::parse(alloc, text)
+}
+
+/// The path of a text.
+fn of_text(
+    alloc: Global,
+    dir: &StoreDir,
+    name: &Name,
+    references: &[StorePath],
+    contents: &[u8],
+) -> Result<StorePath, AllocError> {
+    text_path(alloc, dir, name, references, contents)
+}
+
+/// The path of a text by its digest.
+fn of_text_digest(
+    alloc: Global,
+    dir: &StoreDir,
+    name: &Name,
+    contents: &[u8],
+) -> Result<StorePath, AllocError> {
+    text_path_of(alloc, dir, name, &[], &Sha256::digest(contents))
+}
+
+/// The path of a source.
+fn of_source(
+    alloc: Global,
+    dir: &StoreDir,
+    name: &Name,
+    archive: &[u8],
+) -> Result<StorePath, AllocError> {
+    source_path(alloc, dir, name, &[], archive)
+}
+
+/// The path of a source by the digest of its archive.
+fn of_source_digest(
+    alloc: Global,
+    dir: &StoreDir,
+    name: &Name,
+    digest: &[u8; 32],
+) -> Result<StorePath, AllocError> {
+    source_path_of(alloc, dir, name, &[], digest)
 }
 
 #[test]
-fn computed_paths(rt: HostRuntime) -> Result<(), Fail> {
+fn paths_of_texts(rt: HostRuntime) -> Result<(), Fail> {
     let alloc = rt.alloc();
-    let dir = StoreDir::parse(alloc, "/nix/store")?;
-    let name = Name::parse(alloc, "myfile")?;
-    let text = text_path(alloc, &dir, &name, &[], b"mycontent\n")?;
+    let (dir, name) = (store_dir(alloc)?, name(alloc, "myfile")?);
+    let text = of_text(alloc, &dir, &name, &[], b"mycontent\n")?;
     assert!(rt; text.as_str() == TEXT);
-    let digest = Sha256::digest(b"mycontent\n");
-    assert!(rt; text_path_of(alloc, &dir, &name, &[], &digest)? == text);
-    let source = source_path(alloc, &dir, &name, &[], MY_FILE)?;
+    assert!(rt; of_text_digest(alloc, &dir, &name, b"mycontent\n")? == text);
+    Ok(())
+}
+
+#[test]
+fn paths_of_sources(rt: HostRuntime) -> Result<(), Fail> {
+    let alloc = rt.alloc();
+    let (dir, name) = (store_dir(alloc)?, name(alloc, "myfile")?);
+    let source = of_source(alloc, &dir, &name, MY_FILE)?;
     assert!(rt; source.as_str() == SOURCE);
-    assert!(rt; source_path_of(alloc, &dir, &name, &[], &MY_HASH)? == source);
+    assert!(rt; of_source_digest(alloc, &dir, &name, &MY_HASH)? == source);
     Ok(())
 }
 
 /// The path of a text that refers to others.
 fn path_with(alloc: Global, bases: &[&str]) -> Result<StorePath, Fail> {
-    let dir = StoreDir::parse(alloc, "/nix/store")?;
-    let name = Name::parse(alloc, "n")?;
     let mut references = Vec::new(alloc);
     for base in bases {
         references.push(path(alloc, base)?)?;
     }
-    Ok(text_path(alloc, &dir, &name, &references, b"abc")?)
+    let (dir, name) = (store_dir(alloc)?, name(alloc, "n")?);
+    Ok(of_text(alloc, &dir, &name, &references, b"abc")?)
 }
 
 // The order and the repeats of references don't matter.
@@ -56,46 +97,98 @@ fn references_as_a_set(rt: HostRuntime) -> Result<(), Fail> {
     Ok(())
 }
 
+fn address(alloc: Global, text: &str) -> Result<Ca, CaError> {
+    Ca::parse(alloc, text)
+}
+
+/// How the address of a source is made, and its text.
+fn source_address(alloc: Global, archive: &[u8]) -> Result<(Method, String), AllocError> {
+    let address = Ca::of_source(archive);
+    let text = address.to_text(alloc)?;
+    Ok((address.method(), text))
+}
+
 // An address is made of an archive, and written.
 #[test]
 fn made_addresses(rt: HostRuntime) -> Result<(), Fail> {
-    let alloc = rt.alloc();
-    let address = Ca::of_source(MY_FILE);
-    assert!(rt; matches!(address.method(), Method::Source));
-    let text = address.to_text(alloc)?;
+    let (method, text) = source_address(rt.alloc(), MY_FILE)?;
+    assert!(rt; matches!(method, Method::Source));
     assert!(rt; text.as_str() == ADDRESS);
     Ok(())
 }
 
 #[test]
-fn verified_addresses(rt: HostRuntime) -> Result<(), Fail> {
-    let alloc = rt.alloc();
-    let dir = StoreDir::parse(alloc, "/nix/store")?;
-    let source = path(alloc, SOURCE)?;
-    let other = path(alloc, "xv2iccirbrvklck36f1g7vldn5v58vck-myfile2")?;
-    let address = Ca::parse(alloc, ADDRESS)?;
-    address.verify(alloc, &dir, &source, &[], MY_FILE)?;
-    let fault = fault_of(address.verify(alloc, &dir, &other, &[], MY_FILE));
-    assert_eq!(rt; fault, Some(VerifyError::CaMismatch));
-    let text = Ca::of_text(b"mycontent\n");
-    text.verify(alloc, &dir, &path(alloc, TEXT)?, &[], MY_FILE)?;
-    let malformed = Ca::parse(alloc, "text:sha256:1");
+fn refused_addresses(rt: HostRuntime) {
+    let malformed = address(rt.alloc(), "text:sha256:1");
     assert!(rt; matches!(&malformed, Err(CaError::BadCa)));
+}
+
+/// The fault of a path next to a content address and the archive, if it has one.
+fn fault_of(
+    alloc: Global,
+    address: &Ca,
+    path: &StorePath,
+    archive: &[u8],
+) -> Result<Option<VerifyError>, Fail> {
+    let dir = store_dir(alloc)?;
+    match address.verify(alloc, &dir, path, &[], archive) {
+        Ok(()) => Ok(None),
+        Err(e) => Ok(Some(e)),
+    }
+}
+
+#[test]
+fn verified_sources(rt: HostRuntime) -> Result<(), Fail> {
+    let alloc = rt.alloc();
+    let address = address(alloc, ADDRESS)?;
+    let source = path(alloc, SOURCE)?;
+    assert_eq!(rt; fault_of(alloc, &address, &source, MY_FILE)?, None);
+    let other = path(alloc, "xv2iccirbrvklck36f1g7vldn5v58vck-myfile2")?;
+    let fault = fault_of(alloc, &address, &other, MY_FILE)?;
+    assert_eq!(rt; fault, Some(VerifyError::CaMismatch));
     Ok(())
+}
+
+fn text_address(contents: &[u8]) -> Ca {
+    Ca::of_text(contents)
+}
+
+#[test]
+fn verified_texts(rt: HostRuntime) -> Result<(), Fail> {
+    let alloc = rt.alloc();
+    let address = text_address(b"mycontent\n");
+    let text = path(alloc, TEXT)?;
+    assert_eq!(rt; fault_of(alloc, &address, &text, MY_FILE)?, None);
+    Ok(())
+}
+
+/// The same fault by the facts of the archive.
+fn fault_by_facts(
+    alloc: Global,
+    address: &Ca,
+    path: &StorePath,
+    facts: &Facts,
+) -> Result<Option<VerifyError>, Fail> {
+    let dir = store_dir(alloc)?;
+    match address.verify_facts(alloc, &dir, path, &[], facts) {
+        Ok(()) => Ok(None),
+        Err(e) => Ok(Some(e)),
+    }
 }
 
 #[test]
 fn verified_facts(rt: HostRuntime) -> Result<(), Fail> {
     let alloc = rt.alloc();
-    let dir = StoreDir::parse(alloc, "/nix/store")?;
     let facts = Facts {
         nar_hash: MY_HASH,
         nar_size: 128,
         plain: None,
     };
-    let address = Ca::parse(alloc, ADDRESS)?;
-    address.verify_facts(alloc, &dir, &path(alloc, SOURCE)?, &[], &facts)?;
-    let fault = fault_of(address.verify_facts(alloc, &dir, &path(alloc, TEXT)?, &[], &facts));
+    let address = address(alloc, ADDRESS)?;
+    let source = path(alloc, SOURCE)?;
+    assert_eq!(rt; fault_by_facts(alloc, &address, &source, &facts)?, None);
+    let text = path(alloc, TEXT)?;
+    let fault = fault_by_facts(alloc, &address, &text, &facts)?;
     assert_eq!(rt; fault, Some(VerifyError::CaMismatch));
     Ok(())
 }

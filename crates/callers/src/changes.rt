@@ -9,40 +9,40 @@ use sha2::{Digest, Sha256};
 use std::alloc::Global;
 use std::collections::BTreeSet;
 use std::test::Fail;
-use tables::{Alter, Failure, Pieces, RootName, Summary, Tables};
+use tables::{Alter, Failed, Pieces, RootName, Summary, Tables};
 
 /// No runtime root is left.
-fn forget_runtime<S: Alter>(alloc: Global, tables: &mut Tables<S>) -> Result<(), Failure> {
+fn forget_runtime<S: Alter>(alloc: Global, tables: &mut Tables<S>) -> Result<(), Failed> {
     tables.replace_runtime(BTreeSet::new(alloc))
 }
 
 /// No object is removed.
-fn remove_none<S: Alter>(tables: &mut Tables<S>) -> Result<(), Failure> {
+fn remove_none<S: Alter>(tables: &mut Tables<S>) -> Result<(), Failed> {
     tables.remove_objects(&[])
 }
 
 /// Drops the permanent root `system`.
-fn drop_system<S: Alter>(tables: &mut Tables<S>) -> Result<(), Failure> {
+fn drop_system<S: Alter>(tables: &mut Tables<S>) -> Result<(), Failed> {
     tables.drop_root(RootName::Permanent("system"))
 }
 
 /// Drops the root `editor` of `ann`.
-fn drop_editor<S: Alter>(tables: &mut Tables<S>) -> Result<(), Failure> {
+fn drop_editor<S: Alter>(tables: &mut Tables<S>) -> Result<(), Failed> {
     tables.drop_root(RootName::User("ann", "editor"))
 }
 
 /// Drops the permanent root `boot`.
-fn drop_boot<S: Alter>(tables: &mut Tables<S>) -> Result<(), Failure> {
+fn drop_boot<S: Alter>(tables: &mut Tables<S>) -> Result<(), Failed> {
     tables.drop_permanent("boot")
 }
 
 /// Drops the root `shell` of `ann`.
-fn drop_shell<S: Alter>(tables: &mut Tables<S>) -> Result<(), Failure> {
+fn drop_shell<S: Alter>(tables: &mut Tables<S>) -> Result<(), Failed> {
     tables.drop_user_root("ann", "shell")
 }
 
 /// Ends a session of `ann`.
-fn end<S: Alter>(tables: &mut Tables<S>) -> Result<usize, Failure> {
+fn end<S: Alter>(tables: &mut Tables<S>) -> Result<usize, Failed> {
     tables.end_session("ann", 7)
 }
 

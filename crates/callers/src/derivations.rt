@@ -1,6 +1,8 @@
 //! A caller of `drv`.
+use crate::fixtures::store_dir;
 use drv::{DrvError, outputs};
-use paths::StoreDir;
+use paths::{StoreDir, StorePath};
+use std::alloc::Global;
 use std::test::Fail;
 
 /// A derivation with one output.
@@ -14,32 +16,43 @@ const TWICE: &[u8] = br#"Derive([("out","","",""),("out","","","")],[],[],"p","b
 const MALFORMED: &[u8] =
     br#"Derive([("out","/nix/store/11111111111111111111111111111111-o","","")],[],[],"\x","b",[],[])"#;
 
+fn outputs_of(
+    alloc: Global,
+    text: &[u8],
+    dir: &StoreDir,
+) -> Result<Vec<(String, StorePath)>, DrvError> {
+    outputs(alloc, text, dir)
+}
+
 #[test]
 fn recorded_outputs(rt: HostRuntime) -> Result<(), Fail> {
     let alloc = rt.alloc();
-    let dir = StoreDir::parse(alloc, "/nix/store")?;
-    let found = outputs(alloc, ONE, &dir)?;
-    assert_eq!(rt; found.len(), 1);
-    for (name, path) in found {
-        assert!(rt; name.as_str() == "out");
-        assert!(rt; path.as_str() == "11111111111111111111111111111111-o");
-    }
+    let found = outputs_of(alloc, ONE, &store_dir(alloc)?)?;
+    let [(name, path)] = found.as_slice() else {
+        return Err(Fail::new("another number of outputs"));
+    };
+    assert!(rt; name.as_str() == "out");
+    assert!(rt; path.as_str() == "11111111111111111111111111111111-o");
     Ok(())
+}
+
+/// The fault of a derivation, if it has one.
+fn fault_of(alloc: Global, text: &[u8], dir: &StoreDir) -> Option<DrvError> {
+    match outputs(alloc, text, dir) {
+        Ok(_) => None,
+        Err(e) => Some(e),
+    }
 }
 
 #[test]
 fn refused_derivations(rt: HostRuntime) -> Result<(), Fail> {
     let alloc = rt.alloc();
-    let dir = StoreDir::parse(alloc, "/nix/store")?;
-    for (text, fault) in [
-        (TWICE, DrvError::DoubleOutput),
-        (MALFORMED, DrvError::BadDerivation),
-        (b"", DrvError::BadDerivation),
-    ] {
-        match outputs(alloc, text, &dir) {
-            Ok(_) => return Err(Fail::new("no fault")),
-            Err(e) => assert_eq!(rt; e, fault),
-        }
-    }
+    let dir = store_dir(alloc)?;
+    assert_eq!(rt; fault_of(alloc, TWICE, &dir), Some(DrvError::DoubleOutput));
+    assert_eq!(rt;
+        fault_of(alloc, MALFORMED, &dir),
+        Some(DrvError::BadDerivation)
+    );
+    assert_eq!(rt; fault_of(alloc, b"", &dir), Some(DrvError::BadDerivation));
     Ok(())
 }

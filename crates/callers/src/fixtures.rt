@@ -1,6 +1,6 @@
-//! What several callers use: an archive, paths, callers and stores in memory.
-use paths::{StorePath, StorePathError};
-use policy::{Caller, CallerError, Config, store_dir};
+//! What several callers use: an archive, paths, a store directory, callers and stores in memory.
+use paths::{StoreDir, StoreDirError, StorePath, StorePathError};
+use policy::{Caller, CallerError, Config};
 use std::alloc::Global;
 use std::test::Fail;
 use store::Store;
@@ -38,6 +38,10 @@ pub fn path(alloc: Global, base: &str) -> Result<StorePath, StorePathError> {
     StorePath::from_base(alloc, base)
 }
 
+pub fn store_dir(alloc: Global) -> Result<StoreDir, StoreDirError> {
+    StoreDir::parse(alloc, "/nix/store")
+}
+
 /// A caller without a group.
 pub fn caller(alloc: Global, name: &str) -> Result<Caller, CallerError> {
     Caller::new(alloc, name, None)
@@ -46,6 +50,6 @@ pub fn caller(alloc: Global, name: &str) -> Result<Caller, CallerError> {
 /// A store in memory, under these settings, in which there is nothing yet.
 pub fn new_store(alloc: Global, settings: &[u8]) -> Result<Store<MemStore>, Fail> {
     let config = Config::from_toml(alloc, settings)?;
-    let tables = Tables::open_in_memory(alloc, store_dir(&config))?;
+    let tables = Tables::open_in_memory(alloc, policy::store_dir(&config))?;
     Ok(Store::new(alloc, config, tables))
 }

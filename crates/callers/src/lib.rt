@@ -6,11 +6,11 @@ mod addresses;
 #[cfg(test)]
 mod archives;
 #[cfg(test)]
+mod asking;
+#[cfg(test)]
 mod bodies;
 #[cfg(test)]
 mod changes;
-#[cfg(test)]
-mod commands;
 #[cfg(test)]
 mod connections;
 #[cfg(test)]

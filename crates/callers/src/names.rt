@@ -1,37 +1,62 @@
 //! A caller of `paths`: digits, names, paths and roots.
+use crate::fixtures::store_dir;
 use paths::{
     Base32Error, Name, NameError, Root, RootKind, StoreDir, StoreDirError, StorePath,
     StorePathError, base32, fold20, is_plain_name, unbase32,
 };
+use std::alloc::Global;
 use std::test::Fail;
+
+fn digits_of(alloc: Global, bytes: &[u8]) -> Result<String, Fail> {
+    if bytes.len() > 64 {
+        return Err(Fail::new("too many bytes"));
+    }
+    Ok(base32(alloc, bytes)?)
+}
+
+fn bytes_of(alloc: Global, digits: &str, count: usize) -> Result<Vec<u8>, Fail> {
+    if count > 64 {
+        return Err(Fail::new("too many bytes"));
+    }
+    Ok(unbase32(alloc, digits, count)?)
+}
 
 #[test]
 fn digits_of_bytes(rt: HostRuntime) -> Result<(), Fail> {
     let alloc = rt.alloc();
-    for (bytes, text) in [
-        ([0; 20], "00000000000000000000000000000000"),
-        ([0xff; 20], "zzzzzzzzzzzzzzzzzzzzzzzzzzzzzzzz"),
+    for (bytes, digits) in [
+        ([0; 20].as_slice(), "00000000000000000000000000000000"),
+        (&[0xff; 20], "zzzzzzzzzzzzzzzzzzzzzzzzzzzzzzzz"),
+        (b"", ""),
+        (&[0xff], "7z"),
     ] {
-        assert!(rt; base32(alloc, &bytes)?.as_str() == text);
-        assert!(rt; unbase32(alloc, text, 20)?.as_slice() == bytes.as_slice());
+        assert!(rt; digits_of(alloc, bytes)?.as_str() == digits);
+        assert!(rt; bytes_of(alloc, digits, bytes.len())?.as_slice() == bytes);
     }
-    assert!(rt; base32(alloc, b"")?.is_empty());
-    assert!(rt; base32(alloc, &[0xff])?.as_str() == "7z");
-    assert!(rt; unbase32(alloc, "7z", 1)?.as_slice() == [0xff].as_slice());
     Ok(())
+}
+
+/// The fault of the digits of a byte, if they have one.
+fn fault_of(alloc: Global, digits: &str) -> Option<Base32Error> {
+    match unbase32(alloc, digits, 1) {
+        Ok(_) => None,
+        Err(e) => Some(e),
+    }
 }
 
 #[test]
 fn refused_digits(rt: HostRuntime) {
-    let alloc = rt.alloc();
-    for (text, fault) in [
+    for (digits, fault) in [
         ("zz", Base32Error::Overflow),
         ("7e", Base32Error::BadDigit),
         ("7", Base32Error::BadLength),
     ] {
-        let found = unbase32(alloc, text, 1);
-        assert!(rt; matches!(&found, Err(e) if *e == fault), "{text}");
+        assert_eq!(rt; fault_of(rt.alloc(), digits), Some(fault), "{digits}");
     }
+}
+
+fn folded(digest: &[u8; 32]) -> [u8; 20] {
+    fold20(digest)
 }
 
 #[test]
@@ -39,76 +64,137 @@ fn folded_digests(rt: HostRuntime) -> Result<(), Fail> {
     let mut digest = [0u8; 32];
     digest[0] = 0x01;
     digest[20] = 0xff;
-    let folded = fold20(&digest);
-    assert_eq!(rt; folded[0], 0xfe);
-    let text = base32(rt.alloc(), &folded)?;
-    assert!(rt; text.as_str() == "0000000000000000000000000000007y");
+    let digits = digits_of(rt.alloc(), &folded(&digest))?;
+    assert!(rt; digits.as_str() == "0000000000000000000000000000007y");
     Ok(())
+}
+
+fn is_plain(text: &str) -> bool {
+    is_plain_name(text)
+}
+
+#[test]
+fn plain_names(rt: HostRuntime) {
+    assert!(rt; is_plain("ann"));
+    assert!(rt; !is_plain("-ann"));
+    assert!(rt; !is_plain(""));
+}
+
+fn name_of(alloc: Global, text: &str) -> Result<Name, NameError> {
+    Name::parse(alloc, text)
+}
+
+/// Whether a text isn't a name.
+fn is_no_name(alloc: Global, text: &str) -> bool {
+    matches!(Name::parse(alloc, text), Err(NameError::BadStoreName))
+}
+
+/// A text of this many letters.
+fn letters(alloc: Global, count: usize) -> Result<String, Fail> {
+    let mut text = String::new(alloc);
+    for _ in 0..count {
+        text.push('a')?;
+    }
+    Ok(text)
 }
 
 #[test]
 fn parsed_names(rt: HostRuntime) -> Result<(), Fail> {
     let alloc = rt.alloc();
-    assert!(rt; is_plain_name("ann") && !is_plain_name("-ann") && !is_plain_name(""));
-    let mut long = String::new(alloc);
-    for _ in 0..211 {
-        long.push('a')?;
-    }
-    assert!(rt; Name::parse(alloc, long.as_str())?.as_str() == long.as_str());
-    assert!(rt; Name::parse(alloc, ".x")?.as_str() == ".x");
-    long.push('a')?;
-    for text in [long.as_str(), ".", "..-x", ""] {
-        let found = Name::parse(alloc, text);
-        assert!(rt; matches!(&found, Err(NameError::BadStoreName)), "{text}");
+    let longest = letters(alloc, 211)?;
+    assert!(rt; name_of(alloc, longest.as_str())?.as_str() == longest.as_str());
+    assert!(rt; name_of(alloc, ".x")?.as_str() == ".x");
+    Ok(())
+}
+
+#[test]
+fn refused_names(rt: HostRuntime) -> Result<(), Fail> {
+    let alloc = rt.alloc();
+    let longer = letters(alloc, 212)?;
+    for text in [longer.as_str(), ".", "..-x", ""] {
+        assert!(rt; is_no_name(alloc, text), "{text}");
     }
     Ok(())
+}
+
+/// Whether a text isn't a store directory.
+fn is_no_dir(alloc: Global, text: &str) -> bool {
+    matches!(
+        StoreDir::parse(alloc, text),
+        Err(StoreDirError::BadStoreDir)
+    )
+}
+
+fn path_of(alloc: Global, dir: &StoreDir, text: &str) -> Result<StorePath, StorePathError> {
+    StorePath::parse(alloc, dir, text)
+}
+
+/// Whether a text isn't a path of a store directory.
+fn is_no_path(alloc: Global, dir: &StoreDir, text: &str) -> bool {
+    matches!(
+        StorePath::parse(alloc, dir, text),
+        Err(StorePathError::BadStorePath)
+    )
 }
 
 #[test]
 fn parsed_paths(rt: HostRuntime) -> Result<(), Fail> {
     let alloc = rt.alloc();
-    let dir = StoreDir::parse(alloc, "/nix/store")?;
+    let dir = store_dir(alloc)?;
     assert!(rt; dir.as_str() == "/nix/store");
-    let other = StoreDir::parse(alloc, "/");
-    assert!(rt; matches!(&other, Err(StoreDirError::BadStoreDir)));
     let base = "11111111111111111111111111111111-o";
-    let path = StorePath::parse(alloc, &dir, "/nix/store/11111111111111111111111111111111-o")?;
-    assert!(rt; path.as_str() == base && path.name() == "o");
-    assert!(rt; StorePath::parse(alloc, &dir, base)? == path);
-    let outside = StorePath::parse(alloc, &dir, "/store/11111111111111111111111111111111-o");
-    assert!(rt; matches!(&outside, Err(StorePathError::BadStorePath)));
+    let path = path_of(alloc, &dir, "/nix/store/11111111111111111111111111111111-o")?;
+    assert!(rt; path.as_str() == base);
+    assert!(rt; path.name() == "o");
+    assert!(rt; path_of(alloc, &dir, base)? == path);
     Ok(())
+}
+
+#[test]
+fn refused_paths(rt: HostRuntime) -> Result<(), Fail> {
+    let alloc = rt.alloc();
+    assert!(rt; is_no_dir(alloc, "/"));
+    let dir = store_dir(alloc)?;
+    assert!(rt; is_no_path(alloc, &dir, "/store/11111111111111111111111111111111-o"));
+    Ok(())
+}
+
+fn root(alloc: Global, kind: RootKind, target: &str, label: &str) -> Result<Root, Fail> {
+    Ok(Root {
+        kind,
+        target: StorePath::from_base(alloc, target)?,
+        label: String::from_str(alloc, label)?,
+    })
+}
+
+/// The labels of roots, in the order of the roots.
+fn labels_of(alloc: Global, mut roots: Vec<Root>) -> Result<String, Fail> {
+    roots.sort()?;
+    let mut labels = String::new(alloc);
+    for root in &roots {
+        labels.push_str(root.label.as_str())?;
+    }
+    Ok(labels)
 }
 
 // Roots are ordered by kind, then target, then label.
 #[test]
 fn ordered_roots(rt: HostRuntime) -> Result<(), Fail> {
     let alloc = rt.alloc();
+    let (p, x) = (
+        "00000000000000000000000000000000-p",
+        "11111111111111111111111111111111-x",
+    );
     let mut roots = Vec::new(alloc);
     for (kind, target, label) in [
-        (RootKind::Runtime, "00000000000000000000000000000000-p", "b"),
-        (RootKind::Runtime, "00000000000000000000000000000000-p", "a"),
-        (RootKind::User, "11111111111111111111111111111111-x", "c"),
-        (RootKind::User, "00000000000000000000000000000000-p", "d"),
-        (
-            RootKind::Permanent,
-            "11111111111111111111111111111111-x",
-            "e",
-        ),
+        (RootKind::Runtime, p, "b"),
+        (RootKind::Runtime, p, "a"),
+        (RootKind::User, x, "c"),
+        (RootKind::User, p, "d"),
+        (RootKind::Permanent, x, "e"),
     ] {
-        let target = StorePath::from_base(alloc, target)?;
-        let label = String::from_str(alloc, label)?;
-        roots.push(Root {
-            kind,
-            target,
-            label,
-        })?;
+        roots.push(root(alloc, kind, target, label)?)?;
     }
-    roots.sort()?;
-    let mut labels = String::new(alloc);
-    for root in &roots {
-        labels.push_str(root.label.as_str())?;
-    }
-    assert!(rt; labels.as_str() == "edcab");
+    assert!(rt; labels_of(alloc, roots)?.as_str() == "edcab");
     Ok(())
 }

@@ -1,26 +1,12 @@
-//! A caller of `store`: objects are added, read and deleted.
+//! A caller of `store`: objects are added, read and listed.
+use crate::asking::{Course, ask, replies_to};
 use crate::fixtures::{ADDRESS, MY_FILE, MY_HASH, SETTINGS, SOURCE, TEXT, caller, new_store, path};
 use paths::{Ca, Name};
-use policy::{Caller, store_dir};
-use report::reply_text;
+use policy::Caller;
 use std::alloc::{AllocError, Global};
 use std::test::Fail;
 use store::{Answer, Intake, Refusal, Reply, Request, Store};
 use tables::MemStore;
-
-/// Calls a store, and appends the text of its reply.
-pub fn ask(
-    alloc: Global,
-    store: &mut Store<MemStore>,
-    user: &str,
-    request: Request,
-    text: &mut Vec<u8>,
-) -> Result<(), Fail> {
-    let caller = caller(alloc, user)?;
-    let reply = store.call(&caller, request);
-    reply_text(alloc, store_dir(store.config()), &reply, text)?;
-    Ok(())
-}
 
 /// The text object `myfile`, added.
 pub fn add_text(alloc: Global) -> Result<Request, Fail> {
@@ -31,16 +17,21 @@ pub fn add_text(alloc: Global) -> Result<Request, Fail> {
     })
 }
 
-/// The source object `myfile`, added. Its archive arrives in pieces.
-fn add_source(alloc: Global) -> Result<Request, Fail> {
+/// An archive that arrives in pieces.
+fn in_pieces(alloc: Global, archive: &[u8]) -> Result<Intake, AllocError> {
     let mut nar = Intake::new(alloc);
-    for piece in MY_FILE.chunks(50) {
+    for piece in archive.chunks(50) {
         nar.push(piece)?;
     }
+    Ok(nar)
+}
+
+/// The source object `myfile`, added.
+fn add_source(alloc: Global) -> Result<Request, Fail> {
     Ok(Request::AddSource {
         name: Name::parse(alloc, "myfile")?,
         refs: Vec::new(alloc),
-        nar,
+        nar: in_pieces(alloc, MY_FILE)?,
     })
 }
 
@@ -56,12 +47,16 @@ fn import(alloc: Global, ca: Option<Ca>) -> Result<Request, Fail> {
     })
 }
 
-fn add_all(alloc: Global, store: &mut Store<MemStore>, text: &mut Vec<u8>) -> Result<(), Fail> {
+/// The same import with the content address of the source.
+fn import_with(alloc: Global) -> Result<Request, Fail> {
+    import(alloc, Some(Ca::parse(alloc, ADDRESS)?))
+}
+
+pub fn add_all(alloc: Global, store: &mut Store<MemStore>, text: &mut Vec<u8>) -> Result<(), Fail> {
     ask(alloc, store, "bob", add_text(alloc)?, text)?;
     ask(alloc, store, "bob", add_source(alloc)?, text)?;
     ask(alloc, store, "bob", import(alloc, None)?, text)?;
-    let address = Ca::parse(alloc, ADDRESS)?;
-    ask(alloc, store, "bob", import(alloc, Some(address))?, text)?;
+    ask(alloc, store, "bob", import_with(alloc)?, text)?;
     ask(alloc, store, "ann", import(alloc, None)?, text)?;
     ask(alloc, store, "eve", Request::List, text)?;
     ask(alloc, store, "bob", Request::List, text)
@@ -81,39 +76,30 @@ denied: connect
 
 #[test]
 fn added_and_listed(rt: HostRuntime) -> Result<(), Fail> {
-    let alloc = rt.alloc();
-    let mut store = new_store(alloc, SETTINGS)?;
-    let mut text = Vec::new(alloc);
-    let end = add_all(alloc, &mut store, &mut text);
-    drop(store.release().release());
-    end?;
+    let text = replies_to(rt.alloc(), Course::Adding)?;
     assert!(rt; text.as_slice() == ADDED);
     Ok(())
 }
 
 /// Adds the source, and reads it.
-fn read_source(alloc: Global, store: &mut Store<MemStore>, text: &mut Vec<u8>) -> Result<(), Fail> {
+pub fn read_source(
+    alloc: Global,
+    store: &mut Store<MemStore>,
+    text: &mut Vec<u8>,
+) -> Result<(), Fail> {
     ask(alloc, store, "bob", add_source(alloc)?, text)?;
-    text.clear();
-    ask(
-        alloc,
-        store,
-        "bob",
-        Request::Info(path(alloc, SOURCE)?),
-        text,
-    )?;
-    ask(alloc, store, "bob", Request::Ls(path(alloc, SOURCE)?), text)?;
-    ask(alloc, store, "bob", Request::Ls(path(alloc, TEXT)?), text)?;
-    ask(
-        alloc,
-        store,
-        "bob",
-        Request::Nar(path(alloc, SOURCE)?),
-        text,
-    )
+    let info = Request::Info(path(alloc, SOURCE)?);
+    ask(alloc, store, "bob", info, text)?;
+    let listing = Request::Ls(path(alloc, SOURCE)?);
+    ask(alloc, store, "bob", listing, text)?;
+    let listing = Request::Ls(path(alloc, TEXT)?);
+    ask(alloc, store, "bob", listing, text)?;
+    let archive = Request::Nar(path(alloc, SOURCE)?);
+    ask(alloc, store, "bob", archive, text)
 }
 
-const READ: &[u8] = b"StorePath: /nix/store/xv2iccirbrvklck36f1g7vldn5v58vck-myfile
+const READ: &[u8] = b"/nix/store/xv2iccirbrvklck36f1g7vldn5v58vck-myfile
+StorePath: /nix/store/xv2iccirbrvklck36f1g7vldn5v58vck-myfile
 URL: nar/xv2iccirbrvklck36f1g7vldn5v58vck-myfile
 Compression: none
 FileHash: sha256:1qwy7y49hyqd7kdpkyjfclz5fkfqalqapzc4v18lbibkx1yzdzib
@@ -126,54 +112,45 @@ r 10 .
 refused: 23 not-valid
 ";
 
+/// Whether bytes are these, and those after them.
+fn are_joined(bytes: &[u8], first: &[u8], second: &[u8]) -> bool {
+    bytes.strip_prefix(first).is_some_and(|rest| rest == second)
+}
+
 #[test]
 fn read_and_listed(rt: HostRuntime) -> Result<(), Fail> {
-    let alloc = rt.alloc();
-    let mut store = new_store(alloc, SETTINGS)?;
-    let mut text = Vec::new(alloc);
-    let end = read_source(alloc, &mut store, &mut text);
-    drop(store.release().release());
-    end?;
-    assert!(rt; text.starts_with(READ) && text.ends_with(MY_FILE));
-    assert_eq!(rt; text.len(), READ.len() + MY_FILE.len());
+    let text = replies_to(rt.alloc(), Course::Reading)?;
+    assert!(rt; are_joined(&text, READ, MY_FILE));
     Ok(())
 }
 
-fn push(
-    calls: &mut Vec<(Caller, Request)>,
-    caller: Caller,
-    request: Request,
-) -> Result<(), AllocError> {
-    match calls.push((caller, request)) {
-        Ok(()) => Ok(()),
-        Err(_) => Err(AllocError),
-    }
+/// Puts a request of `bob` after other calls.
+fn push(alloc: Global, calls: &mut Vec<(Caller, Request)>, request: Request) -> Result<(), Fail> {
+    let caller = caller(alloc, "bob")?;
+    calls.push((caller, request))?;
+    Ok(())
 }
 
-/// Calls by `bob`, made in a row.
-fn run_all(alloc: Global, store: &mut Store<MemStore>) -> Result<Vec<Reply>, Fail> {
+/// Puts calls that add the text, read it, and read what isn't there.
+fn push_all(alloc: Global, calls: &mut Vec<(Caller, Request)>) -> Result<(), Fail> {
+    push(alloc, calls, add_text(alloc)?)?;
+    push(alloc, calls, Request::Nar(path(alloc, TEXT)?))?;
+    push(alloc, calls, Request::Nar(path(alloc, SOURCE)?))
+}
+
+/// The replies of a new store to calls that are made in a row.
+fn replies_of(alloc: Global) -> Result<Vec<Reply>, Fail> {
     let mut calls = Vec::new(alloc);
-    push(&mut calls, caller(alloc, "bob")?, add_text(alloc)?)?;
-    push(
-        &mut calls,
-        caller(alloc, "bob")?,
-        Request::Nar(path(alloc, TEXT)?),
-    )?;
-    push(
-        &mut calls,
-        caller(alloc, "bob")?,
-        Request::Nar(path(alloc, SOURCE)?),
-    )?;
-    Ok(store.run(calls)?)
+    push_all(alloc, &mut calls)?;
+    let mut store = new_store(alloc, SETTINGS)?;
+    let replies = store.run(calls);
+    drop(store.release().release());
+    Ok(replies?)
 }
 
 #[test]
 fn run_in_a_row(rt: HostRuntime) -> Result<(), Fail> {
-    let alloc = rt.alloc();
-    let mut store = new_store(alloc, SETTINGS)?;
-    let replies = run_all(alloc, &mut store);
-    drop(store.release().release());
-    let replies = replies?;
+    let replies = replies_of(rt.alloc())?;
     let [first, second, third] = replies.as_slice() else {
         return Err(Fail::new("another number of replies"));
     };

@@ -3,24 +3,41 @@ use policy::{
     Caller, CallerError, Class, Config, ConfigError, KeyWord, Op, Rule, class, decide,
     keep_derivations, keep_outputs, store_dir,
 };
+use std::alloc::Global;
 use std::test::Fail;
 
-const WHEEL: &[u8] =
-    b"allowed-users = []\ntrusted-users = [\"@wheel\"]\n[groups]\nwheel = [\"ann\"]\n";
+fn config(alloc: Global, text: &[u8]) -> Result<Config, ConfigError> {
+    Config::from_toml(alloc, text)
+}
+
+fn dir_in(config: &Config) -> &str {
+    store_dir(config).as_str()
+}
+
+/// Whether derivations are kept, and outputs.
+fn kept_by(config: &Config) -> (bool, bool) {
+    (keep_derivations(config), keep_outputs(config))
+}
 
 #[test]
 fn read_settings(rt: HostRuntime) -> Result<(), Fail> {
-    let alloc = rt.alloc();
-    let config = Config::from_toml(alloc, b"")?;
-    assert!(rt; store_dir(&config).as_str() == "/nix/store");
-    assert!(rt; keep_derivations(&config) && !keep_outputs(&config));
-    let config = Config::from_toml(
-        alloc,
+    let defaults = config(rt.alloc(), b"")?;
+    assert!(rt; dir_in(&defaults) == "/nix/store");
+    assert_eq!(rt; kept_by(&defaults), (true, false));
+    let config = config(
+        rt.alloc(),
         b"store-dir = \"/s\"\nkeep-outputs = true\nkeep-derivations = false\n",
     )?;
-    assert!(rt; store_dir(&config).as_str() == "/s");
-    assert!(rt; !keep_derivations(&config) && keep_outputs(&config));
+    assert!(rt; dir_in(&config) == "/s");
+    assert_eq!(rt; kept_by(&config), (false, true));
     Ok(())
+}
+
+fn fault_of(alloc: Global, text: &[u8]) -> Option<ConfigError> {
+    match Config::from_toml(alloc, text) {
+        Ok(_) => None,
+        Err(e) => Some(e),
+    }
 }
 
 // The first key word that applies is reported.
@@ -35,34 +52,48 @@ fn refused_settings(rt: HostRuntime) {
         (b"allowed-users = [\"@\"]\n", KeyWord::AllowedUsers),
         (b"\xff", KeyWord::Syntax),
     ] {
-        match Config::from_toml(rt.alloc(), text) {
-            Ok(_) => panic!(rt; "accepted"),
-            Err(e) => assert_eq!(rt; e, ConfigError::Bad(word)),
-        }
+        assert_eq!(rt; fault_of(rt.alloc(), text), Some(ConfigError::Bad(word)));
     }
 }
+
+fn caller(alloc: Global, name: &str, group: Option<&str>) -> Result<Caller, CallerError> {
+    Caller::new(alloc, name, group)
+}
+
+fn class_of(config: &Config, caller: &Caller) -> Class {
+    class(config, caller)
+}
+
+fn broken_by(class: Class, caller: &Caller, op: &Op) -> Option<Rule> {
+    decide(class, caller, op)
+}
+
+const WHEEL: &[u8] =
+    b"allowed-users = []\ntrusted-users = [\"@wheel\"]\n[groups]\nwheel = [\"ann\"]\n";
 
 #[test]
 fn classes_and_connections(rt: HostRuntime) -> Result<(), Fail> {
     let alloc = rt.alloc();
-    let config = Config::from_toml(alloc, WHEEL)?;
+    let config = config(alloc, WHEEL)?;
     for (user, group, wanted, rule) in [
         ("ann", "users", Class::Trusted, None),
         ("bob", "users", Class::Stranger, Some(Rule::Connect)),
         ("bob", "wheel", Class::Trusted, None),
     ] {
-        let caller = Caller::new(alloc, user, Some(group))?;
-        let found = class(&config, &caller);
-        assert!(rt; found == wanted, "{user} of {group}");
-        let broken = decide(found, &caller, &Op::Plain);
-        assert!(rt; broken == rule, "{user} of {group}");
+        let caller = caller(alloc, user, Some(group))?;
+        let class = class_of(&config, &caller);
+        assert!(rt; class == wanted, "{user} of {group}");
+        assert!(rt;
+            broken_by(class, &caller, &Op::Plain) == rule,
+            "{user} of {group}"
+        );
     }
     Ok(())
 }
 
 #[test]
-fn verdicts_of_the_rules(rt: HostRuntime) -> Result<(), Fail> {
-    let caller = Caller::new(rt.alloc(), "ann", None)?;
+fn verdicts_on_the_allowed(rt: HostRuntime) -> Result<(), Fail> {
+    let caller = caller(rt.alloc(), "ann", None)?;
     for (op, rule) in [
         (Op::Import { has_address: false }, Some(Rule::TrustedImport)),
         (Op::Import { has_address: true }, None),
@@ -72,37 +103,57 @@ fn verdicts_of_the_rules(rt: HostRuntime) -> Result<(), Fail> {
         (Op::SetUserRoot("ann"), None),
         (
             Op::Collect {
-                ignores_liveness: true,
+                ignore_liveness: true,
             },
             Some(Rule::NoIgnoreLiveness),
         ),
         (
             Op::Delete {
-                ignores_liveness: false,
+                ignore_liveness: false,
             },
             None,
         ),
     ] {
-        assert!(rt; decide(Class::Allowed, &caller, &op) == rule, "{op:?}");
+        assert!(rt; broken_by(Class::Allowed, &caller, &op) == rule, "{op:?}");
     }
-    let dropped = Op::DropUserRoot("bob");
-    assert!(rt; decide(Class::Trusted, &caller, &dropped).is_none());
     Ok(())
+}
+
+#[test]
+fn verdict_on_the_trusted(rt: HostRuntime) -> Result<(), Fail> {
+    let caller = caller(rt.alloc(), "ann", None)?;
+    assert!(rt; broken_by(Class::Trusted, &caller, &Op::DropUserRoot("bob")).is_none());
+    Ok(())
+}
+
+/// A name of this many letters.
+fn letters(alloc: Global, count: usize) -> Result<String, Fail> {
+    let mut name = String::new(alloc);
+    for _ in 0..count {
+        name.push('a')?;
+    }
+    Ok(name)
+}
+
+#[test]
+fn named_callers(rt: HostRuntime) -> Result<(), Fail> {
+    let longest = letters(rt.alloc(), 64)?;
+    let caller = caller(rt.alloc(), longest.as_str(), None)?;
+    assert!(rt; caller.name() == longest.as_str());
+    Ok(())
+}
+
+/// Whether nobody has such a name and group.
+fn is_nobody(alloc: Global, name: &str, group: Option<&str>) -> bool {
+    matches!(Caller::new(alloc, name, group), Err(CallerError::BadCaller))
 }
 
 #[test]
 fn refused_callers(rt: HostRuntime) -> Result<(), Fail> {
     let alloc = rt.alloc();
-    let mut long = String::new(alloc);
-    for _ in 0..64 {
-        long.push('a')?;
-    }
-    let caller = Caller::new(alloc, long.as_str(), None)?;
-    assert!(rt; caller.name() == long.as_str());
-    long.push('a')?;
-    for (name, group) in [(long.as_str(), None), ("", None), ("ann", Some("a b"))] {
-        let found = Caller::new(alloc, name, group);
-        assert!(rt; matches!(&found, Err(CallerError::BadCaller)), "{name}");
-    }
+    let longer = letters(alloc, 65)?;
+    assert!(rt; is_nobody(alloc, longer.as_str(), None));
+    assert!(rt; is_nobody(alloc, "", None));
+    assert!(rt; is_nobody(alloc, "ann", Some("a b")));
     Ok(())
 }

@@ -4,8 +4,8 @@ use Rattle.std.specs.List.{flat_map, AllZip}
 use Rattle.std.proofs.lemmas.List.{length-append}
 use Rattle.std.proofs.lemmas.Option.{some_pair_parts}
 use Rattle.drv.specs.Derivation.{commas, list}
-use Rattle.drv.specs.Reading.{◌>>=◌, after, closed_or, with_item, more_at, list_at, list_end, alone}
-use Rattle.drv.proofs.Steps.{bind_some, bind_same, after_is, Reads, Skips, Skips-rest_of, Reads-alone}
+use Rattle.drv.specs.Reading.{◌>>=◌, after, closed_or, with_item, rest_of_items, list_at, list_end, without_value}
+use Rattle.drv.proofs.Steps.{bind_some, bind_same, after_is, Reads, Skips, Skips-rest_of, Reads-without_value}
 
 -- what is written isn't empty and doesn't begin with a closing bracket
 abbrev pub Opens : {X : Type 0} → (X → List ℕ) → Type 0
@@ -55,8 +55,8 @@ shrinks item spell Means reads opens t y rest e =
 
 more_again : {X Y : Type 0} (item : List ℕ → Option (Y × List ℕ)) (spell : X → List ℕ) (Means : X → Y → Type 0) → Reads item spell Means → Opens spell
     → (count : ℕ) (xs : List X) (ys : List Y) (rest : List ℕ) → AllZip Means xs ys → length (others (map spell xs) ++ 93 ∷ rest) ≤ count
-    → more_at item count (others (map spell xs) ++ 93 ∷ rest) ≡ Some (ys, rest)
-unfolding more_at
+    → rest_of_items item count (others (map spell xs) ++ 93 ∷ rest) ≡ Some (ys, rest)
+unfolding rest_of_items
 more_again item spell Means reads opens zero [] [] rest m fits = absurd (omega arith)
 more_again item spell Means reads opens (suc count) [] [] rest m fits = refl
 more_again item spell Means reads opens count [] (y ∷ ys) rest m fits = absurd m
@@ -70,22 +70,22 @@ more_again {Y = Y} item spell Means reads opens (suc count) (x ∷ xs) (y ∷ ys
     let below : length tail ≤ count = omega arith in
     let next = more_again item spell Means reads opens count xs ys rest m.1 below in
     let one : item (spell x ++ others (map spell xs) ++ 93 ∷ rest) ≡ Some (y, tail) = ap item is ∙ reads.again x y tail m.0 in
-    ap (λ (o : Option (Y × List ℕ)). o >>= λ z. with_item z.0 (more_at item count z.1)) one ∙ ap (with_item y) next
+    ap (λ (o : Option (Y × List ℕ)). o >>= λ z. with_item z.0 (rest_of_items item count z.1)) one ∙ ap (with_item y) next
 
 abbrev MoreItems : {X Y : Type 0} → (X → List ℕ) → (X → Y → Type 0) → List ℕ → List Y → List ℕ → Type 0
 MoreItems {X} spell Means t ys rest = (xs : List X) × AllZip Means xs ys × (t ≡ others (map spell xs) ++ 93 ∷ rest)
 
 more_takes : {X Y : Type 0} (item : List ℕ → Option (Y × List ℕ)) (spell : X → List ℕ) (Means : X → Y → Type 0) → Reads item spell Means
-    → (count : ℕ) (t : List ℕ) (ys : List Y) (rest : List ℕ) → more_at item count t ≡ Some (ys, rest) → MoreItems spell Means t ys rest
-unfolding more_at
+    → (count : ℕ) (t : List ℕ) (ys : List Y) (rest : List ℕ) → rest_of_items item count t ≡ Some (ys, rest) → MoreItems spell Means t ys rest
+unfolding rest_of_items
 more_takes item spell Means reads zero t ys rest e = absurd cc
 more_takes item spell Means reads (suc count) t ys rest e =
-    elim (closed_cases (after 93 t) (after 44 t >>= λ u. item u >>= λ x. with_item x.0 (more_at item count x.1)) ys rest e) [
+    elim (closed_cases (after 93 t) (after 44 t >>= λ u. item u >>= λ x. with_item x.0 (rest_of_items item count x.1)) ys rest e) [
       | inl h ↦ ([], subst (λ zs. AllZip Means [] zs) (sym h.1) tt, after_is 93 t rest h.0)
       | inr h ↦
-          let u = bind_some (after 44 t) (λ u. item u >>= λ x. with_item x.0 (more_at item count x.1)) (ys, rest) h.1 in
-          let y = bind_some (item u.0) (λ x. with_item x.0 (more_at item count x.1)) (ys, rest) u.2 in
-          let more = with_item_some y.0.0 (more_at item count y.0.1) ys rest y.2 in
+          let u = bind_some (after 44 t) (λ u. item u >>= λ x. with_item x.0 (rest_of_items item count x.1)) (ys, rest) h.1 in
+          let y = bind_some (item u.0) (λ x. with_item x.0 (rest_of_items item count x.1)) (ys, rest) u.2 in
+          let more = with_item_some y.0.0 (rest_of_items item count y.0.1) ys rest y.2 in
           let x = reads.takes u.0 y.0.0 y.0.1 y.1 in
           let xs = more_takes item spell Means reads count y.0.1 more.0 rest more.1 in (
             x.0 ∷ xs.0,
@@ -96,8 +96,8 @@ more_takes item spell Means reads (suc count) t ys rest e =
 
 -- any count that isn't too small gives the same
 pub enough : {X Y : Type 0} (item : List ℕ → Option (Y × List ℕ)) (spell : X → List ℕ) (Means : X → Y → Type 0) → Reads item spell Means → Opens spell
-    → (m n : ℕ) (t : List ℕ) → length t ≤ m → length t ≤ n → more_at item m t ≡ more_at item n t
-unfolding more_at
+    → (m n : ℕ) (t : List ℕ) → length t ≤ m → length t ≤ n → rest_of_items item m t ≡ rest_of_items item n t
+unfolding rest_of_items
 enough item spell Means reads opens zero zero t le le' = refl
 enough item spell Means reads opens zero (suc n) [] le le' = refl
 enough item spell Means reads opens zero (suc n) (b ∷ t) le le' = absurd (omega arith)
@@ -105,8 +105,8 @@ enough item spell Means reads opens (suc m) zero [] le le' = refl
 enough item spell Means reads opens (suc m) zero (b ∷ t) le le' = absurd (omega arith)
 enough {Y = Y} item spell Means reads opens (suc m) (suc n) t le le' =
     ap (λ o. closed_or (after 93 t) o)
-    (bind_same (after 44 t) (λ u. item u >>= λ x. with_item x.0 (more_at item m x.1)) (λ u. item u >>= λ x. with_item x.0 (more_at item n x.1))
-    (λ u e. bind_same (item u) (λ x. with_item x.0 (more_at item m x.1)) (λ x. with_item x.0 (more_at item n x.1))
+    (bind_same (after 44 t) (λ u. item u >>= λ x. with_item x.0 (rest_of_items item m x.1)) (λ u. item u >>= λ x. with_item x.0 (rest_of_items item n x.1))
+    (λ u e. bind_same (item u) (λ x. with_item x.0 (rest_of_items item m x.1)) (λ x. with_item x.0 (rest_of_items item n x.1))
     (λ x f.
     let one = ap length (after_is 44 t u e) in
     let two = shrinks item spell Means reads opens u x.0 x.1 f in
@@ -126,21 +126,21 @@ list_again {Y = Y} item spell Means reads opens (x ∷ xs) (y ∷ ys) rest m =
     append_assoc (spell x ++ others (map spell xs)) (93 ∷ []) rest ∙ append_assoc (spell x) (others (map spell xs)) (93 ∷ rest) in
     let one : item (spell x ++ tail) ≡ Some (y, tail) = reads.again x y tail m.0 in
     let more = more_again item spell Means reads opens (length tail) xs ys rest m.1 (omega arith) in
-    ap (λ (t : List ℕ). closed_or (after 93 t) (item t >>= λ z. with_item z.0 (more_at item (length z.1) z.1))) is
-    ∙ ap (λ (o : Option (List ℕ)). closed_or o (item (spell x ++ tail) >>= λ z. with_item z.0 (more_at item (length z.1) z.1))) (opens x tail)
-    ∙ ap (λ (o : Option (Y × List ℕ)). o >>= λ z. with_item z.0 (more_at item (length z.1) z.1)) one
+    ap (λ (t : List ℕ). closed_or (after 93 t) (item t >>= λ z. with_item z.0 (rest_of_items item (length z.1) z.1))) is
+    ∙ ap (λ (o : Option (List ℕ)). closed_or o (item (spell x ++ tail) >>= λ z. with_item z.0 (rest_of_items item (length z.1) z.1))) (opens x tail)
+    ∙ ap (λ (o : Option (Y × List ℕ)). o >>= λ z. with_item z.0 (rest_of_items item (length z.1) z.1)) one
     ∙ ap (with_item y) more
 
 list_takes : {X Y : Type 0} (item : List ℕ → Option (Y × List ℕ)) (spell : X → List ℕ) (Means : X → Y → Type 0) → Reads item spell Means
     → (t : List ℕ) (ys : List Y) (rest : List ℕ) → list_at item t ≡ Some (ys, rest) → (xs : List X) × AllZip Means xs ys × (t ≡ list (map spell xs) ++ rest)
 unfolding list_at list commas
 list_takes item spell Means reads t ys rest e =
-    let u = bind_some (after 91 t) (λ u. closed_or (after 93 u) (item u >>= λ x. with_item x.0 (more_at item (length x.1) x.1))) (ys, rest) e in
-    elim (closed_cases (after 93 u.0) (item u.0 >>= λ x. with_item x.0 (more_at item (length x.1) x.1)) ys rest u.2) [
+    let u = bind_some (after 91 t) (λ u. closed_or (after 93 u) (item u >>= λ x. with_item x.0 (rest_of_items item (length x.1) x.1))) (ys, rest) e in
+    elim (closed_cases (after 93 u.0) (item u.0 >>= λ x. with_item x.0 (rest_of_items item (length x.1) x.1)) ys rest u.2) [
       | inl h ↦ ([], subst (λ zs. AllZip Means [] zs) (sym h.1) tt, after_is 91 t u.0 u.1 ∙ ap (λ (r : List ℕ). 91 ∷ r) (after_is 93 u.0 rest h.0))
       | inr h ↦
-          let y = bind_some (item u.0) (λ x. with_item x.0 (more_at item (length x.1) x.1)) (ys, rest) h.1 in
-          let more = with_item_some y.0.0 (more_at item (length y.0.1) y.0.1) ys rest y.2 in
+          let y = bind_some (item u.0) (λ x. with_item x.0 (rest_of_items item (length x.1) x.1)) (ys, rest) h.1 in
+          let more = with_item_some y.0.0 (rest_of_items item (length y.0.1) y.0.1) ys rest y.2 in
           let x = reads.takes u.0 y.0.0 y.0.1 y.1 in
           let xs = more_takes item spell Means reads (length y.0.1) y.0.1 more.0 rest more.1 in (
             x.0 ∷ xs.0,
@@ -171,5 +171,5 @@ pub Skips-list : {X : Type 0} (item : List ℕ → Option (List ℕ)) (spell : X
     → Skips (list_end item) (λ xs. list (map spell xs))
 unfolding list_end
 Skips-list item spell skips opens =
-    Skips-rest_of (list_at (alone item)) (λ xs. list (map spell xs)) (AllZip (λ x y. Unit {0}))
-    (Reads-list (alone item) spell (λ x y. Unit {0}) (Reads-alone item spell skips) opens) (λ xs. (units xs, all_units xs))
+    Skips-rest_of (list_at (without_value item)) (λ xs. list (map spell xs)) (AllZip (λ x y. Unit {0}))
+    (Reads-list (without_value item) spell (λ x y. Unit {0}) (Reads-without_value item spell skips) opens) (λ xs. (units xs, all_units xs))

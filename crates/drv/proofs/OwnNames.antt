@@ -131,9 +131,9 @@ refer_length (r ∷ refs) (x ∷ xs) is = ap (λ n. suc n) (refer_length refs xs
 
 -- ---- the count
 
-pub count_tells : (refs sorted : List (Bor Text)) (xs : List Named) → Refer refs xs → IsPermutation refs sorted → IsStrictlySortedBy order (dedup same_text sorted)
+pub count_decides : (refs sorted : List (Bor Text)) (xs : List Named) → Refer refs xs → IsPermutation refs sorted → IsStrictlySortedBy order (dedup same_text sorted)
     → eqb (length (dedup same_text sorted)) (length xs) ≡ have_own_names xs
-count_tells refs sorted xs is moved rising =
+count_decides refs sorted xs is moved rising =
     let many : length sorted ≡ length xs = length_permutation refs sorted moved ∙ refer_length refs xs is in
     elim (cases_Bool (have_own_names xs)) [
       | inl own ↦

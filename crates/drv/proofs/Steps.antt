@@ -1,7 +1,7 @@
 -- Readers, one step behind the other: what a step that succeeded gives, and readers that read what is written.
 use Rattle.std.proofs.Common.{◌≡◌, ℕ, Bool, true, false, cond, eqb, List, [], ◌∷◌, ◌++◌, Option, Some, None, refl, sym, ap, ◌∙◌, append_assoc, inl, inr, ◌⊎◌}
 use Rattle.std.proofs.lemmas.Bool.{eqb-true, cases_Bool}
-use Rattle.drv.specs.Reading.{◌>>=◌, after, rest_of, bare, alone, ◌>=>◌, further}
+use Rattle.drv.specs.Reading.{◌>>=◌, after, rest_of, bare, without_value, ◌>=>◌, further}
 
 pub bind_some : {A B : Type 0} (o : Option A) (f : A → Option B) (y : B) → (o >>= f) ≡ Some y → (x : A) × (o ≡ Some x) × (f x ≡ Some y)
 bind_some (Some x) f y e = (x, refl, e)
@@ -53,15 +53,15 @@ Skips-rest_of read spell Means reads all = record {
       (x.0, x.2);
 }
 
-alone_some : (o : Option (List ℕ)) (y : Unit {0}) (rest : List ℕ) → bare o ≡ Some (y, rest) → o ≡ Some rest
-alone_some (Some r) y rest e = ap (λ (z : Option (Unit {0} × List ℕ)). rest_of z) e
-alone_some None y rest e = absurd cc
+bare_some : (o : Option (List ℕ)) (y : Unit {0}) (rest : List ℕ) → bare o ≡ Some (y, rest) → o ≡ Some rest
+bare_some (Some r) y rest e = ap (λ (z : Option (Unit {0} × List ℕ)). rest_of z) e
+bare_some None y rest e = absurd cc
 
-pub Reads-alone : {X : Type 0} (skip : List ℕ → Option (List ℕ)) (spell : X → List ℕ) → Skips skip spell → Reads (alone skip) spell (λ x y. Unit {0})
-Reads-alone skip spell skips = record {
+pub Reads-without_value : {X : Type 0} (skip : List ℕ → Option (List ℕ)) (spell : X → List ℕ) → Skips skip spell → Reads (without_value skip) spell (λ x y. Unit {0})
+Reads-without_value skip spell skips = record {
   again = λ x y rest m. ap bare (skips.again x rest);
   takes = λ t y rest e.
-      let x = skips.takes t rest (alone_some (skip t) y rest e) in
+      let x = skips.takes t rest (bare_some (skip t) y rest e) in
       (x.0, tt, x.1);
 }
 

@@ -14,12 +14,12 @@ use Rattle.drv.proofs.OneOutput.{outputs_read, outputs_open}
 
 -- ---- the front
 
-abbrev FrontParts : Type 0
-FrontParts = (((((Unit {0} × Unit {0}) × Unit {0}) × Unit {0}) × Unit {0}) × Unit {0}) × Unit {0}
+abbrev PrefixParts : Type 0
+PrefixParts = (((((Unit {0} × Unit {0}) × Unit {0}) × Unit {0}) × Unit {0}) × Unit {0}) × Unit {0}
 
-front_skips : Skips after_derive (λ (z : FrontParts). codes "Derive(")
+prefix_skips : Skips after_derive (λ (z : PrefixParts). codes "Derive(")
 unfolding after_derive
-front_skips =
+prefix_skips =
     Skips-then (after 68 >=> after 101 >=> after 114 >=> after 105 >=> after 118 >=> after 101) (after 40) _ _
     (Skips-then (after 68 >=> after 101 >=> after 114 >=> after 105 >=> after 118) (after 101) _ _
     (Skips-then (after 68 >=> after 101 >=> after 114 >=> after 105) (after 118) _ _
@@ -93,7 +93,7 @@ listed_again dir text all h =
     let outputs : Option (List ℕ) → Option Listed = λ o. o >>= λ t. list_at (output_at dir) t >>= λ xs. behind xs.0 (inputs_end xs.1) in
     let lists = Reads-list (output_at dir) output (IsOutput dir) (outputs_read dir) outputs_open in
     ap (λ (t : List ℕ). outputs (after_derive t)) (h.written ∙ whole_is d)
-    ∙ ap outputs (front_skips.again ((((((tt, tt), tt), tt), tt), tt), tt) (list (map output d.outputs) ++ (inputs ++ (process ++ []))))
+    ∙ ap outputs (prefix_skips.again ((((((tt, tt), tt), tt), tt), tt), tt) (list (map output d.outputs) ++ (inputs ++ (process ++ []))))
     ∙ ap (λ (o : Option (Listed × List ℕ)). o >>= λ xs. behind xs.0 (inputs_end xs.1)) (lists.again d.outputs all (inputs ++ (process ++ [])) h.outputs_are)
     ∙ ap (behind all) (inputs_skip.again (d.inputs, d.sources) (process ++ []))
     ∙ ap (λ (o : Option (List ℕ)). o >>= λ rest. if_ended all rest) (process_skips.again ((((d.platform, d.builder), d.arguments), d.environment), tt) [])
@@ -112,7 +112,7 @@ listed_takes dir text all e =
     let c = bind_some (inputs_end b.0.1) (λ t. process_end t >>= λ rest. if_ended b.0.0 rest) all b.2 in
     let g = bind_some (process_end c.0) (λ rest. if_ended b.0.0 rest) all c.2 in
     let end = ended b.0.0 all g.0 g.2 in
-    let front = front_skips.takes text a.0 a.1 in
+    let front = prefix_skips.takes text a.0 a.1 in
     let xs = lists.takes a.0 b.0.0 b.0.1 b.1 in
     let inputs = inputs_skip.takes b.0.1 c.0 c.1 in
     let process = process_skips.takes c.0 g.0 g.1 in

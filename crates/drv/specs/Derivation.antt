@@ -11,7 +11,7 @@ pub record Output : Type 0 where
   pub method : List Written
   pub hash : List Written
 
--- a derivation that is an input, and the names of those of its outputs that are
+-- an input: the path of a derivation, and the names of the outputs of that derivation that are used
 pub record Input : Type 0 where
   pub path : List Written
   pub names : List (List Written)
@@ -56,14 +56,14 @@ derivation d =
     ++ tuple (list (map output d.outputs) ∷ list (map input d.inputs) ∷ list (map string d.sources)
     ∷ string d.platform ∷ string d.builder ∷ list (map string d.arguments) ∷ list (map variable d.environment) ∷ [])
 
--- ---- its outputs
+-- ---- outputs of a derivation
 
 -- a path text is that of an output: empty where it has no path, else the full path of a base name
 abbrev pub IsPathText : List ℕ → List ℕ → Option (List ℕ) → Type 0
 IsPathText dir text None = text ≡ []
 IsPathText dir text (Some base) = (is_base_name base ≡ true) × (text ≡ full_path dir base)
 
--- an output is one with this name and this path, if any
+-- an output has this name, and this path if one is given
 pub record IsOutput (dir : List ℕ) (o : Output) (x : List ℕ × Option (List ℕ)) : Type 0 where
   pub name : value o.name ≡ x.0
   pub is_name : is_store_name x.0 ≡ true
@@ -79,7 +79,7 @@ pub record HasOutputs (dir text : List ℕ) (outputs : List (List ℕ × Option 
 abbrev pub HaveOwnNames : List (List ℕ × Option (List ℕ)) → Type 0
 HaveOwnNames outputs = AllPairs (λ x y. x.0 ≢ y.0) outputs
 
--- an output with a path, with it
+-- the name and the path of an output; nothing for an output without a path
 abbrev pub with_path : List ℕ × Option (List ℕ) → Option (List ℕ × List ℕ)
 with_path x = option_map (λ base. (x.0, base)) x.1
 

@@ -65,25 +65,25 @@ with_items before (Some y) = Some (before ++ y.0, y.1)
 with_items before None = None
 
 -- the items that come with a comma before each, up to the closing bracket; at most as many as are counted
-unfoldable pub more_at : {A : Type 0} → (List ℕ → Option (A × List ℕ)) → ℕ → List ℕ → Option (List A × List ℕ)
-more_at item zero text = None
-more_at item (suc count) text =
-    closed_or (after 93 text) (after 44 text >>= λ t. item t >>= λ x. with_item x.0 (more_at item count x.1))
+unfoldable pub rest_of_items : {A : Type 0} → (List ℕ → Option (A × List ℕ)) → ℕ → List ℕ → Option (List A × List ℕ)
+rest_of_items item zero text = None
+rest_of_items item (suc count) text =
+    closed_or (after 93 text) (after 44 text >>= λ t. item t >>= λ x. with_item x.0 (rest_of_items item count x.1))
 
 unfoldable pub list_at : {A : Type 0} → (List ℕ → Option (A × List ℕ)) → List ℕ → Option (List A × List ℕ)
 list_at item text =
-    after 91 text >>= λ t. closed_or (after 93 t) (item t >>= λ x. with_item x.0 (more_at item (length x.1) x.1))
+    after 91 text >>= λ t. closed_or (after 93 t) (item t >>= λ x. with_item x.0 (rest_of_items item (length x.1) x.1))
 
 -- what was read, without its items
 abbrev pub bare : Option (List ℕ) → Option (Unit {0} × List ℕ)
 bare (Some rest) = Some (tt, rest)
 bare None = None
 
-abbrev pub alone : (List ℕ → Option (List ℕ)) → List ℕ → Option (Unit {0} × List ℕ)
-alone item text = bare (item text)
+abbrev pub without_value : (List ℕ → Option (List ℕ)) → List ℕ → Option (Unit {0} × List ℕ)
+without_value item text = bare (item text)
 
 unfoldable pub list_end : (List ℕ → Option (List ℕ)) → List ℕ → Option (List ℕ)
-list_end item text = rest_of (list_at (alone item) text)
+list_end item text = rest_of (list_at (without_value item) text)
 
 -- ---- the parts of a derivation
 

@@ -2,7 +2,7 @@
 
 ghost use Rattle.std.specs.Prelude.{◌≡◌, length};
 ghost use Rattle.drv.specs.Answer.{Gives};
-ghost use Rattle.drv.specs.Reading.{output_at, more_at, list_at, with_items, listed};
+ghost use Rattle.drv.specs.Reading.{output_at, rest_of_items, list_at, with_items, listed};
 ghost use Rattle.drv.specs.View.{views};
 
 use crate::error::DrvError;
@@ -40,7 +40,7 @@ fn more_outputs<'a>(
 ) -> Result<(Vec<Output>, &'a [u8]), DrvError>
     ensures { Gives
         (λ x. (views x.0.items, x.1.now)) result
-        (with_items (views before.items) (more_at (output_at dir.now) (length text.now) text.now)) }
+        (with_items (views before.items) (rest_of_items (output_at dir.now) (length text.now) text.now)) }
 {
     let mut outputs = before;
     let mut rest = text;

@@ -2,7 +2,7 @@
 
 ghost use Rattle.std.specs.Prelude.{◌≡◌, length};
 ghost use Rattle.std.specs.Option.{option_copied};
-ghost use Rattle.drv.specs.Reading.{alone, rest_of, more_at, string_end, list_end, further, variable_end, input_end, hash_end, after_derive, inputs_end, process_end};
+ghost use Rattle.drv.specs.Reading.{without_value, rest_of, rest_of_items, string_end, list_end, further, variable_end, input_end, hash_end, after_derive, inputs_end, process_end};
 
 use crate::string::{after, skip_string};
 
@@ -28,7 +28,7 @@ fn skip_strings(text: &[u8]) -> Option<&[u8]>
 
 /// What follows the strings that come with a comma before each, and the closing bracket.
 fn skip_more_strings(text: &[u8]) -> Option<&[u8]>
-    ensures { option_copied result ≡ rest_of (more_at (alone string_end) (length text.now) text.now) }
+    ensures { option_copied result ≡ rest_of (rest_of_items (without_value string_end) (length text.now) text.now) }
 {
     let mut rest = text;
     loop {
@@ -77,7 +77,7 @@ fn skip_inputs(text: &[u8]) -> Option<&[u8]>
 
 /// What follows the inputs that come with a comma before each, and the closing bracket.
 fn skip_more_inputs(text: &[u8]) -> Option<&[u8]>
-    ensures { option_copied result ≡ rest_of (more_at (alone input_end) (length text.now) text.now) }
+    ensures { option_copied result ≡ rest_of (rest_of_items (without_value input_end) (length text.now) text.now) }
 {
     let mut rest = text;
     loop {
@@ -103,7 +103,7 @@ fn skip_variables(text: &[u8]) -> Option<&[u8]>
 
 /// What follows the variables that come with a comma before each, and the closing bracket.
 fn skip_more_variables(text: &[u8]) -> Option<&[u8]>
-    ensures { option_copied result ≡ rest_of (more_at (alone variable_end) (length text.now) text.now) }
+    ensures { option_copied result ≡ rest_of (rest_of_items (without_value variable_end) (length text.now) text.now) }
 {
     let mut rest = text;
     loop {

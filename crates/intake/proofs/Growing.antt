@@ -16,15 +16,15 @@ dropped zero xs ys = let none : 0 ≡ 0 - length xs = omega arith in ap (λ k. x
 dropped (suc n) [] ys = let all : suc n ≡ suc n - 0 = omega arith in ap (λ k. drop k ys) all
 dropped (suc n) (x ∷ xs) ys = let less : n - length xs ≡ suc n - length (x ∷ xs) = omega arith in dropped n xs ys ∙ ap (λ k. drop n xs ++ drop k ys) less
 
-pub taken : (n : ℕ) (xs ys : List ℕ) → take n (xs ++ ys) ≡ take n xs ++ take (n - length xs) ys
-taken zero xs ys = let none : 0 ≡ 0 - length xs = omega arith in ap (λ k. take k ys) none
-taken (suc n) [] ys = let all : suc n ≡ suc n - 0 = omega arith in ap (λ k. take k ys) all
-taken (suc n) (x ∷ xs) ys = let less : n - length xs ≡ suc n - length (x ∷ xs) = omega arith in ap (λ t. x ∷ t) (taken n xs ys ∙ ap (λ k. take n xs ++ take k ys) less)
+pub take_joined : (n : ℕ) (xs ys : List ℕ) → take n (xs ++ ys) ≡ take n xs ++ take (n - length xs) ys
+take_joined zero xs ys = let none : 0 ≡ 0 - length xs = omega arith in ap (λ k. take k ys) none
+take_joined (suc n) [] ys = let all : suc n ≡ suc n - 0 = omega arith in ap (λ k. take k ys) all
+take_joined (suc n) (x ∷ xs) ys = let less : n - length xs ≡ suc n - length (x ∷ xs) = omega arith in ap (λ t. x ∷ t) (take_joined n xs ys ∙ ap (λ k. take n xs ++ take k ys) less)
 
-pub taken_behind : (d : ℕ) (xs ys : List ℕ) → take d (drop 96 (xs ++ ys)) ≡ take d (drop 96 xs) ++ take (d - (length xs - 96)) (drop (96 - length xs) ys)
-taken_behind d xs ys =
+pub take_after_prefix : (d : ℕ) (xs ys : List ℕ) → take d (drop 96 (xs ++ ys)) ≡ take d (drop 96 xs) ++ take (d - (length xs - 96)) (drop (96 - length xs) ys)
+take_after_prefix d xs ys =
     ap (take d) (dropped 96 xs ys)
-    ∙ taken d (drop 96 xs) (drop (96 - length xs) ys)
+    ∙ take_joined d (drop 96 xs) (drop (96 - length xs) ys)
     ∙ ap (λ k. take d (drop 96 xs) ++ take (d - k) (drop (96 - length xs) ys)) (length-drop 96 xs)
 
 -- ---- the contents before a piece
@@ -38,8 +38,8 @@ none_yet bytes short =
     by true xs e = e
     by false xs e = refl
 
-same_front : (old piece : List ℕ) → 96 ≤ length old → begins_plain (old ++ piece) ≡ begins_plain old
-same_front old piece long = ap (λ t. bytes_eq t plain_prefix) (take-append-le 88 old piece (omega arith))
+same_prefix : (old piece : List ℕ) → 96 ≤ length old → begins_plain (old ++ piece) ≡ begins_plain old
+same_prefix old piece long = ap (λ t. bytes_eq t plain_prefix) (take-append-le 88 old piece (omega arith))
 
 same_length : (old piece : List ℕ) → 96 ≤ length old → length_at (drop 88 (old ++ piece)) ≡ length_at (drop 88 old)
 same_length old piece long =
@@ -51,7 +51,7 @@ had_plain old piece plain =
     elim (cases_lt (length old) 96) [
       | inl short ↦ none_yet old (omega arith) ∙ sym (ap (take (length_at (drop 88 (old ++ piece)))) (drop_all 96 old (omega arith)) ∙ take-nil (length_at (drop 88 (old ++ piece))))
       | inr long ↦
-          ap (λ b. cond b (after_prefix old) []) (sym (same_front old piece long) ∙ plain)
+          ap (λ b. cond b (after_prefix old) []) (sym (same_prefix old piece long) ∙ plain)
           ∙ ap (λ n. take n (drop 96 old)) (sym (same_length old piece long))
     ]
 
@@ -59,7 +59,7 @@ pub had_none : (old piece : List ℕ) → begins_plain (old ++ piece) ≡ false 
 had_none old piece other =
     elim (cases_lt (length old) 96) [
       | inl short ↦ none_yet old (omega arith)
-      | inr long ↦ ap (λ b. cond b (after_prefix old) []) (sym (same_front old piece long) ∙ other)
+      | inr long ↦ ap (λ b. cond b (after_prefix old) []) (sym (same_prefix old piece long) ∙ other)
     ]
 
 -- ---- by the first piece
@@ -95,6 +95,6 @@ more_contents first old piece is plain =
     let plain_all : begins_plain all ≡ true = sym (begins_by_first first all is) ∙ plain in
     let n = length_at (drop 88 all) in
     ap (λ b. cond b (after_prefix all) []) plain_all
-    ∙ taken_behind n old piece
+    ∙ take_after_prefix n old piece
     ∙ ap (λ t. t ++ take (n - (length old - 96)) (drop (96 - length old) piece)) (sym (had_plain old piece plain_all))
     ∙ ap (λ k. contents_so_far old ++ take (k - (length old - 96)) (drop (96 - length old) piece)) (sym (length_by_first first all is))

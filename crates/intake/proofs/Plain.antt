@@ -19,16 +19,16 @@ use Rattle.paths.specs.Facts.{hash_of, facts_of}
 use Rattle.intake.specs.Contents.{plain_prefix, begins_plain, after_prefix, contents_so_far, hash_so_far}
 use Rattle.intake.specs.Arriving.{fault_of, appended}
 
-front_is : plain_prefix ≡ spelling head
+prefix_is : plain_prefix ≡ spelling head
 unfolding plain_prefix
-front_is = refl
+prefix_is = refl
 
 -- the archive of such a file begins so, and its contents stand behind
 file_begins : (c : List ℕ) → begins_plain (spelling (archive (regular false c))) ≡ true
 file_begins c =
     ap (λ t. bytes_eq (take 88 t) plain_prefix) (in_three c)
     ∙ ap (λ t. bytes_eq t plain_prefix) (take_at (spelling head) (string c ++ spelling close) 88 length-head)
-    ∙ (bytes_eq-Decides (spelling head) plain_prefix).1 (sym front_is)
+    ∙ (bytes_eq-Decides (spelling head) plain_prefix).1 (sym prefix_is)
 
 file_contents : (c : List ℕ) → length c < 2 ^ 64 → after_prefix (spelling (archive (regular false c))) ≡ c
 unfolding string
@@ -76,13 +76,13 @@ hash_is bytes (directory es) a = by_other bytes (ap begins_plain a.spells ∙ di
 
 -- ---- by the outcome
 
-pub told_hash : (bytes : List ℕ) → IsBytes bytes → (r : Result Tree NarError) → outcome_of bytes ≡ r → fault_of r ≡ None → hash_of (plain_contents r) ≡ hash_so_far bytes
-told_hash bytes are (Ok t) e none = hash_is bytes t ((outcome_archive bytes t are).0 e)
-told_hash bytes are (Err f) e none = let no : ⊥ = cc in absurd no
+pub hash_of_archive : (bytes : List ℕ) → IsBytes bytes → (r : Result Tree NarError) → outcome_of bytes ≡ r → fault_of r ≡ None → hash_of (plain_contents r) ≡ hash_so_far bytes
+hash_of_archive bytes are (Ok t) e none = hash_is bytes t ((outcome_archive bytes t are).0 e)
+hash_of_archive bytes are (Err f) e none = let no : ⊥ = cc in absurd no
 
-pub told_none : (r : Result Tree NarError) (f : NarError) → fault_of r ≡ Some f → hash_of (plain_contents r) ≡ None
-told_none (Ok t) f is = let no : ⊥ = cc in absurd no
-told_none (Err e) f is = refl
+pub hash_of_fault : (r : Result Tree NarError) (f : NarError) → fault_of r ≡ Some f → hash_of (plain_contents r) ≡ None
+hash_of_fault (Ok t) f is = let no : ⊥ = cc in absurd no
+hash_of_fault (Err e) f is = refl
 
 -- ---- a text as an archive
 
@@ -92,7 +92,7 @@ wrapped c front length' fill end f l p e =
     let text : ((front ++ length') ++ c) ++ fill ≡ front ++ string c = is_written front c length' (front ++ length') ((front ++ length') ++ c) (((front ++ length') ++ c) ++ fill) l refl refl (ap (λ t. ((front ++ length') ++ c) ++ t) p) in
     ap (λ t. t ++ end) text
     ∙ append_assoc front (string c) end
-    ∙ ap (λ t. t ++ (string c ++ end)) (f ∙ front_is)
+    ∙ ap (λ t. t ++ (string c ++ end)) (f ∙ prefix_is)
     ∙ ap (λ t. spelling head ++ (string c ++ t)) e
     ∙ sym (in_three c)
 

@@ -1,3 +1,4 @@
 pub mod Arriving
 pub mod Contents
 pub mod Described
+pub mod Recorded

@@ -2,18 +2,18 @@
 
 ghost use Rattle.std.specs.Prelude.{◌≡◌, ◌++◌, [], OnOk};
 ghost use Rattle.nar.specs.Tree.{IsBytes};
-ghost use Rattle.paths.specs.Facts.{facts_of};
+ghost use Rattle.paths.specs.Facts.{HasFactsFor, facts_of};
 ghost use Rattle.intake.specs.Arriving.{HasAccepted};
-ghost use Rattle.intake.specs.Described.{DescribesBytes};
+ghost use Rattle.intake.specs.Described.{DescribesBytes, facts_for};
 
 use crate::checking::{fault_at_end, feed};
-use crate::digests::{SIZE, contents_up_to, finalized, hash_asked, hash_pieces, plain_hash};
+use crate::digests::{contents_up_to, finalized, hash_asked, hash_pieces, plain_hash};
 use nar::{Checker, NarError};
-use paths::Facts;
+use paths::{Facts, Method};
 use sha2::{Digest, Sha256};
 use std::alloc::{AllocError, Global};
 use std::marker::Model;
-use streams::Pieces;
+use streams::{PIECE_SIZE, Pieces};
 
 /// The bytes that came, and what is found of them.
 #[derive(Drop)]
@@ -38,6 +38,31 @@ impl Arrived {
             nar_hash: self.nar_hash,
             nar_size: self.pieces.len() as u64,
             plain: plain_hash(self.fault, self.contents_hash, &self.pieces),
+        }
+    }
+
+    /// What is found of the bytes for a content address of this method. For `Text` these are `facts`; for `Source` no
+    /// contents are hashed, and `plain` is `None`.
+    ///
+    /// ```rust
+    /// use intake::Intake;
+    /// use paths::Method;
+    ///
+    /// let arrived = Intake::of_text(alloc, b"abc")?.finish()?;
+    /// assert!(rt; arrived.facts_for(Method::Text).plain.is_some());
+    /// assert!(rt; arrived.facts_for(Method::Source).plain.is_none());
+    /// ```
+    pub fn facts_for(&self, method: Method) -> Facts
+        ensures exact { DescribesBytes self.now → result ≡ facts_for method self.now.pieces }
+        ensures needed { DescribesBytes self.now → HasFactsFor method self.now.pieces result }
+    {
+        match method {
+            Method::Text => self.facts(),
+            Method::Source => Facts {
+                nar_hash: self.nar_hash,
+                nar_size: self.pieces.len() as u64,
+                plain: None,
+            },
         }
     }
 }
@@ -76,10 +101,10 @@ fn accept_piece(
     ensures accepted { OnOk result (HasAccepted checker.old hasher.old contents.old pieces.old
         → HasAccepted checker.new hasher.new contents.new pieces.new) }
 {
-    let whole = pieces.len() / SIZE;
+    let whole = pieces.len() / PIECE_SIZE;
     pieces.push(piece)?;
     feed(checker, piece)?;
-    let now = pieces.len() / SIZE;
+    let now = pieces.len() / PIECE_SIZE;
     hash_pieces(hasher, pieces, whole, now);
     hash_asked(contents, pieces, whole, now);
     Ok(())
@@ -124,7 +149,7 @@ impl Arriving {
         ensures { self.new ≡ self.old }
     {
         if self.contents.is_none() {
-            self.contents = Some(contents_up_to(&self.pieces, self.pieces.len() / SIZE));
+            self.contents = Some(contents_up_to(&self.pieces, self.pieces.len() / PIECE_SIZE));
         }
     }
 
@@ -147,7 +172,7 @@ impl Arriving {
             pieces,
             ..
         } = self;
-        let whole = pieces.len() / SIZE;
+        let whole = pieces.len() / PIECE_SIZE;
         hash_pieces(&mut hasher, &pieces, whole, pieces.count());
         hash_asked(&mut contents, &pieces, whole, pieces.count());
         Arrived {

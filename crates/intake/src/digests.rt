@@ -14,10 +14,7 @@ ghost use Rattle.intake.specs.Arriving.{MayHold, fault_of};
 use crate::contents::{begins_plain, contents_in};
 use nar::NarError;
 use sha2::{Digest, Sha256};
-use streams::Pieces;
-
-/// How many bytes each piece but the last has.
-pub const SIZE: usize = 65_536;
+use streams::{PIECE_SIZE, Pieces};
 
 /// Hashes the pieces from one place up to another. What is hashed are whole pieces, so that bytes which come a few at a
 /// time cost no more.
@@ -33,16 +30,6 @@ pub fn hash_pieces(hasher: &mut Sha256, pieces: &Pieces, from: usize, to: usize)
     }
 }
 
-/// The first piece, or no bytes.
-fn first_of(pieces: &Pieces) -> &[u8]
-    ensures { result.now ≡ take 65536 pieces.now }
-{
-    if pieces.len() == 0 {
-        return b"";
-    }
-    pieces.piece(0)
-}
-
 /// Hashes what the pieces from one place up to another have of the contents.
 fn hash_contents(hasher: &mut Sha256, pieces: &Pieces, from: usize, to: usize)
     requires order { from ≤ to }
@@ -52,7 +39,7 @@ fn hash_contents(hasher: &mut Sha256, pieces: &Pieces, from: usize, to: usize)
         → Holds256 hasher.new (contents_so_far (take (65536 * to) pieces.now)) }
 {
     'parts: for i in from..to {
-        hasher.update(contents_in(pieces.piece(0), SIZE * i, pieces.piece(i)));
+        hasher.update(contents_in(pieces.piece(0), PIECE_SIZE * i, pieces.piece(i)));
     }
 }
 
@@ -107,7 +94,7 @@ fn hash_if_plain(known: Option<[u8; 32]>, pieces: &Pieces) -> Option<[u8; 32]>
     requires small { length pieces.now < 2 ^ 64 }
     ensures { IfSome known (λ h. h ≡ sha256 (contents_so_far pieces.now)) → result ≡ hash_so_far pieces.now }
 {
-    if !begins_plain(first_of(pieces)) {
+    if !begins_plain(pieces.first()) {
         return None;
     }
     Some(contents_hash(known, pieces))

@@ -8,8 +8,10 @@ mod digests;
 mod held;
 mod reading;
 mod receiving;
+mod recorded;
 mod text;
 
 pub use arriving::Arrived;
 pub use reading::{file_contents, list};
 pub use receiving::Intake;
+pub use recorded::recorded_outputs;

@@ -92,9 +92,9 @@ unfolding is_missing
 not_derivation true f n = n
 not_derivation false f n = refl
 
-one_lacks : (f : Path → Bool) (xs : List Path) → list_all f xs ≡ false → (x : Path) × Contains xs x × IsFalse (f x)
-one_lacks f [] e = absurd (false≢true (sym e))
-one_lacks f (x ∷ xs) e = by (f x) refl e (λ later. one_lacks f xs later)
+one_misses : (f : Path → Bool) (xs : List Path) → list_all f xs ≡ false → (x : Path) × Contains xs x × IsFalse (f x)
+one_misses f [] e = absurd (false≢true (sym e))
+one_misses f (x ∷ xs) e = by (f x) refl e (λ later. one_misses f xs later)
   where
     by : (b : Bool) → f x ≡ b → b && list_all f xs ≡ false → (list_all f xs ≡ false → (y : Path) × Contains xs y × IsFalse (f y)) → (y : Path) × Contains (x ∷ xs) y × IsFalse (f y)
     by true h k later = let r = later k in (r.0, behind x r.0 xs r.1, r.2)
@@ -131,7 +131,7 @@ missing_are_missing s w c i new h =
     (unless verified CaMismatch) (if_derivation i.path tree) (is_complete w i.path i.refs)
     (not_unless few TooManyReferences refl) (not_archive (outcome_of i.nar)) (not_unless digest NarHashMismatch refl) (not_unless no_self SelfReference refl)
     (not_unless verified CaMismatch refl) (not_derivation (is_derivation i.path) tree (not_tree s.store_dir (outcome_of i.nar))) h.1 in
-    let lacks = neither (has w i.path) (list_all (λ r. has w r || same r i.path) i.refs) incomplete in
-    let r = one_lacks (λ r. has w r || same r i.path) i.refs lacks.1 in
+    let misses = neither (has w i.path) (list_all (λ r. has w r || same r i.path) i.refs) incomplete in
+    let r = one_misses (λ r. has w r || same r i.path) i.refs misses.1 in
     let not_there = neither (has w r.0) (same r.0 i.path) r.2 in
     (r.0, r.1, (λ is. false≢true (sym not_there.1 ∙ ap (λ x. same x i.path) is ∙ same_itself i.path)), not_there.0)

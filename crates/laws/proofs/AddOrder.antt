@@ -27,7 +27,7 @@ use Rattle.model.specs.declared.refusal.Refusal.TheVariants.{TooLarge, CaMismatc
 use Rattle.model.specs.Faults.{derivation_refusal}
 use Rattle.model.specs.Adds.{added_import, text_archive, text_archive_size}
 use Rattle.model.specs.Tests.{unless, first_failing, archive_fault, outputs_fault, tree_fault, if_derivation, is_verified, is_complete}
-use Rattle.laws.specs.AddOrder.{Lacks, IsFaultyTree, text, other, IsRightTree, IsAsGiven, SourceFaultsInOrder, TextFaultsInOrder, ImportFaultsInOrder}
+use Rattle.laws.specs.AddOrder.{HasMissingReference, IsFaultyTree, text, other, IsRightTree, IsAsGiven, SourceFaultsInOrder, TextFaultsInOrder, ImportFaultsInOrder}
 use Rattle.laws.proofs.Faults.{refused_with}
 use Rattle.model.proofs.Passed.{all_member}
 use Rattle.laws.proofs.AddFaults.{texts_are_measured}
@@ -58,8 +58,8 @@ no_self refs p out = holds_up (not (holds refs p)) SelfReference (ap not (false_
 a_self : (refs : List Path) (p : Path) → Contains refs p → unless (not (holds refs p)) SelfReference ≡ Some SelfReference
 a_self refs p c = breaks (not (holds refs p)) SelfReference (ap not (is_held refs p c))
 
-lacks : (w : World) (p : Path) (refs : List Path) → Lacks w p refs → unless (is_complete w p refs) MissingReference ≡ Some MissingReference
-lacks w p refs h = breaks (is_complete w p refs) MissingReference (or_from (has w p) (list_all (λ r. has w r || same r p) refs) h.fresh (false_from_ne_true (list_all (λ r. has w r || same r p) refs) (λ all.
+misses : (w : World) (p : Path) (refs : List Path) → HasMissingReference w p refs → unless (is_complete w p refs) MissingReference ≡ Some MissingReference
+misses w p refs h = breaks (is_complete w p refs) MissingReference (or_from (has w p) (list_all (λ r. has w r || same r p) refs) h.fresh (false_from_ne_true (list_all (λ r. has w r || same r p) refs) (λ all.
     false≢true (sym (or_from (has w h.reference) (same h.reference p) h.missing (false_from_ne_true (same h.reference p) (λ e. h.other (same_is h.reference p e))))
     ∙ all_member (λ r. has w r || same r p) refs h.reference all h.listed))))
 
@@ -116,7 +116,7 @@ source_faults_in_order s w c name refs b =
       tree = λ le t is out drv e r f reported. refused_with s w c (add_source name refs b) r
           (goes_on _ _ (less le) ∙ goes_on _ _ (read t is) ∙ goes_on _ _ (no_self refs p out) ∙ stops _ _ _ (bad_tree s.store_dir p (outcome_of b) t e is drv f ∙ reported));
       reference = λ le t is out right_tree h. refused_with s w c (add_source name refs b) MissingReference
-          (goes_on _ _ (less le) ∙ goes_on _ _ (read t is) ∙ goes_on _ _ (no_self refs p out) ∙ goes_on _ _ (good_tree s.store_dir p (outcome_of b) t is right_tree) ∙ stops _ _ _ (lacks w p refs h));
+          (goes_on _ _ (less le) ∙ goes_on _ _ (read t is) ∙ goes_on _ _ (no_self refs p out) ∙ goes_on _ _ (good_tree s.store_dir p (outcome_of b) t is right_tree) ∙ stops _ _ _ (misses w p refs h));
     }
 
 pub text_faults_in_order : TextFaultsInOrder
@@ -133,7 +133,7 @@ text_faults_in_order s w c name refs contents =
           (goes_on _ _ (less le) ∙ goes_on _ _ (fits small) ∙ goes_on _ _ (no_self refs p out) ∙ stops _ _ _ (asked p (outputs_fault (outputs_of s.store_dir contents)) drv ∙ ap outputs_fault f ∙ reported));
       reference = λ le small out right_text h. refused_with s w c (add_text name refs contents) MissingReference
           (goes_on _ _ (less le) ∙ goes_on _ _ (fits small) ∙ goes_on _ _ (no_self refs p out)
-          ∙ goes_on _ _ (right p (outputs_fault (outputs_of s.store_dir contents)) (λ drv. no_output_fault (outputs_of s.store_dir contents) (λ e f. right_text e drv f))) ∙ stops _ _ _ (lacks w p refs h));
+          ∙ goes_on _ _ (right p (outputs_fault (outputs_of s.store_dir contents)) (λ drv. no_output_fault (outputs_of s.store_dir contents) (λ e f. right_text e drv f))) ∙ stops _ _ _ (misses w p refs h));
     }
 
 -- ---- imports
@@ -183,5 +183,5 @@ import_faults_in_order s w c i =
       tree = λ t given ok drv e r f reported. refused_with s w c (import_object i) r
           (as_given dir i t given _ ∙ goes_on _ _ (selfless dir i ok.itself) ∙ goes_on _ _ (verified dir i ok.address) ∙ stops _ _ _ (bad_tree dir i.path (outcome_of i.nar) t e given.read drv f ∙ reported));
       reference = λ t given ok right_tree h. refused_with s w c (import_object i) MissingReference
-          (as_given dir i t given _ ∙ goes_on _ _ (selfless dir i ok.itself) ∙ goes_on _ _ (verified dir i ok.address) ∙ goes_on _ _ (good_tree dir i.path (outcome_of i.nar) t given.read right_tree) ∙ stops _ _ _ (lacks w i.path i.refs h));
+          (as_given dir i t given _ ∙ goes_on _ _ (selfless dir i ok.itself) ∙ goes_on _ _ (verified dir i ok.address) ∙ goes_on _ _ (good_tree dir i.path (outcome_of i.nar) t given.read right_tree) ∙ stops _ _ _ (misses w i.path i.refs h));
     }

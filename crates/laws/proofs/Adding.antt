@@ -19,7 +19,7 @@ use Rattle.model.specs.Answers.{answer}
 use Rattle.model.specs.Effects.{with_object, effect}
 use Rattle.laws.specs.Changes.{Submitted, with_text, with_source, with_import, IsAsSubmitted, Gains, AddsExactly}
 use Rattle.model.proofs.MapMembers.{bytes_antisymmetric, set_member}
-use Rattle.laws.proofs.Changed.{at_inserted, beside_inserted}
+use Rattle.laws.proofs.Changed.{at_inserted, next_to_inserted}
 
 added_of : List ℕ → Submitted → Added
 added_of dir a = added_at dir a.path a.references a.deriver a.ca a.nar
@@ -27,9 +27,9 @@ added_of dir a = added_at dir a.path a.references a.deriver a.ca a.nar
 in_set : (refs : List Path) (r : Path) → Contains refs r → IsTrue (finite.contains_key (set_of bytes_cmp refs) r)
 in_set refs r c = contains_key-set_of nat_list_cmp_total refs r ∙ any_from (eq_by_cmp bytes_cmp r) refs r c (ap is_eq (tied_itself nat_list_cmp_total r))
 
-as_handed_in : (dir : List ℕ) (a : Submitted) → IsAsSubmitted dir a (added_of dir a).object
+as_passed : (dir : List ℕ) (a : Submitted) → IsAsSubmitted dir a (added_of dir a).object
 unfolding added_of
-as_handed_in dir a = record {
+as_passed dir a = record {
   nar = refl;
   references = λ r. (λ c. set_member nat_list_cmp_total bytes_antisymmetric a.references r c, λ c. in_set a.references r c);
   deriver = refl;
@@ -37,9 +37,9 @@ as_handed_in dir a = record {
   outputs = refl;
 }
 
-pub import_as_handed_in : (dir : List ℕ) (i : Imported) → IsAsSubmitted dir (with_import i) (added_import dir i).object
+pub import_as_passed : (dir : List ℕ) (i : Imported) → IsAsSubmitted dir (with_import i) (added_import dir i).object
 unfolding added_of
-import_as_handed_in dir i = as_handed_in dir (with_import i)
+import_as_passed dir i = as_passed dir (with_import i)
 
 gained : (dir : List ℕ) (a : Submitted) (w : World) → Gains dir a w (with_object w (added_of dir a))
 unfolding added_of
@@ -54,8 +54,8 @@ gained dir a w = by (has w a.path) refl
     }
     by false e = record {
       present = λ h. absurd (false≢true (sym e ∙ h));
-      fresh = λ h. ((added_of dir a).object, at_inserted nat_list_cmp_total bytes_antisymmetric w.objects a.path (added_of dir a).object, as_handed_in dir a);
-      others = λ p other. beside_inserted nat_list_cmp_total bytes_antisymmetric w.objects a.path (added_of dir a).object p other;
+      fresh = λ h. ((added_of dir a).object, at_inserted nat_list_cmp_total bytes_antisymmetric w.objects a.path (added_of dir a).object, as_passed dir a);
+      others = λ p other. next_to_inserted nat_list_cmp_total bytes_antisymmetric w.objects a.path (added_of dir a).object p other;
       roots = record { permanent = refl; user_roots = refl; profiles = refl; runtime = refl; temporary = refl };
     }
 

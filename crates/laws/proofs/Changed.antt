@@ -15,11 +15,11 @@ module _ {K X : Type 0} {R : K → K → Ordering} (o : IsTotalOrder R) (same : 
   pub at_inserted : (m : finite.FinMap R X) (k : K) (v : X) → finite.get (finite.insert m k v) k ≡ Some v
   at_inserted m k v = finite.get-insert o m k v k ∙ ap (λ b. cond b (Some v) (finite.get m k)) (ap is_eq (tied_itself o k))
 
-  pub beside_inserted : (m : finite.FinMap R X) (k : K) (v : X) (q : K) → (q ≡ k → ⊥) → finite.get (finite.insert m k v) q ≡ finite.get m q
-  beside_inserted m k v q other = finite.get-insert o m k v q ∙ ap (λ b. cond b (Some v) (finite.get m q)) (apart same q k other)
+  pub next_to_inserted : (m : finite.FinMap R X) (k : K) (v : X) (q : K) → (q ≡ k → ⊥) → finite.get (finite.insert m k v) q ≡ finite.get m q
+  next_to_inserted m k v q other = finite.get-insert o m k v q ∙ ap (λ b. cond b (Some v) (finite.get m q)) (apart same q k other)
 
   pub at_removed : (m : finite.FinMap R X) (k : K) → IsFalse (finite.contains_key (finite.remove m k) k)
   at_removed m k = ap is_some (finite.get-remove o m k k) ∙ ap (λ b. is_some (cond b None (finite.get m k))) (ap is_eq (tied_itself o k))
 
-  pub beside_removed : (m : finite.FinMap R X) (k q : K) → (q ≡ k → ⊥) → finite.get (finite.remove m k) q ≡ finite.get m q
-  beside_removed m k q other = finite.get-remove o m k q ∙ ap (λ b. cond b None (finite.get m q)) (apart same q k other)
+  pub next_to_removed : (m : finite.FinMap R X) (k q : K) → (q ≡ k → ⊥) → finite.get (finite.remove m k) q ≡ finite.get m q
+  next_to_removed m k q other = finite.get-remove o m k q ∙ ap (λ b. cond b None (finite.get m q)) (apart same q k other)

@@ -20,7 +20,7 @@ use Rattle.model.specs.Reply.{IsDone}
 use Rattle.model.specs.Collection.{CollectsExactly, Collects}
 use Rattle.model.proofs.MapMembers.{bytes_antisymmetric}
 use Rattle.model.proofs.Worlds.{get-keeping, kept_if, live_of}
-use Rattle.model.proofs.Pins.{reach_stands}
+use Rattle.model.proofs.Pins.{reach_stays}
 
 module _ (s : Settings) (w : World) where
   left_lives : (p : Path) → IsTrue (has (keeping w (lives s w)) p) → IsTrue (lives s w p)
@@ -33,7 +33,7 @@ module _ (s : Settings) (w : World) where
   still_lives : (p : Path) → IsTrue (lives s w p) → IsTrue (lives s (keeping w (lives s w)) p)
   still_lives p h =
       let l = (live_decided (keep_of s) (graph_of w) (roots_of w) p).0 h in
-      live_of s (keeping w (lives s w)) l.root p l.listed (reach_stands s w (keeping w (lives s w)) (λ q t. kept_if w.objects (lives s w) q t) l.root l.listed p l.reaches)
+      live_of s (keeping w (lives s w)) l.root p l.listed (reach_stays s w (keeping w (lives s w)) (λ q t. kept_if w.objects (lives s w) q t) l.root l.listed p l.reaches)
 
 none_left : (test : Path → Bool) (ps : List Path) → ((p : Path) → IsTrue (holds ps p) → IsTrue (test p)) → filter (λ p. not (test p)) ps ≡ []
 none_left test [] f = refl
@@ -77,7 +77,7 @@ module _ (s : Settings) (w : World) where
   pub exactly : CollectsExactly s w (keeping w (lives s w))
   exactly = record {
     kept = λ p h. kept_if w.objects (lives s w) p h;
-    gone = λ p h. ap is_some (get-keeping w.objects (lives s w) p) ∙ ap (λ b. is_some (cond b (finite.get w.objects p) None)) h;
+    deleted = λ p h. ap is_some (get-keeping w.objects (lives s w) p) ∙ ap (λ b. is_some (cond b (finite.get w.objects p) None)) h;
     roots = record { permanent = refl; user_roots = refl; profiles = refl; runtime = refl; temporary = refl };
     once = once;
   }

@@ -6,7 +6,7 @@ use Rattle.std.specs.List.Sorted.{IsStrictlySortedBy}
 use Rattle.std.specs.Option.{option_map, option_or}
 use Rattle.std.proofs.lemmas.Bool.{false≢true}
 use Rattle.paths.specs.Root.{bytes_cmp}
-use Rattle.live.specs.Graph.{Path, Graph, references_alone}
+use Rattle.live.specs.Graph.{Path, Graph, references_only}
 use Rattle.live.specs.Reach.{reaches}
 use Rattle.live.specs.Limited.{is_referred_to, next_group}
 use Rattle.live.proofs.Groups.{in_filter, filter_in}
@@ -16,19 +16,19 @@ use Rattle.laws.proofs.Sources.{none_less}
 
 module _ (g : Graph) (dead : Path → Bool) (left group : List Path) (rise : IsStrictlySortedBy bytes_cmp left) (many : 1 < length group) where
   by : (alone first : Option Path) → find dead left ≡ first
-      → option_or (option_map (λ (p : Path). p ∷ []) alone) (option_map (λ (p : Path). filter (λ q. reaches references_alone g q p) left) first) ≡ Some group
+      → option_or (option_map (λ (p : Path). p ∷ []) alone) (option_map (λ (p : Path). filter (λ q. reaches references_only g q p) left) first) ≡ Some group
       → IsCycle g dead left group
   by (Some p) first f e = (let is : (p ∷ []) ≡ group = cc in let one = ap length is in absurd (omega (arith, one, many)))
   by None None f e = absurd (false≢true (ap is_some e))
   by None (Some p) f e =
-      let is : filter (λ q. reaches references_alone g q p) left ≡ group = cc in
+      let is : filter (λ q. reaches references_only g q p) left ≡ group = cc in
       let here = found dead left p f in
       subst (λ (xs : List Path). IsCycle g dead left xs) is (record {
         path = p;
         present = here.0;
         is_dead = here.1;
         least = λ q c t less. none_less dead left p q rise f c t less;
-        members = λ q. (λ c. in_filter (λ q. reaches references_alone g q p) left q c, λ h. filter_in (λ q. reaches references_alone g q p) left q h.0 h.1);
+        members = λ q. (λ c. in_filter (λ q. reaches references_only g q p) left q c, λ h. filter_in (λ q. reaches references_only g q p) left q h.0 h.1);
       })
 
 pub cycles_go_by_the_least : CyclesGoByTheLeast

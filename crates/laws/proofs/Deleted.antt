@@ -13,7 +13,7 @@ use Rattle.model.proofs.Worlds.{get-keeping, kept_if}
 
 exactly : (w : World) (named : List Path) → DeletesExactly named w (keeping w (λ p. not (is_deleted_with w named p)))
 exactly w named = record {
-  gone = λ p r.
+  deleted = λ p r.
       ap is_some (get-keeping w.objects (λ x. not (is_deleted_with w named x)) p)
       ∙ ap (λ b. is_some (cond (not b) (finite.get w.objects p) None)) ((closure_decided (graph_of w) named p).1 r);
   kept = λ p other. kept_if w.objects (λ x. not (is_deleted_with w named x)) p

@@ -16,7 +16,7 @@ use Rattle.model.specs.declared.refusal.Refusal.TheVariants.{BadRootName, BadSes
 use Rattle.model.specs.Profiles.{has_profile}
 use Rattle.model.specs.Tests.{unless, first_failing, refusal}
 use Rattle.model.specs.Step.{Step}
-use Rattle.laws.specs.Faults.{IsInBounds, SessionFault, owner_, number, IsSessionOf, SessionFaultsAreReported, HasBadName, LacksProfile, IsRefusedWith, NamesComeFirst, ProfilesComeNext, PathsComeBeforeNumbers, NamedAreValid}
+use Rattle.laws.specs.Faults.{IsInBounds, SessionFault, owner_, number, IsSessionOf, SessionFaultsAreReported, HasBadName, HasNoProfile, IsRefusedWith, NamesComeFirst, ProfilesComeNext, PathsComeBeforeNumbers, NamedAreValid}
 use Rattle.model.proofs.Passed.{met, passed, all_member}
 
 -- ---- sessions
@@ -70,8 +70,8 @@ module _ (s : Settings) (w : World) (c : Caller) (owner : List ℕ) (session : �
       by false b x y h = owner_ x (some_is BadRootName r h)
       by true false x y h = number x (out_of_bounds session y) (some_is BadSession r h)
 
-pub session_faults_are_told : SessionFaultsAreReported
-session_faults_are_told s w c owner session = (
+pub session_faults_are_reported : SessionFaultsAreReported
+session_faults_are_reported s w c owner session = (
   (λ p. record {
     done_ = λ a new h. kept_for s w c owner session p h.1;
     refused_ = λ r new h. not_kept_for s w c owner session p r h.1;
@@ -119,7 +119,7 @@ bad_name s w _ h = absurd h
 pub names_come_first : NamesComeFirst
 names_come_first s w c q reply new h bad = refused_with s w c q BadRootName (bad_name s w q bad) reply new h
 
-no_such : (s : Settings) (w : World) (q : Request) → LacksProfile w q → refusal s w q ≡ Some NoProfile
+no_such : (s : Settings) (w : World) (q : Request) → HasNoProfile w q → refusal s w q ≡ Some NoProfile
 no_such s w (rollback owner name) h =
     second_fails (is_plain_name owner && is_plain_name name) (has_profile w (owner, name)) BadRootName NoProfile _ (and_from (is_plain_name owner) (is_plain_name name) h.owner_ h.name_) h.none
 no_such s w (switch owner name n) h =
@@ -138,5 +138,5 @@ paths_come_before_numbers s w c owner name p reply new h plain_owner plain_name 
 
 -- ---- deletions
 
-pub named_are_there : NamedAreValid
-named_are_there s w c named ignores a new h p listed = all_member (has w) named p (met (list_all (has w) named) _ (passed _ [] h.1).0) listed
+pub named_are_present : NamedAreValid
+named_are_present s w c named ignores a new h p listed = all_member (has w) named p (met (list_all (has w) named) _ (passed _ [] h.1).0) listed

@@ -80,8 +80,8 @@ module _ (c : Contents) (p : Path) (o : Stored) (row : finite.get c.objects p â‰
 pub faulty_objects : FaultyObjectsAreUnsound
 faulty_objects c p o row = object_excludes c p o row
 
-pub archives_told : ArchivesAreReadWhole
-archives_told schema dir c sound p o nar row h = (
+pub archives_reported : ArchivesAreReadWhole
+archives_reported schema dir c sound p o nar row h = (
   object_in (rows_of c) p o,
   object_at (rows_of c) p âˆ™ ap (option_map (object_in (rows_of c) p)) row,
   read_as c p o row schema dir sound nar h,

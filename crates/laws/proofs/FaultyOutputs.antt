@@ -48,9 +48,9 @@ faulty_derivations dir c p o stem nar row is h =
     let drv = ends p stem is in
     let recorded : (schema : Schema) → IsSoundBy schema dir c → (executable : Bool) (text : List ℕ) (outputs : List (List ℕ × Path)) → IsArchive (regular executable text) nar → Records dir text outputs
     → (name : List ℕ) (base : Path) → (finite.get c.outs (p, name) ≡ Some base) ↔ Contains outputs (name, base)
-    = λ schema sound executable text outputs file tells name base.
+    = λ schema sound executable text outputs file reads name base.
     let s = row_sound c p o row schema dir sound in
-    let of = (outputs_are_recorded dir p nar).of drv executable text outputs file tells name base in
+    let of = (outputs_are_recorded dir p nar).of drv executable text outputs file reads name base in
     let same : finite.get c.outs (p, name) ≡ finite.get (outputs_at dir p nar) name
     = sym (get-output c p name) ∙ ap (λ (m : finite.FinMap bytes_cmp Path). finite.get m name) (s.outputs_are ∙ ap (outputs_at dir p) (read_as c p o row schema dir sound nar h)) in
     ((λ e. of.0 (sym same ∙ e)), (λ x. same ∙ of.1 x)) in
@@ -59,6 +59,6 @@ faulty_derivations dir c p o stem nar row is h =
           let d = (row_sound c p o row schema dir sound).derivation drv in
           let found = read_outputs dir d.contents (outputs_of dir d.contents) refl d.has_outputs in
           none d.executable d.contents found.0 (subst (IsArchive (regular d.executable d.contents)) (read_as c p o row schema dir sound nar h) d.is_regular) found.1;
-      other = λ executable text outputs file tells name base e none schema sound. none ((recorded schema sound executable text outputs file tells name base).0 e);
-      missing = λ executable text outputs file tells name base present other schema sound. other ((recorded schema sound executable text outputs file tells name base).1 present);
+      other = λ executable text outputs file reads name base e none schema sound. none ((recorded schema sound executable text outputs file reads name base).0 e);
+      missing = λ executable text outputs file reads name base present other schema sound. other ((recorded schema sound executable text outputs file reads name base).1 present);
     }

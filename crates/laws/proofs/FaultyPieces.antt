@@ -16,7 +16,7 @@ use Rattle.tables_schema.specs.Schemas.{has_pieces}
 use Rattle.tables_world.specs.Worlds.{rows_of, IsSoundBy}
 use Rattle.laws.specs.FaultyPieces.{ExcludesFaultyPieces, FaultyCutsAreUnsound}
 use Rattle.tables_world.proofs.Cuts.{size}
-use Rattle.laws.proofs.FaultyRows.{no_key, at_front, past_front}
+use Rattle.laws.proofs.FaultyRows.{no_key, at_prefix, past_prefix}
 use Rattle.laws.proofs.Schemas.{pieces_count_from_one}
 use Rattle.tables_world.proofs.SoundParts.{some_key}
 use Rattle.tables_world.proofs.Reported.{get-piece}
@@ -41,24 +41,24 @@ sized : (part : List ℕ) (k : ℕ) (es : List (ℤ × List ℕ)) → GoOn part 
 sized part k [] g m piece le e = absurd (false≢true (ap is_some e))
 sized part k (x ∷ xs) g m piece le e = elim (cases_eq m k) as (λ _. IsSized m piece (x ∷ xs)) [
   | inl is ↦
-      let here : x.1 ≡ piece = same_Some x.1 piece (sym (at_front m x xs (g.1 ∙ ap pos (sym is))) ∙ e) in
+      let here : x.1 ≡ piece = same_Some x.1 piece (sym (at_prefix m x xs (g.1 ∙ ap pos (sym is))) ∙ e) in
       subst (λ b. IsSized m b (x ∷ xs)) here (record {
         some = g.2;
         most = at_most x.1 (k + 1) xs g.3;
-        all = λ h. full x.1 (k + 1) (m + 1) xs g.3 (sym (ap is_some (past_front (m + 1) k x xs g.1 (λ n. omega arith))) ∙ h);
+        all = λ h. full x.1 (k + 1) (m + 1) xs g.3 (sym (ap is_some (past_prefix (m + 1) k x xs g.1 (λ n. omega arith))) ∙ h);
       })
   | inr apart ↦
-      let s = sized x.1 (k + 1) xs g.3 m piece (omega arith) (sym (past_front m k x xs g.1 apart) ∙ e) in
-      record { some = s.some; most = s.most; all = λ h. s.all (sym (ap is_some (past_front (m + 1) k x xs g.1 (λ n. omega arith))) ∙ h) }
+      let s = sized x.1 (k + 1) xs g.3 m piece (omega arith) (sym (past_prefix m k x xs g.1 apart) ∙ e) in
+      record { some = s.some; most = s.most; all = λ h. s.all (sym (ap is_some (past_prefix (m + 1) k x xs g.1 (λ n. omega arith))) ∙ h) }
 ]
 
 no_gap : (part : List ℕ) (k : ℕ) (es : List (ℤ × List ℕ)) → GoOn part k es → (m : ℕ) → k ≤ m → IsTrue (is_some (find_entry int_cmp (pos (m + 1)) es)) → IsTrue (is_some (find_entry int_cmp (pos m) es))
 no_gap part k [] g m le h = h
 no_gap part k (x ∷ xs) g m le h = elim (cases_eq m k) as (λ _. IsTrue (is_some (find_entry int_cmp (pos m) (x ∷ xs)))) [
-  | inl is ↦ ap is_some (at_front m x xs (g.1 ∙ ap pos (sym is)))
+  | inl is ↦ ap is_some (at_prefix m x xs (g.1 ∙ ap pos (sym is)))
   | inr apart ↦
-      ap is_some (past_front m k x xs g.1 apart)
-      ∙ no_gap x.1 (k + 1) xs g.3 m (omega arith) (sym (ap is_some (past_front (m + 1) k x xs g.1 (λ n. omega arith))) ∙ h)
+      ap is_some (past_prefix m k x xs g.1 apart)
+      ∙ no_gap x.1 (k + 1) xs g.3 m (omega arith) (sym (ap is_some (past_prefix (m + 1) k x xs g.1 (λ n. omega arith))) ∙ h)
 ]
 
 -- ---- the pieces of a path

@@ -77,21 +77,21 @@ pub untie : (m n : ℕ) (z : ℤ) → z ≡ pos n → m ≢ n → eq_by_cmp int_
 untie m n z is apart = false_from_ne_true (eq_by_cmp int_cmp (pos m) z) (λ t. apart (ap number_in (finite.int_cmp-IsAntisymmetric (pos m) z ((Equal-is (int_cmp (pos m) z)).0 t) ∙ is)))
 
 -- the entry of a number at the front of some pieces, and one behind it
-pub at_front : (m : ℕ) (e : ℤ × List ℕ) (es : List (ℤ × List ℕ)) → e.0 ≡ pos m → find_entry int_cmp (pos m) (e ∷ es) ≡ Some e.1
-at_front m e es is = ap (λ b. cond b (Some e.1) (find_entry int_cmp (pos m) es)) (tie m e.0 is)
+pub at_prefix : (m : ℕ) (e : ℤ × List ℕ) (es : List (ℤ × List ℕ)) → e.0 ≡ pos m → find_entry int_cmp (pos m) (e ∷ es) ≡ Some e.1
+at_prefix m e es is = ap (λ b. cond b (Some e.1) (find_entry int_cmp (pos m) es)) (tie m e.0 is)
 
-pub past_front : (m n : ℕ) (e : ℤ × List ℕ) (es : List (ℤ × List ℕ)) → e.0 ≡ pos n → m ≢ n → find_entry int_cmp (pos m) (e ∷ es) ≡ find_entry int_cmp (pos m) es
-past_front m n e es is apart = ap (λ b. cond b (Some e.1) (find_entry int_cmp (pos m) es)) (untie m n e.0 is apart)
+pub past_prefix : (m n : ℕ) (e : ℤ × List ℕ) (es : List (ℤ × List ℕ)) → e.0 ≡ pos n → m ≢ n → find_entry int_cmp (pos m) (e ∷ es) ≡ find_entry int_cmp (pos m) es
+past_prefix m n e es is apart = ap (λ b. cond b (Some e.1) (find_entry int_cmp (pos m) es)) (untie m n e.0 is apart)
 
 followed : (c : Contents) (p : Path) (part : List ℕ) (n : ℕ) (es : List (ℤ × List ℕ)) (ps : List (List ℕ)) → GoOn part n es
     → ((m : ℕ) → n ≤ m → find_entry int_cmp (pos m) es ≡ finite.get c.pieces (p, pos m)) → FollowFrom c p n ps → joined es ≡ concat ps
 followed c p part n [] [] g same f = refl
 followed c p part n [] (x ∷ ps) g same f = absurd (no_key (sym (same n (le_refl n))) (ap is_some f.0))
-followed c p part n (e ∷ es) [] g same f = absurd (no_key (same n (le_refl n) ∙ f) (ap is_some (at_front n e es g.1)))
+followed c p part n (e ∷ es) [] g same f = absurd (no_key (same n (le_refl n) ∙ f) (ap is_some (at_prefix n e es g.1)))
 followed c p part n (e ∷ es) (x ∷ ps) g same f =
-    let here : e.1 ≡ x = same_Some e.1 x (sym (at_front n e es g.1) ∙ same n (le_refl n) ∙ f.0) in
+    let here : e.1 ≡ x = same_Some e.1 x (sym (at_prefix n e es g.1) ∙ same n (le_refl n) ∙ f.0) in
     let later : (m : ℕ) → n + 1 ≤ m → find_entry int_cmp (pos m) es ≡ finite.get c.pieces (p, pos m)
-    = λ m le. sym (past_front m n e es g.1 (λ is. omega arith)) ∙ same m (omega arith) in
+    = λ m le. sym (past_prefix m n e es g.1 (λ is. omega arith)) ∙ same m (omega arith) in
     ap₂ (λ a b. a ++ b) here (followed c p e.1 (n + 1) es ps g.3 later f.1)
 
 nothing : (c : Contents) (p : Path) (ps : List (List ℕ)) → c.pieces ≡ finite.empty → FollowFrom c p 1 ps → concat ps ≡ []

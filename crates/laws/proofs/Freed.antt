@@ -25,7 +25,7 @@ use Rattle.laws.specs.Changes.{Weigh, ReportsDeleted, FreesAsReported}
 use Rattle.model.proofs.MapMembers.{bytes_antisymmetric, key_listed, listed_key}
 use Rattle.model.proofs.Filtered.{in_filtered, from_filtered}
 use Rattle.model.proofs.Worlds.{get-keeping, kept_if}
-use Rattle.model.proofs.Limited.{leaves, is_taken, reported, goes_or_stays}
+use Rattle.model.proofs.Limited.{leaves, is_consumed, reported, deleted_or_stays}
 
 -- ---- keys in order
 
@@ -60,10 +60,10 @@ weighed w (p ∷ ps) f = by (finite.get w.objects p) refl (f p (at_head p ps)) (
 
 -- ---- what went
 
-module _ (w : World) (test gone : Path → Bool) (opposite : (p : Path) → IsTrue (has w p) → gone p ≡ not (test p)) where
-  went : (p : Path) → Contains (filter gone (all_paths w)) p → IsTrue (has w p) × IsFalse (has (keeping w test) p)
-  went p c =
-      let parts = from_filtered gone (all_paths w) p c in
+module _ (w : World) (test deleted : Path → Bool) (opposite : (p : Path) → IsTrue (has w p) → deleted p ≡ not (test p)) where
+  removed : (p : Path) → Contains (filter deleted (all_paths w)) p → IsTrue (has w p) × IsFalse (has (keeping w test) p)
+  removed p c =
+      let parts = from_filtered deleted (all_paths w) p c in
       let valid = listed_key nat_list_cmp_total w.objects p parts.0 in
       (valid, ap is_some (get-keeping w.objects test p) ∙ by (test p) (sym (opposite p valid) ∙ parts.1))
     where
@@ -71,8 +71,8 @@ module _ (w : World) (test gone : Path → Bool) (opposite : (p : Path) → IsTr
       by true h = absurd (false≢true h)
       by false h = refl
 
-  goes : (p : Path) → IsTrue (has w p) × IsFalse (has (keeping w test) p) → Contains (filter gone (all_paths w)) p
-  goes p h = in_filtered gone (all_paths w) p (key_listed bytes_antisymmetric w.objects p h.0) (opposite p h.0 ∙ by (test p) (sym (ap is_some (get-keeping w.objects test p)) ∙ h.1))
+  goes : (p : Path) → IsTrue (has w p) × IsFalse (has (keeping w test) p) → Contains (filter deleted (all_paths w)) p
+  goes p h = in_filtered deleted (all_paths w) p (key_listed bytes_antisymmetric w.objects p h.0) (opposite p h.0 ∙ by (test p) (sym (ap is_some (get-keeping w.objects test p)) ∙ h.1))
     where
       by : (b : Bool) → IsFalse (is_some (cond b (finite.get w.objects p) None)) → IsTrue (not b)
       by true e = absurd (false≢true (sym e ∙ h.0))
@@ -85,14 +85,14 @@ module _ (w : World) (test gone : Path → Bool) (opposite : (p : Path) → IsTr
       by true e k = e
       by false e k = absurd (false≢true k)
 
-  tells : ReportsDeleted w (keeping w test) (freed (filter gone (all_paths w)) (bytes_in w (filter gone (all_paths w))))
-  tells = record {
-    went = filter gone (all_paths w);
-    bytes = bytes_in w (filter gone (all_paths w));
+  reads : ReportsDeleted w (keeping w test) (freed (filter deleted (all_paths w)) (bytes_in w (filter deleted (all_paths w))))
+  reads = record {
+    removed = filter deleted (all_paths w);
+    bytes = bytes_in w (filter deleted (all_paths w));
     reported = refl;
-    listed = λ p. (went p, goes p);
-    in_order = IsStrictlySortedBy-filter bytes_cmp gone (all_paths w) (keys_rise bytes_cmp w.objects);
-    weight = weighed w (filter gone (all_paths w)) (λ p c. (went p c).0);
+    listed = λ p. (removed p, goes p);
+    in_order = IsStrictlySortedBy-filter bytes_cmp deleted (all_paths w) (keys_rise bytes_cmp w.objects);
+    weight = weighed w (filter deleted (all_paths w)) (λ p c. (removed p c).0);
     left = stays;
   }
 
@@ -100,15 +100,15 @@ twice_not : (b : Bool) → b ≡ not (not b)
 twice_not true = refl
 twice_not false = refl
 
-pub collection_told : (s : Settings) (ignores : Bool) (limit : Option ℕ) → FreesAsReported s (collect ignores limit)
-collection_told s ignores None w c a new h =
+pub collection_reported : (s : Settings) (ignores : Bool) (limit : Option ℕ) → FreesAsReported s (collect ignores limit)
+collection_reported s ignores None w c a new h =
     subst (λ x. ReportsDeleted w new x) (sym h.2) (subst (λ (u : World). ReportsDeleted w u (freed (filter (λ p. not (lives s w p)) (all_paths w)) (bytes_in w (filter (λ p. not (lives s w p)) (all_paths w))))) (sym h.3)
-    (tells w (lives s w) (λ p. not (lives s w p)) (λ p v. refl)))
-collection_told s ignores (Some limit) w c a new h =
+    (reads w (lives s w) (λ p. not (lives s w p)) (λ p v. refl)))
+collection_reported s ignores (Some limit) w c a new h =
     subst (λ x. ReportsDeleted w new x) (sym h.2) (subst (λ (u : World). ReportsDeleted w u (freed (collected_paths s w (Some limit)) (bytes_in w (collected_paths s w (Some limit))))) (sym h.3)
-    (subst (λ (ps : List Path). ReportsDeleted w (keeping w (leaves s w limit)) (freed ps (bytes_in w ps))) (sym (reported s w limit)) (tells w (leaves s w limit) (is_taken s w limit) (goes_or_stays s w limit))))
+    (subst (λ (ps : List Path). ReportsDeleted w (keeping w (leaves s w limit)) (freed ps (bytes_in w ps))) (sym (reported s w limit)) (reads w (leaves s w limit) (is_consumed s w limit) (deleted_or_stays s w limit))))
 
-pub deletion_told : (s : Settings) (named : List Path) (ignores : Bool) → FreesAsReported s (delete named ignores)
-deletion_told s named ignores w c a new h =
+pub deletion_reported : (s : Settings) (named : List Path) (ignores : Bool) → FreesAsReported s (delete named ignores)
+deletion_reported s named ignores w c a new h =
     subst (λ x. ReportsDeleted w new x) (sym h.2) (subst (λ (u : World). ReportsDeleted w u (freed (filter (is_deleted_with w named) (all_paths w)) (bytes_in w (filter (is_deleted_with w named) (all_paths w))))) (sym h.3)
-    (tells w (λ p. not (is_deleted_with w named p)) (is_deleted_with w named) (λ p v. twice_not (is_deleted_with w named p))))
+    (reads w (λ p. not (is_deleted_with w named p)) (is_deleted_with w named) (λ p v. twice_not (is_deleted_with w named p))))

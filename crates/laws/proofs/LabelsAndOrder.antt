@@ -30,10 +30,10 @@ member_all P (y ∷ ys) h x c = elim (cases y x ys c) as (λ _. P x) [
   | inr later ↦ member_all P ys h.1 x later
 ]
 
-behind_is_more : (front : List Root) (r : Root) (back : List Root) → IsStrictlySortedBy root_cmp (front ++ r ∷ back) → (next : Root) → Contains back next → root_cmp r next ≡ Less
+after_is_more : (front : List Root) (r : Root) (back : List Root) → IsStrictlySortedBy root_cmp (front ++ r ∷ back) → (next : Root) → Contains back next → root_cmp r next ≡ Less
 unfolding IsStrictlySortedBy
-behind_is_more [] r back h next c = member_all (λ y. root_cmp r y ≡ Less) back h.0 next c
-behind_is_more (x ∷ front) r back h next c = behind_is_more front r back h.1 next c
+after_is_more [] r back h next c = member_all (λ y. root_cmp r y ≡ Less) back h.0 next c
+after_is_more (x ∷ front) r back h next c = after_is_more front r back h.1 next c
 
 not_greater : (a b : Ordering) → ordering_then a b ≡ Less → a ≡ Greater → ⊥
 not_greater Less b e f = cc
@@ -70,4 +70,4 @@ rise xs = keys_rise root_cmp (set_of root_cmp xs)
 pub kinds_in_order : KindsInOrder
 kinds_in_order w front r back e next c =
     may_follow r.kind next.kind (not_greater (nat_cmp (place r.kind) (place next.kind)) _
-    (behind_is_more front r back (subst (λ (xs : List Root). IsStrictlySortedBy root_cmp xs) e (rise (explicit_roots w ++ runtime_roots w ++ temporary_roots w))) next c))
+    (after_is_more front r back (subst (λ (xs : List Root). IsStrictlySortedBy root_cmp xs) e (rise (explicit_roots w ++ runtime_roots w ++ temporary_roots w))) next c))

@@ -55,7 +55,7 @@ all_may_ask s w c h = record {
   source = λ name refs b. may s w c h (add_source name refs b) refl refl;
   import = λ i addressed. known s w c (import_object i) false None (class_of s c) refl h refl
       (ap (λ b. policy.verdict Allowed c (operations.import_object b) false) addressed) (ap (λ b. policy.verdict Trusted c (operations.import_object b) false) addressed);
-  tells = may_tell s w c h;
+  reads = may_tell s w c h;
   collect_ = λ limit. known s w c (collect false limit) false None (class_of s c) refl h refl refl refl;
   delete_ = λ named none. known s w c (delete named false) false None (class_of s c) refl h none refl refl;
 }

@@ -15,7 +15,7 @@ pub mod FaultyReferences
 pub mod FaultyRoots
 pub mod FaultyRows
 pub mod Freed
-pub mod Kept
+pub mod KeepSettings
 pub mod LabelsAndOrder
 pub mod LabelsDiffer
 pub mod Leave
@@ -33,7 +33,7 @@ pub mod Relisted
 pub mod RelistedProfiles
 pub mod RelistedSessions
 pub mod RootChanges
-pub mod RootsBeside
+pub mod RootsByTable
 pub mod RootsListed
 pub mod Schemas
 pub mod Sights

@@ -24,12 +24,12 @@ use Rattle.laws.specs.ListedRoots.{Shows}
 use Rattle.laws.specs.Relisted.{CoexistedWith, ListsNoMore, DroppedLabelsAreNotListed}
 use Rattle.model.proofs.Filtered.{from_mapped, from_filtered}
 use Rattle.laws.proofs.LabelsDiffer.{plain_bytes}
-use Rattle.laws.proofs.RootsBeside.{kinds_apart, every, of_kind, runtimes}
+use Rattle.laws.proofs.RootsByTable.{kinds_distinct, every, of_kind, runtimes}
 use Rattle.laws.proofs.RootChanges.{drops_permanent, drops_user_roots}
 use Rattle.laws.proofs.ProfileChanges.{deletes_generations}
-use Rattle.laws.proofs.Relisted.{permanent_gone, user_gone}
-use Rattle.laws.proofs.RelistedProfiles.{generation_gone}
-use Rattle.laws.proofs.Tellings.{root_listings_tell}
+use Rattle.laws.proofs.Relisted.{permanent_removed, user_removed}
+use Rattle.laws.proofs.RelistedProfiles.{generation_absent}
+use Rattle.laws.proofs.Tellings.{root_listings_report}
 use Rattle.model.proofs.Passed.{met, each_passed}
 
 -- ---- what is seen is some root
@@ -72,9 +72,9 @@ module _ (s : Settings) (w : World) (c : Caller) (label : List ℕ) (free : IsFr
       (λ other k d e. absurd (free.apart r k other d)) m l t
 
   to_others : (r : Root) → Contains (roots_of w) r → (k : Kind) → r.kind ≡ k → (if is_hidden k then hidden_label else r.label) ≡ label → ⊥
-  to_others r m permanent is l = free.apart r m (λ run. kinds_apart permanent runtime refl (sym is ∙ run)) l
-  to_others r m user is l = free.apart r m (λ run. kinds_apart user runtime refl (sym is ∙ run)) l
-  to_others r m profile is l = free.apart r m (λ run. kinds_apart profile runtime refl (sym is ∙ run)) l
+  to_others r m permanent is l = free.apart r m (λ run. kinds_distinct permanent runtime refl (sym is ∙ run)) l
+  to_others r m user is l = free.apart r m (λ run. kinds_distinct user runtime refl (sym is ∙ run)) l
+  to_others r m profile is l = free.apart r m (λ run. kinds_distinct profile runtime refl (sym is ∙ run)) l
   to_others r m runtime is l = free.shown l
   to_others r m temporary is l = free.shown l
 
@@ -92,8 +92,8 @@ module _ (s : Settings) (w : World) (c : Caller) (label : List ℕ) (free : IsFr
 
   pub no_more : ListsNoMore s w c label
   no_more = record {
-    all = λ a new h p k. let x = (root_listings_tell s w c).all a new h in among p a x.shown x.reported (λ r d. (x.exactly r).0 d) k;
-    of = λ q a new h p k. let x = (root_listings_tell s w c).of q a new h in among p a x.shown x.reported (λ r d. ((x.exactly r).0 d).0) k;
+    all = λ a new h p k. let x = (root_listings_report s w c).all a new h in among p a x.shown x.reported (λ r d. (x.exactly r).0 d) k;
+    of = λ q a new h p k. let x = (root_listings_report s w c).of q a new h in among p a x.shown x.reported (λ r d. ((x.exactly r).0 d).0) k;
   }
 
 -- ---- labels of one kind are those of no other
@@ -101,8 +101,8 @@ module _ (s : Settings) (w : World) (c : Caller) (label : List ℕ) (free : IsFr
 abbrev first_byte : List ℕ → ℕ
 first_byte label = slice_index label 0
 
-apart_bytes : (a b : ℕ) → (a == b) ≡ false → a ≡ b → ⊥
-apart_bytes a b f e = false≢true (sym f ∙ eq-eqb a b e)
+distinct_bytes : (a b : ℕ) → (a == b) ≡ false → a ≡ b → ⊥
+distinct_bytes a b f e = false≢true (sym f ∙ eq-eqb a b e)
 
 module _ (dir : List ℕ) (w : World) (sound : IsSound dir w) where
   -- what a plain name begins with isn't a part of a label of a user root
@@ -117,9 +117,9 @@ module _ (dir : List ℕ) (w : World) (sound : IsSound dir w) where
   permanent_free name plain r b = every (λ x. (x.kind ≡ permanent → x.label ≡ permanent_label name → ⊥) → (x.kind ≡ runtime → ⊥) → x.label ≡ permanent_label name → ⊥) w (record {
     permanent_ = λ n t e other run l. other refl l;
     user_ = λ o t e other run l. no_slash name (o.0 ++ codes "/" ++ o.1) plain (append_cancel_left (codes "gcroots/") name (codes "per-user/" ++ (o.0 ++ codes "/" ++ o.1)) (sym l ∙ user_rest o.0 o.1));
-    generation_ = λ o p n t e g other run l. apart_bytes 112 103 refl (ap first_byte l);
+    generation_ = λ o p n t e g other run l. distinct_bytes 112 103 refl (ap first_byte l);
     runtime_ = λ pair h other run l. run refl;
-    temporary_ = λ t h other run l. apart_bytes 123 103 refl (ap first_byte l);
+    temporary_ = λ t h other run l. distinct_bytes 123 103 refl (ap first_byte l);
   }) r b.existed b.other
 
   pub user_free : (owner name : List ℕ) → (r : Root) → CoexistedWith w user (user_label owner name) r → (r.kind ≡ runtime → ⊥) → r.label ≡ user_label owner name → ⊥
@@ -127,40 +127,40 @@ module _ (dir : List ℕ) (w : World) (sound : IsSound dir w) where
     permanent_ = λ n t e other run l. no_slash n (owner ++ codes "/" ++ name) (sound.permanent_name n (ap is_some e))
         (append_cancel_left (codes "gcroots/") n (codes "per-user/" ++ (owner ++ codes "/" ++ name)) (l ∙ user_rest owner name));
     user_ = λ o t e other run l. other refl l;
-    generation_ = λ o p n t e g other run l. apart_bytes 112 103 refl (ap first_byte l);
+    generation_ = λ o p n t e g other run l. distinct_bytes 112 103 refl (ap first_byte l);
     runtime_ = λ pair h other run l. run refl;
-    temporary_ = λ t h other run l. apart_bytes 123 103 refl (ap first_byte l);
+    temporary_ = λ t h other run l. distinct_bytes 123 103 refl (ap first_byte l);
   }) r b.existed b.other
 
   pub generation_free : (owner name : List ℕ) (n : ℕ) → (r : Root) → CoexistedWith w profile (generation_label owner name n) r → (r.kind ≡ runtime → ⊥) → r.label ≡ generation_label owner name n → ⊥
   generation_free owner name n r b = every (λ x. (x.kind ≡ profile → x.label ≡ generation_label owner name n → ⊥) → (x.kind ≡ runtime → ⊥) → x.label ≡ generation_label owner name n → ⊥) w (record {
-    permanent_ = λ m t e other run l. apart_bytes 103 112 refl (ap first_byte l);
-    user_ = λ o t e other run l. apart_bytes 103 112 refl (ap first_byte l);
+    permanent_ = λ m t e other run l. distinct_bytes 103 112 refl (ap first_byte l);
+    user_ = λ o t e other run l. distinct_bytes 103 112 refl (ap first_byte l);
     generation_ = λ o p m t e g other run l. other refl l;
     runtime_ = λ pair h other run l. run refl;
-    temporary_ = λ t h other run l. apart_bytes 123 112 refl (ap first_byte l);
+    temporary_ = λ t h other run l. distinct_bytes 123 112 refl (ap first_byte l);
   }) r b.existed b.other
 
-pub dropped_labels_are_not_told : DroppedLabelsAreNotListed
-dropped_labels_are_not_told s w c mid next sound = record {
+pub dropped_labels_are_not_reported : DroppedLabelsAreNotListed
+dropped_labels_are_not_reported s w c mid next sound = record {
   permanent_ = λ name a h.
       let x = drops_permanent s w c name a mid h in
       let plain = met (is_plain_name name) _ (each_passed (tests s w (drop_permanent name)) h.1 _ (0, omega arith, refl)) in
       no_more s mid next (permanent_label name) (record {
-        apart = λ r m. permanent_free s.store_dir w sound name plain r ((permanent_gone w mid name x.3 x.2 r).0 m);
-        shown = λ l. apart_bytes 123 103 refl (ap first_byte l);
+        apart = λ r m. permanent_free s.store_dir w sound name plain r ((permanent_removed w mid name x.3 x.2 r).0 m);
+        shown = λ l. distinct_bytes 123 103 refl (ap first_byte l);
       });
   user_ = λ owner name a h.
       let x = drops_user_roots s w c owner name a mid h in
       let plain = and_parts (is_plain_name owner) (is_plain_name name) (met (is_plain_name owner && is_plain_name name) BadRootName (each_passed (tests s w (drop_user_root owner name)) h.1 _ (0, omega arith, refl))) in
       no_more s mid next (user_label owner name) (record {
-        apart = λ r m. user_free s.store_dir w sound owner name r ((user_gone s.store_dir w mid sound owner name plain.0 x.3 x.2 r).0 m);
-        shown = λ l. apart_bytes 123 103 refl (ap first_byte l);
+        apart = λ r m. user_free s.store_dir w sound owner name r ((user_removed s.store_dir w mid sound owner name plain.0 x.3 x.2 r).0 m);
+        shown = λ l. distinct_bytes 123 103 refl (ap first_byte l);
       });
   generation_ = λ owner name n a h.
       let x = (deletes_generations s w c owner name n a mid h).1 in
       no_more s mid next (generation_label owner name n) (record {
-        apart = λ r m. generation_free s.store_dir w sound owner name n r ((generation_gone s.store_dir w mid sound owner name n x r).0 m);
-        shown = λ l. apart_bytes 123 112 refl (ap first_byte l);
+        apart = λ r m. generation_free s.store_dir w sound owner name n r ((generation_absent s.store_dir w mid sound owner name n x r).0 m);
+        shown = λ l. distinct_bytes 123 112 refl (ap first_byte l);
       });
 }

@@ -34,9 +34,9 @@ greatest_after x (z ∷ zs) n rise e =
       ],
     )
 
-last_there : (x : ℕ) (xs : List ℕ) → is_some (last_or (Some x) xs) ≡ true
-last_there x [] = refl
-last_there x (z ∷ zs) = last_there z zs
+last_present : (x : ℕ) (xs : List ℕ) → is_some (last_or (Some x) xs) ≡ true
+last_present x [] = refl
+last_present x (z ∷ zs) = last_present z zs
 
 last_greatest : (xs : List ℕ) (n : ℕ) → IsStrictlySortedBy nat_cmp xs → last_or None xs ≡ Some n → (y : ℕ) → Contains xs y → y ≤ n
 unfolding IsStrictlySortedBy
@@ -50,7 +50,7 @@ last_greatest (x ∷ xs) n rise e y c =
 
 last_none : (xs : List ℕ) → last_or None xs ≡ None → (y : ℕ) → Contains xs y → ⊥
 last_none [] e y c = no_member y c
-last_none (x ∷ xs) e y c = false≢true (sym (ap is_some e) ∙ last_there x xs)
+last_none (x ∷ xs) e y c = false≢true (sym (ap is_some e) ∙ last_present x xs)
 
 last_after : (x : ℕ) (xs : List ℕ) (n : ℕ) → last_or (Some x) xs ≡ Some n → (x ≡ n) ⊎ Contains xs n
 last_after x [] n e = inl (same_Some x n e)

@@ -31,11 +31,11 @@ unchanged s w (list_roots_of p) h = refl
 unchanged s w report h = refl
 unchanged s w _ h = absurd h
 
-pub telling_changes_nothing : ReadingChangesNothing
-telling_changes_nothing s w c q (done a) new step h = step.3 ∙ unchanged s w q h
-telling_changes_nothing s w c q (denied rule root) new step h = step.2
-telling_changes_nothing s w c q (refused r) new step h = step.2
-telling_changes_nothing s w c q (failed f) new step h = step.1
+pub reporting_changes_nothing : ReadingChangesNothing
+reporting_changes_nothing s w c q (done a) new step h = step.3 ∙ unchanged s w q h
+reporting_changes_nothing s w c q (denied rule root) new step h = step.2
+reporting_changes_nothing s w c q (refused r) new step h = step.2
+reporting_changes_nothing s w c q (failed f) new step h = step.1
 
 -- ---- listings
 

@@ -46,9 +46,9 @@ none_lost : (owner : List ℕ) (w : World) → OnlyLoses owner w w
 none_lost owner w = kept_loses owner w w (all_same owner w)
 
 -- a call on what an owner has that drops nothing is the owner's
-own_alone : (s : Settings) (w : World) (c : Caller) (q : Request) (owner : List ℕ) → verdict s w c q ≡ None → owner_of (operation_of q) ≡ Some owner
+own_only : (s : Settings) (w : World) (c : Caller) (q : Request) (owner : List ℕ) → verdict s w c q ≡ None → owner_of (operation_of q) ≡ Some owner
     → drops_owned (operation_of q) ≡ false → owner ≡ c.name
-own_alone s w c q owner v e d = (bytes_eq-Decides owner c.name).0 (by (bytes_eq owner c.name) (drops_owned (operation_of q)) (is_trusted (class_of s c)) d
+own_only s w c q owner v e d = (bytes_eq-Decides owner c.name).0 (by (bytes_eq owner c.name) (drops_owned (operation_of q)) (is_trusted (class_of s c)) d
     (ap (λ (o : Option (List ℕ)). is_own c o || (drops_owned (operation_of q) && is_trusted (class_of s c))) (sym e) ∙ allowed s w c q v OwnRoot (4, omega arith, refl)))
   where
     by : (a d t : Bool) → d ≡ false → IsTrue (a || (d && t)) → IsTrue a
@@ -56,20 +56,20 @@ own_alone s w c q owner v e d = (bytes_eq-Decides owner c.name).0 (by (bytes_eq 
     by false true t f h = absurd (false≢true (sym f))
     by false false t f h = absurd (false≢true h)
 
-root_dropped : (owner theirs name : List ℕ) (w : World) → OnlyLoses owner w (record w { user_roots = finite.remove w.user_roots (theirs, name) })
-root_dropped owner theirs name w = record {
-  user_roots = λ n t e. removed_entry pair_total pair_antisymmetric w.user_roots (theirs, name) (owner, n) t e;
+root_dropped : (owner other_owner name : List ℕ) (w : World) → OnlyLoses owner w (record w { user_roots = finite.remove w.user_roots (other_owner, name) })
+root_dropped owner other_owner name w = record {
+  user_roots = λ n t e. removed_entry pair_total pair_antisymmetric w.user_roots (other_owner, name) (owner, n) t e;
   profiles = λ n. refl;
   generations = λ n now e. (now, e, record { current = refl; current_target = refl; generations = λ m t g. g });
   temporary = λ session p h. h;
 }
 
-session_ended : (owner theirs : List ℕ) (session : ℕ) (w : World) → OnlyLoses owner w (record w { temporary = finite.retain_keys w.temporary (λ t. not (is_of_session theirs session t)) })
-session_ended owner theirs session w = record {
+session_ended : (owner other_owner : List ℕ) (session : ℕ) (w : World) → OnlyLoses owner w (record w { temporary = finite.retain_keys w.temporary (λ t. not (is_of_session other_owner session t)) })
+session_ended owner other_owner session w = record {
   user_roots = λ n t e. e;
   profiles = λ n. refl;
   generations = λ n now e. (now, e, record { current = refl; current_target = refl; generations = λ m t g. g });
-  temporary = λ k p h. (retained_key temporary_antisymmetric w.temporary (λ t. not (is_of_session theirs session t)) (record { owner = owner; session = k; path = p }) h).1;
+  temporary = λ k p h. (retained_key temporary_antisymmetric w.temporary (λ t. not (is_of_session other_owner session t)) (record { owner = owner; session = k; path = p }) h).1;
 }
 
 same_pair : (a b : Pair) → (a ≡ b) ⊎ (a ≡ b → ⊥)
@@ -92,7 +92,7 @@ module _ (w new : World) (owned : Pair) (n : ℕ) (h : LosesGeneration w owned n
       older m t e = by (m == n) refl
         where
           by : (b : Bool) → (m == n) ≡ b → finite.get h.was.generations m ≡ Some t
-          by true is = absurd (false≢true (sym h.gone ∙ ap (λ k. is_some (finite.get h.now.generations k)) (sym (eqb-true m n is)) ∙ ap is_some e))
+          by true is = absurd (false≢true (sym h.deleted ∙ ap (λ k. is_some (finite.get h.now.generations k)) (sym (eqb-true m n is)) ∙ ap is_some e))
           by false apart = sym (h.others m (λ is. false≢true (sym apart ∙ eq-eqb m n is))) ∙ e
 
   generation_lost : (owner : List ℕ) → OnlyLoses owner w new
@@ -120,15 +120,15 @@ loses : (s : Settings) (w : World) (c : Caller) (q : Request) → verdict s w c 
 loses s w c (add_text name refs contents) v e owner apart = kept_loses owner w _ (add_of_owner w (added_text s.store_dir name refs contents) owner)
 loses s w c (add_source name refs b) v e owner apart = kept_loses owner w _ (add_of_owner w (added_source s.store_dir name refs b) owner)
 loses s w c (import_object i) v e owner apart = kept_loses owner w _ (add_of_owner w (added_import s.store_dir i) owner)
-loses s w c (set_user_root theirs name p) v e owner apart = kept_loses owner w _ (set_of_other w owner theirs (λ is. apart (is ∙ own_alone s w c (set_user_root theirs name p) theirs v refl refl)) name p)
-loses s w c (drop_user_root theirs name) v e owner apart = root_dropped owner theirs name w
-loses s w c (set_profile theirs name p) v e owner apart = kept_loses owner w _ (profile_of_other w owner theirs (λ is. apart (is ∙ own_alone s w c (set_profile theirs name p) theirs v refl refl)) name (set_to (profile_at w (theirs, name)) p))
-loses s w c (rollback theirs name) v e owner apart = kept_loses owner w _ (profile_of_other w owner theirs (λ is. apart (is ∙ own_alone s w c (rollback theirs name) theirs v refl refl)) name (rolled_back (profile_at w (theirs, name))))
-loses s w c (switch theirs name n) v e owner apart = kept_loses owner w _ (profile_of_other w owner theirs (λ is. apart (is ∙ own_alone s w c (switch theirs name n) theirs v refl refl)) name (switched (profile_at w (theirs, name)) n))
-loses s w c (delete_generation theirs name n) v e owner apart =
-    generation_lost w (effect s w (delete_generation theirs name n)) (theirs, name) n (deletes_generations s w c theirs name n changed (effect s w (delete_generation theirs name n)) (v, e, refl, refl)).1 owner
-loses s w c (add_temp theirs session p) v e owner apart = kept_loses owner w _ (added_of_other w owner theirs (λ is. apart (is ∙ own_alone s w c (add_temp theirs session p) theirs v refl refl)) session p)
-loses s w c (end_session theirs session) v e owner apart = session_ended owner theirs session w
+loses s w c (set_user_root other_owner name p) v e owner apart = kept_loses owner w _ (set_of_other w owner other_owner (λ is. apart (is ∙ own_only s w c (set_user_root other_owner name p) other_owner v refl refl)) name p)
+loses s w c (drop_user_root other_owner name) v e owner apart = root_dropped owner other_owner name w
+loses s w c (set_profile other_owner name p) v e owner apart = kept_loses owner w _ (profile_of_other w owner other_owner (λ is. apart (is ∙ own_only s w c (set_profile other_owner name p) other_owner v refl refl)) name (set_to (profile_at w (other_owner, name)) p))
+loses s w c (rollback other_owner name) v e owner apart = kept_loses owner w _ (profile_of_other w owner other_owner (λ is. apart (is ∙ own_only s w c (rollback other_owner name) other_owner v refl refl)) name (rolled_back (profile_at w (other_owner, name))))
+loses s w c (switch other_owner name n) v e owner apart = kept_loses owner w _ (profile_of_other w owner other_owner (λ is. apart (is ∙ own_only s w c (switch other_owner name n) other_owner v refl refl)) name (switched (profile_at w (other_owner, name)) n))
+loses s w c (delete_generation other_owner name n) v e owner apart =
+    generation_lost w (effect s w (delete_generation other_owner name n)) (other_owner, name) n (deletes_generations s w c other_owner name n changed (effect s w (delete_generation other_owner name n)) (v, e, refl, refl)).1 owner
+loses s w c (add_temp other_owner session p) v e owner apart = kept_loses owner w _ (added_of_other w owner other_owner (λ is. apart (is ∙ own_only s w c (add_temp other_owner session p) other_owner v refl refl)) session p)
+loses s w c (end_session other_owner session) v e owner apart = session_ended owner other_owner session w
 loses s w c (collect ignores None) v e owner apart = kept_loses owner w _ (record { user_roots = λ n. refl; profiles = λ n. refl; temporary = λ k p. refl })
 loses s w c (collect ignores (Some limit)) v e owner apart = kept_loses owner w _ (record { user_roots = λ n. refl; profiles = λ n. refl; temporary = λ k p. refl })
 loses s w c _ v e owner apart = kept_loses owner w _ (record { user_roots = λ n. refl; profiles = λ n. refl; temporary = λ k p. refl })

@@ -24,9 +24,9 @@ use Rattle.laws.specs.Changes.{with_import, IsAsSubmitted}
 use Rattle.laws.specs.Planting.{Came, existed, addressed, imported, NobodyPlantsInRuns}
 use Rattle.model.proofs.MapMembers.{bytes_antisymmetric, inserted_entry}
 use Rattle.model.proofs.Limited.{leaves}
-use Rattle.laws.proofs.Adding.{import_as_handed_in}
+use Rattle.laws.proofs.Adding.{import_as_passed}
 use Rattle.laws.proofs.SoundSteps.{keeps_sound}
-use Rattle.laws.proofs.Reliance.{nothing_replaced, added_there, fresh_kept, has_address}
+use Rattle.laws.proofs.Reliance.{nothing_replaced, added_present, fresh_kept, has_address}
 
 -- what is new at a path where something is added is there
 added_where : (w : World) (a : Added) (p : Path) (o : Object) → IsFalse (has w p) → finite.get (with_object w a).objects p ≡ Some o → p ≡ a.path
@@ -43,14 +43,14 @@ added_where w a p o fresh e = by (has w a.path) e
 only_imported : (s : Settings) (w : World) (q : Request) (p : Path) (o : Object) → IsFalse (has w p) → finite.get (effect s w q).objects p ≡ Some o → o.ca ≡ None
     → (i : Imported) × (q ≡ import_object i) × (i.path ≡ p) × IsAsSubmitted s.store_dir (with_import i) o
 only_imported s w (add_text name refs contents) p o fresh e none =
-    absurd (false≢true (sym (ap (λ (x : Object). is_some x.ca) (added_there w (added_text s.store_dir name refs contents) p o fresh e) ∙ ap is_some none)))
+    absurd (false≢true (sym (ap (λ (x : Object). is_some x.ca) (added_present w (added_text s.store_dir name refs contents) p o fresh e) ∙ ap is_some none)))
 only_imported s w (add_source name refs b) p o fresh e none =
-    absurd (false≢true (sym (ap (λ (x : Object). is_some x.ca) (added_there w (added_source s.store_dir name refs b) p o fresh e) ∙ ap is_some none)))
+    absurd (false≢true (sym (ap (λ (x : Object). is_some x.ca) (added_present w (added_source s.store_dir name refs b) p o fresh e) ∙ ap is_some none)))
 only_imported s w (import_object i) p o fresh e none = (
   i,
   refl,
   sym (added_where w (added_import s.store_dir i) p o fresh e),
-  subst (λ (x : Object). IsAsSubmitted s.store_dir (with_import i) x) (added_there w (added_import s.store_dir i) p o fresh e) (import_as_handed_in s.store_dir i),
+  subst (λ (x : Object). IsAsSubmitted s.store_dir (with_import i) x) (added_present w (added_import s.store_dir i) p o fresh e) (import_as_passed s.store_dir i),
 )
 only_imported s w (collect ignores None) p o fresh e none = absurd (fresh_kept w (lives s w) p o fresh e)
 only_imported s w (collect ignores (Some limit)) p o fresh e none = absurd (fresh_kept w (leaves s w limit) p o fresh e)

@@ -13,7 +13,7 @@ use Rattle.model.specs.Tests.{tests}
 use Rattle.model.specs.Effects.{with_profile}
 use Rattle.laws.specs.Generations.{ChangesProfile, SetsProfile, SetsAsSpecified, MovesTo, RollsBack, RollsBackAsSpecified, SwitchesAsSpecified, LosesGeneration, DeletesGenerations}
 use Rattle.model.proofs.MapMembers.{nat_antisymmetric, pair_total, pair_antisymmetric}
-use Rattle.laws.proofs.Changed.{at_inserted, beside_inserted, at_removed, beside_removed}
+use Rattle.laws.proofs.Changed.{at_inserted, next_to_inserted, at_removed, next_to_removed}
 use Rattle.model.proofs.Passed.{met, each_passed}
 use Rattle.laws.proofs.Numbers.{highest_path, chosen, before}
 use lib.Dec.{T}
@@ -21,7 +21,7 @@ use lib.Dec.{T}
 change : (w : World) (owned : Pair) (now : Profile) → ChangesProfile w (with_profile w owned now) owned now
 change w owned now = record {
   exists = at_inserted pair_total pair_antisymmetric w.profiles owned now;
-  others = λ other apart. beside_inserted pair_total pair_antisymmetric w.profiles owned now other apart;
+  others = λ other apart. next_to_inserted pair_total pair_antisymmetric w.profiles owned now other apart;
   objects = refl;
   permanent = refl;
   user_roots = refl;
@@ -50,7 +50,7 @@ is_set p t = by (is_highest p t) refl
     by false e = record {
       current = refl;
       target = at_inserted nat_cmp_total nat_antisymmetric p.generations (highest p + 1) t;
-      others = λ m apart. beside_inserted nat_cmp_total nat_antisymmetric p.generations (highest p + 1) t m apart;
+      others = λ m apart. next_to_inserted nat_cmp_total nat_antisymmetric p.generations (highest p + 1) t m apart;
     }
 
 pub sets : SetsAsSpecified
@@ -81,18 +81,18 @@ moves w owned n h present = record {
   generations = refl;
 }
 
-goes_back : (w : World) (owned : Pair) (o : Option ℕ) → previous (profile_at w owned) ≡ o → IsTrue (has_profile w owned) → IsTrue (is_some o)
+leads_back : (w : World) (owned : Pair) (o : Option ℕ) → previous (profile_at w owned) ≡ o → IsTrue (has_profile w owned) → IsTrue (is_some o)
     → RollsBack w owned (generation (unwrap_or o (profile_at w owned).current)) (with_profile w owned (switched (profile_at w owned) (unwrap_or o (profile_at w owned).current)))
 unfolding moves
-goes_back w owned None e h some = absurd (false≢true some)
-goes_back w owned (Some n) e h some =
+leads_back w owned None e h some = absurd (false≢true some)
+leads_back w owned (Some n) e h some =
     let is = before (profile_at w owned) n e in
     record { number = n; reported = refl; moves = moves w owned n h is.present; chosen = is }
 
 pub rolls_back : RollsBackAsSpecified
 rolls_back s w c owner name a new h =
     subst (λ (u : World). RollsBack w (owner, name) a u) (sym h.3) (subst (λ x. RollsBack w (owner, name) x (with_profile w (owner, name) (rolled_back (profile_at w (owner, name))))) (sym h.2)
-    (goes_back w (owner, name) (previous (profile_at w (owner, name))) refl
+    (leads_back w (owner, name) (previous (profile_at w (owner, name))) refl
     (met (has_profile w (owner, name)) _ (each_passed (tests s w (rollback owner name)) h.1 _ (1, omega arith, refl)))
     (met (is_some (previous (profile_at w (owner, name)))) _ (each_passed (tests s w (rollback owner name)) h.1 _ (2, omega arith, refl)))))
 
@@ -123,8 +123,8 @@ deletes_generations s w c owner name n a new h = (
     not_current = differs (profile_at w (owner, name)).current n (met (not ((profile_at w (owner, name)).current == n)) _ (each_passed (tests s w (delete_generation owner name n)) h.1 _ (3, omega arith, refl)));
     now = without_generation (profile_at w (owner, name)) n;
     change = change w (owner, name) (without_generation (profile_at w (owner, name)) n);
-    gone = at_removed nat_cmp_total nat_antisymmetric (profile_at w (owner, name)).generations n;
-    others = λ m apart. beside_removed nat_cmp_total nat_antisymmetric (profile_at w (owner, name)).generations n m apart;
+    deleted = at_removed nat_cmp_total nat_antisymmetric (profile_at w (owner, name)).generations n;
+    others = λ m apart. next_to_removed nat_cmp_total nat_antisymmetric (profile_at w (owner, name)).generations n m apart;
     current = refl;
   }),
 )

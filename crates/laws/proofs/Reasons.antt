@@ -32,7 +32,7 @@ use Rattle.model.specs.Adds.{added_import, text_archive_size}
 use Rattle.model.specs.Faults.{archive_refusal, derivation_refusal}
 use Rattle.model.specs.Tests.{unless, first_failing, archive_fault, outputs_fault, tree_fault, if_derivation, is_verified, is_complete, refusal}
 use Rattle.laws.specs.Generations.{IsNumberFor}
-use Rattle.laws.specs.AddOrder.{Lacks, IsFaultyTree, text, other}
+use Rattle.laws.specs.AddOrder.{HasMissingReference, IsFaultyTree, text, other}
 use Rattle.laws.specs.Reasons.{IsNoAddressOf, IsNoDerivation, HasFault, RefusalsHaveReasons, MentionedAreValid}
 use Rattle.laws.proofs.Faults.{out_of_bounds}
 use Rattle.laws.proofs.AddFaults.{texts_are_measured}
@@ -79,10 +79,10 @@ more_than n m h = leb-false n m h
 itself : (refs : List Path) (p : Path) → IsFalse (not (holds refs p)) → Contains refs p
 itself refs p h = held_is refs p (not_false (holds refs p) h)
 
-lacking : (w : World) (p : Path) (refs : List Path) → IsFalse (is_complete w p refs) → Lacks w p refs
+lacking : (w : World) (p : Path) (refs : List Path) → IsFalse (is_complete w p refs) → HasMissingReference w p refs
 lacking w p refs h = by (has w p) refl h
   where
-    by : (b : Bool) → has w p ≡ b → IsFalse (b || list_all (λ r. has w r || same r p) refs) → Lacks w p refs
+    by : (b : Bool) → has w p ≡ b → IsFalse (b || list_all (λ r. has w r || same r p) refs) → HasMissingReference w p refs
     by true e k = absurd (false≢true (sym k))
     by false e k =
         let x = some_fails (λ r. has w r || same r p) refs k in
@@ -286,8 +286,8 @@ module _ (s : Settings) (w : World) where
 pub refusals_have_reasons : RefusalsHaveReasons
 refusals_have_reasons s w c q r new h = reason s w q r h.1
 
-pub told_are_valid : MentionedAreValid
-told_are_valid s w c p = record {
+pub reported_are_valid : MentionedAreValid
+reported_are_valid s w c p = record {
   info_ = λ a new h. met (has w p) _ (passed _ [] h.1).0;
   nar_ = λ a new h. met (has w p) _ (passed _ [] h.1).0;
   ls_ = λ a new h. met (has w p) _ (passed _ [] h.1).0;

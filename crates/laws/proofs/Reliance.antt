@@ -35,7 +35,7 @@ use Rattle.model.proofs.Worlds.{get-keeping, kept_if}
 use Rattle.model.proofs.Pins.{kept_by_add}
 use Rattle.model.proofs.Limited.{leaves}
 use Rattle.model.proofs.MapMembers.{bytes_antisymmetric, pair_total, pair_antisymmetric, temporary_total, temporary_antisymmetric, inserted_entry}
-use Rattle.laws.proofs.Changed.{beside_inserted, beside_removed}
+use Rattle.laws.proofs.Changed.{next_to_inserted, next_to_removed}
 use Rattle.laws.proofs.SoundSteps.{keeps_sound}
 
 -- ---- strangers
@@ -57,8 +57,8 @@ strangers_denied s w c q (done a) new h step = absurd (false≢true (ap is_some 
 
 -- ---- nothing is replaced
 
-kept_where_there : (w : World) (test : Path → Bool) (p : Path) → IsTrue (has (keeping w test) p) → finite.get (keeping w test).objects p ≡ finite.get w.objects p
-kept_where_there w test p h = by (test p) refl (sym (ap is_some (get-keeping w.objects test p)) ∙ h)
+kept_where_present : (w : World) (test : Path → Bool) (p : Path) → IsTrue (has (keeping w test) p) → finite.get (keeping w test).objects p ≡ finite.get w.objects p
+kept_where_present w test p h = by (test p) refl (sym (ap is_some (get-keeping w.objects test p)) ∙ h)
   where
     by : (b : Bool) → test p ≡ b → IsTrue (is_some (cond b (finite.get w.objects p) None)) → finite.get (keeping w test).objects p ≡ finite.get w.objects p
     by true e k = kept_if w.objects test p e
@@ -68,9 +68,9 @@ effect_keeps : (s : Settings) (w : World) (q : Request) (p : Path) → IsTrue (h
 effect_keeps s w (add_text name refs contents) p v h = kept_by_add w (added_text s.store_dir name refs contents) p v
 effect_keeps s w (add_source name refs b) p v h = kept_by_add w (added_source s.store_dir name refs b) p v
 effect_keeps s w (import_object i) p v h = kept_by_add w (added_import s.store_dir i) p v
-effect_keeps s w (collect ignores None) p v h = kept_where_there w (lives s w) p h
-effect_keeps s w (collect ignores (Some limit)) p v h = kept_where_there w (leaves s w limit) p h
-effect_keeps s w (delete named ignores) p v h = kept_where_there w (λ x. not (is_deleted_with w named x)) p h
+effect_keeps s w (collect ignores None) p v h = kept_where_present w (lives s w) p h
+effect_keeps s w (collect ignores (Some limit)) p v h = kept_where_present w (leaves s w limit) p h
+effect_keeps s w (delete named ignores) p v h = kept_where_present w (λ x. not (is_deleted_with w named x)) p h
 effect_keeps s w _ p v h = refl
 
 pub nothing_replaced : NothingIsReplaced
@@ -92,8 +92,8 @@ module _ (s : Settings) (w : World) (c : Caller) (q : Request) (v : verdict s w 
 
 -- ---- nobody plants
 
-pub added_there : (w : World) (a : Added) (p : Path) (o : Object) → IsFalse (has w p) → finite.get (with_object w a).objects p ≡ Some o → a.object ≡ o
-added_there w a p o fresh e = by (has w a.path) e
+pub added_present : (w : World) (a : Added) (p : Path) (o : Object) → IsFalse (has w p) → finite.get (with_object w a).objects p ≡ Some o → a.object ≡ o
+added_present w a p o fresh e = by (has w a.path) e
   where
     old : finite.get w.objects p ≡ Some o → a.object ≡ o
     old f = absurd (false≢true (sym fresh ∙ ap is_some f))
@@ -111,10 +111,10 @@ fresh_kept w test p o fresh e = by (test p) (sym (get-keeping w.objects test p) 
 
 pub has_address : (s : Settings) (w : World) (c : Caller) (q : Request) → verdict s w c q ≡ None → IsFalse (is_trusted (class_of s c))
     → (p : Path) (o : Object) → IsFalse (has w p) → finite.get (effect s w q).objects p ≡ Some o → IsTrue (is_some o.ca)
-has_address s w c (add_text name refs contents) v other p o fresh e = ap (λ (x : Object). is_some x.ca) (sym (added_there w (added_text s.store_dir name refs contents) p o fresh e))
-has_address s w c (add_source name refs b) v other p o fresh e = ap (λ (x : Object). is_some x.ca) (sym (added_there w (added_source s.store_dir name refs b) p o fresh e))
+has_address s w c (add_text name refs contents) v other p o fresh e = ap (λ (x : Object). is_some x.ca) (sym (added_present w (added_text s.store_dir name refs contents) p o fresh e))
+has_address s w c (add_source name refs b) v other p o fresh e = ap (λ (x : Object). is_some x.ca) (sym (added_present w (added_source s.store_dir name refs b) p o fresh e))
 has_address s w c (import_object i) v other p o fresh e =
-    ap (λ (x : Object). is_some x.ca) (sym (added_there w (added_import s.store_dir i) p o fresh e))
+    ap (λ (x : Object). is_some x.ca) (sym (added_present w (added_import s.store_dir i) p o fresh e))
     ∙ by (is_some i.ca) (is_trusted (class_of s c)) other (allowed s w c (import_object i) v TrustedImport (1, omega arith, refl))
   where
     by : (a t : Bool) → IsFalse t → IsTrue (not (not a) || t) → IsTrue a
@@ -191,46 +191,46 @@ effect_of_trusted s w c other (collect ignores None) v = record { permanent = re
 effect_of_trusted s w c other (collect ignores (Some limit)) v = record { permanent = refl; runtime = refl }
 effect_of_trusted s w c other _ v = record { permanent = refl; runtime = refl }
 
-module _ (w : World) (owner theirs : List ℕ) (apart : owner ≡ theirs → ⊥) where
-  other_pair : (n m : List ℕ) → ◌≡◌ {A = Pair} (owner, n) (theirs, m) → ⊥
+module _ (w : World) (owner other_owner : List ℕ) (apart : owner ≡ other_owner → ⊥) where
+  other_pair : (n m : List ℕ) → ◌≡◌ {A = Pair} (owner, n) (other_owner, m) → ⊥
   other_pair n m e = apart (ap (λ (x : Pair). x.0) e)
 
-  pub profile_of_other : (name : List ℕ) (p : Profile) → KeepsOfOwner owner w (with_profile w (theirs, name) p)
+  pub profile_of_other : (name : List ℕ) (p : Profile) → KeepsOfOwner owner w (with_profile w (other_owner, name) p)
   profile_of_other name p = record {
     user_roots = λ n. refl;
-    profiles = λ n. beside_inserted pair_total pair_antisymmetric w.profiles (theirs, name) p (owner, n) (other_pair n name);
+    profiles = λ n. next_to_inserted pair_total pair_antisymmetric w.profiles (other_owner, name) p (owner, n) (other_pair n name);
     temporary = λ k t. refl;
   }
 
-  pub set_of_other : (name : List ℕ) (p : Path) → KeepsOfOwner owner w (with_user_root w (theirs, name) p)
+  pub set_of_other : (name : List ℕ) (p : Path) → KeepsOfOwner owner w (with_user_root w (other_owner, name) p)
   set_of_other name p = record {
-    user_roots = λ n. beside_inserted pair_total pair_antisymmetric w.user_roots (theirs, name) p (owner, n) (other_pair n name);
+    user_roots = λ n. next_to_inserted pair_total pair_antisymmetric w.user_roots (other_owner, name) p (owner, n) (other_pair n name);
     profiles = λ n. refl;
     temporary = λ k t. refl;
   }
 
-  drop_of_other : (name : List ℕ) → KeepsOfOwner owner w (without_user_root w (theirs, name))
+  drop_of_other : (name : List ℕ) → KeepsOfOwner owner w (without_user_root w (other_owner, name))
   drop_of_other name = record {
-    user_roots = λ n. beside_removed pair_total pair_antisymmetric w.user_roots (theirs, name) (owner, n) (other_pair n name);
+    user_roots = λ n. next_to_removed pair_total pair_antisymmetric w.user_roots (other_owner, name) (owner, n) (other_pair n name);
     profiles = λ n. refl;
     temporary = λ k t. refl;
   }
 
-  pub added_of_other : (session : ℕ) (p : Path) → KeepsOfOwner owner w (with_temporary w (record { owner = theirs; session = session; path = p }))
+  pub added_of_other : (session : ℕ) (p : Path) → KeepsOfOwner owner w (with_temporary w (record { owner = other_owner; session = session; path = p }))
   added_of_other session p = record {
     user_roots = λ n. refl;
     profiles = λ n. refl;
-    temporary = λ k t. ap is_some (beside_inserted temporary_total temporary_antisymmetric w.temporary (record { owner = theirs; session = session; path = p }) tt (record { owner = owner; session = k; path = t }) (λ e. apart (ap (λ (x : Temporary). x.owner) e)));
+    temporary = λ k t. ap is_some (next_to_inserted temporary_total temporary_antisymmetric w.temporary (record { owner = other_owner; session = session; path = p }) tt (record { owner = owner; session = k; path = t }) (λ e. apart (ap (λ (x : Temporary). x.owner) e)));
   }
 
-  ended_of_other : (session : ℕ) → KeepsOfOwner owner w (without_session w theirs session)
+  ended_of_other : (session : ℕ) → KeepsOfOwner owner w (without_session w other_owner session)
   ended_of_other session = record {
     user_roots = λ n. refl;
     profiles = λ n. refl;
     temporary = λ k t.
         let x : Temporary = record { owner = owner; session = k; path = t } in
-        let stays : IsTrue (not (is_of_session theirs session x)) = ap (λ b. not (b && k == session)) (false_from_ne_true (same owner theirs) (λ h. apart (same_is owner theirs h))) in
-        ap is_some (finite.get-retain_keys w.temporary (λ y. not (is_of_session theirs session y)) x (λ y e. ap (λ z. not (is_of_session theirs session z)) (sym (temporary_antisymmetric x y e)))
+        let stays : IsTrue (not (is_of_session other_owner session x)) = ap (λ b. not (b && k == session)) (false_from_ne_true (same owner other_owner) (λ h. apart (same_is owner other_owner h))) in
+        ap is_some (finite.get-retain_keys w.temporary (λ y. not (is_of_session other_owner session y)) x (λ y e. ap (λ z. not (is_of_session other_owner session z)) (sym (temporary_antisymmetric x y e)))
         ∙ ap (λ b. cond b (finite.get w.temporary x) None) stays);
   }
 
@@ -239,14 +239,14 @@ effect_of_owner : (s : Settings) (w : World) (c : Caller) → IsFalse (is_truste
 effect_of_owner s w c other (add_text name refs contents) v owner apart = add_of_owner w (added_text s.store_dir name refs contents) owner
 effect_of_owner s w c other (add_source name refs b) v owner apart = add_of_owner w (added_source s.store_dir name refs b) owner
 effect_of_owner s w c other (import_object i) v owner apart = add_of_owner w (added_import s.store_dir i) owner
-effect_of_owner s w c other (set_user_root theirs name p) v owner apart = set_of_other w owner theirs (λ e. apart (e ∙ own s w c other (set_user_root theirs name p) theirs v refl)) name p
-effect_of_owner s w c other (drop_user_root theirs name) v owner apart = drop_of_other w owner theirs (λ e. apart (e ∙ own s w c other (drop_user_root theirs name) theirs v refl)) name
-effect_of_owner s w c other (set_profile theirs name p) v owner apart = profile_of_other w owner theirs (λ e. apart (e ∙ own s w c other (set_profile theirs name p) theirs v refl)) name (set_to (profile_at w (theirs, name)) p)
-effect_of_owner s w c other (rollback theirs name) v owner apart = profile_of_other w owner theirs (λ e. apart (e ∙ own s w c other (rollback theirs name) theirs v refl)) name (rolled_back (profile_at w (theirs, name)))
-effect_of_owner s w c other (switch theirs name n) v owner apart = profile_of_other w owner theirs (λ e. apart (e ∙ own s w c other (switch theirs name n) theirs v refl)) name (switched (profile_at w (theirs, name)) n)
-effect_of_owner s w c other (delete_generation theirs name n) v owner apart = profile_of_other w owner theirs (λ e. apart (e ∙ own s w c other (delete_generation theirs name n) theirs v refl)) name (without_generation (profile_at w (theirs, name)) n)
-effect_of_owner s w c other (add_temp theirs session p) v owner apart = added_of_other w owner theirs (λ e. apart (e ∙ own s w c other (add_temp theirs session p) theirs v refl)) session p
-effect_of_owner s w c other (end_session theirs session) v owner apart = ended_of_other w owner theirs (λ e. apart (e ∙ own s w c other (end_session theirs session) theirs v refl)) session
+effect_of_owner s w c other (set_user_root other_owner name p) v owner apart = set_of_other w owner other_owner (λ e. apart (e ∙ own s w c other (set_user_root other_owner name p) other_owner v refl)) name p
+effect_of_owner s w c other (drop_user_root other_owner name) v owner apart = drop_of_other w owner other_owner (λ e. apart (e ∙ own s w c other (drop_user_root other_owner name) other_owner v refl)) name
+effect_of_owner s w c other (set_profile other_owner name p) v owner apart = profile_of_other w owner other_owner (λ e. apart (e ∙ own s w c other (set_profile other_owner name p) other_owner v refl)) name (set_to (profile_at w (other_owner, name)) p)
+effect_of_owner s w c other (rollback other_owner name) v owner apart = profile_of_other w owner other_owner (λ e. apart (e ∙ own s w c other (rollback other_owner name) other_owner v refl)) name (rolled_back (profile_at w (other_owner, name)))
+effect_of_owner s w c other (switch other_owner name n) v owner apart = profile_of_other w owner other_owner (λ e. apart (e ∙ own s w c other (switch other_owner name n) other_owner v refl)) name (switched (profile_at w (other_owner, name)) n)
+effect_of_owner s w c other (delete_generation other_owner name n) v owner apart = profile_of_other w owner other_owner (λ e. apart (e ∙ own s w c other (delete_generation other_owner name n) other_owner v refl)) name (without_generation (profile_at w (other_owner, name)) n)
+effect_of_owner s w c other (add_temp other_owner session p) v owner apart = added_of_other w owner other_owner (λ e. apart (e ∙ own s w c other (add_temp other_owner session p) other_owner v refl)) session p
+effect_of_owner s w c other (end_session other_owner session) v owner apart = ended_of_other w owner other_owner (λ e. apart (e ∙ own s w c other (end_session other_owner session) other_owner v refl)) session
 effect_of_owner s w c other (collect ignores None) v owner apart = record { user_roots = λ n. refl; profiles = λ n. refl; temporary = λ k p. refl }
 effect_of_owner s w c other (collect ignores (Some limit)) v owner apart = record { user_roots = λ n. refl; profiles = λ n. refl; temporary = λ k p. refl }
 effect_of_owner s w c other _ v owner apart = record { user_roots = λ n. refl; profiles = λ n. refl; temporary = λ k p. refl }

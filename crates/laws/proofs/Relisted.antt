@@ -15,16 +15,16 @@ use Rattle.laws.specs.RootChanges.{ChangesPermanent, ChangesUserRoot}
 use Rattle.laws.specs.Relisted.{ListsRoots, CoexistedWith}
 use Rattle.model.proofs.MapMembers.{bytes_antisymmetric, pair_total, pair_antisymmetric}
 use Rattle.model.proofs.EveryRoot.{each_root}
-use Rattle.laws.proofs.Tellings.{root_listings_tell}
+use Rattle.laws.proofs.Tellings.{root_listings_report}
 use Rattle.laws.proofs.LabelsDiffer.{same_permanent, same_user}
-use Rattle.laws.proofs.RootsBeside.{same_or_not, AgreeBut, turned, moved, of_kind, beside, permanents, users}
+use Rattle.laws.proofs.RootsByTable.{same_or_not, AgreeBut, turned, moved, of_kind, next_to, permanents, users}
 
 -- ---- what is told is what there is
 
 pub relisted : (s : Settings) (w : World) (c : Caller) (Holds : Root → Type 0) → ((r : Root) → Contains (roots_of w) r ↔ Holds r) → ListsRoots s w c Holds
 relisted s w c Holds is = record {
   all = λ a new h.
-      let x = (root_listings_tell s w c).all a new h in
+      let x = (root_listings_report s w c).all a new h in
       record {
         shown = x.shown;
         reported = x.reported;
@@ -32,7 +32,7 @@ relisted s w c Holds is = record {
         in_order = x.in_order;
       };
   of = λ p a new h.
-      let x = (root_listings_tell s w c).of p a new h in
+      let x = (root_listings_report s w c).of p a new h in
       record {
         shown = x.shown;
         reported = x.reported;
@@ -72,21 +72,21 @@ module _ (w new : World) (name : List ℕ) (k : ChangesPermanent w new name) whe
       → ((t : Path) → finite.get new.permanent name ≡ Some t → P (permanent_root (name, t))) → (r : Root) → Contains (roots_of new) r → P r
   permanent_roots P f here r c = of_kind permanent P r
       (λ is. permanents new P (λ n t e. by n t e (same_or_not nat_list_cmp_total bytes_antisymmetric n name)) r c is)
-      (λ apart. f r (beside w permanent (permanent_label name) r (moved permanent new w agree r apart c) apart))
+      (λ apart. f r (next_to w permanent (permanent_label name) r (moved permanent new w agree r apart c) apart))
     where
       by : (n : List ℕ) (t : Path) → finite.get new.permanent n ≡ Some t → (n ≡ name) ⊎ (n ≡ name → ⊥) → P (permanent_root (n, t))
       by n t e (inl same) = subst (λ (m : List ℕ). P (permanent_root (m, t))) (sym same) (here t (ap (finite.get new.permanent) (sym same) ∙ e))
       by n t e (inr apart) = f (permanent_root (n, t)) (existed n t apart e)
 
-  pub permanent_gone : finite.contains_key new.permanent name ≡ false → (r : Root) → Contains (roots_of new) r ↔ CoexistedWith w permanent (permanent_label name) r
-  permanent_gone gone r = (
-    permanent_roots (CoexistedWith w permanent (permanent_label name)) (λ x b. b) (λ t e. absurd (false≢true (sym gone ∙ ap is_some e))) r,
+  pub permanent_removed : finite.contains_key new.permanent name ≡ false → (r : Root) → Contains (roots_of new) r ↔ CoexistedWith w permanent (permanent_label name) r
+  permanent_removed deleted r = (
+    permanent_roots (CoexistedWith w permanent (permanent_label name)) (λ x b. b) (λ t e. absurd (false≢true (sym deleted ∙ ap is_some e))) r,
     exists r,
   )
 
-  pub permanent_there : (p : Path) → finite.get new.permanent name ≡ Some p
+  pub permanent_present : (p : Path) → finite.get new.permanent name ≡ Some p
       → (r : Root) → Contains (roots_of new) r ↔ ((r ≡ permanent_root (name, p)) ⊎ CoexistedWith w permanent (permanent_label name) r)
-  permanent_there p present r = (
+  permanent_present p present r = (
     permanent_roots (λ x. (x ≡ permanent_root (name, p)) ⊎ CoexistedWith w permanent (permanent_label name) x) (λ x b. inr b)
         (λ t e. inl (ap (λ (q : Path). permanent_root (name, q)) (same_Some t p (sym e ∙ present)))) r,
     λ h. elim h as (λ _. Contains (roots_of new) r) [
@@ -125,21 +125,21 @@ module _ (dir : List ℕ) (w new : World) (sound : IsSound dir w) (owner name : 
       → ((t : Path) → finite.get new.user_roots (owner, name) ≡ Some t → P (user_root ((owner, name), t))) → (r : Root) → Contains (roots_of new) r → P r
   user_roots_now P f here r c = of_kind user P r
       (λ is. users new P (λ o t e. by o t e (same_or_not pair_total pair_antisymmetric o (owner, name))) r c is)
-      (λ apart. f r (beside w user (user_label owner name) r (moved user new w agree_users r apart c) apart))
+      (λ apart. f r (next_to w user (user_label owner name) r (moved user new w agree_users r apart c) apart))
     where
       by : (o : Pair) (t : Path) → finite.get new.user_roots o ≡ Some t → (o ≡ (owner, name)) ⊎ (o ≡ (owner, name) → ⊥) → P (user_root (o, t))
       by o t e (inl same) = subst (λ (x : Pair). P (user_root (x, t))) (sym same) (here t (ap (finite.get new.user_roots) (sym same) ∙ e))
       by o t e (inr apart) = f (user_root (o, t)) (stood_user o t apart e)
 
-  pub user_gone : finite.contains_key new.user_roots (owner, name) ≡ false → (r : Root) → Contains (roots_of new) r ↔ CoexistedWith w user (user_label owner name) r
-  user_gone gone r = (
-    user_roots_now (CoexistedWith w user (user_label owner name)) (λ x b. b) (λ t e. absurd (false≢true (sym gone ∙ ap is_some e))) r,
+  pub user_removed : finite.contains_key new.user_roots (owner, name) ≡ false → (r : Root) → Contains (roots_of new) r ↔ CoexistedWith w user (user_label owner name) r
+  user_removed deleted r = (
+    user_roots_now (CoexistedWith w user (user_label owner name)) (λ x b. b) (λ t e. absurd (false≢true (sym deleted ∙ ap is_some e))) r,
     stands_user r,
   )
 
-  pub user_there : (p : Path) → finite.get new.user_roots (owner, name) ≡ Some p
+  pub user_present : (p : Path) → finite.get new.user_roots (owner, name) ≡ Some p
       → (r : Root) → Contains (roots_of new) r ↔ ((r ≡ user_root ((owner, name), p)) ⊎ CoexistedWith w user (user_label owner name) r)
-  user_there p present r = (
+  user_present p present r = (
     user_roots_now (λ x. (x ≡ user_root ((owner, name), p)) ⊎ CoexistedWith w user (user_label owner name) x) (λ x b. inr b)
         (λ t e. inl (ap (λ (q : Path). user_root ((owner, name), q)) (same_Some t p (sym e ∙ present)))) r,
     λ h. elim h as (λ _. Contains (roots_of new) r) [

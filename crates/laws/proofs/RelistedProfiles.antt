@@ -17,7 +17,7 @@ use Rattle.laws.specs.Relisted.{CoexistedWith}
 use Rattle.model.proofs.MapMembers.{nat_antisymmetric, pair_total, pair_antisymmetric}
 use Rattle.model.proofs.EveryRoot.{each_root}
 use Rattle.laws.proofs.LabelsDiffer.{same_generation}
-use Rattle.laws.proofs.RootsBeside.{same_or_not, AgreeBut, turned, moved, of_kind, beside, generations}
+use Rattle.laws.proofs.RootsByTable.{same_or_not, AgreeBut, turned, moved, of_kind, next_to, generations}
 
 -- ---- the roots of a world and of the next, whose one profile changed
 
@@ -78,8 +78,8 @@ module _ (w new : World) (owned : Pair) (p : Path) (a : Answer) (x : SetsProfile
           absurd (omega (arith, over, is))
       by (first none is) = absurd (false≢true (sym (none x.number) ∙ ap is_some e))
 
-  pub generation_there : (r : Root) → Contains (roots_of new) r ↔ ((r ≡ generation_root owned (x.number, p)) ⊎ Contains (roots_of w) r)
-  generation_there r = (
+  pub generation_present : (r : Root) → Contains (roots_of new) r ↔ ((r ≡ generation_root owned (x.number, p)) ⊎ Contains (roots_of w) r)
+  generation_present r = (
     forward w new owned x.now x.change (λ y. (y ≡ generation_root owned (x.number, p)) ⊎ Contains (roots_of w) y) (λ y c _. inr c)
         (λ o q m t _ e g. inr ((each_root w).generation o q m t e g)) (λ m t e. now_or_before m t e (same_or_not nat_cmp_total nat_antisymmetric m x.number)) r,
     λ h. elim h as (λ _. Contains (roots_of new) r) [
@@ -124,10 +124,10 @@ module _ (dir : List ℕ) (w new : World) (sound : IsSound dir w) (owner name : 
       → (o.0 ≡ owner) × (o.1 ≡ name) × (m ≡ n)
   label_apart o q m e present =
       let mine = sound.profiles (owner, name) x.was x.existed in
-      let theirs = sound.profiles o q e in
+      let other_owner = sound.profiles o q e in
       let low : n ≤ 9999 = mine.highest n x.present in
-      let small : m ≤ 9999 = theirs.highest m present in
-      same_generation o.0 owner o.1 name m n theirs.owner mine.owner (omega (arith, small)) (omega (arith, low))
+      let small : m ≤ 9999 = other_owner.highest m present in
+      same_generation o.0 owner o.1 name m n other_owner.owner mine.owner (omega (arith, small)) (omega (arith, low))
 
   apart_from : (o : Pair) (q : Profile) (m : ℕ) (t : Path) → finite.get w.profiles o ≡ Some q → finite.get q.generations m ≡ Some t → (o ≡ (owner, name) → m ≡ n → ⊥)
       → CoexistedWith w profile (generation_label owner name n) (generation_root o (m, t))
@@ -136,9 +136,9 @@ module _ (dir : List ℕ) (w new : World) (sound : IsSound dir w) (owner name : 
     other = λ _ l. let is = label_apart o q m e (ap is_some g) l in other (λ i. (is.0 i, is.1 i)) is.2;
   }
 
-  pub generation_gone : (r : Root) → Contains (roots_of new) r ↔ CoexistedWith w profile (generation_label owner name n) r
-  generation_gone r = (
-    forward w new (owner, name) x.now x.change (CoexistedWith w profile (generation_label owner name n)) (λ y c apart. beside w profile (generation_label owner name n) y c apart)
+  pub generation_absent : (r : Root) → Contains (roots_of new) r ↔ CoexistedWith w profile (generation_label owner name n) r
+  generation_absent r = (
+    forward w new (owner, name) x.now x.change (CoexistedWith w profile (generation_label owner name n)) (λ y c apart. next_to w profile (generation_label owner name n) y c apart)
         (λ o q m t apart e g. apart_from o q m t e g (λ same _. apart same))
         (λ m t e. left m t e (same_or_not nat_cmp_total nat_antisymmetric m n)) r,
     λ s. backward w new (owner, name) x.now x.change (λ y. (y.kind ≡ profile → y.label ≡ generation_label owner name n → ⊥) → Contains (roots_of new) y) (λ y d _. d)
@@ -146,7 +146,7 @@ module _ (dir : List ℕ) (w new : World) (sound : IsSound dir w) (owner name : 
   )
     where
       left : (m : ℕ) (t : Path) → finite.get x.now.generations m ≡ Some t → (m ≡ n) ⊎ (m ≡ n → ⊥) → CoexistedWith w profile (generation_label owner name n) (generation_root (owner, name) (m, t))
-      left m t e (inl same) = absurd (false≢true (sym x.gone ∙ ap (λ k. is_some (finite.get x.now.generations k)) (sym same) ∙ ap is_some e))
+      left m t e (inl same) = absurd (false≢true (sym x.deleted ∙ ap (λ k. is_some (finite.get x.now.generations k)) (sym same) ∙ ap is_some e))
       left m t e (inr apart) = apart_from (owner, name) x.was m t x.existed (sym (x.others m apart) ∙ e) (λ _ is. apart is)
 
       still : (m : ℕ) (t : Path) → finite.get x.was.generations m ≡ Some t → (m ≡ n → ⊥) → Contains (roots_of new) (generation_root (owner, name) (m, t))

@@ -18,11 +18,11 @@ use Rattle.laws.specs.Relisted.{CoexistedWith, IsGiven, IsKeptByAnother, DropsAr
 use Rattle.model.proofs.MapMembers.{bytes_antisymmetric, nat_antisymmetric, temporary_total, temporary_antisymmetric}
 use Rattle.model.proofs.EveryRoot.{each_root}
 use Rattle.laws.proofs.LabelsDiffer.{same_session}
-use Rattle.laws.proofs.RootsBeside.{same_or_not, AgreeBut, turned, moved, of_kind, beside, runtimes, temporaries}
+use Rattle.laws.proofs.RootsByTable.{same_or_not, AgreeBut, turned, moved, of_kind, next_to, runtimes, temporaries}
 use Rattle.laws.proofs.RootChanges.{sets_permanent, drops_permanent, sets_user_roots, drops_user_roots, replaces, adds_for_sessions, ends_sessions}
 use Rattle.laws.proofs.ProfileChanges.{sets, rolls_back, switches, deletes_generations}
-use Rattle.laws.proofs.Relisted.{relisted, permanent_gone, permanent_there, user_gone, user_there}
-use Rattle.laws.proofs.RelistedProfiles.{generation_there, generations_stay, generation_gone}
+use Rattle.laws.proofs.Relisted.{relisted, permanent_removed, permanent_present, user_removed, user_present}
+use Rattle.laws.proofs.RelistedProfiles.{generation_present, generations_stay, generation_absent}
 use Rattle.model.proofs.Passed.{met, each_passed}
 
 -- ---- runtime roots
@@ -97,9 +97,9 @@ module _ (dir : List ℕ) (w new : World) (sound : IsSound dir w) (owner : List 
       existed apart = sym (k.others t apart) ∙ h
 
       by : (t.owner ≡ owner) ⊎ (t.owner ≡ owner → ⊥) → (t.session ≡ session) ⊎ (t.session ≡ session → ⊥) → Stays (temporary_root t)
-      by (inl o) (inl n) = absurd (false≢true (sym (k.gone t o n) ∙ h))
+      by (inl o) (inl n) = absurd (false≢true (sym (k.deleted t o n) ∙ h))
       by (inr o) (inl n) = inl (record {
-        another = t.owner;
+        foreign_owner = t.owner;
         other = o;
         keeps = ap (λ (m : ℕ). finite.contains_key w.temporary (record { owner = t.owner; session = m; path = t.path })) (sym n) ∙ existed (λ both. o both.0);
         is = ap (λ (m : ℕ). temporary_root (record { owner = t.owner; session = m; path = t.path })) n;
@@ -118,9 +118,9 @@ module _ (dir : List ℕ) (w new : World) (sound : IsSound dir w) (owner : List 
   unfolding Stays
   ended_now r = (
     λ c. of_kind temporary Stays r (λ is. temporaries new Stays forth r c is)
-        (λ apart. inr (beside w temporary (temporary_label session) r (moved temporary new w (but_temporary w new k.rest) r apart c) apart)),
+        (λ apart. inr (next_to w temporary (temporary_label session) r (moved temporary new w (but_temporary w new k.rest) r apart c) apart)),
     λ h. elim h as (λ _. Contains (roots_of new) r) [
-      | inl s ↦ subst (Contains (roots_of new)) (sym s.is) ((each_root new).temporary (record { owner = s.another; session = session; path = r.target }) (k.others _ (λ both. s.other both.0) ∙ s.keeps))
+      | inl s ↦ subst (Contains (roots_of new)) (sym s.is) ((each_root new).temporary (record { owner = s.foreign_owner; session = session; path = r.target }) (k.others _ (λ both. s.other both.0) ∙ s.keeps))
       | inr s ↦ of_kind temporary (Contains (roots_of new)) r
           (λ is. temporaries w (λ x. (x.label ≡ temporary_label session → ⊥) → Contains (roots_of new) x) back r s.existed is (s.other is))
           (λ apart. moved temporary w new (turned temporary new w (but_temporary w new k.rest)) r apart s.existed)
@@ -133,31 +133,31 @@ number_in : Answer → ℕ
 number_in (generation n) = n
 number_in _ = 0
 
-pub drops_are_told : DropsAreListed
+pub drops_are_reported : DropsAreListed
 unfolding Stays
-drops_are_told s w c mid next sound = record {
-  permanent_ = λ name a h. let x = drops_permanent s w c name a mid h in relisted s mid next (CoexistedWith w permanent (permanent_label name)) (permanent_gone w mid name x.3 x.2);
+drops_are_reported s w c mid next sound = record {
+  permanent_ = λ name a h. let x = drops_permanent s w c name a mid h in relisted s mid next (CoexistedWith w permanent (permanent_label name)) (permanent_removed w mid name x.3 x.2);
   user_ = λ owner name a h.
       let x = drops_user_roots s w c owner name a mid h in
       let plain = and_parts (is_plain_name owner) (is_plain_name name) (met (is_plain_name owner && is_plain_name name) BadRootName (each_passed (tests s w (drop_user_root owner name)) h.1 _ (0, omega arith, refl))) in
-      relisted s mid next (CoexistedWith w user (user_label owner name)) (user_gone s.store_dir w mid sound owner name plain.0 x.3 x.2);
-  generation_ = λ owner name n a h. relisted s mid next (CoexistedWith w profile (generation_label owner name n)) (generation_gone s.store_dir w mid sound owner name n (deletes_generations s w c owner name n a mid h).1);
+      relisted s mid next (CoexistedWith w user (user_label owner name)) (user_removed s.store_dir w mid sound owner name plain.0 x.3 x.2);
+  generation_ = λ owner name n a h. relisted s mid next (CoexistedWith w profile (generation_label owner name n)) (generation_absent s.store_dir w mid sound owner name n (deletes_generations s w c owner name n a mid h).1);
   runtime_ = λ pairs a h. relisted s mid next (λ r. IsGiven w pairs r ⊎ (Contains (roots_of w) r × (r.kind ≡ runtime → ⊥))) (runtime_now w mid pairs a (replaces s w c pairs a mid h));
   session_ = λ owner session a h.
       relisted s mid next (λ r. IsKeptByAnother w owner session r ⊎ CoexistedWith w temporary (temporary_label session) r) (ended_now s.store_dir w mid sound owner session (met (is_session session) BadSession (each_passed (tests s w (end_session owner session)) h.1 _ (1, omega arith, refl))) a (ends_sessions s w c owner session a mid h));
 }
 
-pub sets_are_told : SetsAreListed
+pub sets_are_reported : SetsAreListed
 unfolding number_in
-sets_are_told s w c mid next sound = record {
-  permanent_ = λ name p a h. let x = sets_permanent s w c name p a mid h in relisted s mid next (λ r. (r ≡ permanent_root (name, p)) ⊎ CoexistedWith w permanent (permanent_label name) r) (permanent_there w mid name x.2 p x.1);
+sets_are_reported s w c mid next sound = record {
+  permanent_ = λ name p a h. let x = sets_permanent s w c name p a mid h in relisted s mid next (λ r. (r ≡ permanent_root (name, p)) ⊎ CoexistedWith w permanent (permanent_label name) r) (permanent_present w mid name x.2 p x.1);
   user_ = λ owner name p a h.
       let x = sets_user_roots s w c owner name p a mid h in
       let plain = and_parts (is_plain_name owner) (is_plain_name name) (met (is_plain_name owner && is_plain_name name) BadRootName (each_passed (tests s w (set_user_root owner name p)) h.1 _ (0, omega arith, refl))) in
-      relisted s mid next (λ r. (r ≡ user_root ((owner, name), p)) ⊎ CoexistedWith w user (user_label owner name) r) (user_there s.store_dir w mid sound owner name plain.0 x.2 p x.1);
+      relisted s mid next (λ r. (r ≡ user_root ((owner, name), p)) ⊎ CoexistedWith w user (user_label owner name) r) (user_present s.store_dir w mid sound owner name plain.0 x.2 p x.1);
   generation_ = λ owner name p n h.
       let x = sets s w c owner name p (generation n) mid h in
-      relisted s mid next (λ r. (r ≡ generation_root (owner, name) (n, p)) ⊎ Contains (roots_of w) r) (subst (λ (m : ℕ). (r : Root) → Contains (roots_of mid) r ↔ ((r ≡ generation_root (owner, name) (m, p)) ⊎ Contains (roots_of w) r)) (sym (ap number_in x.reported)) (generation_there w mid (owner, name) p (generation n) x));
+      relisted s mid next (λ r. (r ≡ generation_root (owner, name) (n, p)) ⊎ Contains (roots_of w) r) (subst (λ (m : ℕ). (r : Root) → Contains (roots_of mid) r ↔ ((r ≡ generation_root (owner, name) (m, p)) ⊎ Contains (roots_of w) r)) (sym (ap number_in x.reported)) (generation_present w mid (owner, name) p (generation n) x));
   back = λ owner name a h. let x = rolls_back s w c owner name a mid h in relisted s mid next (Contains (roots_of w)) (generations_stay w mid (owner, name) x.number x.moves);
   switch_ = λ owner name n a h. relisted s mid next (Contains (roots_of w)) (generations_stay w mid (owner, name) n (switches s w c owner name n a mid h).1);
   session_ = λ owner session p a h. relisted s mid next (λ r. (r ≡ temporary_root (record { owner = owner; session = session; path = p })) ⊎ Contains (roots_of w) r) (added_now w mid (record { owner = owner; session = session; path = p }) (adds_for_sessions s w c owner session p a mid h).1);

@@ -19,7 +19,7 @@ use Rattle.model.specs.Tests.{tests}
 use Rattle.model.specs.Effects.{valid_pairs, with_runtime, with_temporary, is_of_session, of_session, without_session}
 use Rattle.laws.specs.RootChanges.{SetsPermanent, DropsPermanent, SetsUserRoots, DropsUserRoots, ReplacesRuntime, ReplacesAsSpecified, AddsTemporary, AddsForSessions, Ends, EndsSessions, ChangesPermanent, ChangesUserRoot}
 use Rattle.model.proofs.MapMembers.{bytes_antisymmetric, pair_total, pair_antisymmetric, temporary_total, temporary_antisymmetric, key_listed, listed_key, retained_key, contains_key-inserted, set_member}
-use Rattle.laws.proofs.Changed.{at_inserted, beside_inserted, at_removed, beside_removed}
+use Rattle.laws.proofs.Changed.{at_inserted, next_to_inserted, at_removed, next_to_removed}
 use Rattle.model.proofs.Filtered.{in_filtered, from_filtered}
 use Rattle.laws.proofs.Freed.{keys_rise}
 use Rattle.model.proofs.Passed.{met, each_passed}
@@ -31,7 +31,7 @@ sets_permanent s w c name p a new h = (
   h.2,
   ap (λ (u : World). finite.get u.permanent name) h.3 ∙ at_inserted nat_list_cmp_total bytes_antisymmetric w.permanent name p,
   subst (λ (u : World). ChangesPermanent w u name) (sym h.3) (record {
-    others = λ other apart. beside_inserted nat_list_cmp_total bytes_antisymmetric w.permanent name p other apart;
+    others = λ other apart. next_to_inserted nat_list_cmp_total bytes_antisymmetric w.permanent name p other apart;
     objects = refl;
     user_roots = refl;
     profiles = refl;
@@ -46,7 +46,7 @@ drops_permanent s w c name a new h = (
   met (finite.contains_key w.permanent name) _ (each_passed (tests s w (drop_permanent name)) h.1 _ (1, omega arith, refl)),
   ap (λ (u : World). finite.contains_key u.permanent name) h.3 ∙ at_removed nat_list_cmp_total bytes_antisymmetric w.permanent name,
   subst (λ (u : World). ChangesPermanent w u name) (sym h.3) (record {
-    others = λ other apart. beside_removed nat_list_cmp_total bytes_antisymmetric w.permanent name other apart;
+    others = λ other apart. next_to_removed nat_list_cmp_total bytes_antisymmetric w.permanent name other apart;
     objects = refl;
     user_roots = refl;
     profiles = refl;
@@ -60,7 +60,7 @@ sets_user_roots s w c owner name p a new h = (
   h.2,
   ap (λ (u : World). finite.get u.user_roots (owner, name)) h.3 ∙ at_inserted pair_total pair_antisymmetric w.user_roots (owner, name) p,
   subst (λ (u : World). ChangesUserRoot w u (owner, name)) (sym h.3) (record {
-    others = λ other apart. beside_inserted pair_total pair_antisymmetric w.user_roots (owner, name) p other apart;
+    others = λ other apart. next_to_inserted pair_total pair_antisymmetric w.user_roots (owner, name) p other apart;
     objects = refl;
     permanent = refl;
     profiles = refl;
@@ -75,7 +75,7 @@ drops_user_roots s w c owner name a new h = (
   met (finite.contains_key w.user_roots (owner, name)) _ (each_passed (tests s w (drop_user_root owner name)) h.1 _ (1, omega arith, refl)),
   ap (λ (u : World). finite.contains_key u.user_roots (owner, name)) h.3 ∙ at_removed pair_total pair_antisymmetric w.user_roots (owner, name),
   subst (λ (u : World). ChangesUserRoot w u (owner, name)) (sym h.3) (record {
-    others = λ other apart. beside_removed pair_total pair_antisymmetric w.user_roots (owner, name) other apart;
+    others = λ other apart. next_to_removed pair_total pair_antisymmetric w.user_roots (owner, name) other apart;
     objects = refl;
     permanent = refl;
     profiles = refl;
@@ -115,7 +115,7 @@ replaces s w c pairs a new h =
 added : (w : World) (t : Temporary) → AddsTemporary w t (with_temporary w t)
 added w t = record {
   present = contains_key-inserted temporary_total temporary_antisymmetric w.temporary t tt;
-  others = λ other apart. ap is_some (beside_inserted temporary_total temporary_antisymmetric w.temporary t tt other apart);
+  others = λ other apart. ap is_some (next_to_inserted temporary_total temporary_antisymmetric w.temporary t tt other apart);
   rest = record { objects = refl; permanent = refl; user_roots = refl; profiles = refl; runtime = refl };
 }
 
@@ -137,7 +137,7 @@ module _ (w : World) (owner : List ℕ) (session : ℕ) where
 
   ends : Ends w owner session (temporary_count (finite.len (of_session w owner session))) (without_session w owner session)
   ends = record {
-    went = finite.keys (of_session w owner session);
+    removed = finite.keys (of_session w owner session);
     reported = ap temporary_count (finite.len-entries (of_session w owner session) ∙ sym (length-map (finite.entries (of_session w owner session)) (λ (e : Temporary × Unit {0}). e.0)));
     listed = λ t. (
       (λ k. let parts = retained_key temporary_antisymmetric w.temporary (is_of_session owner session) t (listed_key temporary_total (of_session w owner session) t k) in let both = of t parts.0 in (parts.1, both.0, both.1)),
@@ -146,7 +146,7 @@ module _ (w : World) (owner : List ℕ) (session : ℕ) where
           ∙ ap (λ b. cond b (finite.get w.temporary t) None) (is_of t k.1 k.2)) ∙ k.0)),
     );
     in_order = keys_rise temporary_cmp (of_session w owner session);
-    gone = λ t o n. left t ∙ ap (λ b. is_some (cond (not b) (finite.get w.temporary t) None)) (is_of t o n);
+    deleted = λ t o n. left t ∙ ap (λ b. is_some (cond (not b) (finite.get w.temporary t) None)) (is_of t o n);
     others = λ t apart. left t ∙ ap (λ b. is_some (cond (not b) (finite.get w.temporary t) None)) (false_from_ne_true (is_of_session owner session t) (λ k. apart (of t k)));
     rest = record { objects = refl; permanent = refl; user_roots = refl; profiles = refl; runtime = refl };
   }

@@ -88,9 +88,9 @@ number_in : Answer → ℕ
 number_in (generation n) = n
 number_in _ = 0
 
-pub roots_set_are_told : RootsSetAreListed
+pub roots_set_are_reported : RootsSetAreListed
 unfolding number_in
-roots_set_are_told s w c mid next = record {
+roots_set_are_reported s w c mid next = record {
   permanent = λ name p a h. by_all s mid next (permanent_root (name, p)) ((each_root mid).permanent name p (sets_permanent s w c name p a mid h).1) refl;
   user = λ owner name p a h. by_all s mid next (user_root ((owner, name), p)) ((each_root mid).user (owner, name) p (sets_user_roots s w c owner name p a mid h).1) refl;
   profile = λ owner name p n h.

@@ -31,8 +31,8 @@ use Rattle.laws.proofs.Usages.{adds_up}
 
 -- ---- objects
 
-tells : (p : Path) (o : Object) → ReportsObject p o (record_of (info_of p o))
-tells p o = record {
+reads : (p : Path) (o : Object) → ReportsObject p o (record_of (info_of p o))
+reads p o = record {
   record_ = info_of p o;
   reported = refl;
   path = refl;
@@ -44,12 +44,12 @@ tells p o = record {
   ca = refl;
 }
 
-pub records_tell : RecordsAreExact
-records_tell s w c p a new h = by (finite.get w.objects p) refl (met (has w p) _ (passed _ [] h.1).0)
+pub records_report : RecordsAreExact
+records_report s w c p a new h = by (finite.get w.objects p) refl (met (has w p) _ (passed _ [] h.1).0)
   where
     by : (o : Option Object) → finite.get w.objects p ≡ o → IsTrue (is_some o) → (x : Object) × (finite.get w.objects p ≡ Some x) × ReportsObject p x a
     by None e v = absurd (false≢true v)
-    by (Some o) e v = (o, e, subst (λ x. ReportsObject p o x) (sym (h.2 ∙ ap (record_at p) e)) (tells p o))
+    by (Some o) e v = (o, e, subst (λ x. ReportsObject p o x) (sym (h.2 ∙ ap (record_at p) e)) (reads p o))
 
 pub archives_are_the_objects : ArchivesAreTheObjects
 archives_are_the_objects s w c p a new h = by (finite.get w.objects p) refl (met (has w p) _ (passed _ [] h.1).0)
@@ -58,8 +58,8 @@ archives_are_the_objects s w c p a new h = by (finite.get w.objects p) refl (met
     by None e v = absurd (false≢true v)
     by (Some o) e v = (o, e, h.2 ∙ ap (λ x. archive_of (archive_at x)) e)
 
-handed : (dir : List ℕ) (h : Submitted) (o : Object) (a : Answer) → IsAsSubmitted dir h o → ReportsObject h.path o a → ReportsSubmitted h a
-handed dir h o a is t = record {
+submitted : (dir : List ℕ) (h : Submitted) (o : Object) (a : Answer) → IsAsSubmitted dir h o → ReportsObject h.path o a → ReportsSubmitted h a
+submitted dir h o a is t = record {
   record_ = t.record_;
   reported = t.reported;
   path = t.path;
@@ -74,9 +74,9 @@ handed dir h o a is t = record {
 pub recorded : (s : Settings) (q : Request) (h : Submitted) → AddsExactly s q h → RecordsAdds s q h
 recorded s q h adds w c reply mid step d fresh next a last reported =
     let gained = (adds w c reply mid step d).1.fresh fresh in
-    let x = records_tell s mid next h.path a last reported in
+    let x = records_report s mid next h.path a last reported in
     let one : x.0 ≡ gained.0 = same_Some x.0 gained.0 (sym x.1 ∙ gained.1) in
-    handed s.store_dir h gained.0 a gained.2 (subst (λ (o : Object). ReportsObject h.path o a) one x.2)
+    submitted s.store_dir h gained.0 a gained.2 (subst (λ (o : Object). ReportsObject h.path o a) one x.2)
 
 pub text_recorded : (s : Settings) (name : List ℕ) (refs : List Path) (contents : List ℕ) → RecordsAdds s (add_text name refs contents) (with_text s.store_dir name refs contents)
 text_recorded s name refs contents = recorded s (add_text name refs contents) (with_text s.store_dir name refs contents) (text_exact s name refs contents)
@@ -105,8 +105,8 @@ module _ (s : Settings) (w : World) where
     (λ h. in_filtered (λ x. not (lives s w x)) (all_paths w) p (key_listed bytes_antisymmetric w.objects p h.0) (ap not h.1)),
   )
 
-pub listings_tell : ListingsAreExact
-listings_tell s w c = record {
+pub listings_report : ListingsAreExact
+listings_report s w c = record {
   all = λ a new h. record { listed = all_paths w; reported = h.2; exactly = valid_listed s w; in_order = keys_rise bytes_cmp w.objects };
   live = λ a new h. record { listed = live_paths s w; reported = h.2; exactly = live_listed s w; in_order = IsStrictlySortedBy-filter bytes_cmp (lives s w) (all_paths w) (keys_rise bytes_cmp w.objects) };
   dead = λ a new h. record { listed = dead_paths s w; reported = h.2; exactly = dead_listed s w; in_order = IsStrictlySortedBy-filter bytes_cmp (λ p. not (lives s w p)) (all_paths w) (keys_rise bytes_cmp w.objects) };
@@ -115,8 +115,8 @@ listings_tell s w c = record {
 in_rise : (w : World) → IsStrictlySortedBy root_cmp (roots_of w)
 in_rise w = rise (explicit_roots w ++ runtime_roots w ++ temporary_roots w)
 
-pub root_listings_tell : RootListingsAreExact
-root_listings_tell s w c = record {
+pub root_listings_report : RootListingsAreExact
+root_listings_report s w c = record {
   all = λ a new h. record { shown = roots_of w; reported = h.2; exactly = λ r. ((λ k. k), (λ k. k)); in_order = in_rise w };
   of = λ p a new h. record {
     shown = filter (λ r. reaches (keep_of s) (graph_of w) r.target p) (roots_of w);
@@ -131,8 +131,8 @@ root_listings_tell s w c = record {
 
 -- ---- the report
 
-pub reports_tell : ReportsAreExact
-reports_tell s w c a new h =
+pub reports_agree : ReportsAreExact
+reports_agree s w c a new h =
     let sums = adds_up s w in
     record {
       live = live_paths s w;

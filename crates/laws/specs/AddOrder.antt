@@ -31,7 +31,7 @@ abbrev pub Refuses : Settings → World → Caller → Request → Refusal → T
 Refuses s w c q r = (reply : Reply) (new : World) → Step s w c q reply new → IsRefusedWith r reply
 
 -- a path isn't valid, and a reference is neither valid nor the path itself
-pub record Lacks (w : World) (p : Path) (refs : List Path) : Type 0 where
+pub record HasMissingReference (w : World) (p : Path) (refs : List Path) : Type 0 where
   pub fresh : IsFalse (has w p)
   pub reference : Path
   pub listed : Contains refs reference
@@ -68,7 +68,8 @@ pub record SourceFaults (s : Settings) (w : World) (c : Caller) (name : List ℕ
   pub reference : length refs ≤ most_references → (t : Tree) → outcome_of b ≡ Ok t
       → (Contains refs (source_path s.store_dir name refs b) → ⊥)
       → IsRightTree s.store_dir (source_path s.store_dir name refs b) t
-      → Lacks w (source_path s.store_dir name refs b) refs → Refuses s w c (add_source name refs b) MissingReference
+      → HasMissingReference w (source_path s.store_dir name refs b) refs
+      → Refuses s w c (add_source name refs b) MissingReference
 
 -- Of a text the same, with the size of its archive for what may be wrong with it.
 pub record TextFaults (s : Settings) (w : World) (c : Caller) (name : List ℕ) (refs : List Path)
@@ -88,7 +89,7 @@ pub record TextFaults (s : Settings) (w : World) (c : Caller) (name : List ℕ) 
       → (Contains refs (text_path s.store_dir name refs contents) → ⊥)
       → ((e : DrvError) → IsTrue (is_derivation (text_path s.store_dir name refs contents))
       → outputs_of s.store_dir contents ≡ Err e → ⊥)
-      → Lacks w (text_path s.store_dir name refs contents) refs
+      → HasMissingReference w (text_path s.store_dir name refs contents) refs
       → Refuses s w c (add_text name refs contents) MissingReference
 
 -- an archive that is read and has the digest that is given, with few enough references
@@ -120,7 +121,7 @@ pub record ImportFaults (s : Settings) (w : World) (c : Caller) (i : Imported) :
       → (e : DrvError) (r : Refusal) → IsFaultyTree s.store_dir t e
       → derivation_refusal e ≡ Some r → Refuses s w c (import_object i) r
   pub reference : (t : Tree) → IsAsGiven i t → IsAsAddressed s.store_dir i → IsRightTree s.store_dir i.path t
-      → Lacks w i.path i.refs
+      → HasMissingReference w i.path i.refs
       → Refuses s w c (import_object i) MissingReference
 
 abbrev pub SourceFaultsInOrder : Type 0

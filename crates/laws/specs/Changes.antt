@@ -83,7 +83,7 @@ AddsExactly s q a = (w : World) (c : Caller) (reply : Reply) (new : World) → S
 -- From the one world to the other exactly those were deleted that reach one of the named by references, named or not;
 -- each other object, and all roots and profiles, are as they were.
 pub record DeletesExactly (named : List Path) (w new : World) : Type 0 where
-  pub gone : (p : Path) → RefersToAny (graph_of w) named p → IsFalse (has new p)
+  pub deleted : (p : Path) → RefersToAny (graph_of w) named p → IsFalse (has new p)
   pub kept : (p : Path) → (RefersToAny (graph_of w) named p → ⊥) → finite.get new.objects p ≡ finite.get w.objects p
   pub roots : KeepsRoots w new
 
@@ -103,12 +103,12 @@ Weigh w (p ∷ ps) n =
 -- The answer is exactly what was deleted: in order and each once, the paths that were valid before and aren't after,
 -- and the bytes of their archives. What is left is as it was.
 pub record ReportsDeleted (w new : World) (a : Answer) : Type 0 where
-  pub went : List Path
+  pub removed : List Path
   pub bytes : ℕ
-  pub reported : a ≡ freed went bytes
-  pub listed : (p : Path) → Contains went p ↔ (IsTrue (has w p) × IsFalse (has new p))
-  pub in_order : IsStrictlySortedBy bytes_cmp went
-  pub weight : Weigh w went bytes
+  pub reported : a ≡ freed removed bytes
+  pub listed : (p : Path) → Contains removed p ↔ (IsTrue (has w p) × IsFalse (has new p))
+  pub in_order : IsStrictlySortedBy bytes_cmp removed
+  pub weight : Weigh w removed bytes
   pub left : (p : Path) → IsTrue (has new p) → finite.get new.objects p ≡ finite.get w.objects p
 
 -- a request that is done is answered by what was deleted

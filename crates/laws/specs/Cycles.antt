@@ -4,7 +4,7 @@ use Rattle.std.specs.Prelude.{◌≡◌, ◌<◌, ◌↔◌, Bool, List, length,
 use Rattle.std.specs.List.Sorted.{IsStrictlySortedBy}
 use Rattle.std.specs.declared.cmp.Ordering.TheVariants.{Less}
 use Rattle.paths.specs.Root.{bytes_cmp}
-use Rattle.live.specs.Graph.{Path, Graph, references_alone}
+use Rattle.live.specs.Graph.{Path, Graph, references_only}
 use Rattle.live.specs.Reach.{reaches}
 use Rattle.live.specs.Limited.{next_group}
 
@@ -14,7 +14,7 @@ pub record IsCycle (g : Graph) (dead : Path → Bool) (left group : List Path) :
   pub present : Contains left path
   pub is_dead : IsTrue (dead path)
   pub least : (q : Path) → Contains left q → IsTrue (dead q) → bytes_cmp q path ≡ Less → ⊥
-  pub members : (q : Path) → Contains group q ↔ (Contains left q × IsTrue (reaches references_alone g q path))
+  pub members : (q : Path) → Contains group q ↔ (Contains left q × IsTrue (reaches references_only g q path))
 
 -- the next group of paths in their order, where it has more than one path
 abbrev pub CyclesGoByTheLeast : Type 0

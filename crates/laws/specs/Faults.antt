@@ -71,11 +71,11 @@ pub record IsNoProfile (w : World) (owner name : List ℕ) : Type 0 where
   pub none : IsFalse (has_profile w (owner, name))
 
 -- the request is on a generation of a profile that isn't there
-abbrev pub LacksProfile : World → Request → Type 0
-LacksProfile w (rollback owner name) = IsNoProfile w owner name
-LacksProfile w (switch owner name n) = IsNoProfile w owner name
-LacksProfile w (delete_generation owner name n) = IsNoProfile w owner name
-LacksProfile w _ = ⊥
+abbrev pub HasNoProfile : World → Request → Type 0
+HasNoProfile w (rollback owner name) = IsNoProfile w owner name
+HasNoProfile w (switch owner name n) = IsNoProfile w owner name
+HasNoProfile w (delete_generation owner name n) = IsNoProfile w owner name
+HasNoProfile w _ = ⊥
 
 -- what a call that the rules allow is refused with, unless it fails
 abbrev pub IsRefusedWith : Refusal → Reply → Type 0
@@ -94,7 +94,7 @@ NamesComeFirst =
 abbrev pub ProfilesComeNext : Type 0
 ProfilesComeNext =
     (s : Settings) (w : World) (c : Caller) (q : Request) (reply : Reply) (new : World) → Step s w c q reply new
-    → LacksProfile w q → IsRefusedWith NoProfile reply
+    → HasNoProfile w q → IsRefusedWith NoProfile reply
 
 -- of a profile a path that isn't valid is reported before a number that is beyond the greatest
 abbrev pub PathsComeBeforeNumbers : Type 0

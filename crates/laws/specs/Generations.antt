@@ -96,7 +96,7 @@ pub record LosesGeneration (w : World) (owned : Pair) (n : ℕ) (new : World) : 
   pub not_current : was.current ≡ n → ⊥
   pub now : Profile
   pub change : ChangesProfile w new owned now
-  pub gone : IsFalse (has_generation now n)
+  pub deleted : IsFalse (has_generation now n)
   pub others : (m : ℕ) → (m ≡ n → ⊥) → finite.get now.generations m ≡ finite.get was.generations m
   pub current : now.current ≡ was.current
 

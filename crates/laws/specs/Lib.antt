@@ -8,7 +8,7 @@ pub mod FaultyPieces
 pub mod FaultyRoots
 pub mod FaultyRows
 pub mod Generations
-pub mod Kept
+pub mod KeepSettings
 pub mod LabelsAndOrder
 pub mod Laws
 pub mod Permissions

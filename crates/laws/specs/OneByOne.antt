@@ -4,7 +4,7 @@ use Rattle.std.specs.Prelude.{◌≡◌, ◌↔◌, ◌⊎◌, ℕ, ◌<◌, ◌
 use Rattle.std.specs.FinMap as finite
 use Rattle.std.specs.declared.cmp.Ordering.TheVariants.{Less}
 use Rattle.paths.specs.Root.{bytes_cmp}
-use Rattle.live.specs.Graph.{references_alone}
+use Rattle.live.specs.Graph.{references_only}
 use Rattle.live.specs.Reach.{Reaches}
 use Rattle.model.specs.World.{Path, Object, World, has}
 use Rattle.policy.specs.Settings.{Settings}
@@ -18,17 +18,17 @@ use Rattle.laws.specs.Changes.{Weigh}
 -- no two paths reach each other by references
 abbrev pub HasNoCycle : World → Type 0
 HasNoCycle w =
-    (p q : Path) → Reaches references_alone (graph_of w) p q → Reaches references_alone (graph_of w) q p → p ≡ q
+    (p q : Path) → Reaches references_only (graph_of w) p q → Reaches references_only (graph_of w) q p → p ≡ q
 
 -- A path may be deleted next if it is valid, dead and not deleted yet, all others that refer to it are deleted, and the
 -- archives deleted so far have fewer bytes than the limit.
-pub record MayGo (s : Settings) (w : World) (limit : ℕ) (gone : List Path) (p : Path) : Type 0 where
+pub record MayGo (s : Settings) (w : World) (limit : ℕ) (deleted : List Path) (p : Path) : Type 0 where
   pub present : IsTrue (has w p)
   pub dead : IsFalse (lives s w p)
-  pub fresh : Contains gone p → ⊥
+  pub fresh : Contains deleted p → ⊥
   pub referrers : (q : Path) (o : Object) → finite.get w.objects q ≡ Some o
-      → IsTrue (finite.contains_key o.references p) → (q ≡ p → ⊥) → Contains gone q
-  pub wanted : (bytes : ℕ) → Weigh w gone bytes → bytes < limit
+      → IsTrue (finite.contains_key o.references p) → (q ≡ p → ⊥) → Contains deleted q
+  pub wanted : (bytes : ℕ) → Weigh w deleted bytes → bytes < limit
 
 -- Paths are deleted one by one, each the least that may be next. At the end the archives deleted have as many bytes as
 -- the limit, or no dead path is left.
@@ -37,7 +37,7 @@ pub record CollectsOneByOne (s : Settings) (w : World) (limit : ℕ) (new : Worl
   pub each : (front back : List Path) (p : Path) → order ≡ front ++ p ∷ back → MayGo s w limit front p
   pub least : (front back : List Path) (p : Path) → order ≡ front ++ p ∷ back → (q : Path) → MayGo s w limit front q
       → bytes_cmp q p ≡ Less → ⊥
-  pub went : (p : Path) → IsTrue (has w p) → IsFalse (has new p) ↔ Contains order p
+  pub removed : (p : Path) → IsTrue (has w p) → IsFalse (has new p) ↔ Contains order p
   pub enough : (bytes : ℕ) → Weigh w order bytes → (limit ≤ bytes)
       ⊎ ((p : Path) → IsTrue (has w p) → IsFalse (lives s w p) → Contains order p)
 

@@ -27,7 +27,7 @@ pub record MayAsk (s : Settings) (w : World) (c : Caller) : Type 0 where
   pub text : (name : List ℕ) (refs : List Path) (contents : List ℕ) → verdict s w c (add_text name refs contents) ≡ None
   pub source : (name : List ℕ) (refs : List Path) (b : List ℕ) → verdict s w c (add_source name refs b) ≡ None
   pub import : (i : Imported) → IsTrue (is_some i.ca) → verdict s w c (import_object i) ≡ None
-  pub tells : (q : Request) → OnlyReads q → verdict s w c q ≡ None
+  pub reads : (q : Request) → OnlyReads q → verdict s w c q ≡ None
   pub collect_ : (limit : Option ℕ) → verdict s w c (collect false limit) ≡ None
   pub delete_ : (named : List Path) → list_any (lives s w) named ≡ false → verdict s w c (delete named false) ≡ None
 

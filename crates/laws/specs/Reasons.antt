@@ -31,7 +31,7 @@ use Rattle.model.specs.Profiles.{profile_at, has_profile, has_generation}
 use Rattle.model.specs.Adds.{text_archive}
 use Rattle.laws.specs.Faults.{HasBadName, IsInBounds}
 use Rattle.laws.specs.Generations.{IsNumberFor}
-use Rattle.laws.specs.AddOrder.{Lacks, IsFaultyTree}
+use Rattle.laws.specs.AddOrder.{HasMissingReference, IsFaultyTree}
 use Rattle.model.specs.Step.{Step}
 
 -- ---- refusals
@@ -101,14 +101,16 @@ HasFault s w (add_text name refs contents) BadDerivation =
 HasFault s w (add_text name refs contents) DoubleOutput =
     IsTrue (is_derivation (text_path s.store_dir name refs contents))
     × (outputs_of s.store_dir contents ≡ Err text.DoubleOutput)
-HasFault s w (add_text name refs contents) MissingReference = Lacks w (text_path s.store_dir name refs contents) refs
+HasFault s w (add_text name refs contents) MissingReference =
+    HasMissingReference w (text_path s.store_dir name refs contents) refs
 HasFault s w (add_source name refs b) TooManyReferences = 4096 < length refs
 HasFault s w (add_source name refs b) SelfReference = Contains refs (source_path s.store_dir name refs b)
 HasFault s w (add_source name refs b) BadDerivation =
     IsNoDerivation s.store_dir (source_path s.store_dir name refs b) b text.BadDerivation
 HasFault s w (add_source name refs b) DoubleOutput =
     IsNoDerivation s.store_dir (source_path s.store_dir name refs b) b text.DoubleOutput
-HasFault s w (add_source name refs b) MissingReference = Lacks w (source_path s.store_dir name refs b) refs
+HasFault s w (add_source name refs b) MissingReference =
+    HasMissingReference w (source_path s.store_dir name refs b) refs
 HasFault s w (add_source name refs b) r = IsNoArchive b r
 HasFault s w (import_object i) TooManyReferences = 4096 < length i.refs
 HasFault s w (import_object i) NarHashMismatch = sha256 i.nar ≡ i.nar_hash → ⊥
@@ -116,7 +118,7 @@ HasFault s w (import_object i) SelfReference = ((a : ContentAddress) × (i.ca �
 HasFault s w (import_object i) CaMismatch = IsNoAddressOf s.store_dir i.path i.refs i.nar i.ca
 HasFault s w (import_object i) BadDerivation = IsNoDerivation s.store_dir i.path i.nar text.BadDerivation
 HasFault s w (import_object i) DoubleOutput = IsNoDerivation s.store_dir i.path i.nar text.DoubleOutput
-HasFault s w (import_object i) MissingReference = Lacks w i.path i.refs
+HasFault s w (import_object i) MissingReference = HasMissingReference w i.path i.refs
 HasFault s w (import_object i) r = IsNoArchive i.nar r
 HasFault s w _ _ = ⊥
 

@@ -37,10 +37,11 @@ pub record IsGiven (w : World) (pairs : List Pair) (r : Root) : Type 0 where
 
 -- a session of the same number keeps the path, but another owner's
 pub record IsKeptByAnother (w : World) (owner : List ℕ) (session : ℕ) (r : Root) : Type 0 where
-  pub another : List ℕ
-  pub other : another ≡ owner → ⊥
-  pub keeps : IsTrue (finite.contains_key w.temporary (record { owner = another; session = session; path = r.target }))
-  pub is : r ≡ temporary_root (record { owner = another; session = session; path = r.target })
+  pub foreign_owner : List ℕ
+  pub other : foreign_owner ≡ owner → ⊥
+  pub keeps :
+      IsTrue (finite.contains_key w.temporary (record { owner = foreign_owner; session = session; path = r.target }))
+  pub is : r ≡ temporary_root (record { owner = foreign_owner; session = session; path = r.target })
 
 -- What was dropped isn't listed to whoever asks next, and every other root from before is: a permanent root, a user
 -- root, a generation; the runtime roots that aren't among those given; and what a session kept, but for what another

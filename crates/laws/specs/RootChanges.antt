@@ -105,12 +105,12 @@ AddsForSessions =
 -- What this session of this owner kept is gone, and each other temporary root is as it was. The answer is the number of
 -- those that were deleted, in order and each once.
 pub record Ends (w : World) (owner : List ℕ) (session : ℕ) (a : Answer) (new : World) : Type 0 where
-  pub went : List Temporary
-  pub reported : a ≡ temporary_count (length went)
-  pub listed : (t : Temporary) → Contains went t
+  pub removed : List Temporary
+  pub reported : a ≡ temporary_count (length removed)
+  pub listed : (t : Temporary) → Contains removed t
       ↔ (IsTrue (finite.contains_key w.temporary t) × (t.owner ≡ owner) × (t.session ≡ session))
-  pub in_order : IsStrictlySortedBy temporary_cmp went
-  pub gone : (t : Temporary) → t.owner ≡ owner → t.session ≡ session → IsFalse (finite.contains_key new.temporary t)
+  pub in_order : IsStrictlySortedBy temporary_cmp removed
+  pub deleted : (t : Temporary) → t.owner ≡ owner → t.session ≡ session → IsFalse (finite.contains_key new.temporary t)
   pub others : (t : Temporary) → ((t.owner ≡ owner) × (t.session ≡ session) → ⊥)
       → finite.contains_key new.temporary t ≡ finite.contains_key w.temporary t
   pub rest : KeepsAllButTemporary w new

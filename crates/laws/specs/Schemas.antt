@@ -3,7 +3,7 @@ use Rattle.std.specs.Prelude.{◌≡◌, ℕ, ◌≤◌, ℤ, pos, List, codes, 
 use Rattle.std.specs.FinMap as finite
 use Rattle.paths.specs.Names.{is_plain_name}
 use Rattle.model.specs.World.{Path}
-use Rattle.tables_world.specs.Rows.{Kept, Rows, IsSoundRows}
+use Rattle.tables_world.specs.Rows.{SessionPath, Rows, IsSoundRows}
 use Rattle.tables_schema.specs.declared.schema.Schema.{Schema}
 use Rattle.tables_schema.specs.declared.schema.Schema.TheVariants.{V1, V2, V3}
 
@@ -26,7 +26,7 @@ PiecesCountFromOne = (schema : Schema) (dir : List ℕ) (c : Rows) → IsSoundRo
     → (p : Path) (n : ℤ) → IsTrue (finite.contains_key c.pieces (p, n)) → (m : ℕ) × (n ≡ pos m) × (1 ≤ m)
 
 -- what a session keeps: its owner is a plain name, its number is 1 to 4,194,304, and the path is an object's
-pub record KeepsInBounds (c : Rows) (k : Kept) : Type 0 where
+pub record KeepsInBounds (c : Rows) (k : SessionPath) : Type 0 where
   pub owner : IsTrue (is_plain_name k.0)
   pub number : ℕ
   pub is_number : k.1 ≡ pos number
@@ -36,5 +36,5 @@ pub record KeepsInBounds (c : Rows) (k : Kept) : Type 0 where
 
 abbrev pub SessionsKeepInBounds : Type 0
 SessionsKeepInBounds =
-    (schema : Schema) (dir : List ℕ) (c : Rows) → IsSoundRows schema dir c → (k : Kept)
+    (schema : Schema) (dir : List ℕ) (c : Rows) → IsSoundRows schema dir c → (k : SessionPath)
     → IsTrue (finite.contains_key c.temp_roots k) → KeepsInBounds c k

@@ -7,7 +7,7 @@ ghost use Rattle.model.specs.Collection.{Collects, CollectsUpToALimit};
 ghost use Rattle.model.specs.Request.{collect, delete};
 ghost use Rattle.laws.specs.Changes.{FreesAsReported};
 ghost use Rattle.model.specs.Collection.{CollectsByBytes};
-ghost use Rattle.laws.specs.Kept.{EdgesAsSet, LivingKeep};
+ghost use Rattle.laws.specs.KeepSettings.{EdgesAsSet, LivingKeep};
 ghost use Rattle.laws.specs.OneByOne.{ReferrersGoFirst};
 ghost use Rattle.laws.specs.Cycles.{CyclesGoByTheLeast};
 

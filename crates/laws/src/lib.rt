@@ -13,4 +13,5 @@ pub mod refusals;
 pub mod roots;
 pub mod rows;
 pub mod runs;
+pub mod sessions;
 pub mod trust;

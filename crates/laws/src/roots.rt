@@ -4,7 +4,7 @@ ghost use Rattle.model.specs.World.{World};
 ghost use Rattle.model.specs.Entries.{HasEachRoot};
 ghost use Rattle.model.specs.Pinning.{LeadsOn, Pins, PinsOverRuns};
 ghost use Rattle.laws.specs.LabelsAndOrder.{AreLabelled, KindsInOrder};
-ghost use Rattle.laws.specs.RootChanges.{AddsForSessions, DropsPermanent, DropsUserRoots, EndsSessions, ReplacesAsSpecified, SetsPermanent, SetsUserRoots};
+ghost use Rattle.laws.specs.RootChanges.{DropsPermanent, DropsUserRoots, ReplacesAsSpecified, SetsPermanent, SetsUserRoots};
 ghost use Rattle.laws.specs.ListedRoots.{RootsSetAreListed};
 ghost use Rattle.laws.specs.Relisted.{DropsAreListed, DroppedLabelsAreNotListed, SetsAreListed};
 
@@ -13,16 +13,14 @@ pub fn every_entry_is_a_root()
     ensures { (w : World) → HasEachRoot w }
 {}
 
-/// A root that is set is there with its target, one that is dropped isn't, and nothing else changed: permanent and user roots,
-/// runtime roots, and what sessions keep.
+/// A root that is set exists with its target, one that is dropped doesn't, and nothing else changed: permanent roots, user roots and
+/// runtime roots.
 pub fn roots_change_exactly()
     ensures set_permanent { SetsPermanent }
     ensures drop_permanent { DropsPermanent }
     ensures set_user { SetsUserRoots }
     ensures drop_user { DropsUserRoots }
     ensures runtime { ReplacesAsSpecified }
-    ensures add_temporary { AddsForSessions }
-    ensures end_session { EndsSessions }
 {}
 
 /// A root that was set is listed to each caller who asks next, with the labels of runtime roots and of sessions hidden from those who

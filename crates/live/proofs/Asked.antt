@@ -6,7 +6,7 @@ use Rattle.std.proofs.lemmas.Bool.{ltb-true, lt-ltb, le-ltb}
 use Rattle.std.proofs.lemmas.List.{length-map, get_or-map, get_or_default, get_or_at, append-nil, append_assoc, length_push}
 use Rattle.std.proofs.lemmas.List.Elements.{All-cons, All-nil, Contains-get_or, filter-append}
 use Rattle.paths.specs.Root.{Root}
-use Rattle.live.specs.Graph.{Keep, Path, references_alone}
+use Rattle.live.specs.Graph.{Keep, Path, references_only}
 use Rattle.live.specs.Reach.{reaches, refers_to_any}
 use Rattle.live.specs.Places.{Entries}
 use Rattle.live.specs.Backward.{IsBackward, ReachesAny}
@@ -118,13 +118,13 @@ module _ (rows : List Row) (rise : Rise (paths_of rows)) where
           one_way keep place marks (omega (arith, h, same, numbers)) (subst (λ (xs : List Entries). IsBackward keep xs (place ∷ []) marks) is back) (slice_index targets k) (let a = aim.0 in omega (arith, names))
           ∙ ap (λ p. reaches keep (graph_of rows) p (path_at rows place)) aim.1
 
-  pub referrers_asked : (es : List Entries) → es ≡ numbered rows → (named marks : List ℕ) → All (λ t. t < length es) named → IsBackward references_alone es named marks
+  pub referrers_asked : (es : List Entries) → es ≡ numbered rows → (named marks : List ℕ) → All (λ t. t < length es) named → IsBackward references_only es named marks
       → (n : ℕ) → n ≡ length es → (found : List ℕ) → found ≡ filter (λ i. nat_lt (slice_index marks i) 1) (range_with_len 0 n)
       → found ≡ filter (λ i. refers_to_any (graph_of rows) (map (path_at rows) named) (path_at rows i)) (range_with_len 0 (length rows))
   referrers_asked es is named marks aims back n en found e =
       let all : n ≡ length rows = (let a = ap length is in omega (arith, numbers)) in
       e ∙ same_passing (λ i. nat_lt (slice_index marks i) 1) (λ i. refers_to_any (graph_of rows) (map (path_at rows) named) (path_at rows i)) n
-      (λ i l. any_way references_alone named marks (λ k d h. (let b = aims k d h in let a = ap length is in omega (arith, numbers))) (subst (λ (xs : List Entries). IsBackward references_alone xs named marks) is back) i (omega arith))
+      (λ i l. any_way references_only named marks (λ k d h. (let b = aims k d h in let a = ap length is in omega (arith, numbers))) (subst (λ (xs : List Entries). IsBackward references_only xs named marks) is back) i (omega arith))
       ∙ ap (λ m. filter (λ i. refers_to_any (graph_of rows) (map (path_at rows) named) (path_at rows i)) (range_with_len 0 m)) all
 
 -- ---- the elements that pass, by their places

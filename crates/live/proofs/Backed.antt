@@ -6,7 +6,7 @@ use Rattle.live.specs.Places.{AllInside, Entries}
 use Rattle.live.specs.Marking.{Frontier, IsDequeued, NoneWaits, all_reached}
 use Rattle.live.specs.Backward.{IsBackward, IsTurned, sources_at}
 use Rattle.live.specs.declared.turning.Reversed.{Reversed}
-use Rattle.live.proofs.Fronts.{waiting_count}
+use Rattle.live.proofs.OneRoot.{waiting_count}
 use Rattle.live.proofs.Backs.{IsBack, finish, smaller, sources_inside, taken}
 
 module _ (keep : Keep) (rows : List Entries) (inside : AllInside rows) (named : List ℕ) (aims : All (λ t. t < length rows) named) where
@@ -19,8 +19,8 @@ module _ (keep : Keep) (rows : List Entries) (inside : AllInside rows) (named : 
     pub inside_at : All (λ t. t < length h.first) xs
     inside_at = subst (All (λ t. t < length h.first)) (sym same) (sources_inside keep rows inside named aims into turned f h (all_reached 1 0 h (sources_at into place)) place w firsts works refl)
 
-    pub taken_at : (g : Frontier) → g ≡ all_reached 1 0 h xs → IsBack keep rows named g
-    taken_at g is = taken keep rows inside named aims into turned f h g place w firsts works (is ∙ ap (all_reached 1 0 h) same)
+    pub consumed_at : (g : Frontier) → g ≡ all_reached 1 0 h xs → IsBack keep rows named g
+    consumed_at g is = taken keep rows inside named aims into turned f h g place w firsts works (is ∙ ap (all_reached 1 0 h) same)
 
     pub smaller_at : (g : Frontier) → g ≡ all_reached 1 0 h xs → count_by (λ m. nat_le 1 m) g.first + waiting_count g.waiting < count_by (λ m. nat_le 1 m) f.first + waiting_count f.waiting
     smaller_at g is = smaller keep rows inside named aims into turned f h g place w firsts works (is ∙ ap (all_reached 1 0 h) same)

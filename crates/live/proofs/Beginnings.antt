@@ -15,11 +15,11 @@ use Rattle.live.proofs.Members.{cases, at_head, behind, no_member}
 use Rattle.live.proofs.Ranges.{all_same}
 
 -- what a test for nothing tells
-pub told_none : (o : Option ℕ) (r : Bool) → is_some o ≡ not r → r ≡ is_none o
-told_none None true e = refl
-told_none None false e = absurd (false≢true e)
-told_none (Some k) true e = absurd (false≢true (sym e))
-told_none (Some k) false e = refl
+pub none_reported : (o : Option ℕ) (r : Bool) → is_some o ≡ not r → r ≡ is_none o
+none_reported None true e = refl
+none_reported None false e = absurd (false≢true e)
+none_reported (Some k) true e = absurd (false≢true (sym e))
+none_reported (Some k) false e = refl
 
 -- the first places are told dead or not, and wait where nothing refers to them
 pub record IsBegun (m : Marking) (referrers : List ℕ) (n : ℕ) (dead : List Bool) (ready : List (Reverse ℕ)) : Type 0 where

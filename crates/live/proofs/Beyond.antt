@@ -6,16 +6,16 @@ use Rattle.std.specs.FinMap as finite
 use Rattle.std.proofs.lemmas.Bool.{or_left, or_right, false≢true, cases_Bool, false_from_ne_true, lt-ltb}
 use Rattle.std.proofs.lemmas.List.Sums.{sum_by-cons}
 use Rattle.paths.specs.Root.{Root}
-use Rattle.live.specs.Graph.{Path, Graph, Keep, holds, references_alone}
+use Rattle.live.specs.Graph.{Path, Graph, Keep, holds, references_only}
 use Rattle.live.specs.Reach.{Reaches, reaches}
 use Rattle.live.specs.Live.{IsLive, is_live}
 use Rattle.live.specs.Limited.{is_referred_to, is_among, next_group, without, groups_by, limited_groups, limited_paths}
-use Rattle.live.proofs.Groups.{IsGroup, alone, round, is_group, member, in_filter, filter_in, held_is, is_held, taken_dead}
+use Rattle.live.proofs.Groups.{IsGroup, alone, round, is_group, member, in_filter, filter_in, held_is, is_held, consumed_dead}
 use Rattle.live.proofs.Live.{live_decided}
 use Rattle.live.proofs.Members.{at_head, behind, cases, no_member, found, not_found}
 use Rattle.live.proofs.Order.{same_bools}
 use Rattle.live.proofs.Reach.{goes_on, reach_kept}
-use Rattle.live.proofs.Takings.{AreValid, shrinks, valid_left}
+use Rattle.live.proofs.UniqueGroups.{AreValid, shrinks, valid_left}
 
 -- ---- sums over what passes tests
 
@@ -59,7 +59,7 @@ same_filter p q (x ∷ xs) h =
 
 -- ---- a group and the dead paths left
 
-module _ (g : Graph) (dead : Path → Bool) (size : Path → ℕ) (dies : (q x : Path) → Reaches references_alone g q x → IsTrue (dead x) → IsTrue (dead q)) where
+module _ (g : Graph) (dead : Path → Bool) (size : Path → ℕ) (dies : (q x : Path) → Reaches references_only g q x → IsTrue (dead x) → IsTrue (dead q)) where
   in_group_dead : (left group : List Path) → IsGroup g dead left group → (p : Path) → IsTrue (holds group p) → IsTrue (dead p)
   in_group_dead left group i p h =
       let m = (member g dead left group i p h).1 in
@@ -73,10 +73,10 @@ module _ (g : Graph) (dead : Path → Bool) (size : Path → ℕ) (dies : (q x :
       let c = sum_by-cons size x [] in
       omega (arith, one, s, c)
   group_sum left group (round x e is) =
-      let r : Path → Bool = λ q. reaches references_alone g q x in
-      let same = same_filter (holds group) (λ q. reaches references_alone g q x) left (λ y c. same_bools (holds group y) (reaches references_alone g y x)
-      (λ h. (in_filter (λ q. reaches references_alone g q x) left y (subst (λ (xs : List Path). Contains xs y) is (held_is group y h))).1)
-      (λ t. is_held group y (subst (λ (xs : List Path). Contains xs y) (sym is) (filter_in (λ q. reaches references_alone g q x) left y c t)))) in
+      let r : Path → Bool = λ q. reaches references_only g q x in
+      let same = same_filter (holds group) (λ q. reaches references_only g q x) left (λ y c. same_bools (holds group y) (reaches references_only g y x)
+      (λ h. (in_filter (λ q. reaches references_only g q x) left y (subst (λ (xs : List Path). Contains xs y) is (held_is group y h))).1)
+      (λ t. is_held group y (subst (λ (xs : List Path). Contains xs y) (sym is) (filter_in (λ q. reaches references_only g q x) left y c t)))) in
       let s = ap (sum_by size) (same ∙ sym is) in
       omega (arith, s)
 
@@ -89,13 +89,13 @@ module _ (g : Graph) (dead : Path → Bool) (size : Path → ℕ) (dies : (q x :
   none_dead : (left : List Path) → next_group g dead left ≡ None → find dead left ≡ None
   none_dead left e = by (find (λ x. dead x && not (is_referred_to g left x)) left) (find dead left) e
     where
-      by : (a b : Option Path) → option_or (option_map (λ p. p ∷ []) a) (option_map (λ p. filter (λ q. reaches references_alone g q p) left) b) ≡ None → b ≡ None
+      by : (a b : Option Path) → option_or (option_map (λ p. p ∷ []) a) (option_map (λ p. filter (λ q. reaches references_only g q p) left) b) ≡ None → b ≡ None
       by (Some x) b d = absurd (some_none (x ∷ []) d)
         where
           some_none : (xs : List Path) → Some xs ≡ None → ⊥
           some_none xs f = cc
       by None None d = refl
-      by None (Some x) d = absurd (some_none (filter (λ q. reaches references_alone g q x) left) d)
+      by None (Some x) d = absurd (some_none (filter (λ q. reaches references_only g q x) left) d)
         where
           some_none : (xs : List Path) → Some xs ≡ None → ⊥
           some_none xs f = cc
@@ -125,14 +125,14 @@ pub all_removed : (keep : Keep) (g : Graph) (roots : List Root) (size : Path →
 all_removed keep g roots size limit less =
     same_filter (is_among (limited_groups g (λ x. not (is_live keep g roots x)) size limit)) (λ x. not (is_live keep g roots x)) (finite.keys g) (λ y c. same_bools
     (is_among (limited_groups g (λ x. not (is_live keep g roots x)) size limit) y) (not (is_live keep g roots y))
-    (λ t. (let m = (taken_dead g (λ x. not (is_live keep g roots x)) size (finite.keys g) (finite.keys g) limit y t).1 in
+    (λ t. (let m = (consumed_dead g (λ x. not (is_live keep g roots x)) size (finite.keys g) (finite.keys g) limit y t).1 in
     elim m.2 as (λ _. IsTrue (not (is_live keep g roots y))) [
       | inl is ↦ subst (λ x. IsTrue (not (is_live keep g roots x))) (sym is) m.1
       | inr way ↦ dies y m.0 way m.1
     ]))
     (λ d. all_go g (λ x. not (is_live keep g roots x)) size dies (finite.keys g) (finite.keys g) limit (λ p k. finite.contains_key-keys g p ∙ is_held (finite.keys g) p k) (omega arith) less y c d))
   where
-    dies : (q x : Path) → Reaches references_alone g q x → IsTrue (not (is_live keep g roots x)) → IsTrue (not (is_live keep g roots q))
+    dies : (q x : Path) → Reaches references_only g q x → IsTrue (not (is_live keep g roots x)) → IsTrue (not (is_live keep g roots q))
     dies q x way d = ap not (false_from_ne_true (is_live keep g roots q) (λ t. (
         let live = (live_decided keep g roots q).0 t in
         let further : IsLive keep g roots x = record { root = live.root; listed = live.listed; reaches = goes_on keep g live.root.target q x live.reaches (reach_kept keep g q x way) } in

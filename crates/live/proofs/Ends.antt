@@ -89,9 +89,9 @@ module _ (rows : List Row) (rise : Rise (paths_of rows)) where
           ap not (sym (holds_at (is_in left) i h) ∙ ap (λ ps. holds ps (path_at rows i)) both ∙ holds_at (λ j. not (is_among groups (path_at rows j))) i h)
           ∙ twice (is_among groups (path_at rows i)) ∙ ap (λ gs. is_among gs (path_at rows i)) same_groups
 
-  pub paths_went : (dead : Path → Bool) (size : Path → ℕ) (limit : ℕ) (v : List ℕ) → v ≡ filter (λ i. is_among (limited_groups (graph_of rows) dead size limit) (path_at rows i)) (range_with_len 0 (length rows))
+  pub paths_deleted : (dead : Path → Bool) (size : Path → ℕ) (limit : ℕ) (v : List ℕ) → v ≡ filter (λ i. is_among (limited_groups (graph_of rows) dead size limit) (path_at rows i)) (range_with_len 0 (length rows))
       → map (path_at rows) v ≡ limited_paths (graph_of rows) dead size limit
-  paths_went dead size limit v is = paths_passing rows (is_among (limited_groups (graph_of rows) dead size limit)) v is ∙ ap (filter (is_among (limited_groups (graph_of rows) dead size limit))) (sym (keys_are rows rise))
+  paths_deleted dead size limit v is = paths_passing rows (is_among (limited_groups (graph_of rows) dead size limit)) v is ∙ ap (filter (is_among (limited_groups (graph_of rows) dead size limit))) (sym (keys_are rows rise))
 
 -- ---- dead paths have no mark
 

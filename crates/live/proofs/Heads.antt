@@ -10,9 +10,9 @@ use Rattle.paths.specs.Root.{bytes_cmp}
 use Rattle.live.specs.Heads.{digits_from, head_of, IsBytes}
 
 -- behind the first byte
-digits_behind : (n k x : ℕ) (xs : List ℕ) → digits_from n (suc k) (x ∷ xs) ≡ digits_from n k xs
-digits_behind zero k x xs = refl
-digits_behind (suc n) k x xs = ap (λ d. slice_index xs k * 256 ^ n + d) (digits_behind n (suc k) x xs)
+digits_after : (n k x : ℕ) (xs : List ℕ) → digits_from n (suc k) (x ∷ xs) ≡ digits_from n k xs
+digits_after zero k x xs = refl
+digits_after (suc n) k x xs = ap (λ d. slice_index xs k * 256 ^ n + d) (digits_after n (suc k) x xs)
 
 no_digits : (n k : ℕ) → digits_from n k [] ≡ 0
 no_digits zero k = refl
@@ -43,8 +43,8 @@ by_digits (suc n) [] [] b c h = absurd (omega arith)
 by_digits (suc n) [] (y ∷ ys) b c h = refl
 by_digits (suc n) (x ∷ xs) [] b c h = absurd (let e = no_digits (suc n) 0 in omega (arith, e, h))
 by_digits (suc n) (x ∷ xs) (y ∷ ys) b c h =
-    let behind_x = digits_behind n 0 x xs in
-    let behind_y = digits_behind n 0 y ys in
+    let behind_x = digits_after n 0 x xs in
+    let behind_y = digits_after n 0 y ys in
     elim (order x y) as (λ _. ordering_then (nat_cmp x y) (bytes_cmp xs ys) ≡ Less) [
       | inl lt ↦ less_first x y (bytes_cmp xs ys) lt
       | inr (inl same) ↦

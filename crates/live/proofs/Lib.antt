@@ -10,11 +10,11 @@ pub mod Edges
 pub mod Ends
 pub mod Firsts
 pub mod Flats
-pub mod Fronts
+pub mod OneRoot
 pub mod Groups
 pub mod Headed
 pub mod Heads
-pub mod Leavings
+pub mod Removals
 pub mod Listings
 pub mod Live
 pub mod Looks
@@ -30,8 +30,8 @@ pub mod References
 pub mod Rests
 pub mod Rooms
 pub mod Searching
-pub mod Taken
-pub mod Takings
+pub mod Visited
+pub mod UniqueGroups
 pub mod Texts
 pub mod Turned
 pub mod Turns

@@ -7,7 +7,7 @@ use Rattle.std.proofs.lemmas.List.Elements.{Contains-append_left, Contains-push,
 use Rattle.live.specs.Marking.{NoneWaits, Waits}
 use Rattle.live.specs.Listed.{IsListed}
 use Rattle.live.specs.declared.waiting.Waiting.{Waiting}
-use Rattle.live.proofs.Fronts.{none_waits, waits_inside, waits_other}
+use Rattle.live.proofs.OneRoot.{none_waits, waits_inside, waits_other}
 use Rattle.live.proofs.Members.{no_member}
 
 pub stays_false : (bs : List Bool) (j : ℕ) → Waits (set bs j false) j → ⊥
@@ -91,9 +91,9 @@ none_more waiting from to none not i a b h = elim (cases_eq i to) as (λ _. ⊥)
 ]
 
 -- the first that waits in the block at hand waits no longer
-pub listed_taken : (w v : Waiting) (place : ℕ) → IsListed w → w.at ≤ place → place < w.end → NoneBetween w.waiting.items w.at place → v.waiting.items ≡ set w.waiting.items place false
+pub listed_consumed : (w v : Waiting) (place : ℕ) → IsListed w → w.at ≤ place → place < w.end → NoneBetween w.waiting.items w.at place → v.waiting.items ≡ set w.waiting.items place false
     → v.listed.items ≡ w.listed.items → v.blocks.items ≡ w.blocks.items → v.at ≡ place + 1 → v.end ≡ w.end → IsListed v
-listed_taken w v place is from to none waiting listed blocks at end = record {
+listed_consumed w v place is from to none waiting listed blocks at end = record {
   waits = λ i h. elim (cases_eq i place) as (λ _. ((v.at ≤ i) × (i < v.end)) ⊎ Contains v.blocks.items (i / 256)) [
     | inl same ↦ absurd (stays_false w.waiting.items place (subst (λ k. Waits (set w.waiting.items place false) k) same (subst (λ (bs : List Bool). Waits bs i) waiting h)))
     | inr other ↦ still i other (waits_other w.waiting.items false place i other (subst (λ (bs : List Bool). Waits bs i) waiting h))

@@ -16,13 +16,13 @@ use Rattle.live.specs.declared.numbered.Span.{Span}
 use Rattle.live.proofs.Numberings.{in_places, no_row}
 
 -- what stands in front keeps its parts
-part_front : (xs ys : List ℕ) (a b : ℕ) → a ≤ b → b ≤ length xs → slice_range (xs ++ ys) a b ≡ slice_range xs a b
-part_front xs ys a b h k =
+part_prefix : (xs ys : List ℕ) (a b : ℕ) → a ≤ b → b ≤ length xs → slice_range (xs ++ ys) a b ≡ slice_range xs a b
+part_prefix xs ys a b h k =
     ap (take (b - a)) (drop-append-le a xs ys (omega arith)) ∙ take-append-le (b - a) (drop a xs) ys (omega (arith, length-drop a xs))
 
 -- the part behind
-pub part_behind : (xs ys zs : List ℕ) (a b : ℕ) → length xs ≡ a → length xs + length ys ≡ b → slice_range ((xs ++ ys) ++ zs) a b ≡ ys
-part_behind xs ys zs a b h k =
+pub part_after : (xs ys zs : List ℕ) (a b : ℕ) → length xs ≡ a → length xs + length ys ≡ b → slice_range ((xs ++ ys) ++ zs) a b ≡ ys
+part_after xs ys zs a b h k =
     ap (λ l. take (b - a) (drop a l)) (append_assoc xs ys zs) ∙ ap (take (b - a)) (drop_at xs (ys ++ zs) a h) ∙ take_at ys zs (b - a) (omega arith)
 
 -- the first rows are made
@@ -55,9 +55,9 @@ module _ (e : Entries) (before after : List ℕ) (s : Span) (a : IsAdded e befor
   old_entries t w =
       let more = e.references ++ (e.outputs ++ e.deriver) in
       let x = w.references in let y = w.outputs in let z = w.deriver in let n = w.end in
-      let r : slice_range after t.references t.outputs ≡ slice_range before t.references t.outputs = ap (λ l. slice_range l t.references t.outputs) grown ∙ part_front before more t.references t.outputs (omega arith) (omega arith) in
-      let o : slice_range after t.outputs t.deriver ≡ slice_range before t.outputs t.deriver = ap (λ l. slice_range l t.outputs t.deriver) grown ∙ part_front before more t.outputs t.deriver (omega arith) (omega arith) in
-      let d : slice_range after t.deriver t.end ≡ slice_range before t.deriver t.end = ap (λ l. slice_range l t.deriver t.end) grown ∙ part_front before more t.deriver t.end (omega arith) (omega arith) in
+      let r : slice_range after t.references t.outputs ≡ slice_range before t.references t.outputs = ap (λ l. slice_range l t.references t.outputs) grown ∙ part_prefix before more t.references t.outputs (omega arith) (omega arith) in
+      let o : slice_range after t.outputs t.deriver ≡ slice_range before t.outputs t.deriver = ap (λ l. slice_range l t.outputs t.deriver) grown ∙ part_prefix before more t.outputs t.deriver (omega arith) (omega arith) in
+      let d : slice_range after t.deriver t.end ≡ slice_range before t.deriver t.end = ap (λ l. slice_range l t.deriver t.end) grown ∙ part_prefix before more t.deriver t.end (omega arith) (omega arith) in
       λ i. record { references = r i; outputs = o i; deriver = d i }
 
   new_entries : entries_in after s ≡ e
@@ -66,10 +66,10 @@ module _ (e : Entries) (before after : List ℕ) (s : Span) (a : IsAdded e befor
       let p = length-append before e.references in
       let q = length-append (before ++ e.references) e.outputs in
       let r : slice_range after s.references s.outputs ≡ e.references =
-      ap (λ l. slice_range l s.references s.outputs) (a.joined ∙ append_assoc (before ++ e.references) e.outputs e.deriver) ∙ part_behind before e.references (e.outputs ++ e.deriver) s.references s.outputs (sym x) (omega arith) in
-      let o : slice_range after s.outputs s.deriver ≡ e.outputs = ap (λ l. slice_range l s.outputs s.deriver) a.joined ∙ part_behind (before ++ e.references) e.outputs e.deriver s.outputs s.deriver (omega arith) (omega arith) in
+      ap (λ l. slice_range l s.references s.outputs) (a.joined ∙ append_assoc (before ++ e.references) e.outputs e.deriver) ∙ part_after before e.references (e.outputs ++ e.deriver) s.references s.outputs (sym x) (omega arith) in
+      let o : slice_range after s.outputs s.deriver ≡ e.outputs = ap (λ l. slice_range l s.outputs s.deriver) a.joined ∙ part_after (before ++ e.references) e.outputs e.deriver s.outputs s.deriver (omega arith) (omega arith) in
       let d : slice_range after s.deriver s.end ≡ e.deriver =
-      ap (λ l. slice_range l s.deriver s.end) (a.joined ∙ sym (append-nil (((before ++ e.references) ++ e.outputs) ++ e.deriver))) ∙ part_behind ((before ++ e.references) ++ e.outputs) e.deriver [] s.deriver s.end (omega arith) (omega (arith, total)) in
+      ap (λ l. slice_range l s.deriver s.end) (a.joined ∙ sym (append-nil (((before ++ e.references) ++ e.outputs) ++ e.deriver))) ∙ part_after ((before ++ e.references) ++ e.outputs) e.deriver [] s.deriver s.end (omega arith) (omega (arith, total)) in
       λ i. record { references = r i; outputs = o i; deriver = d i }
 
   old_all : (spans : List Span) → All (IsWithin (length before)) spans → map (entries_in after) spans ≡ map (entries_in before) spans

@@ -13,8 +13,8 @@ range_push a (suc n) =
     let f : suc n + 1 ≡ suc (n + 1) = omega arith in
     ap (range_with_len a) f ∙ ap (λ xs. a ∷ xs) (range_push (a + 1) n ∙ ap (λ k. range_with_len (a + 1) n ++ k ∷ []) e)
 
-at_or_behind : (a k : ℕ) → a ≤ k → (a ≡ k) ⊎ (a < k)
-at_or_behind a k h = elim (cases_eq a k) as (λ _. (a ≡ k) ⊎ (a < k)) [ inl same ↦ inl same | inr other ↦ inr (omega arith) ]
+at_or_after : (a k : ℕ) → a ≤ k → (a ≡ k) ⊎ (a < k)
+at_or_after a k h = elim (cases_eq a k) as (λ _. (a ≡ k) ⊎ (a < k)) [ inl same ↦ inl same | inr other ↦ inr (omega arith) ]
 
 -- ---- places that pass a test, and what they stand for
 
@@ -31,7 +31,7 @@ module _ {X : Type 0} (f : ℕ → X) (l : ℕ → Bool) where
   pub find_at : (p : X → Bool) (a n k : ℕ) → a ≤ k → k < a + n → l k ≡ true → p (f k) ≡ true → ((j : ℕ) → j < k → l j ≡ true → p (f j) ≡ false) → find p (map f (filter l (range_with_len a n))) ≡ Some (f k)
   find_at p a zero k h g lk pk before = absurd (omega arith)
   find_at p a (suc n) k h g lk pk before =
-      find_step p a k (filter l (range_with_len (a + 1) n)) (l a) refl (p (f a)) refl lk pk (before a) (at_or_behind a k h)
+      find_step p a k (filter l (range_with_len (a + 1) n)) (l a) refl (p (f a)) refl lk pk (before a) (at_or_after a k h)
       (λ less. find_at p (a + 1) n k (omega arith) (omega arith) lk pk before)
 
   none_step : (p : X → Bool) (a : ℕ) (rest : List ℕ) (c : Bool) → l a ≡ c → (l a ≡ true → p (f a) ≡ false) → find p (map f rest) ≡ None → find p (map f (cond c (a ∷ rest) rest)) ≡ None
@@ -59,7 +59,7 @@ module _ {X : Type 0} (f : ℕ → X) (l : ℕ → Bool) where
   pub any_true : (q : X → Bool) (a n k : ℕ) → a ≤ k → k < a + n → l k ≡ true → q (f k) ≡ true → list_any q (map f (filter l (range_with_len a n))) ≡ true
   any_true q a zero k h g lk qk = absurd (omega arith)
   any_true q a (suc n) k h g lk qk =
-      true_here q a k (filter l (range_with_len (a + 1) n)) (l a) refl lk qk (at_or_behind a k h) (λ less. any_true q (a + 1) n k (omega arith) (omega arith) lk qk)
+      true_here q a k (filter l (range_with_len (a + 1) n)) (l a) refl lk qk (at_or_after a k h) (λ less. any_true q (a + 1) n k (omega arith) (omega arith) lk qk)
 
   filter_step : (q : X → Bool) (a : ℕ) (rest more : List ℕ) (c d : Bool) → l a ≡ c → q (f a) ≡ d → filter q (map f rest) ≡ map f more
       → filter q (map f (cond c (a ∷ rest) rest)) ≡ map f (cond (c && d) (a ∷ more) more)

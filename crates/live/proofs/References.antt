@@ -4,7 +4,7 @@ use Rattle.std.specs.Prelude.{Contains, count_by, not, nat_lt, if◌then◌else�
 use Rattle.std.proofs.lemmas.Bool.{cases_eq, cases_Bool, false≢true, ltb-true, lt-ltb, le-ltb, and_parts, and_from, false_from_ne_true, eq-eqb, ne_eqb}
 use Rattle.std.proofs.lemmas.List.{length-map, append-nil}
 use Rattle.std.proofs.lemmas.List.Sums.{sum_by-cons}
-use Rattle.live.specs.Graph.{references_alone, same, is_edge}
+use Rattle.live.specs.Graph.{references_only, same, is_edge}
 use Rattle.live.specs.Places.{edges_at, entries_at}
 use Rattle.live.specs.Limited.{refers, is_referred_to}
 use Rattle.live.specs.Numbering.{Row, Rise, graph_of, numbered, path_at, paths_of}
@@ -60,7 +60,7 @@ module _ (rows : List Row) (rise : Rise (paths_of rows)) where
   pub at_same : (q p : ℕ) → q ≡ p → IsTrue (same (path_at rows q) (path_at rows p))
   at_same q p e = sym (ap (λ j. same (path_at rows q) (path_at rows j)) e) ∙ same_itself (path_at rows q)
 
-  alone : (q : ℕ) → edges_at references_alone (numbered rows) q ≡ (entries_at (numbered rows) q).references
+  alone : (q : ℕ) → edges_at references_only (numbered rows) q ≡ (entries_at (numbered rows) q).references
   alone q = append-nil ((entries_at (numbered rows) q).references ++ []) ∙ append-nil (entries_at (numbered rows) q).references
 
   pub refers_is : (q p : ℕ) → q < length rows → p < length rows → refers (graph_of rows) (path_at rows q) (path_at rows p) ≡ nat_lt 0 (times (numbered rows) q p)
@@ -68,9 +68,9 @@ module _ (rows : List Row) (rise : Rise (paths_of rows)) where
     where
       present : IsTrue (refers (graph_of rows) (path_at rows q) (path_at rows p)) → IsTrue (nat_lt 0 (times (numbered rows) q p))
       present h =
-          let parts = and_parts (not (same (path_at rows q) (path_at rows p))) (is_edge references_alone (graph_of rows) (path_at rows q) (path_at rows p)) h in
+          let parts = and_parts (not (same (path_at rows q) (path_at rows p))) (is_edge references_only (graph_of rows) (path_at rows q) (path_at rows p)) h in
           let other : q ≡ p → ⊥ = λ e. false≢true (sym (ap not (at_same q p e)) ∙ parts.0) in
-          let edge = from_edge rows rise references_alone q p hq hp ((edge_decided references_alone (graph_of rows) (path_at rows q) (path_at rows p)).0 parts.1) in
+          let edge = from_edge rows rise references_only q p hq hp ((edge_decided references_only (graph_of rows) (path_at rows q) (path_at rows p)).0 parts.1) in
           let some = in_counted p (entries_at (numbered rows) q).references (subst (λ (xs : List ℕ). Contains xs p) (alone q) edge) in
           let t = times_other q p (entries_at (numbered rows) q).references other in
           lt-ltb 0 (times (numbered rows) q p) (omega (arith, some, t))
@@ -81,10 +81,10 @@ module _ (rows : List Row) (rise : Rise (paths_of rows)) where
           let other : q ≡ p → ⊥ = λ e. (let z = times_self q p (entries_at (numbered rows) q).references e in omega (arith, positive, z)) in
           let t = times_other q p (entries_at (numbered rows) q).references other in
           let listed = counted_in p (entries_at (numbered rows) q).references (omega (arith, positive, t)) in
-          let edge = to_edge rows rise references_alone q p hq (subst (λ (xs : List ℕ). Contains xs p) (sym (alone q)) listed) in
-          and_from (not (same (path_at rows q) (path_at rows p))) (is_edge references_alone (graph_of rows) (path_at rows q) (path_at rows p))
+          let edge = to_edge rows rise references_only q p hq (subst (λ (xs : List ℕ). Contains xs p) (sym (alone q)) listed) in
+          and_from (not (same (path_at rows q) (path_at rows p))) (is_edge references_only (graph_of rows) (path_at rows q) (path_at rows p))
           (ap not (false_from_ne_true (same (path_at rows q) (path_at rows p)) (λ e. other (same_at q p hq hp e))))
-          ((edge_decided references_alone (graph_of rows) (path_at rows q) (path_at rows p)).1 edge.1)
+          ((edge_decided references_only (graph_of rows) (path_at rows q) (path_at rows p)).1 edge.1)
 
   left_times : (left : List Bool) (p q : ℕ) → is_in left q ≡ true → times_left (numbered rows) left p q ≡ times (numbered rows) q p
   left_times left p q l = ap (λ (b : Bool). if b then times (numbered rows) q p else 0) l

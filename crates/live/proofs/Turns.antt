@@ -52,13 +52,13 @@ one_more es m sizes limit turn s t v w h u r dead step = record {
 }
 
 -- a turn in which a group goes
-pub taken_turn : (es : List Entries) (s t : Remaining) (sizes : List ℕ) (rows : List Row) (is_dead : Path → Bool) (size : Path → ℕ) → Represents es s.dead sizes rows is_dead size
+pub consumed_turn : (es : List Entries) (s t : Remaining) (sizes : List ℕ) (rows : List Row) (is_dead : Path → Bool) (size : Path → ℕ) → Represents es s.dead sizes rows is_dead size
     → (group : List ℕ) → All (λ u. u < length es) group → length s.left ≡ length es → length t.left ≡ length es
     → ((i : ℕ) → i < length es → is_in t.left i ≡ (is_in s.left i && not (list_any (λ j. j == i) group)))
     → (wanted w : ℕ) → 0 < wanted → w ≡ wanted - sum_by (slice_index sizes) group
     → next_group (graph_of rows) is_dead (map (path_at rows) (places_left s.left)) ≡ Some (map (path_at rows) group) → (turn : Path) (turns : List Path)
     → left_after (graph_of rows) is_dead size turns (map (path_at rows) (places_left t.left)) w ≡ left_after (graph_of rows) is_dead size (turn ∷ turns) (map (path_at rows) (places_left s.left)) wanted
-taken_turn es s t sizes rows is_dead size stands group inside cs ct went wanted w h is next turn turns =
+consumed_turn es s t sizes rows is_dead size stands group inside cs ct went wanted w h is next turn turns =
     let n = count es rows stands.rows in
     let within : All (λ u. u < length rows) group = λ k d l. (let b = inside k d l in omega (arith, n)) in
     let lefts = left_without rows stands.rise group within s.left t.left (cs ∙ n) (ct ∙ n) (λ i l. went i (omega arith)) in

@@ -5,9 +5,9 @@ use Rattle.std.specs.List.{slice_index}
 use Rattle.live.specs.Graph.{Keep}
 use Rattle.live.specs.Places.{Entries, AllInside, edges_at}
 use Rattle.live.specs.Marking.{Frontier, IsMarking, IsDequeued, NoneWaits, reached, all_reached, reported}
-use Rattle.live.proofs.Fronts.{AreMarked, Grows, one, grows, none_waits, taken_counts, taken_length, taken_still, waiting_count}
+use Rattle.live.proofs.OneRoot.{AreMarked, Grows, one, grows, none_waits, consumed_counts, consumed_length, consumed_still, waiting_count}
 use Rattle.live.proofs.Walks.{IsWalk, are_marked, edge_inside, start, begin}
-use Rattle.live.proofs.Taken.{taken, finish}
+use Rattle.live.proofs.Visited.{taken, finish}
 
 module _ (keep : Keep) (rows : List Entries) (targets : List ℕ) (inside : AllInside rows) (aims : All (λ t. t < length rows) targets) where
   pub start_at : (f : Frontier) (s n m : ℕ) → f.first ≡ replicate n m → n ≡ length rows → m ≡ length targets → f.waiting ≡ replicate n false → s ≡ 0 → IsWalk keep rows targets 0 f s × NoneWaits f.waiting
@@ -32,8 +32,8 @@ module _ (keep : Keep) (rows : List Entries) (targets : List ℕ) (inside : AllI
       (firsts : h.first ≡ f.first) (works : IsDequeued f.waiting h.waiting place) (is : g ≡ all_reached n root h (edges_at keep rows place)) where
     marked : AreMarked (length targets) h
     marked = record {
-      count = taken_length f.waiting h.waiting place works ∙ w.count ∙ sym w.places ∙ sym (ap length firsts);
-      marked = λ i c. (let e = (w.waits i (taken_still f.waiting h.waiting place works i c)).1 in let d = ap (λ xs. slice_index xs i) firsts in omega arith);
+      count = consumed_length f.waiting h.waiting place works ∙ w.count ∙ sym w.places ∙ sym (ap length firsts);
+      marked = λ i c. (let e = (w.waits i (consumed_still f.waiting h.waiting place works i c)).1 in let d = ap (λ xs. slice_index xs i) firsts in omega arith);
     }
 
     grown : Grows (length targets) root h g (edges_at keep rows place)
@@ -42,8 +42,8 @@ module _ (keep : Keep) (rows : List Entries) (targets : List ℕ) (inside : AllI
         subst (λ x. Grows (length targets) root h x (edges_at keep rows place)) (sym same)
         (grows (length targets) root (omega arith) h (edges_at keep rows place) marked (λ j c. (let b = edge_inside keep rows inside place j c in let l = ap length firsts in let p = w.places in omega arith)))
 
-    pub taken_at : (t : ℕ) → reported t ≡ reported (s + (1 + length (edges_at keep rows place))) → IsWalk keep rows targets (root + 1) g t
-    taken_at t stepped = taken keep rows targets inside aims root place f h g s t (omega arith) w firsts works grown stepped
+    pub consumed_at : (t : ℕ) → reported t ≡ reported (s + (1 + length (edges_at keep rows place))) → IsWalk keep rows targets (root + 1) g t
+    consumed_at t stepped = taken keep rows targets inside aims root place f h g s t (omega arith) w firsts works grown stepped
 
     pub smaller : count_by (λ m. nat_le n m) g.first + waiting_count g.waiting < count_by (λ m. nat_le n m) f.first + waiting_count f.waiting
     smaller =
@@ -51,7 +51,7 @@ module _ (keep : Keep) (rows : List Entries) (targets : List ℕ) (inside : AllI
         let b = ap (λ k. count_by (λ m. nat_le k m) g.first) en in
         let c = ap (λ k. count_by (λ m. nat_le k m) f.first) en in
         let d = ap (λ xs. count_by (λ m. nat_le (length targets) m) xs) firsts in
-        let n = taken_counts f.waiting h.waiting place works in omega (arith, a, b, c, d, n)
+        let n = consumed_counts f.waiting h.waiting place works in omega (arith, a, b, c, d, n)
 
   pub placed : (root place : ℕ) (f h : Frontier) (s : ℕ) → IsWalk keep rows targets (root + 1) f s → IsDequeued f.waiting h.waiting place → place < length rows
   placed root place f h s w works = (w.waits place works.waited).0

@@ -8,7 +8,7 @@ use Rattle.std.proofs.lemmas.List.Elements.{Contains-append_left, Contains-appen
 use Rattle.live.specs.Graph.{Keep}
 use Rattle.live.specs.Places.{Entries, AllInside, Walks, Reaches, counting, edges_at, entries_at, held}
 use Rattle.live.specs.Marking.{Frontier, NoneWaits, Waits, cost, marked_cost, reported}
-use Rattle.live.proofs.Fronts.{AreMarked, Grows, mark_at, none_waits, nothing_costs, waiting_cost}
+use Rattle.live.proofs.OneRoot.{AreMarked, Grows, mark_at, none_waits, nothing_costs, waiting_cost}
 use Rattle.live.proofs.Members.{no_member, at_head, cases}
 
 -- the first roots have been begun, and steps have been taken

@@ -3,29 +3,29 @@ use Rattle.std.specs.Prelude.{◌≡◌, ℕ, ◌-◌, ◌<◌, nat_lt, Bool, no
 use Rattle.std.specs.List.{filter, find, list_any, sum_by}
 use Rattle.std.specs.Option.{option_map, option_map_or, option_or}
 use Rattle.std.specs.FinMap as finite
-use Rattle.live.specs.Graph.{Path, same, holds, Graph, references_alone, is_edge}
+use Rattle.live.specs.Graph.{Path, same, holds, Graph, references_only, is_edge}
 use Rattle.live.specs.Reach.{reaches}
 
 -- whether one path refers to another; a reference to itself doesn't count
 abbrev pub refers : Graph → Path → Path → Bool
-refers g q p = not (same q p) && is_edge references_alone g q p
+refers g q p = not (same q p) && is_edge references_only g q p
 
 -- whether another of the paths left refers to this one
 abbrev pub is_referred_to : Graph → List Path → Path → Bool
 is_referred_to g left p = list_any (λ q. refers g q p) left
 
 -- the least dead path left to which no other path left refers
-abbrev pub next_alone : Graph → (Path → Bool) → List Path → Option (List Path)
-next_alone g dead left = option_map (λ p. p ∷ []) (find (λ p. dead p && not (is_referred_to g left p)) left)
+abbrev pub next_unreferred : Graph → (Path → Bool) → List Path → Option (List Path)
+next_unreferred g dead left = option_map (λ p. p ∷ []) (find (λ p. dead p && not (is_referred_to g left p)) left)
 
 -- the least dead path left, and all left that reach it by references
 abbrev pub next_with_referrers : Graph → (Path → Bool) → List Path → Option (List Path)
-next_with_referrers g dead left = option_map (λ p. filter (λ q. reaches references_alone g q p) left) (find dead left)
+next_with_referrers g dead left = option_map (λ p. filter (λ q. reaches references_only g q p) left) (find dead left)
 
 -- The next group of the paths left, if a dead one is left: a path to which no other path left refers; if each has such
 -- a referrer, since references make a cycle, one with all that reach it.
 abbrev pub next_group : Graph → (Path → Bool) → List Path → Option (List Path)
-next_group g dead left = option_or (next_alone g dead left) (next_with_referrers g dead left)
+next_group g dead left = option_or (next_unreferred g dead left) (next_with_referrers g dead left)
 
 -- what a group leaves of some paths
 abbrev pub without : List Path → List Path → List Path

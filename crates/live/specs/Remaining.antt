@@ -68,12 +68,12 @@ pub record IsNextAlone (s : Remaining) (p : ℕ) : Type 0 where
   pub place : p < length s.left
   pub is_left : IsTrue (is_in s.left p)
   pub is_dead : IsTrue (is_in s.dead p)
-  pub alone : slice_index s.referrers p ≡ 0
+  pub unreferred : slice_index s.referrers p ≡ 0
   pub least : (t : ℕ) → t < p → IsTrue (is_in s.dead t) → IsTrue (is_in s.left t) → slice_index s.referrers t ≡ 0 → ⊥
 
 -- each place that is dead and left has a referrer
-abbrev pub NoneAlone : Remaining → Type 0
-NoneAlone s =
+abbrev pub NoneUnreferred : Remaining → Type 0
+NoneUnreferred s =
     (t : ℕ) → t < length s.left → IsTrue (is_in s.dead t) → IsTrue (is_in s.left t) → slice_index s.referrers t ≡ 0 → ⊥
 
 -- the least place that is dead and left

@@ -2,7 +2,7 @@
 ghost use Rattle.std.specs.Prelude.{◌≡◌, ◌∷◌, ◌<◌, ◌-◌, ◌&&◌, ◌==◌, not, ℕ, Bool, List, length, map, All, IfOk, OnOk, IfSome};
 ghost use Rattle.std.specs.List.{filter, list_any, range_with_len, slice_index, sum_by};
 ghost use Rattle.std.specs.Option.{option_map};
-ghost use Rattle.live.specs.Graph.{Path, references_alone};
+ghost use Rattle.live.specs.Graph.{Path, references_only};
 ghost use Rattle.live.specs.Reach.{reaches};
 ghost use Rattle.live.specs.Limited.{next_group};
 ghost use Rattle.live.specs.Remaining.{IsRemaining, Represents, group_at, is_in, left_after, nothing_owed, places_left};
@@ -23,14 +23,14 @@ impl Remaining {
         ensures reaching { IfOk result (λ v. (rows : List Row) → Rise (paths_of rows) → graph.now ≡ numbered rows →
             v.items ≡ filter
             (λ i. is_in self.now.left i
-            && reaches references_alone (graph_of rows) (path_at rows i) (path_at rows place))
+            && reaches references_only (graph_of rows) (path_at rows i) (path_at rows place))
             (range_with_len 0 (length self.now.left))) }
     {
-        let references_alone = Keep {
+        let references_only = Keep {
             outputs: false,
             derivations: false,
         };
-        let marks = backward(alloc, graph, references_alone, &[place])?;
+        let marks = backward(alloc, graph, references_only, &[place])?;
         let mut reaching = Vec::new(alloc);
         for other in 0..graph.len() {
             if self.left[other] {
@@ -55,7 +55,7 @@ impl Remaining {
             option_map (group_at rows) o
             ≡ next_group (graph_of rows) is_dead (map (path_at rows) (places_left self.old.left))) }
     {
-        if let Some(place) = self.next_alone(graph) {
+        if let Some(place) = self.next_unreferred(graph) {
             return Ok(Some(vec![in alloc; place]?));
         }
         match self.least_dead() {
@@ -121,16 +121,16 @@ impl Remaining {
     }
 
     /// The places that were deleted, rising.
-    pub(crate) fn gone(&self, alloc: Global) -> Result<Vec<usize>, AllocError>
+    pub(crate) fn deleted_places(&self, alloc: Global) -> Result<Vec<usize>, AllocError>
         ensures { IfOk result
             (λ v. v.items ≡ filter (λ i. not (is_in self.now.left i)) (range_with_len 0 (length self.now.left))) }
     {
-        let mut gone = Vec::new(alloc);
+        let mut deleted_places = Vec::new(alloc);
         for place in 0..self.left.len() {
             if !self.left[place] {
-                gone.push(place)?;
+                deleted_places.push(place)?;
             }
         }
-        Ok(gone)
+        Ok(deleted_places)
     }
 }

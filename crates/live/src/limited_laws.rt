@@ -3,7 +3,7 @@ ghost use Rattle.std.specs.Prelude.{◌≡◌, ◌↔◌, ℕ, Bool, not, IsTrue
 ghost use Rattle.std.specs.List.{slice_index_or};
 ghost use Rattle.std.specs.FinMap as finite;
 ghost use Rattle.paths.specs.Root.{Root};
-ghost use Rattle.live.specs.Graph.{Graph, Keep, Path, holds, is_edge, is_valid, references_alone};
+ghost use Rattle.live.specs.Graph.{Graph, Keep, Path, holds, is_edge, is_valid, references_only};
 ghost use Rattle.live.specs.Live.{IsDead, is_live};
 ghost use Rattle.live.specs.Limited.{DeletesGroups, is_among, limited_groups, limited_paths, refers};
 
@@ -28,7 +28,7 @@ pub fn limits_remove_dead_paths()
 pub fn what_stays_refers_to_nothing_deleted()
     ensures { (g : Graph) (dead : Path → Bool) (size : Path → ℕ) (limit : ℕ) (q p : Path) → IsTrue (is_valid g q)
         → (Contains (limited_paths g dead size limit) q → ⊥) →
-        IsTrue (is_edge references_alone g q p) → Contains (limited_paths g dead size limit) p → ⊥ }
+        IsTrue (is_edge references_only g q p) → Contains (limited_paths g dead size limit) p → ⊥ }
 {}
 
 /// What refers to a member of a group goes with that group or with one before: without cycles, before it.

@@ -58,6 +58,6 @@ pub fn limited(
     'turns: for turn in 0..graph.len() {
         wanted = leaving.turn(alloc, graph, sizes, wanted)?;
     }
-    let gone = leaving.gone(alloc)?;
-    Ok(gone)
+    let deleted_places = leaving.deleted_places(alloc)?;
+    Ok(deleted_places)
 }

@@ -11,7 +11,7 @@ const BLOCK: usize = 256;
 /// A block is listed no longer.
 fn strike(listed: &mut Vec<bool>, block: usize)
     ensures count { length listed.new.items ≡ length listed.old.items }
-    ensures gone { Waits listed.new.items block → ⊥ }
+    ensures struck { Waits listed.new.items block → ⊥ }
     ensures others { (b : ℕ) → Waits listed.new.items b → Waits listed.old.items b }
 {
     if block < listed.len() {

@@ -9,13 +9,13 @@ use Rattle.std.specs.FinMap as finite
 use Rattle.std.specs.FinMap.Entries.{is_sorted, below_all, same_entries}
 use Rattle.std.proofs.lemmas.Bool.{false≢true, and_parts, and_from, or_cases, or_left, or_right, not-true, not_from_false, false_from_ne_true}
 use Rattle.paths.specs.Root.{bytes_cmp}
-use Rattle.live.specs.Graph.{Path, Links, same, holds, Graph, references_alone, is_valid, is_edge}
+use Rattle.live.specs.Graph.{Path, Links, same, holds, Graph, references_only, is_valid, is_edge}
 use Rattle.live.specs.Reach.{reaches, Reaches}
 use Rattle.live.specs.Limited.{DeletesGroups, refers, is_referred_to, next_with_referrers, next_group, without, groups_by, limited_groups}
 use Rattle.live.proofs.Members.{found, any_from, some_of_any}
 use Rattle.live.proofs.Reach.{same_is, same_itself, holds_valid, decided, goes_on, reach_kept}
 use Rattle.live.proofs.Live.{live_decided}
-use Rattle.live.proofs.Takings.{one_answer}
+use Rattle.live.proofs.UniqueGroups.{one_answer}
 use Rattle.policy.specs.Settings.{Settings}
 use Rattle.model.specs.World.{Object, World, has, all_paths, roots_of}
 use Rattle.model.specs.Reply.{done, denied, refused, failed}
@@ -80,12 +80,12 @@ passed test p (x ∷ xs) t h = by (test x) refl (or_cases (same p x) (holds xs p
 
 -- ---- the groups
 
-module _ (g : Graph) (dead : Path → Bool) (size : Path → ℕ) (upward : (q p : Path) → Reaches references_alone g q p → IsTrue (dead p) → IsTrue (dead q)) where
+module _ (g : Graph) (dead : Path → Bool) (size : Path → ℕ) (upward : (q p : Path) → Reaches references_only g q p → IsTrue (dead p) → IsTrue (dead q)) where
   -- what the next group has, and what it is
   abbrev pub IsNext : List Path → List Path → Type 0
   IsNext left group =
       ((p : Path) → IsTrue (holds group p) → IsTrue (dead p) × IsTrue (holds left p))
-      × ((q r : Path) → IsTrue (holds left q) → (IsTrue (holds group q) → ⊥) → IsTrue (holds group r) → IsTrue (is_edge references_alone g q r) → IsTrue (is_valid g q) → ⊥)
+      × ((q r : Path) → IsTrue (holds left q) → (IsTrue (holds group q) → ⊥) → IsTrue (holds group r) → IsTrue (is_edge references_only g q r) → IsTrue (is_valid g q) → ⊥)
 
   alone_is : (left : List Path) (p : Path) → find (λ x. dead x && not (is_referred_to g left x)) left ≡ Some p → IsNext left (p ∷ [])
   alone_is left p e =
@@ -95,7 +95,7 @@ module _ (g : Graph) (dead : Path → Bool) (size : Path → ℕ) (upward : (q p
         (λ q r in_ out here edge valid.
             let is = only r here in
             let apart : same q p ≡ false = false_from_ne_true (same q p) (λ s. out (or_left (same q p) false s)) in
-            let referred : IsTrue (refers g q p) = and_from (not (same q p)) (is_edge references_alone g q p) (not_from_false (same q p) apart) (ap (is_edge references_alone g q) (sym is) ∙ edge) in
+            let referred : IsTrue (refers g q p) = and_from (not (same q p)) (is_edge references_only g q p) (not_from_false (same q p) apart) (ap (is_edge references_only g q) (sym is) ∙ edge) in
             let x = some_of_any (same q) left in_ in
             let listed : IsTrue (is_referred_to g left p) = any_from (λ y. refers g y p) left x.0 x.1 (ap (λ y. refers g y p) (sym (same_is q x.0 x.2)) ∙ referred) in
             false≢true (sym (not-true (is_referred_to g left p) parts.1) ∙ listed)),
@@ -104,22 +104,22 @@ module _ (g : Graph) (dead : Path → Bool) (size : Path → ℕ) (upward : (q p
       only : (x : Path) → IsTrue (same x p || false) → x ≡ p
       only x h = elim (or_cases (same x p) false h) as (λ _. x ≡ p) [ inl s ↦ same_is x p s | inr f ↦ absurd (false≢true f) ]
 
-  with_is : (left : List Path) (p : Path) → find dead left ≡ Some p → IsNext left (filter (λ q. reaches references_alone g q p) left)
+  with_is : (left : List Path) (p : Path) → find dead left ≡ Some p → IsNext left (filter (λ q. reaches references_only g q p) left)
   with_is left p e =
       let at = found dead left p e in (
-        (λ x h. let parts = passing (λ q. reaches references_alone g q p) x left h in (upward x p ((decided references_alone g x p).0 parts.0) at.1, parts.1)),
+        (λ x h. let parts = passing (λ q. reaches references_only g q p) x left h in (upward x p ((decided references_only g x p).0 parts.0) at.1, parts.1)),
         (λ q r in_ out here edge valid.
-            let parts = passing (λ x. reaches references_alone g x p) r left here in
-            let step : Reaches references_alone g q r = record { valid = valid; behind = r ∷ []; leads = (edge, refl) } in
-            out (passed (λ x. reaches references_alone g x p) q left ((decided references_alone g q p).1 (goes_on references_alone g q r p step ((decided references_alone g r p).0 parts.0))) in_)),
+            let parts = passing (λ x. reaches references_only g x p) r left here in
+            let step : Reaches references_only g q r = record { valid = valid; behind = r ∷ []; leads = (edge, refl) } in
+            out (passed (λ x. reaches references_only g x p) q left ((decided references_only g q p).1 (goes_on references_only g q r p step ((decided references_only g r p).0 parts.0))) in_)),
       )
 
   next_is : (left group : List Path) → next_group g dead left ≡ Some group → IsNext left group
   next_is left group e = by (find (λ x. dead x && not (is_referred_to g left x)) left) refl e
     where
-      second : (o : Option Path) → find dead left ≡ o → option_map (λ p. filter (λ q. reaches references_alone g q p) left) o ≡ Some group → IsNext left group
+      second : (o : Option Path) → find dead left ≡ o → option_map (λ p. filter (λ q. reaches references_only g q p) left) o ≡ Some group → IsNext left group
       second None f e = absurd (false≢true (ap is_some e))
-      second (Some p) f e = let is : filter (λ q. reaches references_alone g q p) left ≡ group = cc in subst (IsNext left) is (with_is left p f)
+      second (Some p) f e = let is : filter (λ q. reaches references_only g q p) left ≡ group = cc in subst (IsNext left) is (with_is left p f)
 
       by : (o : Option Path) → find (λ x. dead x && not (is_referred_to g left x)) left ≡ o → option_or (option_map (λ p. p ∷ []) o) (next_with_referrers g dead left) ≡ Some group → IsNext left group
       by None f e = second (find dead left) refl e
@@ -129,7 +129,7 @@ module _ (g : Graph) (dead : Path → Bool) (size : Path → ℕ) (upward : (q p
   abbrev pub AreTaken : List Path → List (List Path) → Type 0
   AreTaken left groups =
       ((p : Path) → IsTrue (in_groups groups p) → IsTrue (dead p) × IsTrue (holds left p))
-      × ((q r : Path) → IsTrue (holds left q) → (IsTrue (in_groups groups q) → ⊥) → IsTrue (in_groups groups r) → IsTrue (is_edge references_alone g q r) → IsTrue (is_valid g q) → ⊥)
+      × ((q r : Path) → IsTrue (holds left q) → (IsTrue (in_groups groups q) → ⊥) → IsTrue (in_groups groups r) → IsTrue (is_edge references_only g q r) → IsTrue (is_valid g q) → ⊥)
 
   none_taken : (left : List Path) → AreTaken left []
   none_taken left = ((λ p h. absurd (false≢true h)), (λ q r in_ out here edge valid. false≢true here))
@@ -160,8 +160,8 @@ module _ (g : Graph) (dead : Path → Bool) (size : Path → ℕ) (upward : (q p
       by true None e later = none_taken left
       by true (Some group) e later = more_taken left group (groups_by g dead size turns (without group left) (wanted - sum_by size group)) (next_is left group e) (later group)
 
-  pub all_taken : (limit : ℕ) → AreTaken (finite.keys g) (limited_groups g dead size limit)
-  all_taken limit = taken (finite.keys g) (finite.keys g) limit
+  pub all_consumed : (limit : ℕ) → AreTaken (finite.keys g) (limited_groups g dead size limit)
+  all_consumed limit = taken (finite.keys g) (finite.keys g) limit
 
 -- ---- a collection
 
@@ -173,7 +173,7 @@ module _ (s : Settings) (w : World) (limit : ℕ) where
   groups : List (List Path)
   groups = limited_groups (graph_of w) (λ p. not (lives s w p)) (size_of w) limit
 
-  pub upward : (q p : Path) → Reaches references_alone (graph_of w) q p → IsTrue (not (lives s w p)) → IsTrue (not (lives s w q))
+  pub upward : (q p : Path) → Reaches references_only (graph_of w) q p → IsTrue (not (lives s w p)) → IsTrue (not (lives s w q))
   upward q p r d = not_from_false (lives s w q) (false_from_ne_true (lives s w q) (λ h.
       let l = (live_decided (keep_of s) (graph_of w) (roots_of w) q).0 h in
       let on = goes_on (keep_of s) (graph_of w) l.root.target q p l.reaches (reach_kept (keep_of s) (graph_of w) q p r) in
@@ -189,8 +189,8 @@ module _ (s : Settings) (w : World) (limit : ℕ) where
 
   pub live_left : (p : Path) → IsTrue (lives s w p) → IsTrue (leaves p)
   unfolding groups
-  live_left p h = not_from_false _ (false_from_ne_true _ (λ gone.
-      let t = (all_taken (graph_of w) (λ x. not (lives s w x)) (size_of w) upward limit).0 p (in_one p gone) in
+  live_left p h = not_from_false _ (false_from_ne_true _ (λ deleted.
+      let t = (all_consumed (graph_of w) (λ x. not (lives s w x)) (size_of w) upward limit).0 p (in_one p deleted) in
       false≢true (sym (not-true (lives s w p) t.0) ∙ h)))
 
   pub reference_stays : (p : Path) (o : Object) → finite.get (keeping w leaves).objects p ≡ Some o → (r : Path) → IsTrue (finite.contains_key o.references r) → IsTrue (has w r) → IsTrue (has (keeping w leaves) r)
@@ -201,21 +201,21 @@ module _ (s : Settings) (w : World) (limit : ℕ) where
       let valid : IsTrue (is_valid (graph_of w) p) = valid_is w p ∙ present in
       let left : holds (collected_paths s w (Some limit)) p ≡ false = not-true _ was.0 in
       let out : IsTrue (in_groups groups p) → ⊥ = λ k. false≢true (sym left ∙ goes_then p present k) in
-      let stays : IsTrue (leaves r) = not_from_false _ (false_from_ne_true _ (λ gone.
-      (all_taken (graph_of w) (λ x. not (lives s w x)) (size_of w) upward limit).1 p r (holds_valid (graph_of w) p valid) out (in_one r gone) (reference_edge w p r o was.1 c h) valid)) in
+      let stays : IsTrue (leaves r) = not_from_false _ (false_from_ne_true _ (λ deleted.
+      (all_consumed (graph_of w) (λ x. not (lives s w x)) (size_of w) upward limit).1 p r (holds_valid (graph_of w) p valid) out (in_one r deleted) (reference_edge w p r o was.1 c h) valid)) in
       ap is_some (kept_if w.objects leaves r stays) ∙ h
 
   -- what is told is what goes
-  pub is_taken : Path → Bool
-  is_taken p = in_groups groups p
+  pub is_consumed : Path → Bool
+  is_consumed p = in_groups groups p
 
-  pub reported : collected_paths s w (Some limit) ≡ filter is_taken (all_paths w)
-  unfolding groups is_taken
+  pub reported : collected_paths s w (Some limit) ≡ filter is_consumed (all_paths w)
+  unfolding groups is_consumed
   reported = ap (filter (in_groups groups)) (keys_of_graph w)
 
-  pub goes_or_stays : (p : Path) → IsTrue (has w p) → is_taken p ≡ not (leaves p)
-  unfolding is_taken
-  goes_or_stays p v = by (in_groups groups p) (holds (collected_paths s w (Some limit)) p) (goes_then p v) (in_one p)
+  pub deleted_or_stays : (p : Path) → IsTrue (has w p) → is_consumed p ≡ not (leaves p)
+  unfolding is_consumed
+  deleted_or_stays p v = by (in_groups groups p) (holds (collected_paths s w (Some limit)) p) (goes_then p v) (in_one p)
     where
       by : (a b : Bool) → (IsTrue a → IsTrue b) → (IsTrue b → IsTrue a) → a ≡ not (not b)
       by true b f g = sym (ap (λ x. not (not x)) (f refl))
@@ -230,15 +230,15 @@ module _ (s : Settings) (w : World) (limit : ℕ) where
       by false = refl
 
   by_bytes : DeletesByBytes s w limit (keeping w leaves)
-  unfolding groups is_taken
+  unfolding groups is_consumed
   by_bytes = record {
     size = size_of w;
     bytes = λ p o e. ap (λ (x : Option Object). option_map_or (λ y. length y.nar) x 0) e;
     groups = groups;
     takes = subst (λ (ps : List Path). DeletesGroups (graph_of w) (λ p. not (lives s w p)) (size_of w) ps limit groups) (keys_of_graph w) ((one_answer (graph_of w) (λ p. not (lives s w p)) (size_of w) limit groups).1 refl);
-    went = λ p v. (
-      (λ h. goes_or_stays p v ∙ ap not (sym (goes p v) ∙ h)),
-      (λ h. goes p v ∙ turned (leaves p) (sym (goes_or_stays p v) ∙ h)),
+    removed = λ p v. (
+      (λ h. deleted_or_stays p v ∙ ap not (sym (goes p v) ∙ h)),
+      (λ h. goes p v ∙ turned (leaves p) (sym (deleted_or_stays p v) ∙ h)),
     );
   }
     where

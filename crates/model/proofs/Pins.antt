@@ -50,10 +50,10 @@ kept_by_add w a p h = by (has w a.path) refl
 
 -- a live path that refers to a named one makes that live
 pub stays : (s : Settings) (w : World) (named : List Path) (p : Path) → list_any (lives s w) named ≡ false → IsTrue (lives s w p) → is_deleted_with w named p ≡ false
-stays s w named p dead h = false_from_ne_true (is_deleted_with w named p) gone
+stays s w named p dead h = false_from_ne_true (is_deleted_with w named p) deleted
   where
-    gone : IsTrue (is_deleted_with w named p) → ⊥
-    gone d =
+    deleted : IsTrue (is_deleted_with w named p) → ⊥
+    deleted d =
         let target = (closure_decided (graph_of w) named p).0 d in
         let l = (live_decided (keep_of s) (graph_of w) (roots_of w) p).0 h in
         let on = goes_on (keep_of s) (graph_of w) l.root.target p target.target l.reaches (reach_kept (keep_of s) (graph_of w) p target.target target.reaches) in
@@ -111,8 +111,8 @@ module _ (s : Settings) (w new : World) (keeps : KeepsLive s w new) (r : Root) (
   itself : (a : Path) → IsTrue (is_valid (graph_of w) a) → Reaches (keep_of s) (graph_of w) a a
   itself a v = record { valid = v; behind = []; leads = refl }
 
-  pub reach_stands : (p : Path) → Reaches (keep_of s) (graph_of w) r.target p → Reaches (keep_of s) (graph_of new) r.target p
-  reach_stands p h =
+  pub reach_stays : (p : Path) → Reaches (keep_of s) (graph_of w) r.target p → Reaches (keep_of s) (graph_of new) r.target p
+  reach_stays p h =
       let first = itself r.target h.valid in
       record {
         valid = ap is_some (same_links r.target (live_of s w r r.target listed first)) ∙ h.valid;
@@ -123,7 +123,7 @@ module _ (s : Settings) (w new : World) (keeps : KeepsLive s w new) (r : Root) (
 pub pins : Pins
 pins s w c q reply new h r listed p reach =
     let keeps = step_keeps s w c q reply new h in
-    (reach_stands s w new keeps r listed p reach, keeps p (live_of s w r p listed reach))
+    (reach_stays s w new keeps r listed p reach, keeps p (live_of s w r p listed reach))
 
 -- what is kept over one part of a run and over the next is kept over both
 pub kept_on : (s : Settings) (r : Root) (w mid new : World) → KeepsReached s r w mid → KeepsReached s r mid new → KeepsReached s r w new

@@ -24,7 +24,7 @@ pub record KeepsRoots (w new : World) : Type 0 where
 -- valid, roots and profiles are the same, and a further collection frees nothing.
 pub record CollectsExactly (s : Settings) (w new : World) : Type 0 where
   pub kept : (p : Path) → IsTrue (lives s w p) → finite.get new.objects p ≡ finite.get w.objects p
-  pub gone : (p : Path) → IsFalse (lives s w p) → IsFalse (has new p)
+  pub deleted : (p : Path) → IsFalse (lives s w p) → IsFalse (has new p)
   pub roots : KeepsRoots w new
   pub once : (c : Caller) (reply : Reply) (last : World) → Step s new c (collect false None) reply last → IsDone reply
       → (reply ≡ done (freed [] 0)) × (last ≡ new)
@@ -62,7 +62,7 @@ pub record DeletesByBytes (s : Settings) (w : World) (limit : ℕ) (new : World)
   pub bytes : (p : Path) (o : Object) → finite.get w.objects p ≡ Some o → size p ≡ length o.nar
   pub groups : List (List Path)
   pub takes : DeletesGroups (graph_of w) (λ p. not (lives s w p)) size (all_paths w) limit groups
-  pub went : (p : Path) → IsTrue (has w p) → IsFalse (has new p) ↔ IsTrue (is_among groups p)
+  pub removed : (p : Path) → IsTrue (has w p) → IsFalse (has new p) ↔ IsTrue (is_among groups p)
 
 abbrev pub CollectsByBytes : Type 0
 CollectsByBytes = (s : Settings) (w : World) (c : Caller) (ignores : Bool) (limit : ℕ) (a : Answer) (new : World)

@@ -43,7 +43,7 @@ pub record Temporary : Type 0 where
   pub session : ℕ
   pub path : Path
 
--- the order of these: by owner, then session, then path
+-- the order of paths that sessions keep: by owner, then session, then path
 abbrev pub temporary_cmp : Temporary → Temporary → Ordering
 temporary_cmp =
     then_cmp (on (λ t. t.owner) bytes_cmp) (then_cmp (on (λ t. t.session) nat_cmp) (on (λ t. t.path) bytes_cmp))
@@ -77,7 +77,7 @@ has w p = finite.contains_key w.objects p
 abbrev pub all_paths : World → List Path
 all_paths w = finite.keys w.objects
 
--- ---- its roots
+-- ---- roots of a world
 
 abbrev pub permanent_root : List ℕ × Path → Root
 permanent_root e = record { kind = permanent; target = e.1; label = permanent_label e.0 }

@@ -28,10 +28,10 @@ pub IsBytes-rest : (front rest : List ℕ) → IsBytes (front ++ rest) → IsByt
 IsBytes-rest [] rest h i = h i
 IsBytes-rest (x ∷ front) rest h i = IsBytes-rest front rest (λ j. h (suc j)) i
 
-pub IsBytes-front : (front rest : List ℕ) → IsBytes (front ++ rest) → IsBytes front
-IsBytes-front [] rest h i = IsBytes-nil i
-IsBytes-front (x ∷ front) rest h zero = h 0
-IsBytes-front (x ∷ front) rest h (suc i) = IsBytes-front front rest (λ j. h (suc j)) i
+pub IsBytes-prefix : (front rest : List ℕ) → IsBytes (front ++ rest) → IsBytes front
+IsBytes-prefix [] rest h i = IsBytes-nil i
+IsBytes-prefix (x ∷ front) rest h zero = h 0
+IsBytes-prefix (x ∷ front) rest h (suc i) = IsBytes-prefix front rest (λ j. h (suc j)) i
 
 -- bytes by a test that computes, as of a fixed word
 pub tested_bytes : (s : List ℕ) → list_all (λ b. ltb b 256) s ≡ true → IsBytes s
@@ -44,9 +44,9 @@ pub all_append : {X : Type 0} (P : X → Type 0) (xs ys : List X) → AllByRecur
 all_append P [] ys h k = k
 all_append P (x ∷ xs) ys h k = (h.0, all_append P xs ys h.1 k)
 
-pub all_front : {X : Type 0} (P : X → Type 0) (xs ys : List X) → AllByRecursion P (xs ++ ys) → AllByRecursion P xs
-all_front P [] ys h = tt
-all_front P (x ∷ xs) ys h = (h.0, all_front P xs ys h.1)
+pub all_prefix : {X : Type 0} (P : X → Type 0) (xs ys : List X) → AllByRecursion P (xs ++ ys) → AllByRecursion P xs
+all_prefix P [] ys h = tt
+all_prefix P (x ∷ xs) ys h = (h.0, all_prefix P xs ys h.1)
 
 -- ---- the strings of an archive are bytes
 
@@ -127,8 +127,8 @@ no_dots s = list_all-append (λ b. eqb b 46) s (97 ∷ []) ∙ and_false (list_a
     and_false true = refl
     and_false false = refl
 
-apart : {A : Type 0} (s w : List ℕ) → list_all (λ b. eqb b 46) w ≡ true → s ++ 97 ∷ [] ≡ w → A
-apart s w dots e = (let q : true ≡ false = sym dots ∙ ap (list_all (λ b. eqb b 46)) (sym e) ∙ no_dots s in absurd cc)
+ends_in_no_dot : {A : Type 0} (s w : List ℕ) → list_all (λ b. eqb b 46) w ≡ true → s ++ 97 ∷ [] ≡ w → A
+ends_in_no_dot s w dots e = (let q : true ≡ false = sym dots ∙ ap (list_all (λ b. eqb b 46)) (sym e) ∙ no_dots s in absurd cc)
 
 plain : ℕ → Bool
 plain b = not (eqb b 47) && not (eqb b 0)
@@ -139,9 +139,9 @@ a_name_above None h = (97 ∷ [], tested_bytes (97 ∷ []) refl, refl, refl)
 a_name_above (Some s) h =
     let tests = and_parts (not (bytes_eq s []) && not (bytes_eq s (codes ".")) && not (bytes_eq s (codes ".."))) (list_all (λ b. not (eqb b 47) && not (eqb b 0)) s) h.1 in
     let n : List ℕ = s ++ 97 ∷ [] in
-    let empty : bytes_eq n [] ≡ false = differ n [] (λ e. apart s [] refl e) in
-    let dot : bytes_eq n (codes ".") ≡ false = differ n (codes ".") (λ e. apart s (codes ".") refl e) in
-    let dots : bytes_eq n (codes "..") ≡ false = differ n (codes "..") (λ e. apart s (codes "..") refl e) in
+    let empty : bytes_eq n [] ≡ false = differ n [] (λ e. ends_in_no_dot s [] refl e) in
+    let dot : bytes_eq n (codes ".") ≡ false = differ n (codes ".") (λ e. ends_in_no_dot s (codes ".") refl e) in
+    let dots : bytes_eq n (codes "..") ≡ false = differ n (codes "..") (λ e. ends_in_no_dot s (codes "..") refl e) in
     let unbroken : list_all (λ b. not (eqb b 47) && not (eqb b 0)) n ≡ true = list_all-append (λ b. not (eqb b 47) && not (eqb b 0)) s (97 ∷ []) ∙ rw (tests.1) refl in
     let legal : is_name n ≡ true = rw (empty, dot, dots, unbroken) refl in
     (n, IsBytes-append s (97 ∷ []) h.0 (tested_bytes (97 ∷ []) refl), legal, longer_rises s 97)

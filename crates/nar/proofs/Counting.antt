@@ -115,8 +115,8 @@ count_reads k room rest bytes h whole clean =
     record { is = is; parts = t.parts; text_bytes = t.text_bytes; size = size }
 
 -- the bytes counted so far, and these
-counting_front : (k : Count) (nest : Nest) (room : ℕ) (all front : List ℕ) → (h : IsCounting k nest room all) → Fed (symbols_of nest) room (h.rest ++ front) (all ++ front)
-counting_front k nest room all front h = fed_more (symbols_of nest) room h.rest all front h.fed
+counting_prefix : (k : Count) (nest : Nest) (room : ℕ) (all front : List ℕ) → (h : IsCounting k nest room all) → Fed (symbols_of nest) room (h.rest ++ front) (all ++ front)
+counting_prefix k nest room all front h = fed_more (symbols_of nest) room h.rest all front h.fed
 
 pub counting_more : (k l : Count) (nest : Nest) (room : ℕ) (all front : List ℕ) → ((room : ℕ) (rest : List ℕ) → Counts k room rest → Counts l room (rest ++ front)) → l.text ≡ k.text → l.size ≡ k.size → 0 < l.size - l.got
     → IsCounting k nest room all → IsCounting l nest room (all ++ front)
@@ -126,7 +126,7 @@ counting_more k l nest room all front more text size left h =
     let got : l.got ≡ length (h.rest ++ front) = c.got_is in
     record {
       rest = h.rest ++ front;
-      fed = counting_front k nest room all front h;
+      fed = counting_prefix k nest room all front h;
       counts = c;
       early = omega arith;
       some = h.some;
@@ -152,7 +152,7 @@ module _ (k l : Count) (nest : Nest) (room : ℕ) (all front : List ℕ) (more :
   whole = at_end l room Rest counted none
 
   fed : Fed (symbols_of nest) room Rest (all ++ front)
-  fed = counting_front k nest room all front h
+  fed = counting_prefix k nest room all front h
 
   rest_bytes : IsBytes Rest
   rest_bytes = fed_rest (symbols_of nest) room Rest (all ++ front) fed bytes
@@ -211,29 +211,29 @@ begins_counting k nest room rest all counts early counted h = record {
 
 -- ---- what stands, at the end
 
-pub stands_only : (count : Option Count) (nest : Nest) (room : ℕ) (held all : List ℕ) (e : NarError) → IsReachedBy count nest room held all → IsBytes all → IsFault all e → e ≡ Truncated
-stands_only None nest room held all e h b f = waits_only (symbols_of nest) room held all e h.0 h.1 b f
-stands_only (Some k) nest room held all e h b f = one_cause all e Truncated b f (counting_early k nest room all b h.1)
+pub has_read_only : (count : Option Count) (nest : Nest) (room : ℕ) (held all : List ℕ) (e : NarError) → IsReachedBy count nest room held all → IsBytes all → IsFault all e → e ≡ Truncated
+has_read_only None nest room held all e h b f = waits_only (symbols_of nest) room held all e h.0 h.1 b f
+has_read_only (Some k) nest room held all e h b f = one_cause all e Truncated b f (counting_early k nest room all b h.1)
   where
     counting_early : (k : Count) (nest : Nest) (room : ℕ) (all : List ℕ) → IsBytes all → IsCounting k nest room all → IsFault all Truncated
     counting_early k nest room all b h = string_refuses (symbols_of nest) room h.rest all Truncated (count_waits room h.rest h.counts.long h.counts.fits h.early) h.some (fed_rest (symbols_of nest) room h.rest all h.fed b) h.fed
 
-pub stands_whole : (count : Option Count) (nest : Nest) (room : ℕ) (held all : List ℕ) → symbols_of nest ≡ [] → IsReachedBy count nest room held all → (t : Tree) × IsArchive t all
-stands_whole None nest room held all none h = by_symbols (symbols_of nest) none h.0 h.1
+pub is_whole : (count : Option Count) (nest : Nest) (room : ℕ) (held all : List ℕ) → symbols_of nest ≡ [] → IsReachedBy count nest room held all → (t : Tree) × IsArchive t all
+is_whole None nest room held all none h = by_symbols (symbols_of nest) none h.0 h.1
   where
     by_symbols : (σ : List Symbol) → σ ≡ [] → Fed σ room held all → Waits σ room held → (t : Tree) × IsArchive t all
     by_symbols [] e f w = fed_archive room all (subst (λ (v : List ℕ). Fed [] room v all) w f)
     by_symbols (x ∷ κ) e f w = absurd cc
-stands_whole (Some k) nest room held all none h = absurd (h.1.some none)
+is_whole (Some k) nest room held all none h = absurd (h.1.some none)
 
-pub stands_early : (count : Option Count) (nest : Nest) (room : ℕ) (held all : List ℕ) → symbols_of nest ≢ [] → IsBytes all → IsReachedBy count nest room held all → IsFault all Truncated
-stands_early None nest room held all some b h = by_symbols (symbols_of nest) some h.0 h.1
+pub is_early : (count : Option Count) (nest : Nest) (room : ℕ) (held all : List ℕ) → symbols_of nest ≢ [] → IsBytes all → IsReachedBy count nest room held all → IsFault all Truncated
+is_early None nest room held all some b h = by_symbols (symbols_of nest) some h.0 h.1
   where
     by_symbols : (σ : List Symbol) → σ ≢ [] → Fed σ room held all → Waits σ room held → IsFault all Truncated
     by_symbols [] some f w = absurd (some refl)
     by_symbols (x ∷ κ) some f w = fed_fault (x ∷ κ) room held all Truncated f (fed_rest (x ∷ κ) room held all f b) (stops w)
-stands_early (Some k) nest room held all some b h = string_refuses (symbols_of nest) room h.1.rest all Truncated (count_waits room h.1.rest h.1.counts.long h.1.counts.fits h.1.early) h.1.some (fed_rest (symbols_of nest) room h.1.rest all h.1.fed b) h.1.fed
+is_early (Some k) nest room held all some b h = string_refuses (symbols_of nest) room h.1.rest all Truncated (count_waits room h.1.rest h.1.counts.long h.1.counts.fits h.1.early) h.1.some (fed_rest (symbols_of nest) room h.1.rest all h.1.fed b) h.1.fed
 
 -- nothing was fed yet
-pub stands_none : (nest : Nest) → symbols_of nest ≡ start → IsReachedBy None nest 16777216 [] []
-stands_none nest is = subst (λ (σ : List Symbol). Fed σ 16777216 [] [] × Waits σ 16777216 []) (sym is) (fed_none, short 16777216 [] (omega arith))
+pub has_read_nothing : (nest : Nest) → symbols_of nest ≡ start → IsReachedBy None nest 16777216 [] []
+has_read_nothing nest is = subst (λ (σ : List Symbol). Fed σ 16777216 [] [] × Waits σ 16777216 []) (sym is) (fed_none, short 16777216 [] (omega arith))

@@ -11,7 +11,7 @@ use Rattle.nar.specs.Tree.{Tree, regular, symlink, directory, Entries, no_entrie
 use Rattle.nar.specs.Archive.{Part, other, spelled, kind_parts, entries_parts, archive, IsShallow, IsArchive, spelling, limit}
 use Rattle.nar.specs.Fault.{IsFault}
 use Rattle.nar.specs.Answer.{IfFault}
-use Rattle.nar.specs.Steps.{Symbol, consumed, run, start, check, AreBytes, FaultAt, trails, stops, refuses, goes_on}
+use Rattle.nar.specs.Steps.{Symbol, consumed, run, start, check, AreBytes, FaultAt, trails, stops, refuses, continues}
 use Rattle.nar.specs.Outcome.{and_then, parts_from, kind_from, entries_from, tree_from, outcome_of}
 use Rattle.nar.proofs.Strings.{length-string, Takes, string_takes}
 use Rattle.nar.proofs.Machine.{Checked, checked, whole_from_run}
@@ -36,7 +36,7 @@ short room bytes h = (let few : ltb (length bytes) 8 ≡ true = lt-ltb _ _ h in 
 
 one_more : (x : Symbol) (κ : List Symbol) (room : ℕ) (bytes s rest : List ℕ) (p : Part) (r : Result (List Part) NarError) → string_at room bytes ≡ Ok (s, rest) → check x s ≡ Ok p → Takes room bytes s rest → (c : Checked x s p)
     → Decided (c.left ++ κ) (room - size_of (length s)) rest r → Decided (x ∷ κ) room bytes (and_then r (λ ps. Ok (p ∷ ps)))
-one_more x κ room bytes s rest p (Err e) is ok t c f = goes_on is ok c.takes f
+one_more x κ room bytes s rest p (Err e) is ok t c f = continues is ok c.takes f
 one_more x κ room bytes s rest p (Ok ps) is ok t c q =
     let same : string (spelled p) ≡ string s = ap string c.same in
     let size : size_of (length s) ≤ room = t.fits in

@@ -9,11 +9,11 @@ use Rattle.nar.specs.String.{string, size_of, string_at}
 use Rattle.nar.specs.Tree.{Tree, IsBytes}
 use Rattle.nar.specs.Archive.{Part, spelled, archive, IsShallow, IsArchive, spelling, limit}
 use Rattle.nar.specs.Fault.{Refuses, Fails, IsGoodPrefix, IsFault}
-use Rattle.nar.specs.Steps.{Symbol, consumed, run, start, check, AreBytes, FaultAt, trails, stops, refuses, goes_on}
+use Rattle.nar.specs.Steps.{Symbol, consumed, run, start, check, AreBytes, FaultAt, trails, stops, refuses, continues}
 use Rattle.nar.proofs.Strings.{length-string, string_takes, string_again}
 use Rattle.nar.proofs.Bytes.{IsBytes-rest}
 use Rattle.nar.proofs.Grammar.{none_is_some, some_is, and_then_some, walk}
-use Rattle.nar.proofs.Machine.{whole_from_run, begins_from_run, run_from_whole, run_from_begins, bytes_from_begins, bytes_more, next_run, checked, check_taken, refused, fails_check}
+use Rattle.nar.proofs.Machine.{whole_from_run, begins_from_run, run_from_whole, run_from_begins, bytes_from_begins, bytes_more, next_run, checked, check_consumed, refused, fails_check}
 
 -- ---- the machine's fault is one of the definition
 
@@ -24,7 +24,7 @@ shallow_more (q ∷ ps) p h k = (h.0, shallow_more ps p h.1 k)
 pub spelling-push : (ps : List Part) (p : Part) → spelling (ps ++ p ∷ []) ≡ spelling ps ++ string (spelled p)
 spelling-push ps p = flat_map-append (λ q. string (spelled q)) ps (p ∷ []) ∙ ap (λ (v : List ℕ). spelling ps ++ v) (append-nil (string (spelled p)))
 
-pub record Front (ps : List Part) (room : ℕ) : Type 0 where
+pub record Prefix (ps : List Part) (room : ℕ) : Type 0 where
   pub are_bytes : AreBytes ps
   pub shallow : AllByRecursion IsShallow ps
   pub size : length (spelling ps) + room ≡ limit
@@ -36,40 +36,40 @@ fails_by ps x κ room bytes e at size m =
     inr (λ w. (let q : Some (x ∷ κ) ≡ Some [] = sym at ∙ run_from_whole ps w in absurd cc), subst (λ (k : ℕ). MatchResult (string_at k bytes) (λ next. Refuses ps next.0 e) (λ early. e ≡ early)) (sym left) m)
 
 -- what fails behind a good front
-pub record Behind (input : List ℕ) (fault : NarError) : Type 0 where
+pub record FaultAfter (input : List ℕ) (fault : NarError) : Type 0 where
   pub parts : List Part
   pub rest : List ℕ
   pub good : IsGoodPrefix input parts rest
   pub fails : Fails parts rest fault
 
-front_of : (ps : List Part) (σ : List Symbol) (room : ℕ) (bytes : List ℕ) → run start ps ≡ Some σ → Front ps room → IsGoodPrefix (spelling ps ++ bytes) ps bytes
-front_of ps σ room bytes at front = record {
+prefix_of : (ps : List Part) (σ : List Symbol) (room : ℕ) (bytes : List ℕ) → run start ps ≡ Some σ → Prefix ps room → IsGoodPrefix (spelling ps ++ bytes) ps bytes
+prefix_of ps σ room bytes at front = record {
   prefix = refl;
   begins = begins_from_run ps σ front.are_bytes at;
   shallow = front.shallow;
   fits = omega (arith, front.size);
 }
 
-pub found_by : {σ : List Symbol} {room : ℕ} {bytes : List ℕ} {e : NarError} → FaultAt σ room bytes e → (ps : List Part) → run start ps ≡ Some σ → Front ps room → IsBytes bytes → Behind (spelling ps ++ bytes) e
+pub found_by : {σ : List Symbol} {room : ℕ} {bytes : List ℕ} {e : NarError} → FaultAt σ room bytes e → (ps : List Part) → run start ps ≡ Some σ → Prefix ps room → IsBytes bytes → FaultAfter (spelling ps ++ bytes) e
 found_by (trails {room = room} {bytes = bytes} some) ps at front h = record {
   parts = ps;
   rest = bytes;
-  good = front_of ps [] room bytes at front;
+  good = prefix_of ps [] room bytes at front;
   fails = inl (whole_from_run ps front.are_bytes at, some, refl);
 }
 found_by (stops {x = x} {κ = κ} {room = room} {bytes = bytes} {e = e} is) ps at front h = record {
   parts = ps;
   rest = bytes;
-  good = front_of ps (x ∷ κ) room bytes at front;
+  good = prefix_of ps (x ∷ κ) room bytes at front;
   fails = fails_by ps x κ room bytes e at front.size (rw is refl);
 }
 found_by (refuses {x = x} {κ = κ} {room = room} {bytes = bytes} {s = s} {rest = rest} {e = e} is bad) ps at front h = record {
   parts = ps;
   rest = bytes;
-  good = front_of ps (x ∷ κ) room bytes at front;
+  good = prefix_of ps (x ∷ κ) room bytes at front;
   fails = fails_by ps x κ room bytes e at front.size (rw is (refused ps front.are_bytes x κ s e at bad));
 }
-found_by (goes_on {x = x} {σ = σ} {κ = κ} {p = p} {room = room} {bytes = bytes} {s = s} {rest = rest} {e = e} is ok takes later) ps at front h =
+found_by (continues {x = x} {σ = σ} {κ = κ} {p = p} {room = room} {bytes = bytes} {s = s} {rest = rest} {e = e} is ok takes later) ps at front h =
     let c = checked x s p ok in
     let t = string_takes room bytes s rest h is in
     let next : run start (ps ++ p ∷ []) ≡ Some (σ ++ κ) = next_run ps x κ at p ∙ ap (option_and_then (λ (v : List Symbol). Some (v ++ κ))) takes in
@@ -78,12 +78,12 @@ found_by (goes_on {x = x} {σ = σ} {κ = κ} {p = p} {room = room} {bytes = byt
     let pushed : spelling (ps ++ p ∷ []) ≡ spelling ps ++ string s = spelling-push ps p ∙ ap (λ (v : List ℕ). spelling ps ++ string v) c.same in
     let size : length (spelling (ps ++ p ∷ [])) + (room - size_of (length s)) ≡ limit = omega (arith, ap length pushed, length-append (spelling ps) (string s), length-string s, front.size) in
     let whole : spelling (ps ++ p ∷ []) ++ rest ≡ spelling ps ++ bytes = ap (λ (v : List ℕ). v ++ rest) pushed ∙ append_assoc (spelling ps) (string s) rest ∙ ap (λ (v : List ℕ). spelling ps ++ v) (sym parts) in
-    subst (λ (v : List ℕ). Behind v e) whole
+    subst (λ (v : List ℕ). FaultAfter v e) whole
     (found_by later (ps ++ p ∷ []) next (record { are_bytes = bytes_more ps p front.are_bytes (subst IsBytes (sym c.same) t.text_bytes); shallow = shallow_more ps p front.shallow c.shallow; size = size }) t.rest_bytes)
 
 -- what the machine finds in the whole input
-pub found_behind : (input : List ℕ) (e : NarError) → IsBytes input → FaultAt start limit input e → Behind input e
-found_behind input e h f = found_by f [] refl (record { are_bytes = tt; shallow = tt; size = refl }) h
+pub found_after : (input : List ℕ) (e : NarError) → IsBytes input → FaultAt start limit input e → FaultAfter input e
+found_after input e h f = found_by f [] refl (record { are_bytes = tt; shallow = tt; size = refl }) h
 
 -- ---- parts before a fault
 
@@ -109,7 +109,7 @@ before (p ∷ ps) (x ∷ κ) τ room rest e at shallow fits lt f =
     let left : room - length (string s ++ spelling ps) ≡ (room - size_of (length s)) - length (spelling ps) = omega arith in
     let f2 = subst (λ (k : ℕ). FaultAt τ k rest e) left f in
     let later = before ps (a.0 ++ κ) τ (room - size_of (length s)) rest e a.2 shallow.1 (omega arith) (omega arith) f2 in
-    let one : FaultAt (x ∷ κ) room (string s ++ (spelling ps ++ rest)) e = goes_on (string_again room s (spelling ps ++ rest) sized.0 sized.1) (check_taken x p a.0 a.1 shallow.0) a.1 later in
+    let one : FaultAt (x ∷ κ) room (string s ++ (spelling ps ++ rest)) e = continues (string_again room s (spelling ps ++ rest) sized.0 sized.1) (check_consumed x p a.0 a.1 shallow.0) a.1 later in
     subst (λ (v : List ℕ). FaultAt (x ∷ κ) room v e) (sym (append_assoc (string s) (spelling ps) rest)) one
 
 -- ---- the other way round: the definition's fault is what the machine finds
@@ -128,8 +128,8 @@ fails_at ps (x ∷ κ) room rest e b h at size (inr w) =
     by_string (Ok next) is m = refuses is (fails_check ps x κ at b next.0 e (string_takes room rest next.0 next.1 h is).text_bytes m)
     by_string (Err f) is m = stops (is ∙ ap Err (sym m))
 
-pub behind_at : (input : List ℕ) (e : NarError) → IsBytes input → Behind input e → FaultAt start limit input e
-behind_at input e h f =
+pub after_at : (input : List ℕ) (e : NarError) → IsBytes input → FaultAfter input e → FaultAt start limit input e
+after_at input e h f =
     let g = f.good in
     let a = run_from_begins f.parts g.begins in
     let fits : length (spelling f.parts) ≤ limit = g.fits in
@@ -138,7 +138,7 @@ behind_at input e h f =
     subst (λ (v : List ℕ). FaultAt start limit v e) (sym g.prefix) (before f.parts start a.0 limit f.rest e a.1 g.shallow fits (omega arith) present)
 
 pub fault_at : (input : List ℕ) (e : NarError) → IsBytes input → IsFault input e → FaultAt start limit input e
-fault_at input e h f = behind_at input e h (record { parts = f.parts; rest = f.rest; good = f.good; fails = f.fails })
+fault_at input e h f = after_at input e h (record { parts = f.parts; rest = f.rest; good = f.good; fails = f.fails })
 
 -- ---- the machine finds one fault
 
@@ -166,19 +166,19 @@ pub one_fault : {σ : List Symbol} {room : ℕ} {bytes : List ℕ} {e f : NarErr
 one_fault (trails some) (trails more) = refl
 one_fault (stops is) (stops js) = err_is _ _ _ is js
 one_fault (stops is) (refuses js bad) = ok_err _ _ _ js is
-one_fault (stops is) (goes_on js ok takes later) = ok_err _ _ _ js is
+one_fault (stops is) (continues js ok takes later) = ok_err _ _ _ js is
 one_fault (refuses is bad) (stops js) = ok_err _ _ _ is js
 one_fault (refuses {x = x} {s = s} {rest = rest} {e = e} is bad) (refuses {s = t} {rest = after} {e = f} js worse) =
     let q = ok_pair rest after _ s t is js in
     err_is (check x s) e f bad (ap (check x) q.0 ∙ worse)
-one_fault (refuses {x = x} {s = s} {rest = rest} {e = e} is bad) (goes_on {p = p} {s = t} {rest = after} js ok takes later) =
+one_fault (refuses {x = x} {s = s} {rest = rest} {e = e} is bad) (continues {p = p} {s = t} {rest = after} js ok takes later) =
     let q = ok_pair rest after _ s t is js in
     ok_err (check x s) p e (ap (check x) q.0 ∙ ok) bad
-one_fault (goes_on is ok takes later) (stops js) = ok_err _ _ _ is js
-one_fault (goes_on {x = x} {p = p} {s = s} {rest = rest} is ok takes later) (refuses {s = t} {rest = after} {e = e} js bad) =
+one_fault (continues is ok takes later) (stops js) = ok_err _ _ _ is js
+one_fault (continues {x = x} {p = p} {s = s} {rest = rest} is ok takes later) (refuses {s = t} {rest = after} {e = e} js bad) =
     let q = ok_pair rest after _ s t is js in
     ok_err (check x s) p e ok (ap (check x) q.0 ∙ bad)
-one_fault (goes_on {x = x} {σ = σ} {κ = κ} {p = p} {room = room} {s = s} {rest = rest} is ok takes later) (goes_on {σ = σ'} {p = p'} {s = t} {rest = after} {e = f} js ok' takes' later') =
+one_fault (continues {x = x} {σ = σ} {κ = κ} {p = p} {room = room} {s = s} {rest = rest} is ok takes later) (continues {σ = σ'} {p = p'} {s = t} {rest = after} {e = f} js ok' takes' later') =
     let q = ok_pair rest after _ s t is js in
     let same : p ≡ p' = ok_is (check x s) p p' ok (ap (check x) q.0 ∙ ok') in
     let left : σ ≡ σ' = some_is σ σ' (sym takes ∙ ap (consumed x) same ∙ takes') in
@@ -196,7 +196,7 @@ one_step (stops is) s rest p σ js ok takes = ok_err _ _ _ js is
 one_step (refuses {x = x} {s = t} {rest = after} {e = e} is bad) s rest p σ js ok takes =
     let q = ok_pair rest after _ s t js is in
     ok_err (check x s) p e ok (ap (check x) q.0 ∙ bad)
-one_step (goes_on {x = x} {σ = σ'} {κ = κ} {p = p'} {room = room} {s = t} {rest = after} {e = f} is ok' takes' later) s rest p σ js ok takes =
+one_step (continues {x = x} {σ = σ'} {κ = κ} {p = p'} {room = room} {s = t} {rest = after} {e = f} is ok' takes' later) s rest p σ js ok takes =
     let q = ok_pair rest after _ s t js is in
     let same : p ≡ p' = ok_is (check x s) p p' ok (ap (check x) q.0 ∙ ok') in
     let left : σ ≡ σ' = some_is σ σ' (sym takes ∙ ap (consumed x) same ∙ takes') in
@@ -217,7 +217,7 @@ behind (p ∷ ps) (x ∷ κ) τ room rest e at shallow fits lt f =
     let sized = string_fits s room (omega (arith, length-string s)) lt in
     let left : (room - size_of (length s)) - length (spelling ps) ≡ room - length (string s ++ spelling ps) = omega arith in
     let f2 : FaultAt (x ∷ κ) room (string s ++ (spelling ps ++ rest)) e = subst (λ (v : List ℕ). FaultAt (x ∷ κ) room v e) (append_assoc (string s) (spelling ps) rest) f in
-    let next = one_step f2 s (spelling ps ++ rest) p a.0 (string_again room s (spelling ps ++ rest) sized.0 sized.1) (check_taken x p a.0 a.1 shallow.0) a.1 in
+    let next = one_step f2 s (spelling ps ++ rest) p a.0 (string_again room s (spelling ps ++ rest) sized.0 sized.1) (check_consumed x p a.0 a.1 shallow.0) a.1 in
     subst (λ (k : ℕ). FaultAt τ k rest e) left (behind ps (a.0 ++ κ) τ (room - size_of (length s)) rest e a.2 shallow.1 (omega arith) (omega arith) next)
 
 nothing_left : {room : ℕ} {bytes : List ℕ} {e : NarError} → FaultAt [] room bytes e → bytes ≡ [] → ⊥

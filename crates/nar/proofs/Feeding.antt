@@ -11,7 +11,7 @@ use Rattle.nar.specs.String.{string, padded, size_of, length_at, string_of_lengt
 use Rattle.nar.specs.Tree.{Tree, IsBytes}
 use Rattle.nar.specs.Archive.{Part, archive, IsShallow, IsArchive, spelling, limit}
 use Rattle.nar.specs.Fault.{IsFault, Refuses}
-use Rattle.nar.specs.Steps.{Symbol, consumed, start, check, FaultAt, trails, stops, refuses, goes_on}
+use Rattle.nar.specs.Steps.{Symbol, consumed, start, check, FaultAt, trails, stops, refuses, continues}
 use Rattle.nar.specs.Reading.{ReadsString}
 use Rattle.nar.specs.Answer.{IfFault}
 use Rattle.nar.specs.Feeding.{Fed, Waits, EndsIn}
@@ -21,7 +21,7 @@ use Rattle.nar.proofs.Strings.{length-string, padded_le, string_takes}
 use Rattle.nar.proofs.Machine.{checked, next_run, whole_from_run, refused, bytes_more}
 use Rattle.nar.proofs.Faults.{found_by, fault_at, one_cause, archive_has_none, shallow_more, spelling-push, ok_is}
 use Rattle.nar.proofs.Longest.{as_fault, found}
-use Rattle.nar.proofs.Bytes.{IsBytes-append, IsBytes-rest, IsBytes-front}
+use Rattle.nar.proofs.Bytes.{IsBytes-append, IsBytes-rest, IsBytes-prefix}
 use Rattle.nar.proofs.Files.{spelling_bytes}
 
 -- nothing was fed yet
@@ -186,11 +186,11 @@ stays : {σ : List Symbol} {room : ℕ} {bytes : List ℕ} {f : NarError} → Fa
 stays (trails {bytes = bytes} some) more other = trails (some_more bytes more some)
 stays (stops {room = room} {bytes = bytes} {e = e} is) more other = stops (string_err_more room bytes more e other is)
 stays (refuses {room = room} {bytes = bytes} {s = s} {rest = rest} is bad) more other = refuses (string_ok_more room bytes more s rest is) bad
-stays (goes_on {room = room} {bytes = bytes} {s = s} {rest = rest} is ok takes later) more other = goes_on (string_ok_more room bytes more s rest is) ok takes (stays later more other)
+stays (continues {room = room} {bytes = bytes} {s = s} {rest = rest} is ok takes later) more other = continues (string_ok_more room bytes more s rest is) ok takes (stays later more other)
 
 -- what is wrong stays wrong, whatever follows
 pub fault_stays : (bytes more : List ℕ) (f : NarError) → IsBytes (bytes ++ more) → f ≢ Truncated → IsFault bytes f → IsFault (bytes ++ more) f
-fault_stays bytes more f h other g = found (bytes ++ more) f h (stays (fault_at bytes f (IsBytes-front bytes more h) g) more other)
+fault_stays bytes more f h other g = found (bytes ++ more) f h (stays (fault_at bytes f (IsBytes-prefix bytes more h) g) more other)
 
 -- ---- by `next`
 
@@ -257,10 +257,10 @@ fault_of_all all consumed rest f is h (g, other) =
 pub ends_step : {room : ℕ} {bytes rest s : List ℕ} {left : ℕ} {after : List ℕ} → EndsIn bytes rest → ReadsString room rest s left after → EndsIn bytes after
 ends_step {s = s} {after = after} e r = (e.0 ++ string s, e.1 ∙ ap (λ (v : List ℕ). e.0 ++ v) r.parts ∙ sym (append_assoc e.0 (string s) after))
 
-front_none : (front rest : List ℕ) → length (front ++ rest) ≤ length rest → front ++ rest ≡ rest
-front_none [] rest h = refl
-front_none (x ∷ front) rest h = (let len = length-append front rest in absurd (omega arith))
+prefix_none : (front rest : List ℕ) → length (front ++ rest) ≤ length rest → front ++ rest ≡ rest
+prefix_none [] rest h = refl
+prefix_none (x ∷ front) rest h = (let len = length-append front rest in absurd (omega arith))
 
 -- what ends in as much is the same
 pub ends_same : (bytes rest : List ℕ) → EndsIn bytes rest → length bytes ≤ length rest → bytes ≡ rest
-ends_same bytes rest e h = e.1 ∙ front_none e.0 rest (subst (λ (v : List ℕ). length v ≤ length rest) e.1 h)
+ends_same bytes rest e h = e.1 ∙ prefix_none e.0 rest (subst (λ (v : List ℕ). length v ≤ length rest) e.1 h)

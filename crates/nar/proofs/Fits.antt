@@ -12,7 +12,7 @@ use Rattle.nar.specs.declared.node.Entry.{Entry}
 use Rattle.nar.specs.View.{tree_of, trees_of}
 use Rattle.nar.proofs.Trees.{pair-is}
 use Rattle.nar.specs.Fitting.{are_bytes, less, file_size, may_enter, room_after, entries_room}
-use Rattle.nar.proofs.Bytes.{tested_bytes, all_append, all_front}
+use Rattle.nar.proofs.Bytes.{tested_bytes, all_append, all_prefix}
 use Rattle.nar.proofs.Strings.{length-string}
 use Rattle.nar.proofs.Grammar.{chosen, none_is_some, some_is, and_then_some}
 
@@ -207,7 +207,7 @@ mutual
       let k : List Part = bracketed (kind_parts (d + 1) t) in
       let tail : List Part = other (codes ")") ∷ entries_parts d es in
       let behind : AllShallow (k ++ tail) = h.shallow.1.1.1.1.1 in
-      let inner : AllShallow k = all_front IsShallow k tail behind in
+      let inner : AllShallow k = all_prefix IsShallow k tail behind in
       let others : AllShallow (entries_parts d es) = (all_back k tail behind).1 in
       let deep : d + 1 ≤ 256 = h.shallow.1.1.1.1.0 in
       let within : ltb d 256 ≡ true = lt-ltb d 256 (omega arith) in
@@ -217,7 +217,7 @@ mutual
       let two : ℕ = length (spelling (entries_parts d es)) + left in
       let one : ℕ = length (spelling k) + two in
       let first : less room (80 + size_of (length n)) ≡ Some one = is_less room (80 + size_of (length n)) one (omega (arith, entry_size d n t es, h.size)) in
-      let middle : room_after (d + 1) one t ≡ Some two = fitted (d + 1) one two t (record { legal = h.legal.3; shallow = all_front IsShallow (kind_parts (d + 1) t) (other (codes ")") ∷ []) inner.1.1; size = refl }) in
+      let middle : room_after (d + 1) one t ≡ Some two = fitted (d + 1) one two t (record { legal = h.legal.3; shallow = all_prefix IsShallow (kind_parts (d + 1) t) (other (codes ")") ∷ []) inner.1.1; size = refl }) in
       let last_one : entries_room d (Some n) two es ≡ Some left = all_fitted d (Some n) two left es (record { legal = h.legal.4; shallow = others; size = refl }) in
       let may : may_enter d last n ≡ true = rw (bytes, legal, above, within) refl in
       ap (λ (b : Bool). cond b (option_and_then (λ left. option_and_then (λ more. entries_room d (Some n) more es) (room_after (d + 1) left t)) (less room (80 + size_of (length n)))) None) may
@@ -230,7 +230,7 @@ room_of t w =
     let small : length (spelling (archive t)) ≤ 16777216 = w.small in
     fitted 1 16777192 (16777192 - length (spelling (bracketed (kind_parts 1 t)))) t (record {
       legal = w.legal;
-      shallow = all_front IsShallow (kind_parts 1 t) (other (codes ")") ∷ []) w.shallow.1.1.1;
+      shallow = all_prefix IsShallow (kind_parts 1 t) (other (codes ")") ∷ []) w.shallow.1.1.1;
       size = omega (arith, archive_size t);
     })
 

@@ -212,14 +212,14 @@ back (node_word d) (name s) σ κ r b e h = none_is_some σ e
 opened : (τ σ : List Symbol) → Some τ ≡ Some σ → AreOpen τ → AreOpen σ
 opened τ σ e h = subst AreOpen (some_is τ σ e) h
 
-taken_open : (x : Symbol) (p : Part) (σ : List Symbol) → IsOpen x → IsBytes (spelled p) → consumed x p ≡ Some σ → AreOpen σ
-taken_open (word w) (other s) σ h b e =
+consumed_open : (x : Symbol) (p : Part) (σ : List Symbol) → IsOpen x → IsBytes (spelled p) → consumed x p ≡ Some σ → AreOpen σ
+consumed_open (word w) (other s) σ h b e =
     elim (chosen (bytes_eq s w) (Some []) None (Some σ) e) [
       | inl c ↦ opened [] σ c.1 tt
       | inr c ↦ none_is_some σ c.1
     ]
-taken_open any (other s) σ h b e = opened [] σ e tt
-taken_open (kind d) (other s) σ h b e =
+consumed_open any (other s) σ h b e = opened [] σ e tt
+consumed_open (kind d) (other s) σ h b e =
     elim (chosen (bytes_eq s (codes "regular")) _ _ (Some σ) e) [
       | inl c ↦ opened _ σ c.1 (tt, tt)
       | inr c ↦ elim (chosen (bytes_eq s (codes "symlink")) _ _ (Some σ) c.1) [
@@ -230,7 +230,7 @@ taken_open (kind d) (other s) σ h b e =
         ]
       ]
     ]
-taken_open file (other s) σ h b e =
+consumed_open file (other s) σ h b e =
     elim (chosen (bytes_eq s (codes "executable")) _ _ (Some σ) e) [
       | inl c ↦ opened _ σ c.1 (tt, (tt, (tt, (tt, tt))))
       | inr c ↦ elim (chosen (bytes_eq s (codes "contents")) _ _ (Some σ) c.1) [
@@ -238,7 +238,7 @@ taken_open file (other s) σ h b e =
         | inr c2 ↦ none_is_some σ c2.1
       ]
     ]
-taken_open (entries d last) (other s) σ h b e =
+consumed_open (entries d last) (other s) σ h b e =
     elim (chosen (bytes_eq s (codes ")")) _ _ (Some σ) e) [
       | inl c ↦ opened [] σ c.1 tt
       | inr c ↦ elim (chosen (bytes_eq s (codes "entry")) _ _ (Some σ) c.1) [
@@ -246,17 +246,17 @@ taken_open (entries d last) (other s) σ h b e =
         | inr c2 ↦ none_is_some σ c2.1
       ]
     ]
-taken_open (entry_name d last) (name n) σ h b e =
+consumed_open (entry_name d last) (name n) σ h b e =
     elim (chosen (is_name n && rises last n) (Some (after_name d n)) None (Some σ) e) [
       | inl c ↦ let both = and_parts (is_name n) (rises last n) c.0 in opened (after_name d n) σ c.1 (tt, (tt, (tt, (tt, (tt, ((b, both.0), tt))))))
       | inr c ↦ none_is_some σ c.1
     ]
-taken_open (node_word d) (node d') σ h b e =
+consumed_open (node_word d) (node d') σ h b e =
     elim (chosen (eqb d' d) (Some []) None (Some σ) e) [
       | inl c ↦ opened [] σ c.1 tt
       | inr c ↦ none_is_some σ c.1
     ]
-taken_open _ _ σ h b e = none_is_some σ e
+consumed_open _ _ σ h b e = none_is_some σ e
 
 pub and_then_some : {A B : Type 0} (o : Option A) (f : A → Option B) (y : B) → option_and_then f o ≡ Some y → (x : A) × (o ≡ Some x) × (f x ≡ Some y)
 and_then_some None f y e = none_is_some y e
@@ -267,7 +267,7 @@ run_open [] σ τ h b e = opened σ τ e h
 run_open (p ∷ ps) [] τ h b e = none_is_some τ e
 run_open (p ∷ ps) (x ∷ κ) τ h b e =
     let a = and_then_some (consumed x p) (λ σ. run (σ ++ κ) ps) τ e in
-    run_open ps (a.0 ++ κ) τ (all_append IsOpen a.0 κ (taken_open x p a.0 h.0 b.0 a.1) h.1) b.1 a.2
+    run_open ps (a.0 ++ κ) τ (all_append IsOpen a.0 κ (consumed_open x p a.0 h.0 b.0 a.1) h.1) b.1 a.2
 
 -- the names before are legal, wherever the machine comes to
 pub open_from_run : (ps : List Part) (σ : List Symbol) → AreBytes ps → run start ps ≡ Some σ → AreOpen σ

@@ -6,7 +6,7 @@ pub mod Faults
 pub mod Feeding
 pub mod Files
 pub mod Fits
-pub mod Fronts
+pub mod Prefixes
 pub mod Grammar
 pub mod Lines
 pub mod Longest

@@ -12,8 +12,8 @@ use Rattle.nar.specs.Steps.{Symbol, consumed, run, start, check, AreBytes, Fault
 use Rattle.nar.proofs.Bytes.{IsBytes-rest}
 use Rattle.nar.proofs.Grammar.{none_is_some, some_is, and_then_some}
 use Rattle.nar.proofs.Strings.{length-string, string_takes, string_again}
-use Rattle.nar.proofs.Machine.{check_taken, fails_check, run_from_whole, run_from_begins, bytes_from_begins}
-use Rattle.nar.proofs.Faults.{string_fits, ok_pair, ok_is, Behind, found_behind}
+use Rattle.nar.proofs.Machine.{check_consumed, fails_check, run_from_whole, run_from_begins, bytes_from_begins}
+use Rattle.nar.proofs.Faults.{string_fits, ok_pair, ok_is, FaultAfter, found_after}
 
 -- no string passes here
 abbrev Stuck : List Symbol → ℕ → List ℕ → Type 0
@@ -46,7 +46,7 @@ no_longer (p ∷ ps) [] (x ∷ κ) τ υ room r q at bt hp hq fp fq lt stuck e =
     let here : Stuck (x ∷ κ) room q = subst (λ (k : ℕ). Stuck (x ∷ κ) k q) all (subst (λ (v : List Symbol). Stuck v (room - 0) q) (sym same) stuck) in
     let grouped : (string s ++ spelling ps) ++ r ≡ string s ++ (spelling ps ++ r) = append_assoc (string s) (spelling ps) r in
     let read : string_at room q ≡ Ok (s, spelling ps ++ r) = ap (string_at room) (sym e ∙ grouped) ∙ string_again room s (spelling ps ++ r) sized.0 sized.1 in
-    absurd (here s (spelling ps ++ r) p read (check_taken x p a.0 a.1 hp.0))
+    absurd (here s (spelling ps ++ r) p read (check_consumed x p a.0 a.1 hp.0))
 no_longer (p ∷ ps) (u ∷ qs) (x ∷ κ) τ υ room r q at bt hp hq fp fq lt stuck e =
     let a = and_then_some (consumed x p) (λ σ. run (σ ++ κ) ps) τ at in
     let b = and_then_some (consumed x u) (λ σ. run (σ ++ κ) qs) υ bt in
@@ -61,7 +61,7 @@ no_longer (p ∷ ps) (u ∷ qs) (x ∷ κ) τ υ room r q at bt hp hq fp fq lt s
     let is : string_at room ((string s ++ spelling ps) ++ r) ≡ Ok (s, spelling ps ++ r) = ap (string_at room) (append_assoc (string s) (spelling ps) r) ∙ string_again room s (spelling ps ++ r) fs.0 fs.1 in
     let it : string_at room ((string t ++ spelling qs) ++ q) ≡ Ok (t, spelling qs ++ q) = ap (string_at room) (append_assoc (string t) (spelling qs) q) ∙ string_again room t (spelling qs ++ q) ft.0 ft.1 in
     let pair = ok_pair (spelling ps ++ r) (spelling qs ++ q) (string_at room ((string s ++ spelling ps) ++ r)) s t is (ap (string_at room) e ∙ it) in
-    let same : p ≡ u = ok_is (check x s) p u (check_taken x p a.0 a.1 hp.0) (ap (check x) pair.0 ∙ check_taken x u b.0 b.1 hq.0) in
+    let same : p ≡ u = ok_is (check x s) p u (check_consumed x p a.0 a.1 hp.0) (ap (check x) pair.0 ∙ check_consumed x u b.0 b.1 hq.0) in
     let left : a.0 ≡ b.0 = some_is a.0 b.0 (sym a.1 ∙ ap (consumed x) same ∙ b.1) in
     let room_left : room - length (string t ++ spelling qs) ≡ (room - size_of (length s)) - length (spelling qs) = omega (arith, ap length pair.0) in
     let stuck2 = subst (λ (k : ℕ). Stuck υ k q) room_left stuck in
@@ -70,7 +70,7 @@ no_longer (p ∷ ps) (u ∷ qs) (x ∷ κ) τ υ room r q at bt hp hq fp fq lt s
     all
 
 -- a good front of an input is no longer than one behind which something fails
-longest : (input : List ℕ) (e : NarError) → IsBytes input → (f : Behind input e) (ps : List Part) (rest : List ℕ) → IsGoodPrefix input ps rest → length (spelling ps) ≤ length (spelling f.parts)
+longest : (input : List ℕ) (e : NarError) → IsBytes input → (f : FaultAfter input e) (ps : List Part) (rest : List ℕ) → IsGoodPrefix input ps rest → length (spelling ps) ≤ length (spelling f.parts)
 longest input e h f ps rest g =
     let k = f.good in
     let a = run_from_begins ps g.begins in
@@ -81,9 +81,9 @@ longest input e h f ps rest g =
     (fails_stuck f.parts b.0 (limit - length (spelling f.parts)) f.rest e (bytes_from_begins f.parts k.begins) bytes b.1 (omega arith) f.fails) (sym g.prefix ∙ k.prefix)
 
 -- what fails behind a good front is the input's fault
-pub as_fault : (input : List ℕ) (e : NarError) → IsBytes input → Behind input e → IsFault input e
+pub as_fault : (input : List ℕ) (e : NarError) → IsBytes input → FaultAfter input e → IsFault input e
 as_fault input e h f = record { parts = f.parts; rest = f.rest; good = f.good; longest = longest input e h f; fails = f.fails }
 
 -- what the machine finds in the whole input is its fault
 pub found : (input : List ℕ) (e : NarError) → IsBytes input → FaultAt start limit input e → IsFault input e
-found input e h f = as_fault input e h (found_behind input e h f)
+found input e h f = as_fault input e h (found_after input e h f)

@@ -11,7 +11,7 @@ use Rattle.nar.specs.Archive.{Part, name, node, other, spelled, IsShallow}
 use Rattle.nar.specs.Fault.{IsWhole, Begins, NameMayFollow, Refuses}
 use Rattle.nar.specs.Steps.{Symbol, word, any, kind, file, entries, entry_name, node_word, consumed, run, start, check, after_name, AreBytes}
 use Rattle.nar.proofs.Grammar.{walk, run-append, Rest, completed, back, chosen, same_bytes, none_is_some, some_is, eqb-same, and_then_some, open_from_run}
-use Rattle.nar.proofs.Bytes.{all_append, all_front, archive_bytes, node_bytes, IsLast, a_name_above}
+use Rattle.nar.proofs.Bytes.{all_append, all_prefix, archive_bytes, node_bytes, IsLast, a_name_above}
 
 -- ---- what the machine takes begins an archive, and the other way round
 
@@ -44,7 +44,7 @@ run_from_begins ps (t, rest, named, e) =
     (a.0, a.1)
 
 pub bytes_from_begins : (ps : List Part) → Begins ps → AreBytes ps
-bytes_from_begins ps (t, rest, named, e) = all_front (λ p. IsBytes (spelled p)) ps rest (subst AreBytes e (archive_bytes t named))
+bytes_from_begins ps (t, rest, named, e) = all_prefix (λ p. IsBytes (spelled p)) ps rest (subst AreBytes e (archive_bytes t named))
 
 pub bytes_from_whole : (ps : List Part) → IsWhole ps → AreBytes ps
 bytes_from_whole ps (t, named, e) = subst AreBytes e (archive_bytes t named)
@@ -125,18 +125,18 @@ checked (node_word d) s p e = checked_node d s p e
 plain_takes : (o : Option (List Symbol)) (p : Part) (σ : List Symbol) → o ≡ Some σ → cond (is_some o) (Ok p) (Err BadTag) ≡ Ok p
 plain_takes o p σ e = rw e refl
 
-pub check_taken : (x : Symbol) (p : Part) (σ : List Symbol) → consumed x p ≡ Some σ → IsShallow p → check x (spelled p) ≡ Ok p
-check_taken (word w) (other s) σ e h = plain_takes _ (other s) σ e
-check_taken any (other s) σ e h = refl
-check_taken (kind d) (other s) σ e h = plain_takes _ (other s) σ e
-check_taken file (other s) σ e h = plain_takes _ (other s) σ e
-check_taken (entries d last) (other s) σ e h = plain_takes _ (other s) σ e
-check_taken (entry_name d last) (name n) σ e h =
+pub check_consumed : (x : Symbol) (p : Part) (σ : List Symbol) → consumed x p ≡ Some σ → IsShallow p → check x (spelled p) ≡ Ok p
+check_consumed (word w) (other s) σ e h = plain_takes _ (other s) σ e
+check_consumed any (other s) σ e h = refl
+check_consumed (kind d) (other s) σ e h = plain_takes _ (other s) σ e
+check_consumed file (other s) σ e h = plain_takes _ (other s) σ e
+check_consumed (entries d last) (other s) σ e h = plain_takes _ (other s) σ e
+check_consumed (entry_name d last) (name n) σ e h =
     elim (chosen (is_name n && rises last n) (Some (after_name d n)) None (Some σ) e) [
       | inl c ↦ let both = and_parts (is_name n) (rises last n) c.0 in rw (both.0, both.1) refl
       | inr c ↦ none_is_some σ c.1
     ]
-check_taken (node_word d) (node d') σ e h =
+check_consumed (node_word d) (node d') σ e h =
     elim (chosen (eqb d' d) (Some []) None (Some σ) e) [
       | inl c ↦
           let same = eqb-true d' d c.0 in
@@ -144,7 +144,7 @@ check_taken (node_word d) (node d') σ e h =
           rw (in_range, same) refl
       | inr c ↦ none_is_some σ c.1
     ]
-check_taken _ _ σ e h = none_is_some σ e
+check_consumed _ _ σ e h = none_is_some σ e
 
 -- ---- why a string is refused
 

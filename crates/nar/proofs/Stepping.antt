@@ -11,8 +11,8 @@ cut all consumed piece front rest n is a b =
     let both : front ++ rest ≡ piece = ap₂ (λ (x y : List ℕ). x ++ y) a b ∙ take-append-drop n piece in
     is ∙ ap (λ (v : List ℕ). consumed ++ v) (sym both) ∙ sym (append_assoc consumed front rest)
 
-pub stands_all : (p : Progress) (all : List ℕ) → HasReadBefore p [] all → HasRead p all
-stands_all p all h = subst (HasRead p) (sym (h.is ∙ append-nil h.consumed)) h.has_read
+pub has_read_all : (p : Progress) (all : List ℕ) → HasReadBefore p [] all → HasRead p all
+has_read_all p all h = subst (HasRead p) (sym (h.is ∙ append-nil h.consumed)) h.has_read
 
 pub turns_few : (o : Option Count) → turns_by o ≤ 1
 turns_few None = omega arith

@@ -55,9 +55,9 @@ pub record Takes (room : ℕ) (bytes s rest : List ℕ) : Type 0 where
   pub text_bytes : IsBytes s
   pub rest_bytes : IsBytes rest
 
-taken_of : (n room : ℕ) (bytes s rest : List ℕ) → IsBytes bytes → n ≡ length_at bytes → string_of_length n room bytes ≡ Ok (s, rest) → Takes room bytes s rest
+takes_of : (n room : ℕ) (bytes s rest : List ℕ) → IsBytes bytes → n ≡ length_at bytes → string_of_length n room bytes ≡ Ok (s, rest) → Takes room bytes s rest
 unfolding string_of_length string
-taken_of n room bytes s rest h is e =
+takes_of n room bytes s rest h is e =
     let body : List ℕ = drop 8 bytes in
     let g0 = guard_ok (ltb (length bytes) 8) Truncated _ (s, rest) e in
     let g1 = guard_ok (ltb room (size_of n)) TooLarge _ (s, rest) g0.1 in
@@ -83,7 +83,7 @@ taken_of n room bytes s rest h is e =
     subst (λ (p : List ℕ × List ℕ). Takes room bytes p.0 p.1) g3.1 made
 
 pub string_takes : (room : ℕ) (bytes s rest : List ℕ) → IsBytes bytes → string_at room bytes ≡ Ok (s, rest) → Takes room bytes s rest
-string_takes room bytes s rest h e = taken_of (length_at bytes) room bytes s rest h refl e
+string_takes room bytes s rest h e = takes_of (length_at bytes) room bytes s rest h refl e
 
 again : (room : ℕ) (head s rest : List ℕ) → length head ≡ 8 → size_of (length s) ≤ room → string_of_length (length s) room (head ++ (s ++ (replicate (padded (length s) - length s) 0 ++ rest))) ≡ Ok (s, rest)
 unfolding string_of_length

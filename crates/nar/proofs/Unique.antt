@@ -7,7 +7,7 @@ use Rattle.nar.specs.String.{string, size_of, string_at}
 use Rattle.nar.specs.Steps.{Symbol, consumed, run, start, check}
 use Rattle.nar.proofs.Grammar.{none_is_some, some_is, and_then_some, walk}
 use Rattle.nar.proofs.Strings.{length-string, string_again}
-use Rattle.nar.proofs.Machine.{check_taken}
+use Rattle.nar.proofs.Machine.{check_consumed}
 use Rattle.nar.proofs.Faults.{string_fits, ok_pair, ok_is}
 use Rattle.nar.specs.Tree.{Tree, regular, symlink, directory, Entries, no_entries, entry}
 use Rattle.nar.specs.Archive.{Part, other, spelled, bracketed, kind_parts, entries_parts, archive, IsShallow, IsArchive, spelling, limit}
@@ -30,8 +30,8 @@ abbrev rest_of : List Part → List Part
 rest_of [] = []
 rest_of (p ∷ ps) = ps
 
-apart : {A : Type 0} (m n : ℕ) → m ≡ n → (m ≡ n → ⊥) → A
-apart m n e f = absurd (f e)
+ends_in_no_dot : {A : Type 0} (m n : ℕ) → m ≡ n → (m ≡ n → ⊥) → A
+ends_in_no_dot m n e f = absurd (f e)
 
 abbrev name_in : List Part → List ℕ
 name_in [] = []
@@ -50,24 +50,24 @@ entries_same n n' t t' es fs a b c = cc
 mutual
   one_tree : (d : ℕ) (t u : Tree) (r q : List Part) → kind_parts d t ++ Close r ≡ kind_parts d u ++ Close q → (t ≡ u) × (r ≡ q)
   one_tree d (regular true c) (regular true c') r q e = (cc, cc)
-  one_tree d (regular true c) (regular false c') r q e = apart 101 99 (ap (λ l. first (rest_of l)) e) (λ h. omega arith)
-  one_tree d (regular false c) (regular true c') r q e = apart 99 101 (ap (λ l. first (rest_of l)) e) (λ h. omega arith)
+  one_tree d (regular true c) (regular false c') r q e = ends_in_no_dot 101 99 (ap (λ l. first (rest_of l)) e) (λ h. omega arith)
+  one_tree d (regular false c) (regular true c') r q e = ends_in_no_dot 99 101 (ap (λ l. first (rest_of l)) e) (λ h. omega arith)
   one_tree d (regular false c) (regular false c') r q e = (cc, cc)
-  one_tree d (regular x c) (symlink t) r q e = apart 114 115 (ap first e) (λ h. omega arith)
-  one_tree d (regular x c) (directory es) r q e = apart 114 100 (ap first e) (λ h. omega arith)
-  one_tree d (symlink t) (regular x c) r q e = apart 115 114 (ap first e) (λ h. omega arith)
+  one_tree d (regular x c) (symlink t) r q e = ends_in_no_dot 114 115 (ap first e) (λ h. omega arith)
+  one_tree d (regular x c) (directory es) r q e = ends_in_no_dot 114 100 (ap first e) (λ h. omega arith)
+  one_tree d (symlink t) (regular x c) r q e = ends_in_no_dot 115 114 (ap first e) (λ h. omega arith)
   one_tree d (symlink t) (symlink t') r q e = (cc, cc)
-  one_tree d (symlink t) (directory es) r q e = apart 115 100 (ap first e) (λ h. omega arith)
-  one_tree d (directory es) (regular x c) r q e = apart 100 114 (ap first e) (λ h. omega arith)
-  one_tree d (directory es) (symlink t) r q e = apart 100 115 (ap first e) (λ h. omega arith)
+  one_tree d (symlink t) (directory es) r q e = ends_in_no_dot 115 100 (ap first e) (λ h. omega arith)
+  one_tree d (directory es) (regular x c) r q e = ends_in_no_dot 100 114 (ap first e) (λ h. omega arith)
+  one_tree d (directory es) (symlink t) r q e = ends_in_no_dot 100 115 (ap first e) (λ h. omega arith)
   one_tree d (directory es) (directory fs) r q e =
       let h = one_list d es fs r q (ap rest_of e) in
       (ap directory h.0, h.1)
 
   one_list : (d : ℕ) (es fs : Entries) (r q : List Part) → entries_parts d es ++ Close r ≡ entries_parts d fs ++ Close q → (es ≡ fs) × (r ≡ q)
   one_list d no_entries no_entries r q e = (refl, ap rest_of e)
-  one_list d no_entries (entry n t fs) r q e = apart 41 101 (ap first e) (λ h. omega arith)
-  one_list d (entry n t es) no_entries r q e = apart 101 41 (ap first e) (λ h. omega arith)
+  one_list d no_entries (entry n t fs) r q e = ends_in_no_dot 41 101 (ap first e) (λ h. omega arith)
+  one_list d (entry n t es) no_entries r q e = ends_in_no_dot 101 41 (ap first e) (λ h. omega arith)
   one_list d (entry n t es) (entry n' t' fs) r q e =
       let names : n ≡ n' = ap (λ l. name_in (rest_of (rest_of (rest_of l)))) e in
       let kinds : kind_parts (d + 1) t ++ Close (Close (entries_parts d es ++ Close r)) ≡ kind_parts (d + 1) t' ++ Close (Close (entries_parts d fs ++ Close q)) =
@@ -105,7 +105,7 @@ same_parts (p ∷ ps) (q ∷ qs) (x ∷ κ) room at bt hp hq fits lt e =
     let ip : string_at room (string s ++ spelling ps) ≡ Ok (s, spelling ps) = string_again room s (spelling ps) fs.0 fs.1 in
     let iq : string_at room (string t ++ spelling qs) ≡ Ok (t, spelling qs) = string_again room t (spelling qs) ft.0 ft.1 in
     let pair = ok_pair (spelling ps) (spelling qs) (string_at room (string s ++ spelling ps)) s t ip (ap (string_at room) e ∙ iq) in
-    let same : p ≡ q = ok_is (check x s) p q (check_taken x p a.0 a.1 hp.0) (ap (check x) pair.0 ∙ check_taken x q b.0 b.1 hq.0) in
+    let same : p ≡ q = ok_is (check x s) p q (check_consumed x p a.0 a.1 hp.0) (ap (check x) pair.0 ∙ check_consumed x q b.0 b.1 hq.0) in
     let left : a.0 ≡ b.0 = some_is a.0 b.0 (sym a.1 ∙ ap (consumed x) same ∙ b.1) in
     let later = same_parts ps qs (a.0 ++ κ) room a.2 (subst (λ (v : List Symbol). run (v ++ κ) qs ≡ Some []) (sym left) b.2) hp.1 hq.1 (omega arith) lt pair.1 in
     ap₂ (λ (v : Part) (w : List Part). v ∷ w) same later

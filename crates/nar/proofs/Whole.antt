@@ -28,8 +28,8 @@ is_archive {input = input} {t = t} n r none =
     let whole : input ≡ spelling (archive t) = r.spells ∙ ap (λ (v : List ℕ). spelling (archive t) ++ v) none ∙ append-nil (spelling (archive t)) in
     record { legal = n.named; shallow = r.shallow; spells = whole; fits = omega (arith, ap length whole) }
 
-pub trails_behind : {input : List ℕ} {t : Tree} {more : ℕ} {end : List ℕ} {left : ℕ} {rest : List ℕ} → IsBytes input → ReadsNode 1 left rest t more end → Reads limit input (archive t) more end → end ≢ [] → IsFault input Trailing
-trails_behind {input = input} {t = t} {more = more} {end = end} h n r some =
+pub trails_after : {input : List ℕ} {t : Tree} {more : ℕ} {end : List ℕ} {left : ℕ} {rest : List ℕ} → IsBytes input → ReadsNode 1 left rest t more end → Reads limit input (archive t) more end → end ≢ [] → IsFault input Trailing
+trails_after {input = input} {t = t} {more = more} {end = end} h n r some =
     let size : length (spelling (archive t)) + more ≡ limit = r.size in
     let present = before (archive t) start [] limit end Trailing (walk t n.named) r.shallow (omega arith) (omega arith) (trails some) in
     found input Trailing h (subst (λ (v : List ℕ). FaultAt start limit v Trailing) (sym r.spells) present)

@@ -93,7 +93,7 @@ pub data FaultAt : List Symbol → ℕ → List ℕ → NarError → Type 0 wher
       → FaultAt (x ∷ κ) room bytes e
   refuses : {x : Symbol} {κ : List Symbol} {room : ℕ} {bytes s rest : List ℕ} {e : NarError}
       → string_at room bytes ≡ Ok (s, rest) → check x s ≡ Err e → FaultAt (x ∷ κ) room bytes e
-  goes_on : {x : Symbol} {σ κ : List Symbol} {p : Part} {room : ℕ} {bytes s rest : List ℕ} {e : NarError}
+  continues : {x : Symbol} {σ κ : List Symbol} {p : Part} {room : ℕ} {bytes s rest : List ℕ} {e : NarError}
       → string_at room bytes ≡ Ok (s, rest) → check x s ≡ Ok p → consumed x p ≡ Some σ
       → FaultAt (σ ++ κ) (room - size_of (length s)) rest e
       → FaultAt (x ∷ κ) room bytes e

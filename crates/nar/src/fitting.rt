@@ -10,7 +10,7 @@ ghost use Rattle.nar.specs.View.{tree_of, trees_of};
 
 use crate::name::{is_above, is_name};
 use crate::node::{Entry, Node};
-use crate::words::LIMIT;
+use streams::MAX_ARCHIVE;
 
 /// The bytes of an archive's first string.
 const FIRST: usize = 24;
@@ -92,7 +92,7 @@ fn room_after_node(node: &Node<'_>, depth: usize, room: usize) -> Option<usize>
 pub fn is_writable(node: &Node<'_>) -> bool
     ensures { IsTrue result ↔ IsWritable (tree_of node.now) }
 {
-    room_after_node(node, 1, LIMIT - FIRST).is_some()
+    room_after_node(node, 1, MAX_ARCHIVE - FIRST).is_some()
 }
 
 /// How many bytes the archive of the tree has, where it has one.
@@ -100,6 +100,6 @@ pub fn archive_size(node: &Node<'_>) -> usize
     requires { IsWritable (tree_of node.now) }
     ensures { result ≡ length (spelling (archive (tree_of node.now))) }
 {
-    let left = room_after_node(node, 1, LIMIT - FIRST).unwrap_or(0);
-    LIMIT.saturating_sub(left)
+    let left = room_after_node(node, 1, MAX_ARCHIVE - FIRST).unwrap_or(0);
+    MAX_ARCHIVE.saturating_sub(left)
 }

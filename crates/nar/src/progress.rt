@@ -12,9 +12,9 @@ use crate::count::Count;
 use crate::error::NarError;
 use crate::nest::Nest;
 use crate::string::{Place, are_zeros, length_at, string_of};
-use crate::words::LIMIT;
 use std::alloc::Global;
 use std::mem;
+use streams::MAX_ARCHIVE;
 
 /// Lets `Truncated` pass, since more bytes may come, and no other fault.
 fn needs_more(e: NarError) -> Result<(), NarError>
@@ -104,7 +104,7 @@ fn wanted(held: &[u8]) -> usize
     }
     let size = 8 + 8 * ((u128::from(length_at(held)) + 7) / 8);
     size.saturating_sub(held.len() as u128)
-        .clamp(1, LIMIT as u128) as usize
+        .clamp(1, MAX_ARCHIVE as u128) as usize
 }
 
 /// The open nodes, how many bytes the archive may still take, and the string that has begun: its bytes, or
@@ -127,7 +127,7 @@ impl Progress {
         Progress {
             alloc,
             nest: Nest::new(alloc),
-            room: LIMIT,
+            room: MAX_ARCHIVE,
             held: Vec::new(alloc),
             count: None,
         }

@@ -19,10 +19,11 @@ use crate::name::{is_above, is_name};
 use crate::node::{Entry, Node};
 use crate::string::{Place, string_of, word_of};
 use crate::words::{
-    CLOSE, CONTENTS, DIRECTORY, ENTRY, EXECUTABLE, LIMIT, MAGIC, NAME, NODE, NOTHING, OPEN,
-    REGULAR, SYMLINK, TARGET, TYPE,
+    CLOSE, CONTENTS, DIRECTORY, ENTRY, EXECUTABLE, MAGIC, NAME, NODE, NOTHING, OPEN, REGULAR,
+    SYMLINK, TARGET, TYPE,
 };
 use std::alloc::Global;
+use streams::MAX_ARCHIVE;
 
 /// A string, and the bracket that closes its node.
 fn text_of(at: Place<'_>) -> Result<(&[u8], Place<'_>), NarError>
@@ -228,7 +229,7 @@ fn read_whole(alloc: Global, input: &[u8]) -> Result<Node<'_>, NarError>
 {
     let at = Place {
         rest: input,
-        room: LIMIT,
+        room: MAX_ARCHIVE,
     };
     let after = word_of(at, MAGIC)?;
     let (node, end) = node_of(alloc, after, 1)?;

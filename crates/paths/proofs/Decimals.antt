@@ -78,10 +78,10 @@ leading_zero : (t : List ℕ) → has_no_leading_zero t ≡ false → passes t �
 leading_zero t e = ap (λ b. is_digits t && (b && nat_lt (digits_value 10 t) (2 ^ 64))) e ∙ and-false (is_digits t)
 
 -- the two tests of what stands in front
-pub in_front : (a z : Bool) → (a || not z) ≡ false → (a ≡ false) × (z ≡ true)
-in_front true z e = cc
-in_front false true e = (refl, refl)
-in_front false false e = cc
+pub by_parts : (a z : Bool) → (a || not z) ≡ false → (a ≡ false) × (z ≡ true)
+by_parts true z e = cc
+by_parts false true e = (refl, refl)
+by_parts false false e = cc
 
 pub refused : (t : List ℕ) → (slice_index t 0 == 43 || not (has_no_leading_zero t)) ≡ true → None ≡ decimal_of t
 refused t e = by_first (slice_index t 0 == 43) refl

@@ -16,10 +16,10 @@ unfolding value_of
 digit-value c small = (Decides-eqb _ _).0 (passes_at_first (λ d. d == c) digits 0 small)
 
 -- the digits read so far are the last digits of the number read so far
-front-digits : (text : List ℕ) (i : ℕ) → all_digits text ≡ true → i ≤ length text → take i text ≡ digits_of i (read_after 0 (take i text))
+prefix-digits : (text : List ℕ) (i : ℕ) → all_digits text ≡ true → i ≤ length text → take i text ≡ digits_of i (read_after 0 (take i text))
 unfolding digits_of
-front-digits text zero all h = refl
-front-digits text (suc i) all h =
+prefix-digits text zero all h = refl
+prefix-digits text (suc i) all h =
     let c = get_or text i 0 in
     let m = read_after 0 (take i text) in
     let n = read_after 0 (take (suc i) text) in
@@ -29,7 +29,7 @@ front-digits text (suc i) all h =
     let front : n / 32 ≡ m = omega (arith, read) in
     let last : n % 32 ≡ value_of c = omega (arith, read) in
     ap (λ k. take k text) (sym one) ∙ take_more text i 0 (omega arith)
-    ∙ ap (λ t. t ++ c ∷ []) (front-digits text i all (omega arith))
+    ∙ ap (λ t. t ++ c ∷ []) (prefix-digits text i all (omega arith))
     ∙ ap (λ d. digits_of i m ++ d ∷ []) (sym (digit-value c small))
     ∙ ap₂ (λ q r. digits_of i q ++ get_or digits r 0 ∷ []) (sym front) (sym last)
 
@@ -37,7 +37,7 @@ front-digits text (suc i) all h =
 text-digits : (text : List ℕ) → all_digits text ≡ true → text ≡ digits_of (length text) (read_after 0 text)
 text-digits text all =
     let whole : take (length text) text ≡ text = take_all (length text) text (omega arith) in
-    sym whole ∙ front-digits text (length text) all (omega arith) ∙ ap (λ t. digits_of (length text) (read_after 0 t)) whole
+    sym whole ∙ prefix-digits text (length text) all (omega arith) ∙ ap (λ t. digits_of (length text) (read_after 0 t)) whole
 
 -- bytes are the bytes of their number
 pub bytes-number : (bs : List ℕ) → AreBytes bs → bytes_of (length bs) (number_of bs) ≡ bs

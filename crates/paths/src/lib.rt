@@ -6,6 +6,7 @@ mod content_address;
 mod digits;
 mod facts;
 mod fold;
+pub mod labels;
 pub mod laws;
 pub mod numbers;
 mod plain_name;

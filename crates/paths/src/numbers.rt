@@ -3,12 +3,13 @@
 
 ghost use Rattle.std.specs.Prelude.{◌≡◌, ◌==◌, ◌||◌, not, slice_index};
 ghost use Rattle.paths.specs.Decimal.{has_no_leading_zero, decimal_of, number_up_to};
+ghost use Rattle.paths.specs.Root.{is_session};
 
 /// The greatest number of a generation.
-const MAX_GENERATION: u64 = 9_999;
+pub const MAX_GENERATION: u32 = 9_999;
 
 /// The greatest number of a session.
-const MAX_SESSION: u64 = 4_194_304;
+pub const MAX_SESSION: u32 = 4_194_304;
 
 /// Whether a text begins with a sign that std would read, or with a 0 before other bytes.
 fn has_more_before(text: &str) -> bool
@@ -61,7 +62,7 @@ fn up_to(most: u64, text: &str) -> u64
 pub fn generation(text: &str) -> u64
     ensures { result ≡ number_up_to 9999 text.now }
 {
-    up_to(MAX_GENERATION, text)
+    up_to(MAX_GENERATION as u64, text)
 }
 
 /// The number of a session, 1 to 4,194,304. Any other text gives 0, which is no session's.
@@ -73,5 +74,17 @@ pub fn generation(text: &str) -> u64
 pub fn session(text: &str) -> u64
     ensures { result ≡ number_up_to 4194304 text.now }
 {
-    up_to(MAX_SESSION, text)
+    up_to(MAX_SESSION as u64, text)
+}
+
+/// Whether a session may have this number: 1 to 4,194,304.
+///
+/// ```rust
+/// assert!(rt; paths::numbers::is_session(1));
+/// assert!(rt; !paths::numbers::is_session(4_194_305));
+/// ```
+pub fn is_session(number: u64) -> bool
+    ensures { result ≡ is_session number }
+{
+    1 <= number && number <= MAX_SESSION as u64
 }

@@ -32,8 +32,8 @@ abbrev pub bob : List ℕ
 bob = codes "bob"
 
 -- what is kept for trusted callers: imports without a content address, permanent and runtime roots
-abbrev pub KeptForTheTrusted : Type 0
-KeptForTheTrusted =
+abbrev pub ReservedForTrusted : Type 0
+ReservedForTrusted =
     (first_broken Allowed ann (import_object false) ≡ Some TrustedImport)
     × (first_broken Allowed ann (import_object true) ≡ None)
     × (first_broken Trusted ann (import_object false) ≡ None)
@@ -45,8 +45,8 @@ KeptForTheTrusted =
     × (first_broken Trusted ann replace_runtime ≡ None)
 
 -- what is the owner's: all but that a trusted caller may drop
-abbrev pub KeptForTheOwner : Type 0
-KeptForTheOwner =
+abbrev pub ReservedForOwner : Type 0
+ReservedForOwner =
     (first_broken Allowed ann (set_user_root (codes "ann")) ≡ None)
     × (first_broken Trusted ann (set_user_root bob) ≡ Some OwnRoot)
     × (first_broken Trusted ann (set_profile bob) ≡ Some OwnRoot)
@@ -65,8 +65,8 @@ KeptForTheOwner =
     × (first_broken Trusted ann (end_session bob) ≡ None)
 
 -- what nobody may: ignore liveness, or delete what is live
-abbrev pub KeptFromAll : Type 0
-KeptFromAll =
+abbrev pub ForbiddenToAll : Type 0
+ForbiddenToAll =
     (first_broken Allowed ann (collect true) ≡ Some NoIgnoreLiveness)
     × (first_broken Trusted ann (collect true) ≡ Some NoIgnoreLiveness)
     × (first_broken Trusted ann (collect false) ≡ None)

@@ -1,7 +1,7 @@
 -- What the rules ask of a request: its kind, and with some kinds an owner or a flag.
 use Rattle.std.specs.Prelude.{ℕ, Bool, true, false, not, List, Option, Some, None}
 use Rattle.policy.specs.declared.kinds.Op.{Op}
-use Rattle.policy.specs.declared.kinds.Op.TheVariants.{Plain, Import, SetPermanent, DropPermanent, ReplaceRuntime, SetUserRoot, DropUserRoot, SetProfile, Rollback, Switch, DeleteGeneration, AddTemporary, EndSession, Collect, Delete}
+use Rattle.policy.specs.declared.kinds.Op.TheVariants.{Plain, Import, SetPermanent, DropPermanent, ReplaceRuntime, SetUserRoot, DropUserRoot, SetProfile, Rollback, Switch, DeleteGeneration, AddTemp, EndSession, Collect, Delete}
 
 pub data Operation : Type 0 where
   -- what every caller who may connect may ask
@@ -62,10 +62,10 @@ replaces_runtime replace_runtime = true
 replaces_runtime _ = false
 
 -- whether it carries the flag to ignore liveness, and the flag is set
-abbrev pub ignores_liveness : Operation → Bool
-ignores_liveness (collect flag) = flag
-ignores_liveness (delete flag) = flag
-ignores_liveness _ = false
+abbrev pub ignore_liveness : Operation → Bool
+ignore_liveness (collect flag) = flag
+ignore_liveness (delete flag) = flag
+ignore_liveness _ = false
 
 -- whether it deletes paths by name
 abbrev pub deletes : Operation → Bool
@@ -85,7 +85,7 @@ operation_of (SetProfile owner) = set_profile owner.now
 operation_of (Rollback owner) = rollback owner.now
 operation_of (Switch owner) = switch owner.now
 operation_of (DeleteGeneration owner) = delete_generation owner.now
-operation_of (AddTemporary owner) = add_temp owner.now
+operation_of (AddTemp owner) = add_temp owner.now
 operation_of (EndSession owner) = end_session owner.now
 operation_of (Collect flag) = collect flag
 operation_of (Delete flag) = delete flag

@@ -3,7 +3,7 @@ use Rattle.std.specs.Prelude.{ℕ, Bool, true, false, not, ◌&&◌, ◌||◌, L
 use Rattle.std.specs.List.{find}
 use Rattle.std.specs.Str.{bytes_eq}
 use Rattle.policy.specs.Caller.{Caller}
-use Rattle.policy.specs.Operation.{Operation, owner_of, drops_owned, imports_without_address, changes_permanent, replaces_runtime, ignores_liveness, deletes}
+use Rattle.policy.specs.Operation.{Operation, owner_of, drops_owned, imports_without_address, changes_permanent, replaces_runtime, ignore_liveness, deletes}
 use Rattle.policy.specs.declared.kinds.Class.{Class}
 use Rattle.policy.specs.declared.kinds.Class.TheVariants.{Stranger, Trusted}
 use Rattle.policy.specs.declared.kinds.Rule.{Rule}
@@ -31,7 +31,7 @@ allows class c op names_live TrustedImport = not (imports_without_address op) ||
 allows class c op names_live TrustedPermanentRoot = not (changes_permanent op) || is_trusted class
 allows class c op names_live TrustedRuntimeRoots = not (replaces_runtime op) || is_trusted class
 allows class c op names_live OwnRoot = is_own c (owner_of op) || (drops_owned op && is_trusted class)
-allows class c op names_live NoIgnoreLiveness = not (ignores_liveness op)
+allows class c op names_live NoIgnoreLiveness = not (ignore_liveness op)
 allows class c op names_live Live = not (names_live && deletes op)
 
 -- the rules in their order

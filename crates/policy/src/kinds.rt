@@ -101,11 +101,11 @@ pub enum Op<'a> {
     /// A generation of a profile of this owner is deleted.
     DeleteGeneration(&'a str),
     /// A session of this owner gets a temporary root.
-    AddTemporary(&'a str),
+    AddTemp(&'a str),
     /// A session of this owner ends.
     EndSession(&'a str),
     /// Dead paths are collected; whether liveness is to be ignored.
-    Collect { ignores_liveness: bool },
+    Collect { ignore_liveness: bool },
     /// Paths are deleted by name; whether liveness is to be ignored.
-    Delete { ignores_liveness: bool },
+    Delete { ignore_liveness: bool },
 }

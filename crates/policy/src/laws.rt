@@ -1,6 +1,6 @@
 //! Laws of the definitions. The functions do nothing: what counts is that their contracts are proved.
 ghost use Rattle.policy.specs.Faults.{FirstThatApplies};
-ghost use Rattle.policy.specs.Laws.{LiveIsAskedLast, StrangersMayNotConnect, PlainIsForAllOthers, KeptForTheTrusted, KeptForTheOwner, KeptFromAll};
+ghost use Rattle.policy.specs.Laws.{LiveIsAskedLast, StrangersMayNotConnect, PlainIsForAllOthers, ReservedForTrusted, ReservedForOwner, ForbiddenToAll};
 
 /// A text has settings where no key word applies to it, and is refused with the first that does, in
 /// the order of `KeyWord`.
@@ -26,7 +26,7 @@ pub fn plain_is_for_all_others()
 
 /// Verdicts worked by hand, one for each side of each rule.
 pub fn worked_verdicts()
-    ensures trusted { KeptForTheTrusted }
-    ensures owner { KeptForTheOwner }
-    ensures all { KeptFromAll }
+    ensures trusted { ReservedForTrusted }
+    ensures owner { ReservedForOwner }
+    ensures all { ForbiddenToAll }
 {}

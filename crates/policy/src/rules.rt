@@ -20,10 +20,10 @@ fn own(caller: &Caller, owner: &str) -> Option<Rule>
 }
 
 /// The flag to ignore liveness is for nobody.
-fn heeding(ignores_liveness: bool) -> Option<Rule>
-    ensures { result ≡ (if ignores_liveness then Some Rule.NoIgnoreLiveness else None) }
+fn heeding(ignore_liveness: bool) -> Option<Rule>
+    ensures { result ≡ (if ignore_liveness then Some Rule.NoIgnoreLiveness else None) }
 {
-    if ignores_liveness {
+    if ignore_liveness {
         Some(Rule::NoIgnoreLiveness)
     } else {
         None
@@ -46,9 +46,9 @@ fn forbidden_to_allowed(caller: &Caller, op: &Op<'_>) -> Option<Rule>
         Op::SetUserRoot(owner) | Op::DropUserRoot(owner) => own(caller, owner),
         Op::SetProfile(owner) | Op::Rollback(owner) => own(caller, owner),
         Op::Switch(owner) | Op::DeleteGeneration(owner) => own(caller, owner),
-        Op::AddTemporary(owner) | Op::EndSession(owner) => own(caller, owner),
-        Op::Collect { ignores_liveness } | Op::Delete { ignores_liveness } => {
-            heeding(ignores_liveness)
+        Op::AddTemp(owner) | Op::EndSession(owner) => own(caller, owner),
+        Op::Collect { ignore_liveness } | Op::Delete { ignore_liveness } => {
+            heeding(ignore_liveness)
         }
     }
 }
@@ -59,9 +59,9 @@ fn forbidden_to_trusted(caller: &Caller, op: &Op<'_>) -> Option<Rule>
 {
     match *op {
         Op::SetUserRoot(owner) | Op::SetProfile(owner) => own(caller, owner),
-        Op::Rollback(owner) | Op::Switch(owner) | Op::AddTemporary(owner) => own(caller, owner),
-        Op::Collect { ignores_liveness } | Op::Delete { ignores_liveness } => {
-            heeding(ignores_liveness)
+        Op::Rollback(owner) | Op::Switch(owner) | Op::AddTemp(owner) => own(caller, owner),
+        Op::Collect { ignore_liveness } | Op::Delete { ignore_liveness } => {
+            heeding(ignore_liveness)
         }
         _ => None,
     }

@@ -16,65 +16,65 @@ use Rattle.model.specs.World.{Path, Object, World, has, permanent_root, user_roo
 use Rattle.model.specs.Sound.{IsSound}
 use Rattle.model.proofs.MapMembers.{pair_total, temporary_total, listed_key, listed_entry}
 use Rattle.model.proofs.Filtered.{from_mapped, from_joined}
-use Rattle.report.specs.Laws.{lacks}
-use Rattle.report.proofs.Lacking.{lacks_failing, lacks_both, lacks-decimal, lacks_pieces}
+use Rattle.report.specs.Laws.{omits}
+use Rattle.report.proofs.Lacking.{omits_failing, omits_both, omits-decimal, omits_pieces}
 
 -- ---- names
 
-pub plain_lacks : (name : List ℕ) → IsTrue (is_plain_name name) → IsTrue (lacks 10 name)
-plain_lacks name h = lacks_failing is_plain_byte 10 refl name (and_parts (nat_le 1 (length name) && nat_le (length name) 64 && not (slice_index name 0 == 45)) (list_all is_plain_byte name) h).1
+pub plain_omits : (name : List ℕ) → IsTrue (is_plain_name name) → IsTrue (omits 10 name)
+plain_omits name h = omits_failing is_plain_byte 10 refl name (and_parts (nat_le 1 (length name) && nat_le (length name) 64 && not (slice_index name 0 == 45)) (list_all is_plain_byte name) h).1
 
-label_lacks : (label : List ℕ) → IsTrue (is_runtime_label label) → IsTrue (lacks 10 label)
-label_lacks label h = lacks_failing is_label_byte 10 refl label (and_parts (nat_le 1 (length label) && nat_le (length label) 256) (list_all is_label_byte label) h).1
+label_omits : (label : List ℕ) → IsTrue (is_runtime_label label) → IsTrue (omits 10 label)
+label_omits label h = omits_failing is_label_byte 10 refl label (and_parts (nat_le 1 (length label) && nat_le (length label) 256) (list_all is_label_byte label) h).1
 
-store_name_lacks : (name : List ℕ) → IsTrue (is_store_name name) → IsTrue (lacks 10 name)
-store_name_lacks name h =
+store_name_omits : (name : List ℕ) → IsTrue (is_store_name name) → IsTrue (omits 10 name)
+store_name_omits name h =
     let a = and_parts (nat_le 1 (length name) && nat_le (length name) 211 && list_all is_store_byte name && not (is_dots name) && not (begins name (codes ".-"))) (not (begins name (codes "..-"))) h in
     let b = and_parts (nat_le 1 (length name) && nat_le (length name) 211 && list_all is_store_byte name && not (is_dots name)) (not (begins name (codes ".-"))) a.0 in
     let c = and_parts (nat_le 1 (length name) && nat_le (length name) 211 && list_all is_store_byte name) (not (is_dots name)) b.0 in
-    lacks_failing is_store_byte 10 refl name (and_parts (nat_le 1 (length name) && nat_le (length name) 211) (list_all is_store_byte name) c.0).1
+    omits_failing is_store_byte 10 refl name (and_parts (nat_le 1 (length name) && nat_le (length name) 211) (list_all is_store_byte name) c.0).1
 
-digits_lack : (text : List ℕ) → IsTrue (all_digits text) → IsTrue (lacks 10 text)
+digits_omit : (text : List ℕ) → IsTrue (all_digits text) → IsTrue (omits 10 text)
 unfolding value_of
-digits_lack text h = lacks_failing (λ c. nat_lt (value_of c) 32) 10 refl text h
+digits_omit text h = omits_failing (λ c. nat_lt (value_of c) 32) 10 refl text h
 
 dash : (b : ℕ) → IsTrue (b == 45) → IsTrue (not (b == 10))
 dash b h = subst (λ (c : ℕ). IsTrue (not (c == 10))) (sym (eqb-true b 45 h)) refl
 
-pub base_lacks : (p : Path) → IsTrue (is_base_name p) → IsTrue (lacks 10 p)
-base_lacks p h =
+pub base_omits : (p : Path) → IsTrue (is_base_name p) → IsTrue (omits 10 p)
+base_omits p h =
     let a = and_parts (nat_le 34 (length p) && all_digits (take 32 p) && (slice_index p 32 == 45)) (is_store_name (drop 33 p)) h in
     let b = and_parts (nat_le 34 (length p) && all_digits (take 32 p)) (slice_index p 32 == 45) a.0 in
     let c = and_parts (nat_le 34 (length p)) (all_digits (take 32 p)) b.0 in
     let long : 34 ≤ length p = leb-true 34 (length p) c.0 in
-    lacks_pieces 10 p 32 (omega (arith, long)) (digits_lack (take 32 p) c.1) (dash (slice_index p 32) b.1) (store_name_lacks (drop 33 p) a.1)
+    omits_pieces 10 p 32 (omega (arith, long)) (digits_omit (take 32 p) c.1) (dash (slice_index p 32) b.1) (store_name_omits (drop 33 p) a.1)
 
 -- ---- roots
 
 -- a root whose label and target lack a line feed
 abbrev pub Unbroken : Root → Type 0
-Unbroken r = IsTrue (lacks 10 r.label) × IsTrue (lacks 10 r.target)
+Unbroken r = IsTrue (omits 10 r.label) × IsTrue (omits 10 r.target)
 
 module _ (dir : List ℕ) (w : World) (sound : IsSound dir w) where
   present : (p : Path) (o : Option Object) → finite.get w.objects p ≡ o → IsTrue (is_some o) → IsTrue (is_base_name p)
   present p (Some o) e h = (sound.objects p o e).path
   present p None e h = absurd (false≢true h)
 
-  target_lacks : (p : Path) → IsTrue (has w p) → IsTrue (lacks 10 p)
-  target_lacks p h = base_lacks p (present p (finite.get w.objects p) refl h)
+  target_lacks : (p : Path) → IsTrue (has w p) → IsTrue (omits 10 p)
+  target_lacks p h = base_omits p (present p (finite.get w.objects p) refl h)
 
   permanents : (r : Root) → Contains (map permanent_root (finite.entries w.permanent)) r → Unbroken r
   permanents r c =
       let x = from_mapped permanent_root (finite.entries w.permanent) r c in
       let at = listed_entry nat_list_cmp_total w.permanent x.0 x.1 in
       subst Unbroken x.2 (
-        lacks_both 10 (codes "gcroots/") x.0.0 refl (plain_lacks x.0.0 (sound.permanent_name x.0.0 (ap is_some at))),
+        omits_both 10 (codes "gcroots/") x.0.0 refl (plain_omits x.0.0 (sound.permanent_name x.0.0 (ap is_some at))),
         target_lacks x.0.1 (sound.permanent_target x.0.0 x.0.1 at),
       )
 
-  owned_lacks : (front owner name : List ℕ) → IsTrue (lacks 10 front) → IsTrue (is_plain_name owner) → IsTrue (is_plain_name name) → IsTrue (lacks 10 (front ++ owner ++ codes "/" ++ name))
+  owned_lacks : (front owner name : List ℕ) → IsTrue (omits 10 front) → IsTrue (is_plain_name owner) → IsTrue (is_plain_name name) → IsTrue (omits 10 (front ++ owner ++ codes "/" ++ name))
   owned_lacks front owner name f o n =
-      lacks_both 10 (front ++ owner ++ codes "/") name (lacks_both 10 (front ++ owner) (codes "/") (lacks_both 10 front owner f (plain_lacks owner o)) refl) (plain_lacks name n)
+      omits_both 10 (front ++ owner ++ codes "/") name (omits_both 10 (front ++ owner) (codes "/") (omits_both 10 front owner f (plain_omits owner o)) refl) (plain_omits name n)
 
   users : (r : Root) → Contains (map user_root (finite.entries w.user_roots)) r → Unbroken r
   users r c =
@@ -85,9 +85,9 @@ module _ (dir : List ℕ) (w : World) (sound : IsSound dir w) where
         target_lacks x.0.1 (sound.user_root_target x.0.0 x.0.1 at),
       )
 
-  numbered : (front : List ℕ) (n : ℕ) → IsTrue (lacks 10 front) → IsTrue (lacks 10 (front ++ codes "-" ++ decimal n ++ codes "-link"))
+  numbered : (front : List ℕ) (n : ℕ) → IsTrue (omits 10 front) → IsTrue (omits 10 (front ++ codes "-" ++ decimal n ++ codes "-link"))
   numbered front n f =
-      lacks_both 10 (front ++ codes "-" ++ decimal n) (codes "-link") (lacks_both 10 (front ++ codes "-") (decimal n) (lacks_both 10 front (codes "-") f refl) (lacks-decimal 10 n (omega arith))) refl
+      omits_both 10 (front ++ codes "-" ++ decimal n) (codes "-link") (omits_both 10 (front ++ codes "-") (decimal n) (omits_both 10 front (codes "-") f refl) (omits-decimal 10 n (omega arith))) refl
 
   generations : (r : Root) → Contains (flat_map generation_roots (finite.entries w.profiles)) r → Unbroken r
   generations r c =
@@ -104,14 +104,14 @@ module _ (dir : List ℕ) (w : World) (sound : IsSound dir w) where
   runtimes r c =
       let x = from_mapped runtime_root (finite.keys w.runtime) r c in
       let at = listed_key pair_total w.runtime x.0 x.1 in
-      subst Unbroken x.2 (label_lacks x.0.0 (sound.runtime_label x.0 at), target_lacks x.0.1 (sound.runtime_target x.0 at))
+      subst Unbroken x.2 (label_omits x.0.0 (sound.runtime_label x.0 at), target_lacks x.0.1 (sound.runtime_target x.0 at))
 
   temporaries : (r : Root) → Contains (temporary_roots w) r → Unbroken r
   temporaries r c =
       let x = from_mapped temporary_root (finite.keys w.temporary) r c in
       let at = listed_key temporary_total w.temporary x.0 x.1 in
       subst Unbroken x.2 (
-        lacks_both 10 (codes "{temp:" ++ decimal x.0.session) (codes "}") (lacks_both 10 (codes "{temp:") (decimal x.0.session) refl (lacks-decimal 10 x.0.session (omega arith))) refl,
+        omits_both 10 (codes "{temp:" ++ decimal x.0.session) (codes "}") (omits_both 10 (codes "{temp:") (decimal x.0.session) refl (omits-decimal 10 x.0.session (omega arith))) refl,
         target_lacks x.0.path (sound.temporary_target x.0 at),
       )
 

@@ -22,8 +22,8 @@ use Rattle.model.specs.Liveness.{graph_of, keep_of, first_root_of, lives}
 use Rattle.model.specs.Seen.{censored, seen_root}
 use Rattle.model.specs.Verdict.{named_in, root_of_first, shown}
 use Rattle.report.specs.Stops.{root_text, shown_text, denial_text, failure_text}
-use Rattle.report.specs.Laws.{lacks, IsLine, StopsAreLines}
-use Rattle.report.proofs.Lacking.{lacks_both}
+use Rattle.report.specs.Laws.{omits, IsLine, StopsAreLines}
+use Rattle.report.proofs.Lacking.{omits_both}
 use Rattle.report.proofs.Table.{are_lines}
 use Rattle.report.proofs.Labels.{Unbroken, unbroken}
 
@@ -36,41 +36,41 @@ failure_line disk = record { line = codes "failed: disk"; ends = refl; one = ref
 
 -- ---- denials
 
-word_lacks : (rule : Rule) → IsTrue (lacks 10 (codes "denied: " ++ rule_word rule))
-word_lacks Connect = refl
-word_lacks TrustedImport = refl
-word_lacks TrustedPermanentRoot = refl
-word_lacks TrustedRuntimeRoots = refl
-word_lacks OwnRoot = refl
-word_lacks NoIgnoreLiveness = refl
-word_lacks Live = refl
+word_omits : (rule : Rule) → IsTrue (omits 10 (codes "denied: " ++ rule_word rule))
+word_omits Connect = refl
+word_omits TrustedImport = refl
+word_omits TrustedPermanentRoot = refl
+word_omits TrustedRuntimeRoots = refl
+word_omits OwnRoot = refl
+word_omits NoIgnoreLiveness = refl
+word_omits Live = refl
 
 -- the pair that a root is shown as lacks a line feed
 abbrev Plain : Pair → Type 0
-Plain p = IsTrue (lacks 10 p.0) × IsTrue (lacks 10 p.1)
+Plain p = IsTrue (omits 10 p.0) × IsTrue (omits 10 p.1)
 
 abbrev PlainIf : Option Pair → Type 0
 PlainIf None = Unit {0}
 PlainIf (Some p) = Plain p
 
-module _ (dir : List ℕ) (whole : IsTrue (lacks 10 dir)) where
-  shown_lacks : (o : Option Pair) → PlainIf o → IsTrue (lacks 10 (shown_text dir o))
+module _ (dir : List ℕ) (whole : IsTrue (omits 10 dir)) where
+  shown_lacks : (o : Option Pair) → PlainIf o → IsTrue (omits 10 (shown_text dir o))
   shown_lacks None h = refl
   shown_lacks (Some p) h =
-      lacks_both 10 (codes " ") (root_text dir p) refl
-      (lacks_both 10 (p.0 ++ codes " ") (full_path dir p.1) (lacks_both 10 p.0 (codes " ") h.0 refl)
-      (lacks_both 10 (dir ++ codes "/") p.1 (lacks_both 10 dir (codes "/") whole refl) h.1))
+      omits_both 10 (codes " ") (root_text dir p) refl
+      (omits_both 10 (p.0 ++ codes " ") (full_path dir p.1) (omits_both 10 p.0 (codes " ") h.0 refl)
+      (omits_both 10 (dir ++ codes "/") p.1 (omits_both 10 dir (codes "/") whole refl) h.1))
 
   denial_line : (rule : Rule) (o : Option Pair) → PlainIf o → IsLine (denial_text dir rule o)
   denial_line rule o h = record {
     line = codes "denied: " ++ rule_word rule ++ shown_text dir o;
     ends = refl;
-    one = lacks_both 10 (codes "denied: " ++ rule_word rule) (shown_text dir o) (word_lacks rule) (shown_lacks o h);
+    one = omits_both 10 (codes "denied: " ++ rule_word rule) (shown_text dir o) (word_omits rule) (shown_lacks o h);
   }
 
 -- ---- the root that is shown
 
-hidden : (k : Kind) (r : Root) → r.kind ≡ k → IsTrue (lacks 10 r.label) → IsTrue (lacks 10 (censored (record r { kind = k })).label)
+hidden : (k : Kind) (r : Root) → r.kind ≡ k → IsTrue (omits 10 r.label) → IsTrue (omits 10 (censored (record r { kind = k })).label)
 hidden permanent r e h = h
 hidden user r e h = h
 hidden profile r e h = h

@@ -8,7 +8,7 @@ use Rattle.policy.specs.declared.error.KeyWord.TheVariants.{Syntax, UnknownKey, 
 use Rattle.model.specs.declared.refusal.Refusal.{Refusal}
 use Rattle.model.specs.declared.refusal.Refusal.TheVariants.{Truncated, BadTag, BadPadding, BadName, NotSorted, TooDeep, Trailing, TooLarge, BadDigit, BadLength, Overflow, BadStoreName, BadStoreDir, BadStorePath, BadCa, CaMismatch, BadDerivation, DoubleOutput, BadConfig, BadCaller, BadSchema, OtherStoreDir, NotValid, MissingReference, NarHashMismatch, SelfReference, NoRoot, NoProfile, NoGeneration, CurrentGeneration, NoOlderGeneration, GenerationLimit, TooManyReferences, BadRootName, BadLabel, BadHead, BadBodyLength, BodyTooLarge, NoRoute, BadMethod, BadBodyHead, BadSession}
 use Rattle.report.specs.Refusals.{number, name, detail, refusal_line}
-use Rattle.report.specs.Laws.{refusals, lacks, RefusalsAreLines, RefusalsDiffer}
+use Rattle.report.specs.Laws.{refusals, omits, RefusalsAreLines, RefusalsDiffer}
 
 pub numbered : map number refusals ≡ range_with_len 1 42
 numbered = refl
@@ -18,7 +18,7 @@ numbered = refl
 front : Refusal → List ℕ
 front r = codes "refused: " ++ decimal (number r) ++ codes " " ++ name r ++ detail r
 
-of_word : (word : KeyWord) → IsTrue (lacks 10 (front (BadConfig word)))
+of_word : (word : KeyWord) → IsTrue (omits 10 (front (BadConfig word)))
 unfolding front digits
 of_word Syntax = refl
 of_word UnknownKey = refl
@@ -29,7 +29,7 @@ of_word KeepOutputs = refl
 of_word KeepDerivations = refl
 of_word Groups = refl
 
-one : (r : Refusal) → IsTrue (lacks 10 (front r))
+one : (r : Refusal) → IsTrue (omits 10 (front r))
 unfolding front digits
 one (BadConfig word) = of_word word
 one Truncated = refl

@@ -72,14 +72,14 @@ RefusalsDiffer = (a b : Refusal) → refusal_line a ≡ refusal_line b → a ≡
 -- ---- lines
 
 -- no byte of the text is this one
-abbrev pub lacks : ℕ → List ℕ → Bool
-lacks byte text = list_all (λ b. not (b == byte)) text
+abbrev pub omits : ℕ → List ℕ → Bool
+omits byte text = list_all (λ b. not (b == byte)) text
 
 -- a line: a line feed (10) ends it, and none comes before
 pub record IsLine (text : List ℕ) : Type 0 where
   pub line : List ℕ
   pub ends : text ≡ line ++ codes "\n"
-  pub one : IsTrue (lacks 10 line)
+  pub one : IsTrue (omits 10 line)
 
 abbrev pub RefusalsAreLines : Type 0
 RefusalsAreLines = (r : Refusal) → IsLine (refusal_line r)
@@ -87,18 +87,18 @@ RefusalsAreLines = (r : Refusal) → IsLine (refusal_line r)
 -- In a sound world every reply that isn't done is one line: no name, path or label puts a line feed into it.
 abbrev pub StopsAreLines : Type 0
 StopsAreLines = (s : Settings) (w : World) (c : Caller) (q : Request) (reply : Reply) (new : World)
-    → IsTrue (lacks 10 s.store_dir) → IsSound s.store_dir w → Step s w c q reply new → (IsDone reply → ⊥)
+    → IsTrue (omits 10 s.store_dir) → IsSound s.store_dir w → Step s w c q reply new → (IsDone reply → ⊥)
     → IsLine (reply_text s.store_dir reply)
 
 -- ---- listings
 
 -- each path lacks a line feed
 abbrev pub are_unbroken : List Path → Bool
-are_unbroken ps = list_all (lacks 10) ps
+are_unbroken ps = list_all (omits 10) ps
 
 -- no label has a space (32), and no target a line feed
 abbrev pub are_plain : List Pair → Bool
-are_plain roots = list_all (λ r. lacks 32 r.0 && lacks 10 r.1) roots
+are_plain roots = list_all (λ r. omits 32 r.0 && omits 10 r.1) roots
 
 -- lists of paths or of roots with one text are the same
 pub record ListingsDiffer (dir : List ℕ) : Type 0 where

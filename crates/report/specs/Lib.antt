@@ -6,5 +6,4 @@ pub mod Refusals
 pub mod Replies
 pub mod Stops
 pub mod Usage
-pub mod View
 pub mod Worked

@@ -2,6 +2,7 @@
 use Rattle.std.specs.Prelude.{◌≡◌, ◌⊎◌, ℕ, List, Option}
 use Rattle.std.specs.Io.KnownBytes.{Appends, Keeps}
 use Rattle.streams.specs.Sends.{AppendsPrefix}
+use Rattle.report.specs.declared.failures.Failure.{Failure}
 use Rattle.report.specs.declared.failures.Failure.TheVariants.{Memory, Output}
 use Rattle.report.specs.Failures.{failure_line}
 
@@ -42,6 +43,10 @@ abbrev pub Prints : List ℕ → ℕ → Printed → Type 0
 Prints text done p = ((p.status ≡ done) × Appends p.writer.old p.writer.new text)
     ⊎ ((p.status ≡ 1) × AppendsPrefix p.writer.old p.writer.new text)
 
+-- the line of a failure was written, with status 1
+abbrev pub PrintsFailure : Failure → Printed → Type 0
+PrintsFailure failure p = Prints (failure_line failure) 1 p
+
 -- a text went to standard output and nothing to standard error, with status 0
 pub record Gives (text : List ℕ) (w : Written) : Type 0 where
   pub done : w.status ≡ 0
@@ -51,7 +56,7 @@ pub record Gives (text : List ℕ) (w : Written) : Type 0 where
 -- standard output failed: it holds a prefix of the text, and standard error has a line on that
 pub record GivesOut (text : List ℕ) (w : Written) : Type 0 where
   pub prefix : AppendsPrefix w.output.old w.output.new text
-  pub reported : Prints (failure_line Output) 1 (on_errors w)
+  pub reported : PrintsFailure Output (on_errors w)
 
 -- a text was given to standard output, which took it or failed
 abbrev pub Offers : List ℕ → Written → Type 0
@@ -59,4 +64,4 @@ Offers text w = Gives text w ⊎ GivesOut text w
 
 -- memory ran out for a text, and standard error has a line on that
 abbrev pub LacksMemory : Written → Type 0
-LacksMemory w = Keeps w.output.old w.output.new × Prints (failure_line Memory) 1 (on_errors w)
+LacksMemory w = Keeps w.output.old w.output.new × PrintsFailure Memory (on_errors w)

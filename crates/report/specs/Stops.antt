@@ -23,6 +23,10 @@ shown_text dir (Some root) = codes " " ++ root_text dir root
 abbrev pub denial_text : List ℕ → Rule → Option Pair → List ℕ
 denial_text dir rule root = codes "denied: " ++ rule_word rule ++ shown_text dir root ++ codes "\n"
 
+-- the line of a denial that shows no root, which is the same in each directory
+abbrev pub plain_denial : Rule → List ℕ
+plain_denial rule = denial_text [] rule None
+
 -- ---- failures
 
 -- the line of a failure

@@ -109,8 +109,8 @@ abbrev pub digest : List ℕ
 digest = 43 ∷ 254 ∷ 246 ∷ 125 ∷ 232 ∷ 115 ∷ 197 ∷ 69 ∷ 81 ∷ 216 ∷ 132 ∷ 253 ∷ 171 ∷ 48 ∷ 85 ∷ 216 ∷ 77 ∷ 87 ∷ 62 ∷ 101
     ∷ 78 ∷ 250 ∷ 121 ∷ 219 ∷ 60 ∷ 13 ∷ 123 ∷ 152 ∷ 136 ∷ 63 ∷ 158 ∷ 227 ∷ []
 
--- that file as a source object named `myfile`; at another path, with references and a deriver; and with a deriver and
--- an address
+-- Three narinfos of objects with this archive: a source object named `myfile`; an object with references and a
+-- deriver; and an object with a deriver and a content address.
 pub record HasWorkedNarinfo : Type 0 where
   pub source : narinfo dir
       (record {

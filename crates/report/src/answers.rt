@@ -2,40 +2,15 @@
 ghost use Rattle.std.specs.Prelude.{◌≡◌, ◌++◌, IfOk, string_bytes};
 ghost use Rattle.report.specs.Replies as spec;
 ghost use Rattle.model.specs.Reply.{freed};
-ghost use Rattle.report.specs.Narinfo as records;
-ghost use Rattle.report.specs.Usage as usages;
-ghost use Rattle.store_types.specs.View.{answer_view, info_view, usage_view};
+ghost use Rattle.store_types.specs.View.{answer_view};
 
 use crate::line_pieces::{paths_pieces, roots_pieces};
+use crate::records::narinfo;
+use crate::usage::usage_text;
 use paths::{StoreDir, StorePath};
 use std::alloc::{AllocError, Global};
-use store_types::{Answer, Info, Usage};
+use store_types::Answer;
 use streams::{Pieces, in_pieces};
-
-/// The record of an object.
-fn record_text(alloc: Global, dir: &StoreDir, info: &Info) -> Result<String, AllocError>
-    ensures { IfOk result (λ text. string_bytes text ≡ records.narinfo dir.now (info_view info.now)) }
-{
-    let lent = crate::records::Info {
-        path: &info.path,
-        hash: &info.hash,
-        size: info.size,
-        references: &info.references,
-        deriver: info.deriver.as_ref(),
-        ca: info.ca,
-    };
-    crate::records::narinfo(alloc, dir, &lent)
-}
-
-/// The usage report.
-fn usage_text(alloc: Global, live: Usage, dead: Usage, total: Usage) -> Result<String, AllocError>
-    ensures { IfOk result
-        (λ text. string_bytes text ≡ usages.usage_text (usage_view live) (usage_view dead) (usage_view total)) }
-{
-    let live = (live.paths, live.bytes);
-    let dead = (dead.paths, dead.bytes);
-    crate::usage::usage_text(alloc, live, dead, (total.paths, total.bytes))
-}
 
 /// The paths that were deleted, a line each, their number and their bytes, in pieces.
 fn freed_pieces(
@@ -66,7 +41,7 @@ pub(crate) fn answer_bytes(
         Answer::Freed(paths, bytes) => return freed_pieces(alloc, dir, paths, *bytes)?.joined(),
         Answer::Listing(text) => String::from_str(alloc, text.as_str())?,
         Answer::Path(path) => crate::lists::path_line(alloc, dir, path)?,
-        Answer::Record(info) => record_text(alloc, dir, info)?,
+        Answer::Record(info) => narinfo(alloc, dir, info)?,
         Answer::Paths(paths) => crate::lists::paths_text(alloc, dir, paths)?,
         Answer::Roots(roots) => crate::lists::roots_text(alloc, dir, roots)?,
         Answer::Changed => String::from_str(alloc, "done\n")?,

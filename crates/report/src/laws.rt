@@ -8,7 +8,7 @@ ghost use Rattle.report.specs.Laws.{
   RefusalsAreLines,
   RefusalsDiffer,
   StopsAreLines,
-  lacks,
+  omits,
   refusals,
 };
 ghost use Rattle.report.specs.Worked.{
@@ -37,7 +37,7 @@ pub fn stops_are_lines()
 
 /// What is listed can be read back: other paths or roots have another text.
 pub fn listings_lose_nothing()
-    ensures { (dir : List ℕ) → IsTrue (lacks 10 dir) → ListingsDiffer dir }
+    ensures { (dir : List ℕ) → IsTrue (omits 10 dir) → ListingsDiffer dir }
 {}
 
 /// The usage of a store that was just made.

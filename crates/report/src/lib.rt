@@ -15,7 +15,7 @@ mod replies;
 mod usage;
 
 pub use answers::answer_text;
-pub use denials::denial_line;
+pub use denials::{denial_line, push_denial};
 pub use failures::Failure;
 pub use laws::{
     a_new_store_uses_nothing, listings_lose_nothing, numbers_are_one_to_forty_two, refusals_differ,
@@ -24,8 +24,8 @@ pub use laws::{
 pub use lists::{path_line, paths_text, roots_text};
 pub use model::Refusal;
 pub use numbers::refusal_text;
-pub use outputs::print;
-pub use records::{Info, narinfo};
+pub use outputs::{print, print_failure};
+pub use records::narinfo;
 pub use refusals::{failure_line, refusal_line};
 pub use replies::{reply_pieces, reply_text};
 pub use usage::usage_text;

@@ -1,7 +1,7 @@
 //! Listings of paths and of roots, in pieces: no line is held twice.
 ghost use Rattle.std.specs.Prelude.{◌≡◌, ◌++◌, IfOk, OnOk, map};
 ghost use Rattle.report.specs.Replies as spec;
-ghost use Rattle.report.specs.View.{labelled};
+ghost use Rattle.tables_outline.specs.Maps.{labelled_bytes};
 
 use crate::lists::{push_path_line, push_root_line};
 use paths::{StoreDir, StorePath};
@@ -59,7 +59,7 @@ pub(crate) fn roots_pieces(
     dir: &StoreDir,
     roots: &[(String, StorePath)],
 ) -> Result<Pieces, AllocError>
-    ensures { IfOk result (λ text. text ≡ spec.roots_text dir.now (map labelled roots.now)) }
+    ensures { IfOk result (λ text. text ≡ spec.roots_text dir.now (map labelled_bytes roots.now)) }
 {
     let mut text = Pieces::new(alloc);
     let mut line = String::new(alloc);

@@ -2,7 +2,7 @@
 ghost use Rattle.std.specs.Prelude.{◌≡◌, ◌++◌, IfOk, OnOk, codes, map, string_bytes};
 ghost use Rattle.paths.specs.StorePath.{full_path};
 ghost use Rattle.report.specs.Replies as spec;
-ghost use Rattle.report.specs.View.{labelled};
+ghost use Rattle.tables_outline.specs.Maps.{labelled_bytes};
 ghost use Rattle.report.specs.Stops.{root_text};
 
 use paths::{StoreDir, StorePath};
@@ -127,7 +127,7 @@ pub fn roots_text(
     dir: &StoreDir,
     roots: &[(String, StorePath)],
 ) -> Result<String, AllocError>
-    ensures { IfOk result (λ text. string_bytes text ≡ spec.roots_text dir.now (map labelled roots.now)) }
+    ensures { IfOk result (λ text. string_bytes text ≡ spec.roots_text dir.now (map labelled_bytes roots.now)) }
 {
     let mut text = String::new(alloc);
     for root in roots {

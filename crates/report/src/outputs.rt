@@ -1,6 +1,7 @@
 //! Printing of texts on writers.
-ghost use Rattle.report.specs.Outputs.{Prints, change_of};
+ghost use Rattle.report.specs.Outputs.{Prints, PrintsFailure, change_of};
 
+use crate::failures::Failure;
 use std::io::Write;
 use streams::send_bytes;
 
@@ -18,4 +19,19 @@ pub fn print<W: Write>(text: &str, status: u8, writer: &mut W) -> u8
         Ok(()) => status,
         Err(_) => 1,
     }
+}
+
+/// Writes the line of a failure on a writer, and returns 1, also if the writer fails.
+///
+/// ```rust
+/// use report::{Failure, print_failure};
+///
+/// let mut errors = Vec::new(alloc);
+/// assert_eq!(rt; print_failure(Failure::Input, &mut errors), 1);
+/// assert_eq!(rt; errors.as_slice(), b"failed: input\n".as_slice());
+/// ```
+pub fn print_failure<W: Write>(failure: Failure, writer: &mut W) -> u8
+    ensures { PrintsFailure failure (record { writer = change_of W.contents writer.old writer.new; status = result }) }
+{
+    print(failure.line(), 1, writer)
 }

@@ -5,29 +5,13 @@ ghost use Rattle.paths.specs.StorePath.{full_path};
 ghost use Rattle.paths.specs.ContentAddress.{address_text};
 ghost use Rattle.report.specs.Narinfo as spec;
 ghost use Rattle.report.specs.Narinfo.{digest_text, line, line_if};
-ghost use Rattle.report.specs.View.{info_view};
+ghost use Rattle.store_types.specs.View.{info_view};
 
 use crate::lists::push_path;
 use paths::{Ca, StoreDir, StorePath, base32};
 use std::alloc::{AllocError, Global};
 use std::fmt::Write;
-
-/// The record of an object.
-#[derive(Clone, Copy)]
-pub struct Info<'a> {
-    /// The path of the object.
-    pub path: &'a StorePath,
-    /// The SHA-256 digest of its archive.
-    pub hash: &'a [u8; 32],
-    /// The number of bytes of its archive.
-    pub size: usize,
-    /// The references of the object, in order.
-    pub references: &'a [StorePath],
-    /// The deriver of the object, if it is recorded.
-    pub deriver: Option<&'a StorePath>,
-    /// The content address of the object, if it is recorded.
-    pub ca: Option<Ca>,
-}
+use store_types::Info;
 
 fn push_line(text: &mut String, word: &str, value: &str) -> Result<(), AllocError>
     ensures { OnOk result (string_bytes text.new ≡ string_bytes text.old ++ line word.now value.now) }
@@ -152,13 +136,13 @@ fn push_ca(alloc: Global, text: &mut String, ca: Option<Ca>) -> Result<(), Alloc
 ///
 /// ```rust
 /// use paths::{Ca, StoreDir, StorePath};
-/// use report::Info;
 /// use sha2::{Digest, Sha256};
+/// use store::Info;
 ///
 /// let dir = StoreDir::parse(alloc, "/nix/store")?;
 /// let path = StorePath::from_base(alloc, "a0d1zlpv81nsfbam8ay3i7snrc0sgsvr-myfile")?;
 /// let (hash, ca) = (Sha256::digest("abc"), Some(Ca::of_text(b"abc")));
-/// let info = Info { path: &path, hash: &hash, size: 128, references: &[], deriver: None, ca };
+/// let info = Info { path, hash, size: 128, references: Vec::new(alloc), deriver: None, ca };
 /// let text = report::narinfo(alloc, &dir, &info)?;
 /// assert!(rt; text.as_str().starts_with("StorePath: /nix/store/a0d1zlpv81nsfbam8ay3i7snrc0sgsvr-myfile\n"));
 /// ```
@@ -166,27 +150,19 @@ fn push_ca(alloc: Global, text: &mut String, ca: Option<Ca>) -> Result<(), Alloc
 /// # Errors
 ///
 /// Memory was refused.
-pub fn narinfo(alloc: Global, dir: &StoreDir, info: &Info<'_>) -> Result<String, AllocError>
+pub fn narinfo(alloc: Global, dir: &StoreDir, info: &Info) -> Result<String, AllocError>
     ensures { IfOk result (λ text. string_bytes text ≡ spec.narinfo dir.now (info_view info.now)) }
 {
-    let Info {
-        path,
-        hash,
-        size,
-        references,
-        deriver,
-        ca,
-    } = *info;
     let mut text = String::new(alloc);
-    push_path_of(&mut text, "StorePath", dir, path)?;
-    push_address(&mut text, "URL", path)?;
+    push_path_of(&mut text, "StorePath", dir, &info.path)?;
+    push_address(&mut text, "URL", &info.path)?;
     push_line(&mut text, "Compression", "none")?;
-    push_digest(alloc, &mut text, "FileHash", hash)?;
-    push_size(&mut text, "FileSize", size)?;
-    push_digest(alloc, &mut text, "NarHash", hash)?;
-    push_size(&mut text, "NarSize", size)?;
-    push_references(&mut text, "References", references)?;
-    push_deriver(&mut text, deriver)?;
-    push_ca(alloc, &mut text, ca)?;
+    push_digest(alloc, &mut text, "FileHash", &info.hash)?;
+    push_size(&mut text, "FileSize", info.size)?;
+    push_digest(alloc, &mut text, "NarHash", &info.hash)?;
+    push_size(&mut text, "NarSize", info.size)?;
+    push_references(&mut text, "References", &info.references)?;
+    push_deriver(&mut text, info.deriver.as_ref())?;
+    push_ca(alloc, &mut text, info.ca)?;
     Ok(text)
 }

@@ -2,9 +2,10 @@
 ghost use Rattle.std.specs.Prelude.{◌≡◌, ◌++◌, ◌-◌, IfOk, OnOk, codes, length, decimal, replicate, string_bytes};
 ghost use Rattle.report.specs.Usage as spec;
 ghost use Rattle.report.specs.Usage.{left_in, right_in, usage_line};
-ghost use Rattle.report.specs.View.{usage_of};
+ghost use Rattle.store_types.specs.View.{usage_view};
 
 use std::alloc::{AllocError, Global};
+use store_types::Usage;
 
 /// The widths of the columns: a word, a number of paths, a number of bytes.
 const WORD: usize = 6;
@@ -47,15 +48,10 @@ fn push_columns(text: &mut String, word: &str, paths: &str, bytes: &str) -> Resu
     text.push_str("\n")
 }
 
-fn push_usage(
-    alloc: Global,
-    text: &mut String,
-    word: &str,
-    usage: (usize, u128),
-) -> Result<(), AllocError>
-    ensures { OnOk result (string_bytes text.new ≡ string_bytes text.old ++ usage_line word.now (usage_of usage)) }
+fn push_usage(alloc: Global, text: &mut String, word: &str, usage: Usage) -> Result<(), AllocError>
+    ensures { OnOk result (string_bytes text.new ≡ string_bytes text.old ++ usage_line word.now (usage_view usage)) }
 {
-    let (paths, bytes) = usage;
+    let Usage { paths, bytes } = usage;
     let paths = format!(in alloc; "{paths}")?;
     let bytes = format!(in alloc; "{bytes}")?;
     push_columns(text, word, paths.as_str(), bytes.as_str())
@@ -64,7 +60,12 @@ fn push_usage(
 /// The usage report on the live, the dead and all paths: of each how many they are, and how many bytes their archives have.
 ///
 /// ```rust
-/// let text = report::usage_text(alloc, (1, 112), (1, 208), (2, 320))?;
+/// use store::Usage;
+///
+/// let live = Usage { paths: 1, bytes: 112 };
+/// let dead = Usage { paths: 1, bytes: 208 };
+/// let total = Usage { paths: 2, bytes: 320 };
+/// let text = report::usage_text(alloc, live, dead, total)?;
 /// let mut lines = text.as_str().split('\n');
 /// assert_eq!(rt; lines.next(), Some("class       paths            bytes"));
 /// assert_eq!(rt; lines.next(), Some("live            1              112"));
@@ -75,12 +76,12 @@ fn push_usage(
 /// Memory was refused.
 pub fn usage_text(
     alloc: Global,
-    live: (usize, u128),
-    dead: (usize, u128),
-    total: (usize, u128),
+    live: Usage,
+    dead: Usage,
+    total: Usage,
 ) -> Result<String, AllocError>
     ensures { IfOk result
-        (λ text. string_bytes text ≡ spec.usage_text (usage_of live) (usage_of dead) (usage_of total)) }
+        (λ text. string_bytes text ≡ spec.usage_text (usage_view live) (usage_view dead) (usage_view total)) }
 {
     let mut text = String::new(alloc);
     push_columns(&mut text, "class", "paths", "bytes")?;

@@ -22,7 +22,7 @@ use Rattle.model.specs.World.{Object, Path, World, has}
 use Rattle.model.specs.Answers.{archive_at}
 use Rattle.model.specs.Request.{Request}
 use Rattle.model.specs.Sound.{IsSound}
-use Rattle.tables.specs.Kept.{Kept, HasWorld}
+use Rattle.tables.specs.TablesValue.{TablesValue, HasWorld}
 use Rattle.store_types.specs.declared.replies.Answer.{Answer}
 use Rattle.store_types.specs.declared.replies.Stop.{Stop}
 use Rattle.store_steps.specs.Causes.{HasCause}
@@ -30,7 +30,7 @@ use Rattle.store_steps.specs.Meets.{IsMet, IsRefused, MeetsOver, OnlyReads, repl
 use Rattle.store_steps.proofs.Untouched.{others_shown, survives_as}
 use Rattle.store.specs.Listing.{FailsToList}
 
-module _ {S : Type 0} (g : Ghosts S) (s : Settings) (c : Caller) (q : Request) (old new : Kept S) where
+module _ {S : Type 0} (g : Ghosts S) (s : Settings) (c : Caller) (q : Request) (old new : TablesValue S) where
   pub met_by_disk : (r : Result Answer Stop) → OnlyReads g old new → (IsRefused r → ⊥) → ((w : World) → HasWorld g old w → HasCause g q (reply_to r) old new)
       → ((w : World) → HasWorld g old w → MeetsOver (HasCleanDisk (state g new.connection)) s w c q r w) → IsMet g s c q r old new
   met_by_disk r it unrefused cause h = record {
@@ -39,7 +39,7 @@ module _ {S : Type 0} (g : Ghosts S) (s : Settings) (c : Caller) (q : Request) (
     cause = cause;
     others = others_shown g old new it.shown;
     still = λ refused. absurd (unrefused refused);
-    lasts = λ _. it.lasts;
+    stays_durable = λ _. it.stays_durable;
     survives = λ w t. survives_as (state g old.connection) (state g new.connection) (λ _. ⊥) _ (λ db none. absurd none) it.survives;
   }
 
@@ -49,8 +49,8 @@ abbrev nar_of : Object → List ℕ
 nar_of o = o.nar
 
 -- it has an archive
-pub archive_there : (w : World) (p : Path) → IsTrue (has w p) → None ≡ option_map nar_of (finite.get w.objects p) → ⊥
-archive_there w p valid none = by (finite.get w.objects p) valid none
+pub archive_present : (w : World) (p : Path) → IsTrue (has w p) → None ≡ option_map nar_of (finite.get w.objects p) → ⊥
+archive_present w p valid none = by (finite.get w.objects p) valid none
   where
     by : (o : Option Object) → IsTrue (is_some o) → None ≡ option_map nar_of o → ⊥
     by None v n = false≢true v

@@ -17,7 +17,7 @@ use Rattle.model.specs.Reply.{Reply, done, denied, refused, failed, memory, size
 use Rattle.model.specs.Verdict.{operation_of, named_in, shown, verdict}
 use Rattle.model.specs.Step.{IsNoneOrLive}
 use Rattle.model.specs.Effects.{effect}
-use Rattle.tables.specs.Kept.{Kept, HasWorld}
+use Rattle.tables.specs.TablesValue.{TablesValue, HasWorld}
 use Rattle.store_types.specs.declared.replies.Answer.{Answer}
 use Rattle.store_types.specs.declared.replies.Stop.{Stop}
 use Rattle.store_types.specs.declared.replies.Stop.TheVariants.{Refused, Failed}
@@ -72,7 +72,7 @@ module _ {S : Type 0} (g : Ghosts S) (s : Settings) (c : Caller) (q : Request) w
   forbidden_failing allowed w = (refl, (none_or_live s w c q allowed, refl))
 
   -- what is forbidden fails for memory alone
-  pub cause_forbidden : (k : Kept S) (reply : Reply) (w : World) → IsForbidden s w c q (Some reply) → HasCause g q reply k k
+  pub cause_forbidden : (k : TablesValue S) (reply : Reply) (w : World) → IsForbidden s w c q (Some reply) → HasCause g q reply k k
   cause_forbidden k (done a) w f = absurd f
   cause_forbidden k (denied rule root) w f = tt
   cause_forbidden k (refused r) w f = tt
@@ -81,12 +81,12 @@ module _ {S : Type 0} (g : Ghosts S) (s : Settings) (c : Caller) (q : Request) w
   cause_forbidden k (failed disk) w f = let is : disk ≡ memory = f.0 in let no : ⊥ = cc in absurd no
 
   -- what is forbidden is a step
-  pub step_forbidden : (reply : Reply) (k : Kept S) → ((w : World) → HasWorld g k w → IsForbidden s w c q (Some reply)) → (w : World) → HasWorld g k w
+  pub step_forbidden : (reply : Reply) (k : TablesValue S) → ((w : World) → HasWorld g k w → IsForbidden s w c q (Some reply)) → (w : World) → HasWorld g k w
       → (next : World) × StepOver (HasCleanDisk (state g k.connection)) s w c q reply next × HasWorld g k next
   step_forbidden reply k forbidden w t = (w, over_disk (HasCleanDisk (state g k.connection)) s w c q reply (forbidden w t), t)
 
   -- what no rule forbids
-  pub step_met : (r : Result Answer Stop) (reply : Reply) (old new : Kept S) → ((w : World) → HasWorld g old w → IsForbidden s w c q None) → reply ≡ reply_to r → IsMet g s c q r old new
+  pub step_met : (r : Result Answer Stop) (reply : Reply) (old new : TablesValue S) → ((w : World) → HasWorld g old w → IsForbidden s w c q None) → reply ≡ reply_to r → IsMet g s c q r old new
       → (w : World) → HasWorld g old w → (next : World) × StepOver (HasCleanDisk (state g new.connection)) s w c q reply next × HasWorld g new next
   step_met r reply old new allowed is met w t =
       let a = allowed w t in
@@ -95,7 +95,7 @@ module _ {S : Type 0} (g : Ghosts S) (s : Settings) (c : Caller) (q : Request) w
       (m.0, subst (λ (x : Reply). StepOver is_clean s w c q x m.0) (sym is) (step_of is_clean s w c q r m.0 (permitted s w c q a.0 a.1) m.1), m.2)
 
   -- a crash leaves what is done of what no rule forbids
-  pub survives_met : (r : Result Answer Stop) (old new : Kept S) → ((w : World) → HasWorld g old w → IsForbidden s w c q None) → IsMet g s c q r old new
+  pub survives_met : (r : Result Answer Stop) (old new : TablesValue S) → ((w : World) → HasWorld g old w → IsForbidden s w c q None) → IsMet g s c q r old new
       → (w : World) → HasWorld g old w → Survives (state g old.connection) (state g new.connection) (λ db. LeavesDone old.dir (state g old.connection).now db s w c q)
   survives_met r old new allowed met w t =
       let a = allowed w t in

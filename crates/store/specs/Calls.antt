@@ -7,7 +7,7 @@ use Rattle.policy.specs.Caller.{Caller}
 use Rattle.model.specs.World.{World}
 use Rattle.model.specs.Request.{Request}
 use Rattle.model.specs.Reply.{Reply}
-use Rattle.tables.specs.Kept.{HasWorld}
+use Rattle.tables.specs.TablesValue.{HasWorld}
 use Rattle.store_steps.specs.Causes.{HasCause}
 use Rattle.store_steps.specs.Disk.{StepOver}
 use Rattle.store_steps.specs.Durability.{LeavesOthers, StaysDurable}
@@ -31,7 +31,7 @@ module _ {S : Type 0} (g : Ghosts S) where
     -- whatever is replied, what other programs have in the database is as it was
     pub others : LeavesOthers g old.tables new.tables
     -- what is done outlives a crash
-    pub lasts : IsDone reply → StaysDurable g old.tables new.tables
+    pub stays_durable : IsDone reply → StaysDurable g old.tables new.tables
     -- at any exit a crash leaves what it could leave before, or the tables of the done case, if one exists
     pub survives : (w : World) → HasWorld g old.tables w
         → Survives (state g old.tables.connection) (state g new.tables.connection)

@@ -4,15 +4,15 @@ use Rattle.std.specs.Coded.{Coded, code_by, coded×}
 use Rattle.policy.specs.Settings.{Settings}
 use Rattle.policy.specs.Codes.{settings_code}
 use Rattle.model.specs.Reply.{Reply, denied, refused}
-use Rattle.tables.specs.Kept.{Kept, kept_code}
+use Rattle.tables.specs.TablesValue.{TablesValue, kept_code}
 
 pub record StoreView (S : Type 0) : Type 0 where
-  pub tables : Kept S
+  pub tables : TablesValue S
   pub settings : Settings
 
 abbrev pub store_view_code : {S : Type 0} → Coded S → Coded (StoreView S)
 store_view_code {S} store =
-    code_by (Kept S × Settings) (coded× (kept_code store) settings_code) (λ k. (k.tables, k.settings))
+    code_by (TablesValue S × Settings) (coded× (kept_code store) settings_code) (λ k. (k.tables, k.settings))
     (λ p. record { tables = p.0; settings = p.1 }) (λ _. refl)
 
 -- a reply that leaves the store as it was: a denial or a refusal

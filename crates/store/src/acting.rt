@@ -5,7 +5,7 @@ ghost use Rattle.std.specs.List.{list_any};
 ghost use Rattle.model.specs.World.{World};
 ghost use Rattle.model.specs.Liveness.{lives};
 ghost use Rattle.model.specs.Verdict.{named_in};
-ghost use Rattle.tables.specs.Kept.{HasWorld};
+ghost use Rattle.tables.specs.TablesValue.{HasWorld};
 ghost use Rattle.store_types.specs.Spent.{is_spent};
 ghost use Rattle.store_types.specs.View.{request_view, reply_view};
 ghost use Rattle.store_types.specs.declared.replies.Stop.TheVariants.{Failed as failed};

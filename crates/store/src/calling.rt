@@ -8,7 +8,7 @@ ghost use Rattle.model.specs.World.{World};
 ghost use Rattle.model.specs.Reply.{IsDone};
 ghost use Rattle.model.specs.Liveness.{lives};
 ghost use Rattle.model.specs.Verdict.{named_in};
-ghost use Rattle.tables.specs.Kept.{HasWorld};
+ghost use Rattle.tables.specs.TablesValue.{HasWorld};
 ghost use Rattle.store_removal.specs.Found.{deletes};
 ghost use Rattle.store_steps.specs.Causes.{HasCause};
 ghost use Rattle.store_steps.specs.Disk.{StepOver};
@@ -193,7 +193,7 @@ impl<S: Alter> Store<S> {
         ensures still { IsStill (reply_view result) → self.new ≡ self.old }
         // Whatever is replied, a failure too, what other programs have in the database is as it was.
         ensures others { LeavesOthers S.Store self.old.tables self.new.tables }
-        ensures lasts { IsDone (reply_view result) → StaysDurable S.Store self.old.tables self.new.tables }
+        ensures stays_durable { IsDone (reply_view result) → StaysDurable S.Store self.old.tables self.new.tables }
         // At any exit a crash leaves what it could leave before, or the tables of the done case; where a rule denies the request
         // or a test of it fails there is none.
         ensures survives { (w : World) → HasWorld S.Store self.old.tables w

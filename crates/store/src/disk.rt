@@ -12,7 +12,7 @@ ghost use Rattle.sqlite.specs.State.{HasCleanDisk};
 ghost use Rattle.sqlite.specs.Held.{state};
 ghost use Rattle.policy.specs.Caller.{Caller};
 ghost use Rattle.tables.specs.Frames.{FailsToAsk};
-ghost use Rattle.tables.specs.Kept.{HasWorld};
+ghost use Rattle.tables.specs.TablesValue.{HasWorld};
 ghost use Rattle.store_steps.specs.Meets.{IsMet, OnlyReads};
 ghost use Rattle.model.specs.Request as asked;
 ghost use Rattle.std.specs.FinMap as finite;

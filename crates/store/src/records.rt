@@ -11,7 +11,7 @@ use store_types::Info;
 use tables_outline::{Outline, Summary};
 
 /// Owned copies of paths.
-fn kept(alloc: Global, paths: &[StorePath]) -> Result<Vec<StorePath>, AllocError>
+fn owned_paths(alloc: Global, paths: &[StorePath]) -> Result<Vec<StorePath>, AllocError>
     ensures { IfOk result (λ v. v.items ≡ paths.now) }
 {
     let mut copies = Vec::new(alloc);
@@ -39,7 +39,7 @@ pub(crate) fn record(alloc: Global, path: StorePath, object: &Summary) -> Result
         path,
         hash: *object.hash(),
         size: object.size(),
-        references: kept(alloc, object.references())?,
+        references: owned_paths(alloc, object.references())?,
         deriver: kept_one(object.deriver())?,
         ca: object.ca(),
     })

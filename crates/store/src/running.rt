@@ -9,7 +9,7 @@ ghost use Rattle.model.specs.Labels.{AllFailAlike, DifferInLabels};
 ghost use Rattle.model.specs.Pinning.{KeepsReached, RemainsThroughout};
 ghost use Rattle.model.specs.Reply as replied;
 ghost use Rattle.model.specs.Step.{Run};
-ghost use Rattle.tables.specs.Kept.{HasWorld};
+ghost use Rattle.tables.specs.TablesValue.{HasWorld};
 ghost use Rattle.store_steps.specs.Disk.{LookAlikeOver, RunOver};
 ghost use Rattle.store_steps.specs.Durability.{LeavesOthers};
 ghost use Rattle.store_types.specs.Spent.{SpentAreAnswered};

@@ -11,7 +11,7 @@ use Rattle.model.specs.Tests.{first_failing, import_tests}
 use Rattle.model.specs.Adds.{Added, added_import}
 use Rattle.model.specs.Effects.{with_object}
 use Rattle.model.proofs.SoundAdds.{import_sound}
-use Rattle.tables.specs.Kept.{Kept, HasWorld}
+use Rattle.tables.specs.TablesValue.{TablesValue, HasWorld}
 use Rattle.store_types.specs.declared.replies.Stop.{Stop}
 use Rattle.store_types.specs.Tested.{Stops}
 
@@ -27,7 +27,7 @@ module _ (i : Imported) (o k : OutlineValue) (d e : List ℕ) (same : o ≡ k) (
       → (w : World) → outline_of w ≡ k → Stops stop (first_failing (import_tests e w i))
   import_stopped stop h w is = subst (λ (x : List ℕ). Stops stop (first_failing (import_tests x w i))) dir (h w (is ∙ sym same))
 
-pub import_stays_sound : {S : Type 0} (g : Ghosts S) (k : Kept S) (s : Settings) (i : Imported) (a : Added) → k.dir ≡ s.store_dir
+pub import_stays_sound : {S : Type 0} (g : Ghosts S) (k : TablesValue S) (s : Settings) (i : Imported) (a : Added) → k.dir ≡ s.store_dir
     → IsWellFormedImport i → ((w : World) → outline_of w ≡ k.outline → IsImport s.store_dir w i a) → (w : World) → HasWorld g k w → IsSound k.dir (with_object w a)
 import_stays_sound g k s i a dir formed gives w t =
     subst (λ (d : List ℕ). IsSound d (with_object w a)) (sym dir)

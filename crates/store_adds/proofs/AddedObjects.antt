@@ -24,7 +24,7 @@ use Rattle.model.specs.Effects.{with_object, effect}
 use Rattle.model.specs.Answers.{answer}
 use Rattle.tables.specs.Reasons.{Rows}
 use Rattle.tables.specs.Frames.{CommitsChange, FailsToChange}
-use Rattle.tables.specs.Kept.{Kept, HasWorld, LeavesWorld}
+use Rattle.tables.specs.TablesValue.{TablesValue, HasWorld, LeavesWorld}
 use Rattle.store_types.specs.declared.replies.Answer.{Answer}
 use Rattle.store_types.specs.declared.replies.Answer.TheVariants.{Path as Placed}
 use Rattle.store_types.specs.declared.replies.Stop.{Stop}
@@ -35,10 +35,10 @@ use Rattle.store_adds.specs.Adding.{Adds, IsAdded}
 use Rattle.store_steps.specs.Crashes.{LeavesPassed}
 use Rattle.store_steps.proofs.Outlined.{has_outlined}
 use Rattle.store_steps.proofs.Caused.{write_fails}
-use Rattle.store_steps.proofs.Untouched.{survives_as, survives_still, lasts_still, others_shown, others_still}
+use Rattle.store_steps.proofs.Untouched.{survives_as, survives_still, stays_durable_still, others_shown, others_still}
 use Rattle.store_steps.proofs.Written.{unwritten, written}
 
-module _ {S : Type 0} (g : Ghosts S) (path : Path) (o : Outlined) (k : Kept S) where
+module _ {S : Type 0} (g : Ghosts S) (path : Path) (o : Outlined) (k : TablesValue S) where
   abbrev it : List ℕ → Added
   it nar = record { path = path; object = with_archive nar o }
 
@@ -50,14 +50,14 @@ module _ {S : Type 0} (g : Ghosts S) (path : Path) (o : Outlined) (k : Kept S) w
   valid_told b e w t = sym (has_outlined w path) ∙ ap (λ (x : OutlineValue). finite.contains_key x.objects path) t.outline ∙ e
 
   -- its path is valid already
-  pub added_there : (nar : List ℕ) → finite.contains_key k.outline.objects path ≡ true → IsAdded g (it nar) (Ok (Placed path)) k k
-  added_there nar e = record {
+  pub added_present : (nar : List ℕ) → finite.contains_key k.outline.objects path ≡ true → IsAdded g (it nar) (Ok (Placed path)) k k
+  added_present nar e = record {
     dir = refl;
     cause = λ q touches puts. tt;
     others = others_still g k;
     world = λ w t. (refl, subst (λ (v : World). HasWorld g k v) (sym (ap (λ b. if b then w else put nar w) (valid_told true e w t))) t);
     unrefused = λ h. h;
-    lasts = λ _. lasts_still g k;
+    stays_durable = λ _. stays_durable_still g k;
     survives = λ w t. survives_still (state g k.connection) _;
   }
 
@@ -68,7 +68,7 @@ module _ {S : Type 0} (g : Ghosts S) (path : Path) (o : Outlined) (k : Kept S) w
     pub sound_put : ((w : World) → HasWorld g k w → IsSound k.dir (with_object w (it nar))) → (w : World) → HasWorld g k w → IsSound k.dir (put read w)
     sound_put sound w t = subst (λ (v : World). IsSound k.dir v) (grown w t) (sound w t)
 
-    module _ (new : Kept S) where
+    module _ (new : TablesValue S) where
       survives_put : ((w : World) → HasWorld g k w → Survives (state g k.connection) (state g new.connection) (λ db. LeavesWorld k.dir (state g k.connection).now db (put read w)))
           → (w : World) → HasWorld g k w → Survives (state g k.connection) (state g new.connection) (λ db. LeavesWorld k.dir (state g k.connection).now db (with_object w (it nar)))
       survives_put left w t =
@@ -82,7 +82,7 @@ module _ {S : Type 0} (g : Ghosts S) (path : Path) (o : Outlined) (k : Kept S) w
         unrefused = λ h. h;
         cause = λ q touches puts. tt;
         others = λ clean is_open. ((frame.was_open clean).0, frame.others clean);
-        lasts = λ _ clean. let is_open = (frame.was_open clean).1 in inl (is_open, frame.durable is_open);
+        stays_durable = λ _ clean. let is_open = (frame.was_open clean).1 in inl (is_open, frame.durable is_open);
         survives = survives_put frame.survives;
       }
 
@@ -95,12 +95,12 @@ module _ {S : Type 0} (g : Ghosts S) (path : Path) (o : Outlined) (k : Kept S) w
         unrefused = λ h. h;
         cause = λ q touches puts. write_fails g q k new touches rows (λ t row put. puts) (Placed path) (Err f) cause;
         others = others_shown g k new frame.shown;
-        lasts = λ h. absurd h;
+        stays_durable = λ h. absurd h;
         survives = survives_put frame.survives;
       }
 
 -- a request that adds what was handed in
-pub met_by_adding : {S : Type 0} (g : Ghosts S) (s : Settings) (c : Caller) (q : Request) (r : Result Answer Stop) (k new : Kept S) (a asked : Added)
+pub met_by_adding : {S : Type 0} (g : Ghosts S) (s : Settings) (c : Caller) (q : Request) (r : Result Answer Stop) (k new : TablesValue S) (a asked : Added)
     → ((w : World) → outline_of w ≡ k.outline → (refusal s w q ≡ None) × (a ≡ asked))
     → ((w : World) → effect s w q ≡ with_object w asked) → ((w : World) → answer s w c q ≡ replied.path asked.path)
     → IsTrue (touches_disk q) → IsTrue (puts_rows q) → IsAdded g a r k new → IsMet g s c q r k new
@@ -110,7 +110,7 @@ met_by_adding g s c q r k new a asked gives effect_is answer_is touches puts add
   cause = λ w t. added.cause q touches puts;
   others = added.others;
   still = λ h. absurd (added.unrefused h);
-  lasts = added.lasts;
+  stays_durable = added.stays_durable;
   survives = λ w t.
       survives_as (state g k.connection) (state g new.connection) (λ db. LeavesWorld k.dir (state g k.connection).now db (with_object w a)) (λ db. LeavesPassed k.dir (state g k.connection).now db s w q)
       (λ db rows. ((gives w t.outline).0, subst (λ (v : World). LeavesWorld k.dir (state g k.connection).now db v) (becomes w t) rows)) (added.survives w t);
@@ -141,7 +141,7 @@ module _ (name : List ℕ) (refs : List Path) (o k : OutlineValue) (d e b conten
       subst (λ (x : List ℕ). Stops stop (first_failing (text_tests x w (text_path x name refs contents) refs contents))) dir
       (subst (λ (y : List ℕ). Stops stop (first_failing (text_tests d w (text_path d name refs y) refs y))) bytes (h w (is ∙ sym same)))
 
-pub text_stays_sound : {S : Type 0} (g : Ghosts S) (k : Kept S) (s : Settings) (name : List ℕ) (refs : List Path) (contents : List ℕ) (a : Added) → k.dir ≡ s.store_dir
+pub text_stays_sound : {S : Type 0} (g : Ghosts S) (k : TablesValue S) (s : Settings) (name : List ℕ) (refs : List Path) (contents : List ℕ) (a : Added) → k.dir ≡ s.store_dir
     → IsTrue (is_store_name name) → IsBytes contents → ((w : World) → outline_of w ≡ k.outline → IsText s.store_dir w name refs contents a) → (w : World) → HasWorld g k w → IsSound k.dir (with_object w a)
 text_stays_sound g k s name refs contents a dir named bytes gives w t =
     subst (λ (d : List ℕ). IsSound d (with_object w a)) (sym dir)

@@ -12,7 +12,7 @@ use Rattle.model.specs.Tests.{first_failing, source_tests}
 use Rattle.model.specs.Adds.{Added, added_source}
 use Rattle.model.specs.Effects.{with_object}
 use Rattle.model.proofs.SoundAdds.{source_sound}
-use Rattle.tables.specs.Kept.{Kept, HasWorld}
+use Rattle.tables.specs.TablesValue.{TablesValue, HasWorld}
 use Rattle.store_types.specs.declared.replies.Stop.{Stop}
 use Rattle.store_types.specs.Tested.{Stops}
 
@@ -28,7 +28,7 @@ module _ (name : List ℕ) (refs : List Path) (nar : List ℕ) (o k : OutlineVal
       → (w : World) → outline_of w ≡ k → Stops stop (first_failing (source_tests e w (source_path e name refs nar) refs nar))
   source_stopped stop h w is = subst (λ (x : List ℕ). Stops stop (first_failing (source_tests x w (source_path x name refs nar) refs nar))) dir (h w (is ∙ sym same))
 
-pub source_stays_sound : {S : Type 0} (g : Ghosts S) (k : Kept S) (s : Settings) (name : List ℕ) (refs : List Path) (nar : List ℕ) (a : Added) → k.dir ≡ s.store_dir
+pub source_stays_sound : {S : Type 0} (g : Ghosts S) (k : TablesValue S) (s : Settings) (name : List ℕ) (refs : List Path) (nar : List ℕ) (a : Added) → k.dir ≡ s.store_dir
     → IsTrue (is_store_name name) → IsBytes nar → ((w : World) → outline_of w ≡ k.outline → IsSource s.store_dir w name refs nar a) → (w : World) → HasWorld g k w → IsSound k.dir (with_object w a)
 source_stays_sound g k s name refs nar a dir named bytes gives w t =
     subst (λ (d : List ℕ). IsSound d (with_object w a)) (sym dir)

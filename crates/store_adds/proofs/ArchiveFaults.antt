@@ -29,16 +29,16 @@ pub a_fault : (r : Result Tree NarError) (f : Option NarError) (e : NarError) �
 a_fault (Ok t) f e is some = let no : ⊥ = cc in absurd no
 a_fault (Err x) f e is some = ap archive_refusal (sym (same_Some x e (sym is ∙ some)))
 
-bad_apart : texts.BadDerivation ≢ texts.Memory
-bad_apart is = cc
+bad_distinct : texts.BadDerivation ≢ texts.Memory
+bad_distinct is = cc
 
-double_apart : texts.DoubleOutput ≢ texts.Memory
-double_apart is = cc
+double_distinct : texts.DoubleOutput ≢ texts.Memory
+double_distinct is = cc
 
 -- and one of a derivation text that of its outputs
 pub outputs_stop : (dir text : List ℕ) (e : DrvError) → (e ≢ texts.Memory → IsFault dir text e) → Stops (derivation_stop e) (outputs_fault (outputs_of dir text))
-outputs_stop dir text texts.BadDerivation h = ap outputs_fault ((one_outcome dir text (Err texts.BadDerivation)).0 (h bad_apart))
-outputs_stop dir text texts.DoubleOutput h = ap outputs_fault ((one_outcome dir text (Err texts.DoubleOutput)).0 (h double_apart))
+outputs_stop dir text texts.BadDerivation h = ap outputs_fault ((one_outcome dir text (Err texts.BadDerivation)).0 (h bad_distinct))
+outputs_stop dir text texts.DoubleOutput h = ap outputs_fault ((one_outcome dir text (Err texts.DoubleOutput)).0 (h double_distinct))
 outputs_stop dir text texts.Memory h = refl
 
 -- a regular file has its contents as a text

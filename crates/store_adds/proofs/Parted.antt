@@ -19,8 +19,8 @@ abbrev pub path_of : Named → Path
 path_of e = e.1
 
 -- all are taken
-pub taken : {B : Type 0} (f : Named → B) (items : List B) (left all : List Named) → left ≡ [] → items ++ map f left ≡ map f all → items ≡ map f all
-taken f items left all none before = sym (append-nil items) ∙ ap (λ (l : List Named). items ++ map f l) (sym none) ∙ before
+pub consumed : {B : Type 0} (f : Named → B) (items : List B) (left all : List Named) → left ≡ [] → items ++ map f left ≡ map f all → items ≡ map f all
+consumed f items left all none before = sym (append-nil items) ∙ ap (λ (l : List Named). items ++ map f l) (sym none) ∙ before
 
 zip_parts : (es : List Named) → zip (map string_bytes (map name_of es)) (map path_of es) ≡ map (λ (e : Named). let d : List ℕ × Path = (string_bytes e.0, e.1) in d) es
 zip_parts [] = refl

@@ -8,7 +8,7 @@ use Rattle.model.specs.Request.{Request}
 use Rattle.model.specs.Reply.{path}
 use Rattle.model.specs.Adds.{Added}
 use Rattle.model.specs.Effects.{with_object}
-use Rattle.tables.specs.Kept.{Kept, HasWorld, LeavesWorld}
+use Rattle.tables.specs.TablesValue.{TablesValue, HasWorld, LeavesWorld}
 use Rattle.store_types.specs.declared.replies.Answer.{Answer}
 use Rattle.store_types.specs.declared.replies.Stop.{Stop}
 use Rattle.store_types.specs.declared.replies.Stop.TheVariants.{Refused, Failed}
@@ -18,20 +18,20 @@ use Rattle.store_steps.specs.Durability.{LeavesOthers, StaysDurable}
 use Rattle.store_steps.specs.Meets.{IsAnswered, IsRefused, reply_to}
 
 module _ {S : Type 0} (g : Ghosts S) where
-  -- its path is answered, and the tables have a world with it; or the call failed, and they have the worlds that they
-  -- had
-  abbrev pub Adds : Added → Result Answer Stop → World → Kept S → Type 0
+  -- the path of the object is answered, and the tables have a world with the object; or the call failed, and the tables
+  -- have the world that they had
+  abbrev pub Adds : Added → Result Answer Stop → World → TablesValue S → Type 0
   Adds a (Ok x) w new = (answer_view x ≡ path a.path) × HasWorld g new (with_object w a)
   Adds a (Err (Failed f)) w new = HasWorld g new w
   Adds a (Err (Refused r)) w new = ⊥
 
-  pub record IsAdded (a : Added) (r : Result Answer Stop) (old new : Kept S) : Type 0 where
+  pub record IsAdded (a : Added) (r : Result Answer Stop) (old new : TablesValue S) : Type 0 where
     pub dir : new.dir ≡ old.dir
     pub world : (w : World) → HasWorld g old w → Adds a r w new
     pub unrefused : IsRefused r → ⊥
     -- a failure has its cause, for each request that puts rows
     pub cause : (q : Request) → IsTrue (touches_disk q) → IsTrue (puts_rows q) → HasCause g q (reply_to r) old new
     pub others : LeavesOthers g old new
-    pub lasts : IsAnswered r → StaysDurable g old new
+    pub stays_durable : IsAnswered r → StaysDurable g old new
     pub survives : (w : World) → HasWorld g old w → Survives (state g old.connection) (state g new.connection)
         (λ db. LeavesWorld old.dir (state g old.connection).now db (with_object w a))

@@ -1,19 +1,12 @@
 -- Parts of an object to add, and tests of them by an outline.
-use Rattle.std.specs.Prelude.{◌||◌, Bool, List, String, string_bytes}
+use Rattle.std.specs.Prelude.{◌||◌, Bool, List}
 use Rattle.std.specs.List.{list_all}
 use Rattle.std.specs.FinMap as finite
-use Rattle.std.specs.declared.alloc.Global.{Global}
-use Rattle.paths.specs.Root.{bytes_cmp}
 use Rattle.live.specs.Graph.{same}
 use Rattle.model.specs.World.{Path}
-use Rattle.tables_outline.specs.Maps.{seen_map}
 use Rattle.tables_outline.specs.Outline.{OutlineValue, with_archive}
 use Rattle.model.specs.Adds as adds
 use Rattle.store_adds.specs.declared.summaries.Added.{Added}
-
--- outputs by their names
-abbrev pub outputs_view : List (String Global × Path) → finite.FinMap bytes_cmp Path
-outputs_view entries = seen_map bytes_cmp string_bytes (λ (p : Path). p) entries
 
 -- an object with its path
 abbrev pub added_view : Added → adds.Added

@@ -7,7 +7,7 @@ ghost use Rattle.model.specs.World.{World};
 ghost use Rattle.model.specs.Sound.{IsSound};
 ghost use Rattle.model.specs.Request as asked;
 ghost use Rattle.model.specs.Effects.{with_object};
-ghost use Rattle.tables.specs.Kept.{HasWorld};
+ghost use Rattle.tables.specs.TablesValue.{HasWorld};
 ghost use Rattle.store_adds.specs.Parts.{added_view};
 ghost use Rattle.store_adds.specs.Adding.{IsAdded};
 ghost use Rattle.store_steps.specs.Meets.{IsMet};

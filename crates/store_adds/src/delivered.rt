@@ -4,7 +4,6 @@ ghost use Rattle.std.specs.Prelude.{◌≡◌, ◌||◌, Some, None, IfOk, IfErr
 ghost use Rattle.sha2.specs.Sha256.{sha256};
 ghost use Rattle.paths.specs.StorePath.{is_base_name};
 ghost use Rattle.paths.specs.ContentAddress.{verifies};
-ghost use Rattle.paths.specs.Facts.{HasFactsFor};
 ghost use Rattle.live.specs.Graph.{holds as is_held, same};
 ghost use Rattle.model.specs.World.{Path as PathOf};
 ghost use Rattle.model.specs.Adds.{added_import};
@@ -20,7 +19,7 @@ ghost use Rattle.store_types.specs.View.{import_view};
 use crate::arrivals::arrived;
 use crate::references::are_others;
 use intake::Arrived;
-use paths::{Ca, Facts, Method, StoreDir, StorePath, VerifyError};
+use paths::{Ca, StoreDir, StorePath, VerifyError};
 use std::alloc::Global;
 use store_types::{Imported, Refusal, Stop};
 use tables_sql::failure::Failure;
@@ -119,21 +118,6 @@ impl Delivered {
         Ok(())
     }
 
-    /// The facts of the archive that `method` needs; contents are hashed for `Text` alone.
-    fn facts(&self, method: Method) -> Facts
-        requires { DescribesBytes self.now.nar }
-        ensures { HasFactsFor method self.now.nar.pieces result }
-    {
-        match method {
-            Method::Text => self.nar.facts(),
-            Method::Source => Facts {
-                nar_hash: self.nar.nar_hash,
-                nar_size: self.nar.pieces.len() as u64,
-                plain: None,
-            },
-        }
-    }
-
     /// Whether `ca` is a content address of the object.
     fn fits(&self, alloc: Global, dir: &StoreDir, ca: &Ca) -> Result<bool, Stop>
         requires { DescribesBytes self.now.nar }
@@ -143,7 +127,7 @@ impl Delivered {
             (delivered_view self.now).nar) }
         ensures failed { IfErr result (λ stop. stop ≡ failed memory) }
     {
-        let facts = self.facts(ca.method());
+        let facts = self.nar.facts_for(ca.method());
         match ca.verify_facts(alloc, dir, &self.path, &self.refs, &facts) {
             Ok(()) => Ok(true),
             Err(VerifyError::CaMismatch) => Ok(false),

@@ -1,39 +1,23 @@
 //! Derivations: the outputs that they record.
-ghost use Rattle.std.specs.Prelude.{◌≡◌, Ok, if◌then◌else◌, IfOk};
+ghost use Rattle.std.specs.Prelude.{◌≡◌, Ok, if◌then◌else◌};
 ghost use Rattle.std.specs.FinMap as finite;
 ghost use Rattle.paths.specs.StorePath.{is_derivation};
 ghost use Rattle.nar.specs.declared.error.NarError.{NarError as Fault};
 ghost use Rattle.nar.specs.Outcome.{outcome_of};
 ghost use Rattle.nar.specs.View.{tree_of};
 ghost use Rattle.drv.specs.Outcome as outcome;
-ghost use Rattle.drv.specs.View.{pairs};
+ghost use Rattle.intake.specs.Recorded.{outputs_view};
 ghost use Rattle.model.specs.Objects as objects;
 ghost use Rattle.model.specs.Tests.{if_derivation, outputs_fault, tree_fault};
 ghost use Rattle.store_types.specs.Tested.{Gives};
-ghost use Rattle.store_adds.specs.Parts.{outputs_view};
 
-use intake::file_contents;
+use intake::{file_contents, recorded_outputs};
 use nar::Node;
 use paths::{StoreDir, StorePath};
-use std::alloc::{AllocError, Global};
+use std::alloc::Global;
 use std::collections::BTreeMap;
 use store_types::{Refusal, Stop};
 use streams::Pieces;
-
-/// The paths of outputs by their names.
-fn by_name(
-    alloc: Global,
-    found: Vec<(String, StorePath)>,
-) -> Result<BTreeMap<String, StorePath>, AllocError>
-    ensures { IfOk result (λ map. outputs_view map.entries ≡ finite.from_entries (pairs found.items)) }
-{
-    let mut left = found;
-    let mut map = BTreeMap::new(alloc);
-    while let Some((name, path)) = left.pop() {
-        map.insert(name, path)?;
-    }
-    Ok(map)
-}
 
 /// The outputs of a derivation text.
 fn outputs_of(
@@ -45,8 +29,7 @@ fn outputs_of(
         (λ map. outputs_view map.entries) result (outputs_fault (outcome.outputs_of dir.now text.now))
         (objects.outputs_if_sound (outcome.outputs_of dir.now text.now)) }
 {
-    let found = drv::outputs(alloc, text, dir)?;
-    Ok(by_name(alloc, found)?)
+    Ok(recorded_outputs(alloc, dir, text)?)
 }
 
 /// The outputs of a tree as a derivation: any other node than a regular file has no text.

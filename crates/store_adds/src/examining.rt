@@ -8,7 +8,7 @@ ghost use Rattle.tables_outline.specs.Outline.{outline_of};
 ghost use Rattle.model.specs.Adds.{text_archive, text_archive_size};
 ghost use Rattle.model.specs.Tests.{first_failing, text_tests};
 ghost use Rattle.store_types.specs.Tested.{Gives};
-ghost use Rattle.store_adds.specs.Parts.{outputs_view};
+ghost use Rattle.intake.specs.Recorded.{outputs_view};
 
 use crate::archives::plain;
 use crate::derivations::outputs_at;

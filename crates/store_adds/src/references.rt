@@ -14,16 +14,14 @@ ghost use Rattle.store_adds.specs.Parts.{is_complete_in};
 
 use paths::StorePath;
 use store_types::Refusal;
+use streams::MAX_REFERENCES;
 use tables_outline::Outline;
-
-/// The most references of an object to add.
-const MOST_REFERENCES: usize = 4096;
 
 /// Tests that there aren't too many references, repeats counted.
 pub(crate) fn are_few(refs: &[StorePath]) -> Result<(), Refusal>
     ensures { Tested result (unless (nat_le (length refs.now) most_references) Refusal.TooManyReferences) }
 {
-    if refs.len() > MOST_REFERENCES {
+    if refs.len() > MAX_REFERENCES {
         return Err(Refusal::TooManyReferences);
     }
     Ok(())

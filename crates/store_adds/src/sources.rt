@@ -12,7 +12,8 @@ ghost use Rattle.tables_sql.specs.declared.failure.Failure.TheVariants.{Memory a
 ghost use Rattle.store_types.specs.declared.replies.Stop.TheVariants.{Failed as failed};
 ghost use Rattle.intake.specs.Described.{DescribesBytes};
 ghost use Rattle.store_types.specs.Tested.{Gives};
-ghost use Rattle.store_adds.specs.Parts.{added_view, outputs_view};
+ghost use Rattle.intake.specs.Recorded.{outputs_view};
+ghost use Rattle.store_adds.specs.Parts.{added_view};
 ghost use Rattle.policy.specs.Caller.{Caller};
 ghost use Rattle.store_steps.specs.Meets.{IsMet};
 ghost use Rattle.paths.specs.Path as paths;

@@ -5,7 +5,7 @@ ghost use Rattle.std.specs.List.{zip};
 ghost use Rattle.std.specs.FinMap as finite;
 ghost use Rattle.paths.specs.Root.{bytes_cmp, set_of};
 ghost use Rattle.tables_outline.specs.Outline.{rise};
-ghost use Rattle.store_adds.specs.Parts.{outputs_view};
+ghost use Rattle.intake.specs.Recorded.{outputs_view};
 
 use crate::references::in_order;
 use paths::{Ca, StorePath};

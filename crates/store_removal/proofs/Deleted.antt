@@ -4,7 +4,7 @@ use Rattle.std.specs.Prelude.{All, filter}
 use Rattle.std.specs.List.{list_any, range_with_len}
 use Rattle.std.proofs.lemmas.List.Elements.{All-filter}
 use Rattle.std.proofs.lemmas.List.FromFn.{get_or-range_with_len, length-range_with_len}
-use Rattle.live.specs.Graph.{references_alone, same}
+use Rattle.live.specs.Graph.{references_only, same}
 use Rattle.live.specs.Numbering.{Row, graph_of, path_at, paths_of}
 use Rattle.live.specs.Reach.{reaches, refers_to_any}
 use Rattle.model.specs.World.{Path, World}
@@ -13,7 +13,7 @@ use Rattle.model.specs.Liveness as spec
 use Rattle.store_removal.specs.Linked.{rows_in}
 use Rattle.store_removal.proofs.Places.{unreached}
 use Rattle.store_removal.proofs.Rising.{paths_in}
-use Rattle.store_removal.proofs.Reported.{graph_told, paths_told}
+use Rattle.store_removal.proofs.Reported.{graph_reported, paths_reported}
 
 -- ---- places within
 
@@ -28,14 +28,14 @@ pub within : (p : ℕ → Bool) (n m : ℕ) → n ≡ m → (ks places : List �
 within p n m e ks places a b =
     subst (λ (xs : List ℕ). All (λ k. k < m) xs) (sym (a ∙ b)) (subst (λ (j : ℕ). All (λ k. k < j) (filter p (range_with_len 0 n))) e (All-filter p (λ k. k < n) (range_with_len 0 n) (below n)))
 
-taken : {X : Type 0} (f : ℕ → X) (ks : List ℕ) (i : ℕ) → i < length ks → map f (take i ks) ++ f (get_or ks i 0) ∷ [] ≡ map f (take (suc i) ks)
-taken f [] i h = absurd (omega (arith, h))
-taken f (k ∷ ks) zero h = refl
-taken f (k ∷ ks) (suc i) h = ap (λ xs. f k ∷ xs) (taken f ks i (omega (arith, h)))
+consumed : {X : Type 0} (f : ℕ → X) (ks : List ℕ) (i : ℕ) → i < length ks → map f (take i ks) ++ f (get_or ks i 0) ∷ [] ≡ map f (take (suc i) ks)
+consumed f [] i h = absurd (omega (arith, h))
+consumed f (k ∷ ks) zero h = refl
+consumed f (k ∷ ks) (suc i) h = ap (λ xs. f k ∷ xs) (consumed f ks i (omega (arith, h)))
 
 -- one more
-pub taken_more : {X : Type 0} (f : ℕ → X) (ks : List ℕ) (i : ℕ) → i < length ks → map f (take i ks) ++ f (get_or ks i 0) ∷ [] ≡ map f (take (i + 1) ks)
-taken_more f ks i h = taken f ks i h ∙ ap (λ n. map f (take n ks)) one
+pub consumed_more : {X : Type 0} (f : ℕ → X) (ks : List ℕ) (i : ℕ) → i < length ks → map f (take i ks) ++ f (get_or ks i 0) ∷ [] ≡ map f (take (i + 1) ks)
+consumed_more f ks i h = consumed f ks i h ∙ ap (λ n. map f (take n ks)) one
   where
     one : suc i ≡ i + 1
     one = omega arith
@@ -46,11 +46,11 @@ module _ (o : OutlineValue) (rows again : List Row) (is : rows ≡ rows_in o) (i
     (those : (test : Path → Bool) → ((p : Path) → filter (same p) (paths_of rows) ≡ [] → test p ≡ false) → list_any test (map (path_at rows) places) ≡ list_any test named) where
   goes : (p : Path) → refers_to_any (graph_of (rows_in o)) (map (path_at (rows_in o)) places) p ≡ refers_to_any (graph_of (rows_in o)) named p
   goes p =
-      ap (λ rs. list_any (reaches references_alone (graph_of (rows_in o)) p) (map (path_at rs) places)) (sym is)
-      ∙ those (reaches references_alone (graph_of (rows_in o)) p) (λ q none. unreached references_alone o rows p q is none)
+      ap (λ rs. list_any (reaches references_only (graph_of (rows_in o)) p) (map (path_at rs) places)) (sym is)
+      ∙ those (reaches references_only (graph_of (rows_in o)) p) (λ q none. unreached references_only o rows p q is none)
 
-  pub deleted_told : (w : World) → outline_of w ≡ o → filter (refers_to_any (graph_of again) (map (path_at again) handed)) (paths_of again) ≡ spec.deleted_paths w named
-  deleted_told w reported =
+  pub deleted_reported : (w : World) → outline_of w ≡ o → filter (refers_to_any (graph_of again) (map (path_at again) handed)) (paths_of again) ≡ spec.deleted_paths w named
+  deleted_reported w reported =
       (λ i. filter (refers_to_any (graph_of (is_again i)) (map (path_at (is_again i)) (same_places i))) (paths_of (is_again i)))
       ∙ (λ i. filter (λ p. goes p i) (paths_in o i))
-      ∙ (λ i. filter (λ p. refers_to_any (graph_told w o reported i) named p) (paths_told w o reported i))
+      ∙ (λ i. filter (λ p. refers_to_any (graph_reported w o reported i) named p) (paths_reported w o reported i))

@@ -19,14 +19,14 @@ use Rattle.store_types.specs.Tested.{Stops}
 use Rattle.store_removal.proofs.Collected.{others_left}
 
 -- the only test
-alone : (t : Option Refusal) → first_failing (t ∷ []) ≡ t
-alone None = refl
-alone (Some r) = refl
+single : (t : Option Refusal) → first_failing (t ∷ []) ≡ t
+single None = refl
+single (Some r) = refl
 
 module _ (named handed : List Path) (same : handed ≡ named) (w : World) where
   -- what stops it
   pub stopped_as : (s : Settings) (ignores : Bool) (stop : Stop) → Stops stop (unless (list_all (has w) handed) NotValid) → Stops stop (first_failing (unless (list_all (has w) named) NotValid ∷ []))
-  stopped_as s ignores stop h = subst (Stops stop) (ap (λ (ps : List Path). unless (list_all (has w) ps) NotValid) same ∙ sym (alone (unless (list_all (has w) named) NotValid))) h
+  stopped_as s ignores stop h = subst (Stops stop) (ap (λ (ps : List Path). unless (list_all (has w) ps) NotValid) same ∙ sym (single (unless (list_all (has w) named) NotValid))) h
 
   module _ (f : Found) (found : (unless (list_all (has w) handed) NotValid ≡ None) × (found_view f ≡ (deleted_paths w handed, bytes_in w (deleted_paths w handed)))) where
     pub found_paths : f.paths.items ≡ deleted_paths w named
@@ -35,7 +35,7 @@ module _ (named handed : List Path) (same : handed ≡ named) (w : World) where
     -- the paths that it finds go, and nothing else
     pub deleted_as : (s : Settings) (c : Caller) (ignores : Bool) → Removes s w c (delete named ignores) f.paths.items f.bytes
     deleted_as s c ignores = record {
-      passes = alone (unless (list_all (has w) named) NotValid) ∙ ap (λ (ps : List Path). unless (list_all (has w) ps) NotValid) (sym same) ∙ found.0;
+      passes = single (unless (list_all (has w) named) NotValid) ∙ ap (λ (ps : List Path). unless (list_all (has w) ps) NotValid) (sym same) ∙ found.0;
       answers = ap (λ (x : List Path × _). freed x.0 x.1) found.1 ∙ ap (λ (ps : List Path). freed (deleted_paths w ps) (bytes_in w (deleted_paths w ps))) same;
       becomes = others_left w named f.paths.items found_paths;
     }

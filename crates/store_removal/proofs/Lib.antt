@@ -2,7 +2,7 @@ pub mod Collected
 pub mod Deleted
 pub mod DeletedRows
 pub mod Denied
-pub mod Kept
+pub mod FirstLive
 pub mod Limited
 pub mod Marked
 pub mod Noted

@@ -17,8 +17,8 @@ use Rattle.model.specs.Liveness.{keep_of, lives, collected_paths}
 use Rattle.store_removal.specs.Linked.{rows_in}
 use Rattle.tables_root_list.specs.Rooted.{rooted}
 use Rattle.store_removal.specs.Sizes.{size_in}
-use Rattle.store_removal.proofs.Sized.{sizes_told}
-use Rattle.store_removal.proofs.Reported.{graph_told, lives_told}
+use Rattle.store_removal.proofs.Sized.{sizes_reported}
+use Rattle.store_removal.proofs.Reported.{graph_reported, lives_reported}
 use Rattle.store_removal.proofs.Valid.{aims_well, any_kept, reaches_from_valid}
 
 -- each path has its size at its place
@@ -33,9 +33,9 @@ module _ (s : Settings) (o : OutlineValue) (keep : Keep) (rows : List Row) (vali
   lives_so p =
       (λ i. is_live (kept i) (graph_of (is i)) (same i) p)
       ∙ any_kept (λ (r : Root). reaches (keep_of s) (graph_of (rows_in o)) r.target p) (aims_well o) (λ r h. reaches_from_valid (keep_of s) o r.target p h) (roots_of (rooted o))
-      ∙ (λ i. lives_told s w o reported i p)
+      ∙ (λ i. lives_reported s w o reported i p)
 
-  pub limited_told : (limit : ℕ) → limited_paths (graph_of rows) (λ p. not (is_live keep (graph_of rows) valid p)) (size_in o) limit ≡ collected_paths s w (Some limit)
-  limited_told limit =
-      let graph = ap graph_of is ∙ graph_told w o reported in
-      λ i. limited_paths (graph i) (λ p. not (lives_so p i)) (sizes_told w o reported i) limit
+  pub limited_reported : (limit : ℕ) → limited_paths (graph_of rows) (λ p. not (is_live keep (graph_of rows) valid p)) (size_in o) limit ≡ collected_paths s w (Some limit)
+  limited_reported limit =
+      let graph = ap graph_of is ∙ graph_reported w o reported in
+      λ i. limited_paths (graph i) (λ p. not (lives_so p i)) (sizes_reported w o reported i) limit

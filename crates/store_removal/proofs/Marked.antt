@@ -22,8 +22,8 @@ use Rattle.store_removal.proofs.Rising.{paths_in, roots_rise, rows_rise}
 use Rattle.store_removal.proofs.Valid.{aims_well, all_marked, valid_all}
 
 module _ (o : OutlineValue) (rows : List Row) (is : rows ≡ rows_in o) where
-  pub handed_rise : Rise (paths_of rows)
-  handed_rise = subst (λ (rs : List Row). Rise (paths_of rs)) (sym is) (rows_rise o)
+  pub passed_rise : Rise (paths_of rows)
+  passed_rise = subst (λ (rs : List Row). Rise (paths_of rs)) (sym is) (rows_rise o)
 
   module _ (valid : List Root) (same : valid ≡ filter (aims_well o) (roots_of (rooted o))) where
     pub valid_rise : RootsRise valid
@@ -54,9 +54,9 @@ module _ (p : Path → Bool) (paths : List Path) (i : ℕ) (h : i < length paths
       is ∙ so_far ∙ sym (append-nil (filter p (take i paths))) ∙ ap (λ b. filter p (take i paths) ++ cond b (get_or paths i [] ∷ []) []) (sym misses) ∙ sym (filter_more p paths i [] h)
 
 -- the paths that are chosen of the rows of an outline
-pub chosen_told : (s : Settings) (o : OutlineValue) (rows : List Row) → rows ≡ rows_in o → (flags : List Bool) → flags ≡ map (lives_in s o) (finite.keys o.objects) → (wanted : Bool) (chosen : List Path)
+pub chosen_reported : (s : Settings) (o : OutlineValue) (rows : List Row) → rows ≡ rows_in o → (flags : List Bool) → flags ≡ map (lives_in s o) (finite.keys o.objects) → (wanted : Bool) (chosen : List Path)
     → ((test : Path → Bool) → flags ≡ map test (paths_of rows) → chosen ≡ filter (λ p. is_wanted wanted (test p)) (paths_of rows)) → chosen ≡ filter (λ p. is_wanted wanted (lives_in s o p)) (finite.keys o.objects)
-chosen_told s o rows is flags lives wanted chosen choose =
+chosen_reported s o rows is flags lives wanted chosen choose =
     let paths : paths_of rows ≡ finite.keys o.objects = ap paths_of is ∙ paths_in o in
     choose (lives_in s o) (lives ∙ ap (map (lives_in s o)) (sym paths)) ∙ ap (filter (λ p. is_wanted wanted (lives_in s o p))) paths
 

@@ -28,7 +28,7 @@ use Rattle.store_removal.specs.Linked.{links_in, rows_in}
 use Rattle.tables_root_list.specs.Rooted.{rooted}
 use Rattle.store_removal.proofs.Marked.{row_path}
 use Rattle.store_removal.proofs.Rising.{paths_in}
-use Rattle.store_removal.proofs.Reported.{graph_told, roots_told}
+use Rattle.store_removal.proofs.Reported.{graph_reported, roots_reported}
 use Rattle.store_removal.proofs.Valid.{aims_well, filter_kept, reaches_from_valid}
 
 -- ---- the search for a path
@@ -91,16 +91,16 @@ unreached keep o rows a p is none = false_from_ne_true (reaches keep (graph_of (
 pub none_kept : (s : Settings) (o : OutlineValue) (rows : List Row) (p : Path) → rows ≡ rows_in o → filter (same p) (paths_of rows) ≡ [] → (w : World) → outline_of w ≡ o → [] ≡ roots_that_keep s w p
 none_kept s o rows p is none w reported =
     sym (none_pass (λ (r : Root). reaches (keep_of s) (graph_of (rows_in o)) r.target p) (roots_of (rooted o)) (λ r. unreached (keep_of s) o rows r.target p is none))
-    ∙ λ i. roots_that_reach (keep_of s) (graph_told w o reported i) (roots_told w o reported i) p
+    ∙ λ i. roots_that_reach (keep_of s) (graph_reported w o reported i) (roots_reported w o reported i) p
 
 pub none_keeps : (s : Settings) (o : OutlineValue) (rows : List Row) (p : Path) → rows ≡ rows_in o → filter (same p) (paths_of rows) ≡ [] → (class : Class) (w : World) → outline_of w ≡ o → [] ≡ seen class (roots_that_keep s w p)
 none_keeps s o rows p is none class w reported = nothing_seen class ∙ ap (seen class) (none_kept s o rows p is none w reported)
 
 -- ---- the roots that keep a path
 
-pub keeping_told : (s : Settings) (o : OutlineValue) (keep : Keep) (rows : List Row) (valid : List Root) (p q : Path) → keep ≡ keep_of s → rows ≡ rows_in o → valid ≡ filter (aims_well o) (roots_of (rooted o)) → q ≡ p
+pub keeping_reported : (s : Settings) (o : OutlineValue) (keep : Keep) (rows : List Row) (valid : List Root) (p q : Path) → keep ≡ keep_of s → rows ≡ rows_in o → valid ≡ filter (aims_well o) (roots_of (rooted o)) → q ≡ p
     → (w : World) → outline_of w ≡ o → roots_that_reach keep (graph_of rows) valid q ≡ roots_that_keep s w p
-keeping_told s o keep rows valid p q k r v same w reported =
+keeping_reported s o keep rows valid p q k r v same w reported =
     (λ i. roots_that_reach (k i) (graph_of (r i)) (v i) (same i))
     ∙ filter_kept (λ (x : Root). reaches (keep_of s) (graph_of (rows_in o)) x.target p) (aims_well o) (λ x h. reaches_from_valid (keep_of s) o x.target p h) (roots_of (rooted o))
-    ∙ (λ i. roots_that_reach (keep_of s) (graph_told w o reported i) (roots_told w o reported i) p)
+    ∙ (λ i. roots_that_reach (keep_of s) (graph_reported w o reported i) (roots_reported w o reported i) p)

@@ -17,14 +17,14 @@ use Rattle.model.specs.Request.{Request}
 use Rattle.model.proofs.MapMembers.{bytes_antisymmetric}
 use Rattle.model.proofs.Worlds.{get-keeping}
 use Rattle.tables.specs.Frames.{CommitsChange}
-use Rattle.tables.specs.Kept.{Kept}
+use Rattle.tables.specs.TablesValue.{TablesValue}
 use Rattle.store_types.specs.declared.replies.Answer.{Answer}
 use Rattle.store_types.specs.View.{answer_view}
 use Rattle.store_steps.specs.Causes.{HasCause}
 use Rattle.store_steps.specs.Meets.{IsMet, reply_to}
 use Rattle.store_removal.specs.Removing.{Removes, without}
 use Rattle.store_steps.specs.Writing.{answered}
-use Rattle.store_steps.proofs.Untouched.{survives_still, lasts_still, others_still}
+use Rattle.store_steps.proofs.Untouched.{survives_still, stays_durable_still, others_still}
 use Rattle.store_steps.proofs.Written.{met_by_writing}
 
 -- a list that isn't empty has an item
@@ -33,10 +33,10 @@ positive [] h = absurd (false≢true (sym h))
 positive (x ∷ xs) h = omega arith
 
 -- where nothing goes, all stays
-none_gone : (objects : Objects) → finite.retain_keys objects (λ p. not (holds [] p)) ≡ objects
-none_gone objects = finite.same_map nat_list_cmp_total bytes_antisymmetric _ _ (λ q. get-keeping objects (λ p. not (holds [] p)) q)
+none_deleted : (objects : Objects) → finite.retain_keys objects (λ p. not (holds [] p)) ≡ objects
+none_deleted objects = finite.same_map nat_list_cmp_total bytes_antisymmetric _ _ (λ q. get-keeping objects (λ p. not (holds [] p)) q)
 
-module _ {S : Type 0} (g : Ghosts S) (s : Settings) (c : Caller) (q : Request) (k : Kept S) (gone : List Path) (bytes : ℕ) (a : Answer) (seen : answer_view a ≡ freed gone bytes)
+module _ {S : Type 0} (g : Ghosts S) (s : Settings) (c : Caller) (q : Request) (k : TablesValue S) (gone : List Path) (bytes : ℕ) (a : Answer) (seen : answer_view a ≡ freed gone bytes)
     (removes : (w : World) → outline_of w ≡ k.outline → Removes s w c q gone bytes) where
   -- nothing goes
   pub met_by_none : gone ≡ [] → IsMet g s c q (Ok a) k k
@@ -44,16 +44,16 @@ module _ {S : Type 0} (g : Ghosts S) (s : Settings) (c : Caller) (q : Request) (
     dir = refl;
     world = λ w t.
         let r = removes w t.outline in
-        (w, (r.passes, λ _. seen ∙ r.answers, sym (ap (λ (m : Objects). record w { objects = m }) (none_gone w.objects)) ∙ ap (without w) (sym none) ∙ r.becomes), t);
+        (w, (r.passes, λ _. seen ∙ r.answers, sym (ap (λ (m : Objects). record w { objects = m }) (none_deleted w.objects)) ∙ ap (without w) (sym none) ∙ r.becomes), t);
     cause = λ w t. tt;
     others = others_still g k;
     still = λ h. absurd h;
-    lasts = λ _. lasts_still g k;
+    stays_durable = λ _. stays_durable_still g k;
     survives = λ w t. survives_still (state g k.connection) _;
   }
 
   -- these go
-  pub met_by_removing : (new : Kept S) (handed : List Path) → handed ≡ gone → (r : Result (Unit {0}) Failure) → CommitsChange g k new r (λ w. without w handed)
+  pub met_by_removing : (new : TablesValue S) (handed : List Path) → handed ≡ gone → (r : Result (Unit {0}) Failure) → CommitsChange g k new r (λ w. without w handed)
       → HasCause g q (reply_to (answered r a)) k new → IsMet g s c q (answered r a) k new
   met_by_removing new handed same =
       met_by_writing g s c q k new (λ w. without w handed) a (λ w is. (removes w is).passes) (λ w is. seen ∙ (removes w is).answers) (λ w is. ap (without w) same ∙ (removes w is).becomes)

@@ -15,14 +15,14 @@ use Rattle.tables_root_list.specs.Rooted.{rooted}
 use Rattle.tables_root_list.proofs.RootOrder.{map-map}
 
 -- the same paths
-pub paths_told : (w : World) (o : OutlineValue) → outline_of w ≡ o → finite.keys o.objects ≡ all_paths w
-paths_told w o is =
+pub paths_reported : (w : World) (o : OutlineValue) → outline_of w ≡ o → finite.keys o.objects ≡ all_paths w
+paths_reported w o is =
     ap (λ (x : OutlineValue). finite.keys x.objects) (sym is) ∙ ap (map (λ (e : Path × Outlined). e.0)) (entries_outlined w)
     ∙ map-map (λ (e : Path × Object). let d : Path × Outlined = (e.0, outlined e.1) in d) (λ e. e.0) (finite.entries w.objects)
 
 -- the same roots
-pub roots_told : (w : World) (o : OutlineValue) → outline_of w ≡ o → roots_of (rooted o) ≡ roots_of w
-roots_told w o is = ap (λ (x : OutlineValue). roots_of (rooted x)) (sym is)
+pub roots_reported : (w : World) (o : OutlineValue) → outline_of w ≡ o → roots_of (rooted o) ≡ roots_of w
+roots_reported w o is = ap (λ (x : OutlineValue). roots_of (rooted x)) (sym is)
 
 -- the same graph
 graph_outlined : (w : World) → graph_of (rows_in (outline_of w)) ≡ spec.graph_of w
@@ -31,15 +31,15 @@ graph_outlined w =
     ap (λ (es : List (Path × Outlined)). finite.from_entries (map row_in es)) (entries_outlined w)
     ∙ ap finite.from_entries (map-map (λ (e : Path × Object). let d : Path × Outlined = (e.0, outlined e.1) in d) row_in (finite.entries w.objects))
 
-pub graph_told : (w : World) (o : OutlineValue) → outline_of w ≡ o → graph_of (rows_in o) ≡ spec.graph_of w
-graph_told w o is = ap (λ (x : OutlineValue). graph_of (rows_in x)) (sym is) ∙ graph_outlined w
+pub graph_reported : (w : World) (o : OutlineValue) → outline_of w ≡ o → graph_of (rows_in o) ≡ spec.graph_of w
+graph_reported w o is = ap (λ (x : OutlineValue). graph_of (rows_in x)) (sym is) ∙ graph_outlined w
 
 -- the same lives
-pub lives_told : (s : Settings) (w : World) (o : OutlineValue) → outline_of w ≡ o → lives_in s o ≡ spec.lives s w
-lives_told s w o is = λ i p. is_live (spec.keep_of s) (graph_told w o is i) (roots_told w o is i) p
+pub lives_reported : (s : Settings) (w : World) (o : OutlineValue) → outline_of w ≡ o → lives_in s o ≡ spec.lives s w
+lives_reported s w o is = λ i p. is_live (spec.keep_of s) (graph_reported w o is i) (roots_reported w o is i) p
 
-pub live_told : (s : Settings) (w : World) (o : OutlineValue) → outline_of w ≡ o → filter (lives_in s o) (finite.keys o.objects) ≡ spec.live_paths s w
-live_told s w o is = λ i. filter (lives_told s w o is i) (paths_told w o is i)
+pub live_reported : (s : Settings) (w : World) (o : OutlineValue) → outline_of w ≡ o → filter (lives_in s o) (finite.keys o.objects) ≡ spec.live_paths s w
+live_reported s w o is = λ i. filter (lives_reported s w o is i) (paths_reported w o is i)
 
-pub dead_told : (s : Settings) (w : World) (o : OutlineValue) → outline_of w ≡ o → filter (λ p. not (lives_in s o p)) (finite.keys o.objects) ≡ spec.dead_paths s w
-dead_told s w o is = λ i. filter (λ p. not (lives_told s w o is i p)) (paths_told w o is i)
+pub dead_reported : (s : Settings) (w : World) (o : OutlineValue) → outline_of w ≡ o → filter (λ p. not (lives_in s o p)) (finite.keys o.objects) ≡ spec.dead_paths s w
+dead_reported s w o is = λ i. filter (λ p. not (lives_reported s w o is i p)) (paths_reported w o is i)

@@ -15,8 +15,8 @@ ghost use Rattle.live.specs.Limited as limits;
 ghost use Rattle.model.specs.Liveness as spec;
 ghost use Rattle.model.specs.Request as asked;
 
+use crate::borrowing::{borrowed_roots, of_valid};
 use crate::deleting::paths_at;
-use crate::lending::{lent, of_valid};
 use crate::linking::rows;
 use crate::living::{dead_paths, keep_of};
 use crate::removing::{Found, remove};
@@ -85,7 +85,7 @@ fn limited_paths(
 {
     let rows = rows(alloc, outline)?;
     let roots = root_list(alloc, outline)?;
-    let given = lent(alloc, &roots)?;
+    let given = borrowed_roots(alloc, &roots)?;
     let valid = of_valid(alloc, outline, &given)?;
     let sizes = sizes(alloc, outline, &rows)?;
     let places = places(alloc, keep_of(config), &rows, &valid, &sizes, limit)?;

@@ -16,13 +16,13 @@ ghost use Rattle.store_types.specs.View.{request_view};
 ghost use Rattle.policy.specs.Settings.{Settings};
 ghost use Rattle.model.specs.Sound.{IsSound};
 ghost use Rattle.model.specs.Effects.{keeping};
-ghost use Rattle.tables.specs.Kept.{HasWorld};
+ghost use Rattle.tables.specs.TablesValue.{HasWorld};
 ghost use Rattle.store_steps.specs.Meets.{IsMet};
 ghost use Rattle.model.specs.Liveness as spec;
 ghost use Rattle.policy.specs.Caller as callers;
 ghost use Rattle.model.specs.Request as asked;
 
-use crate::keeping::first_kept;
+use crate::keeping::first_live;
 use crate::linking::rows;
 use crate::reaching::place_of;
 use crate::removing::{Found, remove};
@@ -110,7 +110,7 @@ pub fn denial(
 {
     match request {
         Request::Delete { paths: named, .. } => {
-            let root = first_kept(alloc, config, class(config, caller), outline, named)?;
+            let root = first_live(alloc, config, class(config, caller), outline, named)?;
             Ok(root)
         }
         _ => Ok(None),

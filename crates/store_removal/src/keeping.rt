@@ -12,7 +12,7 @@ ghost use Rattle.model.specs.Seen as sights;
 ghost use Rattle.model.specs.Verdict.{root_of_first};
 ghost use Rattle.store_removal.specs.Keeping.{AreMarked, first_value};
 
-use crate::lending::{lent, of_valid};
+use crate::borrowing::{borrowed_roots, of_valid};
 use crate::linking::rows;
 use crate::living::{keep_of, marks};
 use crate::reaching::place_of;
@@ -55,7 +55,7 @@ fn first_mark(rows: &[Row], marks: &Marks, named: &[StorePath]) -> Option<usize>
 
 /// The label and the target of the first root of the first of some paths that lives, as a caller of a class sees them.
 /// `None` if all paths are dead.
-pub fn first_kept(
+pub fn first_live(
     alloc: Global,
     config: &Config,
     class: Class,
@@ -71,7 +71,7 @@ pub fn first_kept(
 {
     let rows = rows(alloc, outline)?;
     let roots = root_list(alloc, outline)?;
-    let given = lent(alloc, &roots)?;
+    let given = borrowed_roots(alloc, &roots)?;
     let valid = of_valid(alloc, outline, &given)?;
     let marks = marks(alloc, keep_of(config), &rows, &valid)?;
     let Some(place) = first_mark(&rows, &marks, named) else {

@@ -1,10 +1,10 @@
 //! What is live, collection and deletion.
 #![tactic(auto)]
 
+mod borrowing;
 pub mod collecting;
 pub mod deleting;
 mod keeping;
-mod lending;
 mod linking;
 mod living;
 mod reaching;
@@ -15,7 +15,7 @@ mod sizes;
 
 pub use collecting::collected_paths;
 pub use deleting::deleted_paths;
-pub use keeping::first_kept;
+pub use keeping::first_live;
 pub use living::{dead_paths, live_and_dead, live_paths};
 pub use reaching::seen_roots_of;
 pub use removing::Found;

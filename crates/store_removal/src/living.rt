@@ -13,7 +13,7 @@ ghost use Rattle.tables_outline.specs.Outline.{outline_of};
 ghost use Rattle.model.specs.Liveness as spec;
 ghost use Rattle.store_removal.specs.Linked.{is_wanted, lives_in, rows_in};
 
-use crate::lending::{lent, of_valid};
+use crate::borrowing::{borrowed_roots, of_valid};
 use crate::linking::rows;
 use live::{Graph, Keep, Marks, Root, Roots, Row, mark};
 use paths::StorePath;
@@ -73,7 +73,7 @@ fn lives(
     ensures { IfOk result (λ v. v.items ≡ map (lives_in config.now outline.now) (finite.keys outline.now.objects)) }
 {
     let roots = root_list(alloc, outline)?;
-    let given = lent(alloc, &roots)?;
+    let given = borrowed_roots(alloc, &roots)?;
     let valid = of_valid(alloc, outline, &given)?;
     let marks = marks(alloc, keep_of(config), rows, &valid)?;
     flags(alloc, rows.len(), &marks)

@@ -12,7 +12,7 @@ ghost use Rattle.tables_outline.specs.Outline.{outline_of};
 ghost use Rattle.model.specs.Liveness.{roots_that_keep};
 ghost use Rattle.model.specs.Seen.{seen as seen_by};
 
-use crate::lending::{lent, of_valid};
+use crate::borrowing::{borrowed_roots, of_valid};
 use crate::linking::rows;
 use crate::living::keep_of;
 use crate::seen::seen;
@@ -92,7 +92,7 @@ pub fn seen_roots_of(
         return Ok(Vec::new(alloc));
     };
     let roots = root_list(alloc, outline)?;
-    let given = lent(alloc, &roots)?;
+    let given = borrowed_roots(alloc, &roots)?;
     let valid = of_valid(alloc, outline, &given)?;
     let reaching = reaching(alloc, keep_of(config), &rows, &valid, place)?;
     seen(alloc, class, &reaching)

@@ -6,7 +6,7 @@ ghost use Rattle.policy.specs.Caller.{Caller};
 ghost use Rattle.model.specs.World.{World};
 ghost use Rattle.model.specs.Sound.{IsSound};
 ghost use Rattle.tables_outline.specs.Outline.{outline_of};
-ghost use Rattle.tables.specs.Kept.{HasWorld};
+ghost use Rattle.tables.specs.TablesValue.{HasWorld};
 ghost use Rattle.store_steps.specs.Causes.{touches_disk};
 ghost use Rattle.store_steps.specs.Meets.{IsMet};
 ghost use Rattle.store_removal.specs.Removing.{Removes, without};

@@ -6,7 +6,7 @@ ghost use Rattle.tables_outline.specs.Outline.{outline_of};
 ghost use Rattle.tables_outline.specs.Maps.{labelled_bytes};
 ghost use Rattle.model.specs.Seen.{seen as seen_by};
 
-use crate::lending::lent;
+use crate::borrowing::borrowed_roots;
 use crate::seen::seen;
 use paths::StorePath;
 use policy::Class;
@@ -24,6 +24,6 @@ pub fn seen_roots(
         (λ v. (w : World) → outline_of w ≡ outline.now → map labelled_bytes v.items ≡ seen_by class (roots_of w)) }
 {
     let roots = root_list(alloc, outline)?;
-    let given = lent(alloc, &roots)?;
+    let given = borrowed_roots(alloc, &roots)?;
     seen(alloc, class, &given)
 }

@@ -11,8 +11,8 @@ module _ (a b x y : List ℕ) (first : x ≡ a) (second : y ≡ b) where
   pub same_owned : ◌≡◌ {A = Pair} (x, y) (a, b)
   same_owned = λ i. (first i, second i)
 
-  pub there_as : (o k : OutlineValue) → o ≡ k → IsTrue (finite.contains_key o.profiles (a, b)) → IsTrue (finite.contains_key k.profiles (x, y))
-  there_as o k same h = sym (ap₂ (λ (m : OutlineValue) (p : Pair). finite.contains_key m.profiles p) same (sym same_owned)) ∙ h
+  pub present_as : (o k : OutlineValue) → o ≡ k → IsTrue (finite.contains_key o.profiles (a, b)) → IsTrue (finite.contains_key k.profiles (x, y))
+  present_as o k same h = sym (ap₂ (λ (m : OutlineValue) (p : Pair). finite.contains_key m.profiles p) same (sym same_owned)) ∙ h
 
   -- one profile is changed
   pub changed_as : (f : Profile → Profile) (w : World) → with_profile w (x, y) (f (profile_at w (x, y))) ≡ with_profile w (a, b) (f (profile_at w (a, b)))

@@ -13,22 +13,13 @@ ghost use Rattle.model.specs.Request as asked;
 
 use crate::naming::is_named;
 use paths::StorePath;
+use paths::numbers::is_session;
 use sqlite::Alter;
 use store_steps::validity::is_valid;
 use store_steps::writing::answered;
 use store_types::{Answer, Refusal, Stop};
 use tables::Tables;
 use tables_outline::Outline;
-
-/// The greatest number of a session.
-const LAST_SESSION: u64 = 4_194_304;
-
-/// Whether a session may have this number.
-fn is_session(number: u64) -> bool
-    ensures { result ≡ is_session number }
-{
-    1 <= number && number <= LAST_SESSION
-}
 
 /// Tests that a session may have this number. Returns the number.
 fn has_number(number: u64) -> Result<u32, Refusal>

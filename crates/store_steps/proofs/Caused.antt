@@ -14,9 +14,9 @@ use Rattle.policy.specs.Caller.{Caller}
 use Rattle.model.specs.World.{World}
 use Rattle.model.specs.Request.{Request}
 use Rattle.model.specs.Reply.{disk}
-use Rattle.tables.specs.Reasons.{Rows, LacksRowid}
+use Rattle.tables.specs.Reasons.{Rows, RunsOutOfRowids}
 use Rattle.tables.specs.Frames.{FailsToAsk, FailsToChange}
-use Rattle.tables.specs.Kept.{Kept}
+use Rattle.tables.specs.TablesValue.{TablesValue}
 use Rattle.store_types.specs.Meets.{Meets}
 use Rattle.store_types.specs.declared.replies.Answer.{Answer}
 use Rattle.store_types.specs.declared.replies.Stop.{Stop}
@@ -25,14 +25,14 @@ use Rattle.store_steps.specs.Causes.{HasCause, IsDiskReason, puts_rows, touches_
 use Rattle.store_steps.specs.Meets.{reply_to}
 use Rattle.store_steps.specs.Writing.{answered}
 
-module _ {S : Type 0} (g : Ghosts S) (q : Request) (old new : Kept S) where
+module _ {S : Type 0} (g : Ghosts S) (q : Request) (old new : TablesValue S) where
   -- what is done without the disk runs out of memory, if it fails
-  pub memory_alone : (s : Settings) (w : World) (c : Caller) (r : Result Answer Stop) (next : World) → Meets s w c q r next → HasCause g q (reply_to r) old new
-  memory_alone s w c (Ok a) next m = tt
-  memory_alone s w c (Err (Refused r)) next m = tt
-  memory_alone s w c (Err (Failed Memory)) next m = tt
-  memory_alone s w c (Err (Failed Size)) next m = let is : Size ≡ Memory = m.0 in let no : ⊥ = cc in absurd no
-  memory_alone s w c (Err (Failed Disk)) next m = let is : Disk ≡ Memory = m.0 in let no : ⊥ = cc in absurd no
+  pub memory_only : (s : Settings) (w : World) (c : Caller) (r : Result Answer Stop) (next : World) → Meets s w c q r next → HasCause g q (reply_to r) old new
+  memory_only s w c (Ok a) next m = tt
+  memory_only s w c (Err (Refused r)) next m = tt
+  memory_only s w c (Err (Failed Memory)) next m = tt
+  memory_only s w c (Err (Failed Size)) next m = let is : Size ≡ Memory = m.0 in let no : ⊥ = cc in absurd no
+  memory_only s w c (Err (Failed Disk)) next m = let is : Disk ≡ Memory = m.0 in let no : ⊥ = cc in absurd no
 
   -- what isn't read of the disk has a reason
   pub read_fails : IsTrue (touches_disk q) → (f : Failure) → FailsToAsk g {T = Unit {0}} old new (Err f) → HasCause g q (reply_to (Err (Failed f))) old new
@@ -41,7 +41,7 @@ module _ {S : Type 0} (g : Ghosts S) (q : Request) (old new : Kept S) where
   read_fails touches Disk cause = (touches, λ clean. elim (cause clean) [ inl fault ↦ inl fault | inr more ↦ inr (elim more [ inl limited ↦ inl limited | inr none ↦ absurd none ]) ])
 
   module _ (touches : IsTrue (touches_disk q)) (rows : Rows) (puts : (t : Table) (row : Row) → rows t row → IsTrue (puts_rows q)) where
-    by_disk : (s t : State) → HasDiskCause s t ⊎ (IsSome s.step_limit ⊎ LacksRowid rows s.now) → IsDiskReason q disk s t
+    by_disk : (s t : State) → HasDiskCause s t ⊎ (IsSome s.step_limit ⊎ RunsOutOfRowids rows s.now) → IsDiskReason q disk s t
     by_disk s t (inl fault) = inl fault
     by_disk s t (inr (inl limited)) = inr (inl limited)
     by_disk s t (inr (inr x)) = inr (inr (puts x.2 x.3 x.4, (x.0, x.1, x.2, x.5)))

@@ -12,8 +12,8 @@ use Rattle.model.specs.World.{World}
 use Rattle.tables_outline.specs.Outline.{OutlineValue, outline_of}
 use Rattle.model.specs.Request.{Request}
 use Rattle.model.specs.Tests.{refusal}
-use Rattle.tables.specs.Kept.{Kept}
-use Rattle.tables.proofs.Kept.{clean_before}
+use Rattle.tables.specs.TablesValue.{TablesValue}
+use Rattle.tables.proofs.AfterWrites.{clean_before}
 use Rattle.tables.proofs.Transactions.{nothing_changed, others_then}
 use Rattle.store_types.specs.declared.replies.Answer.{Answer}
 use Rattle.store_types.specs.declared.replies.Stop.{Stop}
@@ -22,7 +22,7 @@ use Rattle.store_types.specs.Tested.{Stops}
 use Rattle.store_steps.specs.Durability.{LeavesOthers, StaysDurable}
 use Rattle.store_types.specs.Meets.{Meets, Reads}
 use Rattle.store_steps.specs.Meets.{MeetsOver, IsMet}
-use Rattle.store_steps.proofs.Caused.{memory_alone}
+use Rattle.store_steps.proofs.Caused.{memory_only}
 
 -- nothing happened
 pub survives_still : (s : State) (P : Trees → Type 0) → Survives s s P
@@ -41,18 +41,18 @@ survives_as s t P Q less h = record {
   crash = λ clean db left. elim (h.crash clean db left) [ inl was ↦ inl was | inr is ↦ inr (less db is) ];
 }
 
-pub lasts_still : {S : Type 0} (g : Ghosts S) (k : Kept S) → StaysDurable g k k
-lasts_still g k clean = inr (record { reported = λ w t. t; same = λ _. refl; durable = λ _ h. h })
+pub stays_durable_still : {S : Type 0} (g : Ghosts S) (k : TablesValue S) → StaysDurable g k k
+stays_durable_still g k clean = inr (record { reported = λ w t. t; same = λ _. refl; durable = λ _ h. h })
 
-pub others_still : {S : Type 0} (g : Ghosts S) (k : Kept S) → LeavesOthers g k k
+pub others_still : {S : Type 0} (g : Ghosts S) (k : TablesValue S) → LeavesOthers g k k
 others_still g k clean up = (up, nothing_changed (state g k.connection).now (state g k.connection).now refl)
 
 -- what other programs have is as it was where the connection shows what it showed
-pub others_shown : {S : Type 0} (g : Ghosts S) (old new : Kept S) → (HasCleanDisk (state g new.connection) → KeepsShown (state g old.connection) (state g new.connection)) → LeavesOthers g old new
+pub others_shown : {S : Type 0} (g : Ghosts S) (old new : TablesValue S) → (HasCleanDisk (state g new.connection) → KeepsShown (state g old.connection) (state g new.connection)) → LeavesOthers g old new
 others_shown g old new shown clean up = let it = shown clean in (it.was_open up, nothing_changed (state g old.connection).now (state g new.connection).now (it.now up))
 
 -- and over two steps
-pub others_both : {S : Type 0} (g : Ghosts S) (a b c : Kept S) (P : Trees → Type 0) → LeavesOthers g a b → Survives (state g b.connection) (state g c.connection) P → LeavesOthers g b c → LeavesOthers g a c
+pub others_both : {S : Type 0} (g : Ghosts S) (a b c : TablesValue S) (P : Trees → Type 0) → LeavesOthers g a b → Survives (state g b.connection) (state g c.connection) P → LeavesOthers g b c → LeavesOthers g a c
 others_both g a b c P first survives next clean up =
     let last = next clean up in
     let before = first (clean_before (state g b.connection) (state g c.connection) P survives clean) last.0 in
@@ -66,14 +66,14 @@ over is_clean s w c q (Err (Failed f)) next m = m.1
 
 module _ {S : Type 0} (g : Ghosts S) where
   -- what is answered from the outline alone
-  pub met_by_reading : (s : Settings) (c : Caller) (q : Request) (r : Result Answer Stop) (k : Kept S) (o : OutlineValue) → o ≡ k.outline → Reads s c o q r → IsMet g s c q r k k
+  pub met_by_reading : (s : Settings) (c : Caller) (q : Request) (r : Result Answer Stop) (k : TablesValue S) (o : OutlineValue) → o ≡ k.outline → Reads s c o q r → IsMet g s c q r k k
   met_by_reading s c q r k o same h = record {
     dir = refl;
     world = λ w t. (w, over _ s w c q r w (h w (t.outline ∙ sym same)), t);
-    cause = λ w t. memory_alone g q k k s w c r w (h w (t.outline ∙ sym same));
+    cause = λ w t. memory_only g q k k s w c r w (h w (t.outline ∙ sym same));
     others = others_still g k;
     still = λ _. refl;
-    lasts = λ _. lasts_still g k;
+    stays_durable = λ _. stays_durable_still g k;
     survives = λ w t. survives_still (state g k.connection) _;
   }
 

@@ -14,7 +14,7 @@ use Rattle.model.specs.Tests.{refusal}
 use Rattle.model.specs.Effects.{effect}
 use Rattle.model.specs.Answers.{answer}
 use Rattle.tables.specs.Frames.{CommitsChange}
-use Rattle.tables.specs.Kept.{Kept, HasWorld, LeavesWorld}
+use Rattle.tables.specs.TablesValue.{TablesValue, HasWorld, LeavesWorld}
 use Rattle.store_types.specs.declared.replies.Answer.{Answer}
 use Rattle.store_types.specs.declared.replies.Stop.{Stop}
 use Rattle.store_types.specs.View.{answer_view}
@@ -25,17 +25,17 @@ use Rattle.store_steps.specs.Crashes.{LeavesPassed}
 use Rattle.store_steps.specs.Meets.{IsMet, reply_to}
 use Rattle.store_steps.proofs.Untouched.{met_by_reading, others_shown, reads_stopped, survives_as}
 
-module _ {S : Type 0} (g : Ghosts S) (k : Kept S) where
+module _ {S : Type 0} (g : Ghosts S) (k : TablesValue S) where
   -- a world that is sound by one name is so by another
   pub sound_as : (F G : World → World) → ((w : World) → HasWorld g k w → F w ≡ G w) → ((w : World) → HasWorld g k w → IsSound k.dir (G w)) → (w : World) → HasWorld g k w → IsSound k.dir (F w)
   sound_as F G same h w t = subst (λ (v : World). IsSound k.dir v) (sym (same w t)) (h w t)
 
-module _ {S : Type 0} (g : Ghosts S) (s : Settings) (c : Caller) (q : Request) (k : Kept S) where
+module _ {S : Type 0} (g : Ghosts S) (s : Settings) (c : Caller) (q : Request) (k : TablesValue S) where
   -- a test fails, or the call
   pub met_by_stopping : (stop : Stop) (o : OutlineValue) → o ≡ k.outline → ((w : World) → outline_of w ≡ o → Stops stop (refusal s w q)) → IsMet g s c q (Err stop) k k
   met_by_stopping stop o same h = met_by_reading g s c q (Err stop) k o same (reads_stopped s c o q stop h)
 
-  module _ (new : Kept S) (F : World → World) (a : Answer)
+  module _ (new : TablesValue S) (F : World → World) (a : Answer)
       (passes : (w : World) → outline_of w ≡ k.outline → refusal s w q ≡ None)
       (answers : (w : World) → outline_of w ≡ k.outline → answer_view a ≡ answer s w c q)
       (becomes : (w : World) → outline_of w ≡ k.outline → F w ≡ effect s w q)
@@ -54,7 +54,7 @@ module _ {S : Type 0} (g : Ghosts S) (s : Settings) (c : Caller) (q : Request) (
         cause = λ w t. cause;
         others = λ clean is_open. ((frame.was_open clean).0, frame.others clean);
         still = λ h. absurd h;
-        lasts = λ _ clean. let is_open = (frame.was_open clean).1 in inl (is_open, frame.durable is_open);
+        stays_durable = λ _ clean. let is_open = (frame.was_open clean).1 in inl (is_open, frame.durable is_open);
         survives = left_so frame.survives;
       }
       met_by_writing (Err f) frame cause = record {
@@ -63,7 +63,7 @@ module _ {S : Type 0} (g : Ghosts S) (s : Settings) (c : Caller) (q : Request) (
         cause = λ w t. cause;
         others = others_shown g k new frame.shown;
         still = λ h. absurd h;
-        lasts = λ h. absurd h;
+        stays_durable = λ h. absurd h;
         survives = left_so frame.survives;
       }
 
@@ -81,7 +81,7 @@ abbrev pub uncounted : Failure → Result ℕ Failure
 uncounted f = Err f
 
 -- a write that counts is a write
-module _ {S : Type 0} (g : Ghosts S) (k new : Kept S) (F : World → World) where
+module _ {S : Type 0} (g : Ghosts S) (k new : TablesValue S) (F : World → World) where
   pub counted_done : (n : ℕ) → CommitsChange g k new (counted n) F → CommitsChange g k new written F
   counted_done n frame = record {
     dir = frame.dir;

@@ -9,7 +9,7 @@ use Rattle.tables_sql.specs.Failures.{HasDiskCause, HasNoRowidLeft}
 use Rattle.model.specs.Request.{Request, info, list, list_live, list_dead, list_roots, list_roots_of, drop_permanent, drop_user_root, delete_generation, end_session, collect, delete, report, nar, ls}
 use Rattle.model.specs.Reply.{Failure, Reply, failed, memory, size, disk}
 use Rattle.tables.specs.Reasons.{IsWithin}
-use Rattle.tables.specs.Kept.{Kept}
+use Rattle.tables.specs.TablesValue.{TablesValue}
 
 -- whether a request touches the disk: with an archive or its listing it is answered from it, and a change is written to
 -- it
@@ -36,8 +36,8 @@ puts_rows (ls p) = false
 puts_rows q = touches_disk q
 
 -- no rowid is left for a row of some table, as a transaction over the database may show it
-abbrev pub LacksRowid : Database → Type 0
-LacksRowid old = (db : Database) × IsWithin old db × (t : Table) × HasNoRowidLeft db t
+abbrev pub RunsOutOfRowids : Database → Type 0
+RunsOutOfRowids old = (db : Database) × IsWithin old db × (t : Table) × HasNoRowidLeft db t
 
 -- Why something was not read of the disk, or a change not written: a size is named for a row that is put, over an open
 -- connection. The disk is named for a fault of it in this call or an earlier one, for a limit on steps, or where no
@@ -46,11 +46,11 @@ abbrev pub IsDiskReason : Request → Failure → State → State → Type 0
 IsDiskReason q memory old new = Unit {0}
 IsDiskReason q size old new = IsTrue (puts_rows q) × IsTrue old.is_open
 IsDiskReason q disk old new =
-    HasDiskCause old new ⊎ (IsSome old.step_limit ⊎ (IsTrue (puts_rows q) × LacksRowid old.now))
+    HasDiskCause old new ⊎ (IsSome old.step_limit ⊎ (IsTrue (puts_rows q) × RunsOutOfRowids old.now))
 
 module _ {S : Type 0} (g : Ghosts S) where
   -- a failed call ran out of memory; or it touched the disk, and over a clean one a reason exists that it failed
-  abbrev pub HasCause : Request → Reply → Kept S → Kept S → Type 0
+  abbrev pub HasCause : Request → Reply → TablesValue S → TablesValue S → Type 0
   HasCause q (failed memory) old new = Unit {0}
   HasCause q (failed f) old new =
       IsTrue (touches_disk q)

@@ -11,7 +11,7 @@ use Rattle.model.specs.Tests.{refusal}
 use Rattle.model.specs.Effects.{effect}
 use Rattle.model.specs.Answers.{answer}
 use Rattle.model.specs.Step.{Step}
-use Rattle.tables.specs.Kept.{LeavesWorld}
+use Rattle.tables.specs.TablesValue.{LeavesWorld}
 
 -- Sound rows of a world to which the call leads where it is done. There is none where a rule denies the request or one
 -- of its tests fails.

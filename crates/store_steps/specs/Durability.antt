@@ -5,27 +5,27 @@ use Rattle.sqlite.specs.State.{HasCleanDisk}
 use Rattle.sqlite.specs.Held.{state}
 use Rattle.tables_sql.specs.Calls.{IsDurable}
 use Rattle.model.specs.World.{World}
-use Rattle.tables.specs.Kept.{Kept, HasWorld}
+use Rattle.tables.specs.TablesValue.{TablesValue, HasWorld}
 use Rattle.tables.specs.Others.{KeepsOthers}
 
 module _ {S : Type 0} (g : Ghosts S) where
   -- nothing was done: each world of the tables before is one of them now; and while the connection is open, the
   -- database is the one that it was, and a crash leaves no more of it than before
-  pub record IsUntouched (old new : Kept S) : Type 0 where
+  pub record IsUntouched (old new : TablesValue S) : Type 0 where
     pub reported : (w : World) → HasWorld g old w → HasWorld g new w
     pub same : IsTrue (state g new.connection).is_open → (state g new.connection).now ≡ (state g old.connection).now
     pub durable : IsTrue (state g new.connection).is_open → IsDurable (state g old.connection)
         → IsDurable (state g new.connection)
 
   -- Over a clean disk the connection is open, and a crash leaves nothing but what was committed; or nothing was done.
-  abbrev pub StaysDurable : Kept S → Kept S → Type 0
+  abbrev pub StaysDurable : TablesValue S → TablesValue S → Type 0
   StaysDurable old new =
       HasCleanDisk (state g new.connection)
       → (IsTrue (state g new.connection).is_open × IsDurable (state g new.connection)) ⊎ IsUntouched old new
 
   -- over a clean disk, while the connection is open, which it was before, what the database has of other programs is as
   -- it was
-  abbrev pub LeavesOthers : Kept S → Kept S → Type 0
+  abbrev pub LeavesOthers : TablesValue S → TablesValue S → Type 0
   LeavesOthers old new =
       HasCleanDisk (state g new.connection) → IsTrue (state g new.connection).is_open
       → IsTrue (state g old.connection).is_open × KeepsOthers (state g old.connection).now (state g new.connection).now

@@ -12,7 +12,7 @@ use Rattle.model.specs.Reply as replied
 use Rattle.model.specs.Tests.{refusal}
 use Rattle.model.specs.Effects.{effect}
 use Rattle.model.specs.Answers.{answer}
-use Rattle.tables.specs.Kept.{Kept, HasWorld}
+use Rattle.tables.specs.TablesValue.{TablesValue, HasWorld}
 use Rattle.store_types.specs.declared.replies.Answer.{Answer}
 use Rattle.store_types.specs.declared.replies.Stop.{Stop}
 use Rattle.store_types.specs.declared.replies.Stop.TheVariants.{Refused, Failed}
@@ -46,7 +46,8 @@ IsRefused _ = ⊥
 
 module _ {S : Type 0} (g : Ghosts S) where
   -- a request over tables
-  pub record IsMet (s : Settings) (c : Caller) (q : Request) (r : Result Answer Stop) (old new : Kept S) : Type 0 where
+  pub record IsMet (s : Settings) (c : Caller) (q : Request) (r : Result Answer Stop) (old new : TablesValue S)
+      : Type 0 where
     pub dir : new.dir ≡ old.dir
     -- of each world of the tables before, what becomes of it is a world of them now
     pub world : (w : World) → HasWorld g old w
@@ -58,15 +59,15 @@ module _ {S : Type 0} (g : Ghosts S) where
     -- a refusal leaves them as they were
     pub still : IsRefused r → new ≡ old
     -- what is done outlives a crash
-    pub lasts : IsAnswered r → StaysDurable g old new
+    pub stays_durable : IsAnswered r → StaysDurable g old new
     -- a crash leaves what it could leave before, or what is done where no test fails
     pub survives : (w : World) → HasWorld g old w → Survives (state g old.connection) (state g new.connection)
         (λ db. LeavesPassed old.dir (state g old.connection).now db s w q)
 
   -- something is read of the disk: the worlds of the tables are as before
-  pub record OnlyReads (old new : Kept S) : Type 0 where
+  pub record OnlyReads (old new : TablesValue S) : Type 0 where
     pub dir : new.dir ≡ old.dir
     pub reported : (w : World) → HasWorld g old w → HasWorld g new w
     pub shown : HasCleanDisk (state g new.connection) → KeepsShown (state g old.connection) (state g new.connection)
-    pub lasts : StaysDurable g old new
+    pub stays_durable : StaysDurable g old new
     pub survives : Survives (state g old.connection) (state g new.connection) (λ _. ⊥)

@@ -31,7 +31,7 @@ pub fn operation(request: &Request) -> Op<'_>
         Request::Switch { user, .. } => Op::Switch(user.as_str()),
         Request::DeleteGeneration { user, .. } => Op::DeleteGeneration(user.as_str()),
         Request::SetProfile { user, .. } => Op::SetProfile(user.as_str()),
-        Request::AddTemp { owner, .. } => Op::AddTemporary(owner.as_str()),
+        Request::AddTemp { owner, .. } => Op::AddTemp(owner.as_str()),
         Request::EndSession { owner, .. } => Op::EndSession(owner.as_str()),
         Request::ReplaceRuntime(_) => Op::ReplaceRuntime,
         Request::AddSource { .. } => Op::Plain,
@@ -42,13 +42,13 @@ pub fn operation(request: &Request) -> Op<'_>
             ignore_liveness,
             ..
         } => Op::Collect {
-            ignores_liveness: *ignore_liveness,
+            ignore_liveness: *ignore_liveness,
         },
         Request::Delete {
             ignore_liveness,
             ..
         } => Op::Delete {
-            ignores_liveness: *ignore_liveness,
+            ignore_liveness: *ignore_liveness,
         },
     }
 }

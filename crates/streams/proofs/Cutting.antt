@@ -74,8 +74,8 @@ counted ps last all = length-append (concat ps) last ∙ ap (λ n. n + length la
 pub front : (a b c d : List ℕ) → a ++ b ≡ c ++ d → length c ≤ length a → take (length c) a ≡ c
 front a b c d same le = sym (take-append-le (length c) a b le) ∙ ap (take (length c)) same ∙ take_at c d (length c) refl
 
-pub front_of_last : (ps : List (List ℕ)) (last : List ℕ) (len : ℕ) → Whole ps → 65536 * length ps ≤ len → concat ps ++ take (len - 65536 * length ps) last ≡ take len (concat ps ++ last)
-front_of_last ps last len all le =
+pub prefix_of_last : (ps : List (List ℕ)) (last : List ℕ) (len : ℕ) → Whole ps → 65536 * length ps ≤ len → concat ps ++ take (len - 65536 * length ps) last ≡ take len (concat ps ++ last)
+prefix_of_last ps last len all le =
     let n : length (concat ps) + (len - 65536 * length ps) ≡ len = omega (arith, length-whole ps all) in
     sym (take-append-add (concat ps) last (len - 65536 * length ps)) ∙ ap (λ k. take k (concat ps ++ last)) n
 
@@ -86,8 +86,8 @@ parted n ps last lt =
     ∙ append_assoc (concat (take n ps)) (get_or ps n [] ++ concat (drop (suc n) ps)) last
     ∙ ap (λ t. concat (take n ps) ++ t) (append_assoc (get_or ps n []) (concat (drop (suc n) ps)) last)
 
-pub front_of_whole : (n r : ℕ) (ps : List (List ℕ)) (last : List ℕ) → Whole ps → n < length ps → r ≤ 65536 → concat (take n ps) ++ take r (get_or ps n []) ≡ take (65536 * n + r) (concat ps ++ last)
-front_of_whole n r ps last all lt le =
+pub prefix_of_whole : (n r : ℕ) (ps : List (List ℕ)) (last : List ℕ) → Whole ps → n < length ps → r ≤ 65536 → concat (take n ps) ++ take r (get_or ps n []) ≡ take (65536 * n + r) (concat ps ++ last)
+prefix_of_whole n r ps last all lt le =
     let before = take n ps in
     let piece = get_or ps n [] in
     let more = concat (drop (suc n) ps) ++ last in
@@ -98,5 +98,5 @@ front_of_whole n r ps last all lt le =
     ∙ ap (take (65536 * n + r)) (sym (parted n ps last lt))
 
 -- what is left of pieces where one was removed, up to its place
-pub taken_before : (n : ℕ) {X : Type 0} (xs : List X) → n < length xs → take n (take n xs ++ drop (suc n) xs) ≡ take n xs
-taken_before n xs lt = take_at (take n xs) (drop (suc n) xs) n (length-take-le n xs (omega arith))
+pub take_before : (n : ℕ) {X : Type 0} (xs : List X) → n < length xs → take n (take n xs ++ drop (suc n) xs) ≡ take n xs
+take_before n xs lt = take_at (take n xs) (drop (suc n) xs) n (length-take-le n xs (omega arith))

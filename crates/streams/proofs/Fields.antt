@@ -5,7 +5,7 @@ use Rattle.std.specs.List.{concat}
 use Rattle.std.proofs.lemmas.List.{length-map, length-take, get_or-map, take-map, map-append, take_more}
 use Rattle.streams.specs.declared.bytes.Pieces.TheInside.{Inside}
 use Rattle.streams.specs.Cut.{piece_of, AreCut}
-use Rattle.streams.proofs.Cutting.{counted, whole_piece, concat-push, whole-push, whole-take, front_of_whole, taken_before}
+use Rattle.streams.proofs.Cutting.{counted, whole_piece, concat-push, whole-push, whole-take, prefix_of_whole, take_before}
 
 -- the bytes of each
 abbrev pub bytes_of : List (Vec ℕ Global) → List (List ℕ)
@@ -67,25 +67,25 @@ grown_cut true vs last more cut lt =
 -- ---- a front
 
 left_of : (vs left : List (Vec ℕ Global)) (n : ℕ) → n < length vs → left ≡ take n (take n vs ++ drop (suc n) vs) → bytes_of left ≡ take n (bytes_of vs)
-left_of vs left n lt is = ap bytes_of (is ∙ taken_before n vs lt) ∙ sym (take-map (λ w. w.items) n vs)
+left_of vs left n lt is = ap bytes_of (is ∙ take_before n vs lt) ∙ sym (take-map (λ w. w.items) n vs)
 
-pub front_joined : (p : Inside) → AreCut (parts p) p.last.items → (n r : ℕ) (v : Vec ℕ Global) (left : List (Vec ℕ Global)) → n < p.whole.len → r ≤ 65536
+pub prefix_joined : (p : Inside) → AreCut (parts p) p.last.items → (n r : ℕ) (v : Vec ℕ Global) (left : List (Vec ℕ Global)) → n < p.whole.len → r ≤ 65536
     → v ≡ get_or p.whole.items n v → left ≡ take n (take n p.whole.items ++ drop (suc n) p.whole.items)
     → concat (bytes_of left) ++ take r v.items ≡ take (65536 * n + r) (concat (parts p) ++ p.last.items)
-front_joined p cut n r v left lt le is gone =
+prefix_joined p cut n r v left lt le is gone =
     let within : n < length p.whole.items = omega (arith, p.whole.ok.0) in
     ap (λ ps. concat ps ++ take r v.items) (left_of p.whole.items left n within gone)
     ∙ ap (λ t. concat (take n (parts p)) ++ take r t) (item_at p.whole.items n v within is)
-    ∙ front_of_whole n r (parts p) p.last.items cut.each (omega (arith, many p)) le
+    ∙ prefix_of_whole n r (parts p) p.last.items cut.each (omega (arith, many p)) le
 
-pub front_cut : (p : Inside) → AreCut (parts p) p.last.items → (n r : ℕ) (v : Vec ℕ Global) (left : List (Vec ℕ Global)) → n < p.whole.len → r ≤ 65536
+pub prefix_cut : (p : Inside) → AreCut (parts p) p.last.items → (n r : ℕ) (v : Vec ℕ Global) (left : List (Vec ℕ Global)) → n < p.whole.len → r ≤ 65536
     → v ≡ get_or p.whole.items n v → left ≡ take n (take n p.whole.items ++ drop (suc n) p.whole.items)
     → AreCut (bytes_of left) (take r v.items)
-front_cut p cut n r v left lt le is gone =
+prefix_cut p cut n r v left lt le is gone =
     let within : n < length p.whole.items = omega (arith, p.whole.ok.0) in
     let bytes = concat (parts p) ++ p.last.items in
     record {
       each = rw (left_of p.whole.items left n within gone) (whole-take n (parts p) cut.each);
       last_fits = omega (arith, length-take r v.items);
-      small = omega (arith, ap length (front_joined p cut n r v left lt le is gone), length-take (65536 * n + r) bytes, cut.small);
+      small = omega (arith, ap length (prefix_joined p cut n r v left lt le is gone), length-take (65536 * n + r) bytes, cut.small);
     }

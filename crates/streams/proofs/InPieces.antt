@@ -31,14 +31,14 @@ next_sent a b c bytes i piece is before now =
     subst (Appends a c) all (Appends-trans a b c _ _ before now)
 
 -- a front of one more
-pub front_sent : (a b c : Option (List ℕ)) (bytes : List ℕ) (i : ℕ) (piece : List ℕ) → piece ≡ piece_of i bytes → Appends a b (take (65536 * i) bytes) → AppendsPrefix b c piece
+pub prefix_sent : (a b c : Option (List ℕ)) (bytes : List ℕ) (i : ℕ) (piece : List ℕ) → piece ≡ piece_of i bytes → Appends a b (take (65536 * i) bytes) → AppendsPrefix b c piece
     → AppendsPrefix a c bytes
-front_sent a b c bytes i piece is before (n, below, now) =
+prefix_sent a b c bytes i piece is before (n, below, now) =
     let size = piece_length bytes i piece is in
     let small : n ≤ 65536 = omega (arith, size.0, below) in
     let within : 65536 * i + n < length bytes = omega (arith, size.1, below, length-drop (65536 * i) bytes) in
     (65536 * i + n, within, subst (Appends a c) (behind bytes i n piece is small) (Appends-trans a b c _ _ before now))
 
 -- behind the last piece nothing is left
-pub all_taken : (bytes : List ℕ) (i : ℕ) → length bytes ≤ 65536 * i → take (65536 * i) bytes ≡ bytes
-all_taken bytes i whole = take_all (65536 * i) bytes whole
+pub take_all_pieces : (bytes : List ℕ) (i : ℕ) → length bytes ≤ 65536 * i → take (65536 * i) bytes ≡ bytes
+take_all_pieces bytes i whole = take_all (65536 * i) bytes whole

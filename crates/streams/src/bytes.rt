@@ -4,12 +4,10 @@ ghost use Rattle.std.specs.Prelude.{◌≡◌, ◌+◌, ◌*◌, ◌<◌, ◌≤
 ghost use Rattle.std.specs.List.{concat};
 ghost use Rattle.streams.specs.Cut.{piece_of, count_of, AreCut};
 
+use crate::limits::PIECE_SIZE;
 use std::alloc::{AllocError, AllocFailed, Global};
 use std::marker::Model;
 use std::mem;
-
-/// How many bytes each piece but the last has.
-const SIZE: usize = 65_536;
 
 /// Bytes in pieces of 65,536, of which the last has 1 to 65,536; no bytes have no piece. So growing asks for no more
 /// than two pieces at once, and moves no byte of a whole one. Contracts see the bytes.
@@ -64,12 +62,12 @@ fn make_room(
     ensures cut { AreCut (map (λ v. v.items) whole.new.items) last.new.items }
     ensures room { IfOk result (λ room. (0 < room) × (room + length last.new.items ≡ 65536)) }
 {
-    if last.len() < SIZE {
-        return Ok(SIZE - last.len());
+    if last.len() < PIECE_SIZE {
+        return Ok(PIECE_SIZE - last.len());
     }
-    let next = Vec::with_capacity(alloc, SIZE)?;
+    let next = Vec::with_capacity(alloc, PIECE_SIZE)?;
     push_piece(whole, last, next)?;
-    Ok(SIZE)
+    Ok(PIECE_SIZE)
 }
 
 impl Pieces {
@@ -105,7 +103,7 @@ impl Pieces {
     pub fn len(&self) -> usize
         ensures { result ≡ length self.now }
     {
-        self.whole.len() * SIZE + self.last.len()
+        self.whole.len() * PIECE_SIZE + self.last.len()
     }
 
     /// How many pieces there are.
@@ -122,7 +120,7 @@ impl Pieces {
     pub fn count(&self) -> usize
         ensures { result ≡ count_of self.now }
     {
-        self.len().div_ceil(SIZE)
+        self.len().div_ceil(PIECE_SIZE)
     }
 
     /// The piece at a place, counted from 0.
@@ -146,6 +144,25 @@ impl Pieces {
         }
     }
 
+    /// The first piece; no bytes if there is none.
+    ///
+    /// ```rust
+    /// use streams::Pieces;
+    ///
+    /// let mut pieces = Pieces::new(alloc);
+    /// assert_eq!(rt; pieces.first(), b"".as_slice());
+    /// pieces.push(b"abc")?;
+    /// assert_eq!(rt; pieces.first(), b"abc".as_slice());
+    /// ```
+    pub fn first(&self) -> &[u8]
+        ensures { result.now ≡ take 65536 self.now }
+    {
+        if self.len() == 0 {
+            return b"";
+        }
+        self.piece(0)
+    }
+
     /// Appends bytes. Where memory is refused the bytes stay as they were.
     ///
     /// ```rust
@@ -164,7 +181,7 @@ impl Pieces {
         ensures ok { OnOk result (self.new ≡ self.old ++ bytes.now) }
         ensures err { OnErr result (self.new ≡ self.old) }
     {
-        if bytes.len() < SIZE - self.last.len() {
+        if bytes.len() < PIECE_SIZE - self.last.len() {
             return self.last.extend_from_slice(bytes);
         }
         let before = self.len();
@@ -202,14 +219,14 @@ impl Pieces {
         ensures ok { OnOk result (self.new ≡ self.old ++ bytes.items) }
         ensures err { OnErr result (self.new ≡ self.old) }
     {
-        if bytes.len() > SIZE || bytes.len() > usize::MAX - self.len() {
+        if bytes.len() > PIECE_SIZE || bytes.len() > usize::MAX - self.len() {
             return self.push(bytes.as_slice());
         }
         if self.last.is_empty() {
             self.last = bytes;
             return Ok(());
         }
-        if self.last.len() == SIZE {
+        if self.last.len() == PIECE_SIZE {
             return push_piece(&mut self.whole, &mut self.last, bytes);
         }
         self.push(bytes.as_slice())
@@ -234,14 +251,14 @@ impl Pieces {
         requires { len ≤ length self.old }
         ensures { self.new ≡ take len self.old }
     {
-        let place = len / SIZE;
+        let place = len / PIECE_SIZE;
         if self.whole.len() <= place {
-            self.last.truncate(len - SIZE * self.whole.len());
+            self.last.truncate(len - PIECE_SIZE * self.whole.len());
             return;
         }
         self.last = self.whole.remove(place);
         self.whole.truncate(place);
-        self.last.truncate(len % SIZE);
+        self.last.truncate(len % PIECE_SIZE);
     }
 
     /// All bytes in one buffer, for what can't be read in pieces. It asks for all of their memory at once.

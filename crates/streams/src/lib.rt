@@ -3,6 +3,7 @@
 
 mod bytes;
 mod error;
+mod limits;
 mod parts;
 mod receive;
 mod send;
@@ -11,6 +12,7 @@ mod whole;
 
 pub use bytes::Pieces;
 pub use error::ReadError;
+pub use limits::{MAX_ARCHIVE, MAX_REFERENCES, PIECE_SIZE};
 pub use parts::{in_pieces, send_pieces};
 pub use receive::receive_at_most;
 pub use send::send_bytes;

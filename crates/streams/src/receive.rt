@@ -3,11 +3,9 @@ ghost use Rattle.std.specs.Prelude.{◌<◌, length};
 ghost use Rattle.streams.specs.Reads.{ReadsOn, Receives};
 
 use crate::error::ReadError;
+use crate::limits::PIECE_SIZE;
 use crate::sink::Sink;
 use std::io::Read;
-
-/// How many bytes one read asks for at most.
-const PIECE: usize = 65_536;
 
 /// One read into a window, whose bytes are passed on: how many came, or that the input is at its end.
 fn read_on<R: Read, S: Sink>(
@@ -42,10 +40,10 @@ pub fn receive_at_most<R: Read, S: Sink>(
     ensures { Receives most (R.remaining input.old) (R.remaining input.new) (S.received sink.old) (S.received sink.new)
         result }
 {
-    let mut window = [0; PIECE];
+    let mut window = [0; PIECE_SIZE];
     let mut left = most;
     'reads: while left > 0 {
-        let room = left.min(PIECE);
+        let room = left.min(PIECE_SIZE);
         let Some(count) = read_on(input, &mut window[..room], sink)? else {
             return Ok(most - left);
         };

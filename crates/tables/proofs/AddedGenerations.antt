@@ -14,10 +14,10 @@ use Rattle.tables_outline.specs.Outline.{OutlineValue, with_profile, profile_of,
 use Rattle.tables_outline.proofs.Orders.{nat_antisymmetric, pair_total, pair_antisymmetric}
 use Rattle.tables_outline.proofs.Puts.{tied_is, unput_put, has_put}
 use Rattle.tables.specs.Rewritten.{put_generation}
-use Rattle.tables.proofs.Kept.{Follows}
+use Rattle.tables.proofs.AfterWrites.{Follows}
 use Rattle.tables.proofs.ProfileRows.{profile_follows}
 use Rattle.tables.specs.Entries.{with_profile_by}
-use Rattle.tables.proofs.ProfileWrites.{both_tied, numbers_tie, here, told_generation}
+use Rattle.tables.proofs.ProfileWrites.{both_tied, numbers_tie, here, reported_generation}
 
 -- ---- the rows of the profile
 
@@ -49,7 +49,7 @@ module _ (dir : List ℕ) (c : Contents) (rows : IsSoundContents dir c) (owned :
       ≡ cond b (finite.get (put_at (here dir c rows owned) n t).generations m) (finite.get c.generations (q.0, q.1, pos m))
   own q m false e = refl
   own q m true e =
-      ap₂ (λ d g. cond d (Some t) g) (numbers_tie m n) (ap (λ (j : Pair). finite.get c.generations (j.0, j.1, pos m)) (tied_is pair_antisymmetric q owned e) ∙ sym (told_generation dir c rows owned m))
+      ap₂ (λ d g. cond d (Some t) g) (numbers_tie m n) (ap (λ (j : Pair). finite.get c.generations (j.0, j.1, pos m)) (tied_is pair_antisymmetric q owned e) ∙ sym (reported_generation dir c rows owned m))
       ∙ sym (finite.get-insert nat_cmp_total (here dir c rows owned).generations n t m)
 
   each : (q : Pair) (m : ℕ) → finite.get (finite.insert c.generations key t) (q.0, q.1, pos m) ≡ cond (eq_by_cmp pair_cmp q owned) (finite.get (put_at (here dir c rows owned) n t).generations m) (finite.get c.generations (q.0, q.1, pos m))
@@ -99,8 +99,8 @@ module _ (old put : OutlineValue) (owned key again : Pair) (n : ℕ) (target val
   put_is : put ≡ with_profile old owned added
   put_is = is ∙ ap₂ (λ k v. with_profile old k (put_at (profile_of old k) n v)) same same_value
 
-  pub put_there : IsTrue (finite.contains_key put.profiles again)
-  put_there = ap₂ (λ (o : OutlineValue) k. finite.contains_key o.profiles k) put_is same_again ∙ has_put pair_total pair_antisymmetric old.profiles owned added
+  pub put_present : IsTrue (finite.contains_key put.profiles again)
+  put_present = ap₂ (λ (o : OutlineValue) k. finite.contains_key o.profiles k) put_is same_again ∙ has_put pair_total pair_antisymmetric old.profiles owned added
 
   module _ (now : OutlineValue) (current : ℕ) (switch : now ≡ with_profile put again (switched (profile_of put again) current)) where
     pub generation_put : now ≡ with_profile old owned (switched added current)

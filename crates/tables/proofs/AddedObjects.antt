@@ -22,14 +22,14 @@ use Rattle.tables_outline.specs.Outline.{OutlineValue, Outlined, outlined, outli
 use Rattle.tables_outline.proofs.Orders.{bytes_total, bytes_antisymmetric}
 use Rattle.tables_outline.proofs.Puts.{unput_put}
 use Rattle.tables_outline.proofs.Reported.{get-reported}
-use Rattle.tables.specs.Rewritten.{LacksObject, put_object}
+use Rattle.tables.specs.Rewritten.{HasNoObject, put_object}
 use Rattle.tables.specs.Entries.{with_archived}
 use Rattle.tables.specs.Frames.{StaysSound}
 use Rattle.tables.specs.RowsPut.{ObjectRows}
-use Rattle.tables.specs.Kept.{Kept, Agrees}
+use Rattle.tables.specs.TablesValue.{TablesValue, Agrees}
 use Rattle.tables.proofs.Inserted.{AreNew, object_of, object_follows, outline_follows, no_output, no_piece, no_reference, get-set_of}
 use Rattle.tables.proofs.Parts.{same}
-use Rattle.tables.proofs.Kept.{Follows, IsWrite}
+use Rattle.tables.proofs.AfterWrites.{Follows, IsWrite}
 
 some_unit : (o : Option (Unit {0})) → cond (is_some o) (Some tt) None ≡ o
 some_unit None = refl
@@ -45,15 +45,15 @@ map_again : (m : finite.FinMap bytes_cmp Path) → finite.from_entries (finite.e
 map_again m = finite.same_map bytes_total bytes_antisymmetric _ _ (λ q. finite.get-from_entries bytes_total (finite.entries m) q ∙ sym (finite.get-entries m q))
 
 -- what is made of nothing is nothing
-pub none_told : {X Y : Type 0} (f : X → Y) (g : Option X) → option_map f g ≡ None → g ≡ None
-none_told f None h = refl
-none_told f (Some x) h = absurd (false≢true (ap is_some (sym h)))
+pub none_reported : {X Y : Type 0} (f : X → Y) (g : Option X) → option_map f g ≡ None → g ≡ None
+none_reported f None h = refl
+none_reported f (Some x) h = absurd (false≢true (ap is_some (sym h)))
 
 -- an object that the outline hasn't is in no row
 pub unstored : (c : Contents) (outline : OutlineValue) (p : Path) → outline_of (world_in c) ≡ outline → finite.get outline.objects p ≡ None → finite.get c.objects p ≡ None
 unstored c outline p same none =
-    none_told (object_in (rows_of c) p) (finite.get c.objects p) (sym (get-reported bytes_total bytes_antisymmetric (object_in (rows_of c)) c.objects p)
-    ∙ none_told outlined (finite.get (world_in c).objects p) (sym (get-reported bytes_total bytes_antisymmetric (λ _ x. outlined x) (world_in c).objects p) ∙ ap (λ (o : OutlineValue). finite.get o.objects p) same ∙ none))
+    none_reported (object_in (rows_of c) p) (finite.get c.objects p) (sym (get-reported bytes_total bytes_antisymmetric (object_in (rows_of c)) c.objects p)
+    ∙ none_reported outlined (finite.get (world_in c).objects p) (sym (get-reported bytes_total bytes_antisymmetric (λ _ x. outlined x) (world_in c).objects p) ∙ ap (λ (o : OutlineValue). finite.get o.objects p) same ∙ none))
 
 -- what is found at the path of an object that was put
 pub found_put : (old put : OutlineValue) (path key : Path) (given : Outlined) (found : Option Outlined) → key ≡ path → put ≡ record old { objects = finite.insert old.objects key given } → found ≡ finite.get put.objects path → found ≡ Some given
@@ -74,7 +74,7 @@ pub object_rows : (nar : List ℕ) {base path : Path} {found given : Outlined} (
 object_rows nar deriver ca at is same t values =
     subst (λ (x : Type 0). x) (λ i. ObjectRows (at i) (record { nar = row_part nar; hash = (is i).hash; deriver = same i; ca = option_map string_bytes ca }) (finite.keys (is i).references) (finite.entries (is i).outputs) (further_pieces nar) t values)
 
-module _ {S : Type 0} (g : Ghosts S) (k now : Kept S) (view : k ≡ now) (put : OutlineValue) (path key nar : List ℕ) (given found : Outlined) (deriver ca : Option (String Global))
+module _ {S : Type 0} (g : Ghosts S) (k now : TablesValue S) (view : k ≡ now) (put : OutlineValue) (path key nar : List ℕ) (given found : Outlined) (deriver ca : Option (String Global))
     (agrees : Agrees g k)
     (new : finite.get now.outline.objects path ≡ None)
     (size : given.size ≡ length nar)
@@ -107,7 +107,7 @@ module _ {S : Type 0} (g : Ghosts S) (k now : Kept S) (view : k ≡ now) (put : 
     outlined_is = ap₂ (λ s h. record given { size = s; hash = h }) (sym size) (sym hash)
 
     none : finite.get k.outline.objects path ≡ None
-    none = ap (λ (n : Kept S). finite.get n.outline.objects path) view ∙ new
+    none = ap (λ (n : TablesValue S). finite.get n.outline.objects path) view ∙ new
 
     are_new : HasCleanDisk (state g k.connection) → IsTrue (state g k.connection).is_open → AreNew path nar row (finite.entries found.outputs) (contents_of (state g k.connection).now)
     are_new clean is_open = record {
@@ -118,7 +118,7 @@ module _ {S : Type 0} (g : Ghosts S) (k now : Kept S) (view : k ≡ now) (put : 
       sorted = finite.entries_sorted found.outputs;
     }
 
-    pub object_fits : HasCleanDisk (state g k.connection) → IsTrue (state g k.connection).is_open → LacksObject path (contents_of (state g k.connection).now)
+    pub object_fits : HasCleanDisk (state g k.connection) → IsTrue (state g k.connection).is_open → HasNoObject path (contents_of (state g k.connection).now)
     object_fits clean is_open =
         let c = contents_of (state g k.connection).now in
         let rows = (agrees.rows clean is_open).sound in

@@ -9,23 +9,23 @@ use Rattle.tables_sql.specs.Calls.{IsReady, IsWhole}
 use Rattle.tables_world.specs.Worlds.{IsSoundContents, world_in}
 use Rattle.tables_schema.specs.declared.schema.Schema.TheVariants.{V3}
 use Rattle.tables_outline.specs.Outline.{OutlineValue, outline_of}
-use Rattle.tables.specs.Kept.{Kept, Agrees}
+use Rattle.tables.specs.TablesValue.{TablesValue, Agrees}
 use Rattle.tables_schema.specs.Finding.{HasNone}
 use Rattle.tables_make.specs.Making.{IsMade}
 use Rattle.paths.specs.Names.{is_store_dir}
 use Rattle.model.specs.World.{no_world}
-use Rattle.tables.proofs.Made.{made_tells}
+use Rattle.tables.proofs.Made.{made_reports}
 use Rattle.tables.specs.Opening.{IsFoundBy, AreRead, OpensExisting, OpensNew}
 
 module _ {S : Type 0} (g : Ghosts S) (conn : Held S) (db : Database) (own : List ℕ) (outline : OutlineValue)
     (same : HasCleanDisk (state g conn) → (state g conn).now ≡ db) (reported : HasCleanDisk (state g conn) → AreRead V3 own db outline)
   where
-    abbrev pub kept : Kept S
+    abbrev pub kept : TablesValue S
     kept = record { connection = conn; dir = own; outline = outline }
 
     pub agreed : (HasCleanDisk (state g conn) → IsWhole db) → conn.in_transaction ≡ false → (HasCleanDisk (state g conn) → IsTrue (state g conn).is_open → IsReady (state g conn)) → Agrees g kept
-    agreed whole alone ready = record {
-      alone = alone;
+    agreed whole idle ready = record {
+      idle = idle;
       rows = λ clean is_open. record {
         ready = ready clean is_open;
         whole = subst IsWhole (sym (same clean)) (whole clean);
@@ -51,4 +51,4 @@ module _ {S : Type 0} (g : Ghosts S) (conn : Held S) (old : State) (own : List �
     (made : HasCleanDisk (state g conn) → IsMade own old (state g conn))
   where
     pub took_new : HasNone old.now.schema → HasCleanDisk (state g conn) → OpensNew g old.now (record { connection = conn; dir = own; outline = outline })
-    took_new none clean = record { none = none; is_open = (made clean).is_open; schema = (made clean).schema; theirs = (made clean).theirs; frozen = (made clean).frozen; reported = made_tells g conn old own outline valid is made }
+    took_new none clean = record { none = none; is_open = (made clean).is_open; schema = (made clean).schema; foreign_rows = (made clean).foreign_rows; frozen = (made clean).frozen; reported = made_reports g conn old own outline valid is made }

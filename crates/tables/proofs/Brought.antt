@@ -12,9 +12,9 @@ use Rattle.model.specs.Sound.{IsSound}
 use Rattle.tables_world.specs.Worlds.{IsSoundBy, IsSoundContents, rows_of, world_in}
 use Rattle.tables_world.proofs.Migrating.{migrates_soundly}
 use Rattle.tables_outline.specs.Outline.{OutlineValue, outline_of}
-use Rattle.tables_make.specs.Migrated.{lacking, migrated_contents, IsGrown, IsMigrated, LeavesMigrated}
+use Rattle.tables_make.specs.Migrated.{missing_tables, migrated_contents, IsGrown, IsMigrated, LeavesMigrated}
 use Rattle.tables_make.proofs.Grown.{grown_from}
-use Rattle.tables.specs.Kept.{Agrees}
+use Rattle.tables.specs.TablesValue.{Agrees}
 use Rattle.tables.specs.Opening.{IsFoundBy, AreRead, OpensMigrated, LeavesMigration}
 
 -- rows that were read from `a` to `b`, and then brought to the third schema from `b` to `d`
@@ -24,8 +24,8 @@ module _ (schema : Schema) (dir : List ℕ) (a b d : State) (same : HasCleanDisk
 
   pub both_migrate : HasCleanDisk b → ((x : List ℕ) → IsSoundBy schema x (contents_of b.now) → IsMigrated schema x b d) → IsMigrated schema dir a d
   both_migrate clean done =
-      subst (λ (x : Database). IsGrown (lacking schema) (migrated_contents schema dir (contents_of x)) a d) (same clean).0.now_is
-      (grown_from (lacking schema) (migrated_contents schema dir (contents_of b.now)) a b d (same clean) (done dir (sound_still clean)))
+      subst (λ (x : Database). IsGrown (missing_tables schema) (migrated_contents schema dir (contents_of x)) a d) (same clean).0.now_is
+      (grown_from (missing_tables schema) (migrated_contents schema dir (contents_of b.now)) a b d (same clean) (done dir (sound_still clean)))
 
   pub both_leave : (HasCleanDisk a → IsFoundBy schema a.now) → Survives a b (λ _. ⊥) → Survives b d (λ db. (x : List ℕ) → IsSoundBy schema x (contents_of b.now) → LeavesMigrated schema x b.now db) → Survives a d (LeavesMigration schema dir a.now)
   both_leave found first last =
@@ -45,8 +45,8 @@ module _ {S : Type 0} (g : Ghosts S) (conn : Held S) (old : State) (schema : Sch
     same_world clean = ap world_in (brought clean).contents_are ∙ (migrates_soundly schema dir (rows_of (contents_of old.now)) (reported clean).0).1
 
     pub brought_agrees : conn.in_transaction ≡ false → Agrees g (record { connection = conn; dir = own; outline = outline })
-    brought_agrees alone = record {
-      alone = alone;
+    brought_agrees idle = record {
+      idle = idle;
       rows = λ clean is_open.
           let it = brought clean in
           let sound : IsSoundContents dir (migrated_contents schema dir (contents_of old.now)) = (migrates_soundly schema dir (rows_of (contents_of old.now)) (reported clean).0).0 in
@@ -66,7 +66,7 @@ module _ {S : Type 0} (g : Ghosts S) (conn : Held S) (old : State) (schema : Sch
           is_open = it.is_open;
           schema = it.schema;
           contents_are = it.contents_are;
-          theirs = it.theirs;
+          foreign_rows = it.foreign_rows;
           frozen = it.frozen;
           reported = record {
             outline = (reported clean).1;

@@ -10,7 +10,7 @@ use Rattle.tables_schema.specs.Forms.{all_tables}
 use Rattle.tables_sql.specs.declared.failure.Failure.{Failure}
 use Rattle.tables_sql.specs.declared.failure.Failure.TheVariants.{Memory, Size, Disk}
 use Rattle.tables_sql.specs.Failures.{HasDiskCause, FailsToRead}
-use Rattle.tables_make.specs.Making.{LacksNumbers, LacksNames, FailsToMake}
+use Rattle.tables_make.specs.Making.{RunsOutOfTrees, LacksNames, FailsToMake}
 use Rattle.tables_make.specs.Migrating.{FailsToMigrate}
 use Rattle.tables_make.proofs.MigratingFailures.{migrating_before}
 use Rattle.tables_open.specs.Opened.{HasUnkeyed, FailsToOpen}
@@ -60,7 +60,7 @@ module _ (a b c : State) (same : IsUnchanged a b) (first : Survives a b (λ _. �
   make_before dir Size h = (h.0, same.0.was_open)
   make_before dir Disk (inl cause) = inl (disk_before cause)
   make_before dir Disk (inr (inl limit)) = inr (inl (subst IsSome first.limit limit))
-  make_before dir Disk (inr (inr lacks)) = inr (inr (subst (λ (x : Database). LacksNumbers x.schema all_tables ⊎ LacksNames x.schema all_tables) same.0.now_is lacks))
+  make_before dir Disk (inr (inr lacks)) = inr (inr (subst (λ (x : Database). RunsOutOfTrees x.schema all_tables ⊎ LacksNames x.schema all_tables) same.0.now_is lacks))
 
   pub cause_before : (dir : List ℕ) (e : Cause) → IsCause dir b c e → IsCause dir a c e
   cause_before dir BadSchema h = subst (λ (x : Database). IsRefusal dir x BadSchema) same.0.now_is h

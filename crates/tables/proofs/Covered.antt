@@ -77,18 +77,18 @@ module _ (outline : OutlineValue) (c : Contents) (p base : Path) (object : Outli
   this_one : (x : Outlined) → finite.get outline.objects p ≡ Some x → x ≡ object
   this_one x is = sym (same_Some object x (at ∙ is))
 
-  pub references_told : d.refs ≡ c.refs → (r : Path) → IsTrue (finite.contains_key d.refs (base, r)) → IsTrue (finite.contains_key object.references r)
-  references_told alike r present =
+  pub references_reported : d.refs ≡ c.refs → (r : Path) → IsTrue (finite.contains_key d.refs (base, r)) → IsTrue (finite.contains_key object.references r)
+  references_reported alike r present =
       let it = h.references p r (sym (ap₂ (λ m (k : Path). finite.contains_key m (k, r)) alike same_path) ∙ present) in
       subst (λ (x : Outlined). IsTrue (finite.contains_key x.references r)) (this_one it.0 it.1) it.2
 
-  pub outputs_told : d.outs ≡ c.outs → (name : Path) → IsTrue (finite.contains_key d.outs (base, name)) → IsTrue (finite.contains_key object.outputs name)
-  outputs_told alike name present =
+  pub outputs_reported : d.outs ≡ c.outs → (name : Path) → IsTrue (finite.contains_key d.outs (base, name)) → IsTrue (finite.contains_key object.outputs name)
+  outputs_reported alike name present =
       let it = h.outputs p name (sym (ap₂ (λ m (k : Path). finite.contains_key m (k, name)) alike same_path) ∙ present) in
       subst (λ (x : Outlined). IsTrue (finite.contains_key x.outputs name)) (this_one it.0 it.1) it.2
 
-  pub pieces_told : d.pieces ≡ c.pieces → (n : ℤ) → IsTrue (finite.contains_key d.pieces (base, n)) → piece_size < object.size
-  pieces_told alike n present =
+  pub pieces_reported : d.pieces ≡ c.pieces → (n : ℤ) → IsTrue (finite.contains_key d.pieces (base, n)) → piece_size < object.size
+  pieces_reported alike n present =
       let it = h.pieces p n (sym (ap₂ (λ m (k : Path). finite.contains_key m (k, n)) alike same_path) ∙ present) in
       subst (λ (x : Outlined). piece_size < x.size) (this_one it.0 it.1) it.2
 
@@ -99,21 +99,21 @@ missing None h = refl
 missing (Some x) h = absurd (h refl)
 
 module _ {L X : Type 0} {R : Path × L → Path × L → Ordering} (o : IsTotalOrder R) (alike : finite.IsAntisymmetric R) (m : finite.FinMap R X) (p : Path) (none : (l : L) → IsTrue (finite.contains_key m (p, l)) → ⊥) where
-  pub none_goes : finite.retain_keys m (λ k. not (same k.0 p)) ≡ m
-  none_goes = finite.same_map o alike _ _ (λ q. get-kept o alike m (λ k. not (same k.0 p)) q ∙ by q (same q.0 p) refl)
+  pub nothing_removed : finite.retain_keys m (λ k. not (same k.0 p)) ≡ m
+  nothing_removed = finite.same_map o alike _ _ (λ q. get-kept o alike m (λ k. not (same k.0 p)) q ∙ by q (same q.0 p) refl)
     where
       by : (q : Path × L) (b : Bool) → same q.0 p ≡ b → cond (not b) (finite.get m q) None ≡ finite.get m q
       by q true t = sym (ap (λ (x : Path). finite.get m (x, q.1)) (tied_is bytes_antisymmetric q.0 p t) ∙ missing (finite.get m (p, q.1)) (none q.1))
       by q false t = refl
 
 pub no_references : (c : Contents) (p : Path) → ((r : Path) → IsTrue (finite.contains_key c.refs (p, r)) → ⊥) → record c { refs = finite.retain_keys c.refs (λ k. not (same k.0 p)) } ≡ c
-no_references c p none = ap (λ m. record c { refs = m }) (none_goes pair_total pair_antisymmetric c.refs p none)
+no_references c p none = ap (λ m. record c { refs = m }) (nothing_removed pair_total pair_antisymmetric c.refs p none)
 
 pub no_outputs : (c : Contents) (p : Path) → ((name : Path) → IsTrue (finite.contains_key c.outs (p, name)) → ⊥) → record c { outs = finite.retain_keys c.outs (λ k. not (same k.0 p)) } ≡ c
-no_outputs c p none = ap (λ m. record c { outs = m }) (none_goes pair_total pair_antisymmetric c.outs p none)
+no_outputs c p none = ap (λ m. record c { outs = m }) (nothing_removed pair_total pair_antisymmetric c.outs p none)
 
 pub no_pieces : (c : Contents) (p : Path) → ((n : ℤ) → IsTrue (finite.contains_key c.pieces (p, n)) → ⊥) → record c { pieces = finite.retain_keys c.pieces (λ k. not (same k.0 p)) } ≡ c
-no_pieces c p none = ap (λ m. record c { pieces = m }) (none_goes numbered_total numbered_antisymmetric c.pieces p none)
+no_pieces c p none = ap (λ m. record c { pieces = m }) (nothing_removed numbered_total numbered_antisymmetric c.pieces p none)
 
 none_in : {K X : Type 0} (R : K → K → Ordering) (q : K) (es : List (K × X)) → length es ≡ 0 → is_some (find_entry R q es) ≡ true → ⊥
 none_in R q [] none present = false≢true present
@@ -125,13 +125,13 @@ keyless {R = R} m part items is none q present =
     none_in R q (finite.entries m) (sym (length-map (finite.entries m) part) ∙ ap length (sym is) ∙ eqb-true (length items) 0 (sym none)) (ap is_some (sym (finite.get-entries m q)) ∙ present)
 
 -- of a path that the outline hasn't, the row of its object is all that goes
-pub alone_goes : (outline : OutlineValue) (c : Contents) (p : Path) → Covers outline c → finite.get outline.objects p ≡ None
+pub single_removed : (outline : OutlineValue) (c : Contents) (p : Path) → Covers outline c → finite.get outline.objects p ≡ None
     → record c { objects = finite.retain_keys c.objects (λ k. not (same k p)) } ≡ without_object p c
-alone_goes outline c p h none = λ i. record c {
+single_removed outline c p h none = λ i. record c {
   objects = finite.retain_keys c.objects (λ k. not (same k p));
-  refs = sym (none_goes pair_total pair_antisymmetric c.refs p (λ r present. let it = h.references p r present in absent it.0 it.1)) i;
-  outs = sym (none_goes pair_total pair_antisymmetric c.outs p (λ name present. let it = h.outputs p name present in absent it.0 it.1)) i;
-  pieces = sym (none_goes numbered_total numbered_antisymmetric c.pieces p (λ n present. let it = h.pieces p n present in absent it.0 it.1)) i;
+  refs = sym (nothing_removed pair_total pair_antisymmetric c.refs p (λ r present. let it = h.references p r present in absent it.0 it.1)) i;
+  outs = sym (nothing_removed pair_total pair_antisymmetric c.outs p (λ name present. let it = h.outputs p name present in absent it.0 it.1)) i;
+  pieces = sym (nothing_removed numbered_total numbered_antisymmetric c.pieces p (λ n present. let it = h.pieces p n present in absent it.0 it.1)) i;
 }
   where
     absent : (x : Outlined) → finite.get outline.objects p ≡ Some x → ⊥

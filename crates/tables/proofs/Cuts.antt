@@ -3,11 +3,15 @@ use Rattle.std.proofs.Common.{◌≡◌, ℕ, ◌+◌, ◌*◌, ◌<◌, ◌≤�
 use Rattle.std.specs.Prelude.{ℤ, pos}
 use Rattle.std.proofs.lemmas.List.{length-drop, drop-drop}
 use Rattle.streams.specs.Cut.{piece_of}
-use Rattle.tables_world.specs.Pieces.{piece_size, pieces_by, further_pieces}
+use Rattle.tables_world.specs.Pieces.{piece_size, row_part, pieces_by, further_pieces}
 use Rattle.tables_world.proofs.Cuts.{cuts_one_way}
 
 pub size_is : piece_size ≡ 65536
 size_is = (cuts_one_way []).size
+
+-- the first piece of an archive is what its row holds
+pub row_part_is : (nar : List ℕ) → take 65536 nar ≡ row_part nar
+row_part_is nar = ap (λ k. take k nar) (sym size_is)
 
 -- turns enough are all the same
 enough : (s t : List ℕ) (n : ℕ) (bytes : List ℕ) → length bytes ≤ length s → length bytes ≤ length t → pieces_by s n bytes ≡ pieces_by t n bytes

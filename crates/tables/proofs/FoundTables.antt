@@ -8,7 +8,7 @@ use Rattle.tables_schema.specs.Forms.{piece, temp_root}
 use Rattle.tables_schema.specs.Finding.{HasNone, IsFree}
 use Rattle.tables_schema.specs.declared.recognising.Recognised.{Recognised}
 use Rattle.tables_schema.specs.declared.recognising.Recognised.TheVariants.{Nothing, Tables, Other}
-use Rattle.tables_sql.specs.Contents.{contents_of, map_of, kept_cmp, is_kept, kept_of}
+use Rattle.tables_sql.specs.Contents.{contents_of, map_of, session_path_cmp, is_session_path, session_path_of}
 use Rattle.tables_sql.specs.Texts.{AreReadable}
 use Rattle.tables_sql.specs.Calls.{HasFurther, IsStoreDatabase, IsWhole}
 use Rattle.tables_sql.proofs.FurtherTables.{if_any_free}
@@ -24,7 +24,7 @@ use Rattle.tables.specs.Opening.{HasFurtherOf, HasTablesOf, IsFoundBy, IsNoStore
 -- a table whose name is free holds nothing
 no_temporary : (db : Database) → IsFree db.schema temp_root.name → (contents_of db).temp_roots ≡ finite.empty
 unfolding map_of
-no_temporary db free = ap (map_of kept_cmp is_kept kept_of) (if_any_free db temp_root.name free)
+no_temporary db free = ap (map_of session_path_cmp is_session_path session_path_of) (if_any_free db temp_root.name free)
 
 first_further : (db : Database) → IsFree db.schema piece.name → IsFree db.schema temp_root.name → HasFurtherOf V1 db
 first_further db pieces temporary = record {

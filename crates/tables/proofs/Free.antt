@@ -16,7 +16,7 @@ use Rattle.model.specs.World.{Path}
 use Rattle.tables_outline.specs.Maps.{labelled_bytes, seen_set}
 use Rattle.tables_outline.proofs.Orders.{bytes_total, pair_total, pair_antisymmetric}
 use Rattle.tables_outline.proofs.SetTrees.{set_keys}
-use Rattle.tables.specs.Rewritten.{AreApart, AreFree}
+use Rattle.tables.specs.Rewritten.{AreDistinct, AreFree}
 
 pub both_T : (a b : Bool) → T (a && b) → T a × T b
 both_T true b h = (tt, h)
@@ -49,9 +49,9 @@ module _ {L K X : Type 0} (R : L → L → Ordering) (o : IsTotalOrder R) (whole
       let parts = both_T (is_lt (R x e.0)) (below_all R x es) h in
       (ap is_eq (by e.0 x ∙ o.antisymm e.0 x ∙ ap ordering_reverse (lesser (R x e.0) parts.0)), below x es parts.1)
 
-  pub keys_apart : (es : List (L × X)) → T (is_sorted R es) → AreApart whole (map (λ (e : L × X). f e.0) es)
-  keys_apart [] h = tt
-  keys_apart (e ∷ es) h = let parts = both_T (below_all R e.0 es) (is_sorted R es) h in (below e.0 es parts.0, keys_apart es parts.1)
+  pub keys_distinct : (es : List (L × X)) → T (is_sorted R es) → AreDistinct whole (map (λ (e : L × X). f e.0) es)
+  keys_distinct [] h = tt
+  keys_distinct (e ∷ es) h = let parts = both_T (below_all R e.0 es) (is_sorted R es) h in (below e.0 es parts.0, keys_distinct es parts.1)
 
 pair_by : (p a b : Path) → pair_cmp (p, a) (p, b) ≡ bytes_cmp a b
 pair_by p a b = ap (λ r. ordering_then r (bytes_cmp a b)) (tied_itself bytes_total p)
@@ -61,24 +61,24 @@ numbered_by p a b = ap (λ r. ordering_then r (int_cmp a b)) (tied_itself bytes_
 
 -- the outputs of a path that has none
 pub outputs_free : (p : Path) (m : finite.FinMap pair_cmp Path) (es : List (List ℕ × Path)) → ((name : List ℕ) → finite.get m (p, name) ≡ None) → T (is_sorted bytes_cmp es) → AreFree m (map (λ (e : List ℕ × Path). (p, e.0)) es)
-outputs_free p m es none sorted = record { apart = keys_apart bytes_cmp bytes_total pair_cmp (λ (x : Path). (p, x)) (pair_by p) es sorted; free = all_free m (λ (e : List ℕ × Path). (p, e.0)) es (λ e. none e.0) }
+outputs_free p m es none sorted = record { apart = keys_distinct bytes_cmp bytes_total pair_cmp (λ (x : Path). (p, x)) (pair_by p) es sorted; free = all_free m (λ (e : List ℕ × Path). (p, e.0)) es (λ e. none e.0) }
 
 -- its references
 pub references_free : (p : Path) (m : PairSet) (s : Set bytes_cmp) → ((r : Path) → finite.get m (p, r) ≡ None) → AreFree m (map (λ (t : Path). (p, t)) (finite.keys s))
 references_free p m s none = record {
-  apart = subst (AreApart pair_cmp) (sym (map-map (λ (t : Path). (p, t)) (λ (e : Path × Unit {0}). e.0) (finite.entries s))) (keys_apart bytes_cmp bytes_total pair_cmp (λ (x : Path). (p, x)) (pair_by p) (finite.entries s) (finite.entries_sorted s));
+  apart = subst (AreDistinct pair_cmp) (sym (map-map (λ (t : Path). (p, t)) (λ (e : Path × Unit {0}). e.0) (finite.entries s))) (keys_distinct bytes_cmp bytes_total pair_cmp (λ (x : Path). (p, x)) (pair_by p) (finite.entries s) (finite.entries_sorted s));
   free = all_free m (λ (t : Path). (p, t)) (finite.keys s) none;
 }
 
 -- the further pieces of its archive
 pub pieces_free : (p : Path) (m : finite.FinMap numbered_cmp (List ℕ)) (es : List (ℤ × List ℕ)) → ((n : ℤ) → finite.get m (p, n) ≡ None) → T (is_sorted int_cmp es) → AreFree m (map (λ (e : ℤ × List ℕ). (p, e.0)) es)
-pieces_free p m es none sorted = record { apart = keys_apart int_cmp int_cmp_total numbered_cmp (λ (n : ℤ). (p, n)) (numbered_by p) es sorted; free = all_free m (λ (e : ℤ × List ℕ). (p, e.0)) es (λ e. none e.0) }
+pieces_free p m es none sorted = record { apart = keys_distinct int_cmp int_cmp_total numbered_cmp (λ (n : ℤ). (p, n)) (numbered_by p) es sorted; free = all_free m (λ (e : ℤ × List ℕ). (p, e.0)) es (λ e. none e.0) }
 
 -- runtime roots in order, where there is none
 pub runtime_free : (keys : List (String Global × List ℕ)) → IsStrictlySortedBy (λ a b. pair_cmp (labelled_bytes a) (labelled_bytes b)) keys → AreFree (finite.empty {X = Unit {0}} {R = pair_cmp}) (map labelled_bytes keys)
 runtime_free keys sorted =
     let s : Set pair_cmp = seen_set pair_cmp labelled_bytes keys in
     record {
-      apart = subst (AreApart pair_cmp) (set_keys pair_cmp labelled_bytes pair_total pair_antisymmetric keys sorted) (keys_apart pair_cmp pair_total pair_cmp (λ (k : Pair). k) (λ a b. refl) (finite.entries s) (finite.entries_sorted s));
+      apart = subst (AreDistinct pair_cmp) (set_keys pair_cmp labelled_bytes pair_total pair_antisymmetric keys sorted) (keys_distinct pair_cmp pair_total pair_cmp (λ (k : Pair). k) (λ a b. refl) (finite.entries s) (finite.entries_sorted s));
       free = all_free (finite.empty {X = Unit {0}} {R = pair_cmp}) labelled_bytes keys (λ k. finite.get-empty pair_cmp (labelled_bytes k));
     }

@@ -7,13 +7,13 @@ use Rattle.sqlite_schema.specs.declared.schema.Table.{Table}
 use Rattle.sqlite_schema.specs.Names.{table_named, index_named, view_named}
 use Rattle.sqlite.specs.Does.{lacks_sequence}
 use Rattle.sqlite.specs.Effect.{Database}
-use Rattle.tables_schema.specs.Forms.{our_tables, all_tables, piece, temp_root}
-use Rattle.tables_schema.specs.Intact.{IsIntact, HasTables, tree_named, is_unreferred, is_alone, is_unguarded}
+use Rattle.tables_schema.specs.Forms.{store_tables, all_tables, piece, temp_root}
+use Rattle.tables_schema.specs.Intact.{IsIntact, HasTables, tree_named, is_unreferred, is_unshared, is_unguarded}
 use Rattle.tables_schema.specs.Finding.{HasNone, IsFree, is_unawaited}
 use Rattle.tables_schema.specs.declared.schema.Schema.{Schema}
 use Rattle.tables_schema.specs.declared.schema.Schema.TheVariants.{V1, V2, V3}
 use Rattle.tables.specs.declared.refusing.Cause.TheVariants.{BadSchema}
-use Rattle.tables.specs.InTheWay.{is_present, is_name_used, has_store_tables, is_acted_on, is_awaited, is_kept_out, are_others_in_the_way}
+use Rattle.tables.specs.InTheWay.{is_present, is_name_used, has_store_tables, is_acted_on, is_awaited, is_blocked, are_others_in_the_way}
 use Rattle.tables.specs.Opening.{HasTablesOf, HoldsBy, HasItsForm, HasFormsOf, IsPresentBy, IsRefusal, IsNoStore, RefusesTheRest}
 
 -- ---- tests
@@ -52,10 +52,10 @@ zipped P Q R f (x ∷ xs) h k = (f x h.0 k.0, zipped P Q R f xs h.1 k.1)
 
 -- ---- the nine tables and the further two
 
-together : (P : Table → Type 0) → AllByRecursion P our_tables → P piece → P temp_root → AllByRecursion P all_tables
+together : (P : Table → Type 0) → AllByRecursion P store_tables → P piece → P temp_root → AllByRecursion P all_tables
 together P h k l = (h.0, (h.1.0, (h.1.1.0, (h.1.1.1.0, (h.1.1.1.1.0, (h.1.1.1.1.1.0, (h.1.1.1.1.1.1.0, (h.1.1.1.1.1.1.1.0, (h.1.1.1.1.1.1.1.1.0, (k, (l, tt)))))))))))
 
-apart : (P : Table → Type 0) → AllByRecursion P all_tables → AllByRecursion P our_tables × (P piece × P temp_root)
+apart : (P : Table → Type 0) → AllByRecursion P all_tables → AllByRecursion P store_tables × (P piece × P temp_root)
 apart P h = (
   (h.0, (h.1.0, (h.1.1.0, (h.1.1.1.0, (h.1.1.1.1.0, (h.1.1.1.1.1.0, (h.1.1.1.1.1.1.0, (h.1.1.1.1.1.1.1.0, (h.1.1.1.1.1.1.1.1.0, tt))))))))),
   (h.1.1.1.1.1.1.1.1.1.0, h.1.1.1.1.1.1.1.1.1.1.0),
@@ -65,40 +65,40 @@ module _ (s : Shown) where
   -- ---- one table
 
   abbrev is_hindered : Table → Bool
-  is_hindered t = is_acted_on s t || (is_awaited s t || is_kept_out s t)
+  is_hindered t = is_acted_on s t || (is_awaited s t || is_blocked s t)
 
   -- nothing stands in its way
   abbrev IsClear : Table → Type 0
   IsClear t = is_hindered t ≡ false
 
   abbrev is_left_alone : Table → Bool
-  is_left_alone t = is_unreferred s (tree_named s t.name) && (is_alone s t.name (tree_named s t.name) && is_unguarded s (tree_named s t.name) t.primary)
+  is_left_alone t = is_unreferred s (tree_named s t.name) && (is_unshared s t.name (tree_named s t.name) && is_unguarded s (tree_named s t.name) t.primary)
 
   abbrev Untaken : Table → Type 0
   Untaken t = is_name_used s t ≡ false
 
   clear_there : (t : Table) → is_present s t ≡ true → is_left_alone t ≡ true → IsClear t
-  clear_there t present alone =
-      or_from (is_acted_on s t) (is_awaited s t || is_kept_out s t) (and_right (is_present s t) (not (is_left_alone t)) (not_from_true (is_left_alone t) alone))
-      (or_from (is_awaited s t) (is_kept_out s t) (and_left (not (is_present s t)) (not (is_unawaited s t.name)) (not_from_true (is_present s t) present)) (and_left (not (is_present s t)) (lacks_sequence s) (not_from_true (is_present s t) present)))
+  clear_there t present idle =
+      or_from (is_acted_on s t) (is_awaited s t || is_blocked s t) (and_right (is_present s t) (not (is_left_alone t)) (not_from_true (is_left_alone t) idle))
+      (or_from (is_awaited s t) (is_blocked s t) (and_left (not (is_present s t)) (not (is_unawaited s t.name)) (not_from_true (is_present s t) present)) (and_left (not (is_present s t)) (lacks_sequence s) (not_from_true (is_present s t) present)))
 
   clear_away : (t : Table) → is_present s t ≡ false → is_unawaited s t.name ≡ true → lacks_sequence s ≡ false → IsClear t
   clear_away t away unawaited counted =
-      or_from (is_acted_on s t) (is_awaited s t || is_kept_out s t) (and_left (is_present s t) (not (is_left_alone t)) away)
-      (or_from (is_awaited s t) (is_kept_out s t) (and_right (not (is_present s t)) (not (is_unawaited s t.name)) (not_from_true (is_unawaited s t.name) unawaited)) (and_right (not (is_present s t)) (lacks_sequence s) counted))
+      or_from (is_acted_on s t) (is_awaited s t || is_blocked s t) (and_left (is_present s t) (not (is_left_alone t)) away)
+      (or_from (is_awaited s t) (is_blocked s t) (and_right (not (is_present s t)) (not (is_unawaited s t.name)) (not_from_true (is_unawaited s t.name) unawaited)) (and_right (not (is_present s t)) (lacks_sequence s) counted))
 
   stands_formed : (t : Table) → IsIntact s t → HasItsForm s t
   stands_formed t h = (h.at, h.known)
 
   stands_clear : (t : Table) → IsIntact s t → IsClear t
-  stands_clear t h = clear_there t (ap is_some h.known.named.0) (and_from _ _ h.unreferred (and_from _ _ h.alone h.unguarded))
+  stands_clear t h = clear_there t (ap is_some h.known.named.0) (and_from _ _ h.unreferred (and_from _ _ h.idle h.unguarded))
 
   clear_stands : (t : Table) → HasItsForm s t → IsClear t → IsIntact s t
   clear_stands t h clear =
-      let acts = not_both (is_present s t) (not (is_left_alone t)) (or_parts (is_acted_on s t) (is_awaited s t || is_kept_out s t) clear).0 (ap is_some h.1.named.0) in
-      let alone = both (is_unreferred s (tree_named s t.name)) (is_alone s t.name (tree_named s t.name) && is_unguarded s (tree_named s t.name) t.primary) (not_back (is_left_alone t) acts) in
-      let last = both (is_alone s t.name (tree_named s t.name)) (is_unguarded s (tree_named s t.name) t.primary) alone.1 in
-      record { at = h.0; known = h.1; unreferred = alone.0; alone = last.0; unguarded = last.1 }
+      let acts = not_both (is_present s t) (not (is_left_alone t)) (or_parts (is_acted_on s t) (is_awaited s t || is_blocked s t) clear).0 (ap is_some h.1.named.0) in
+      let idle = both (is_unreferred s (tree_named s t.name)) (is_unshared s t.name (tree_named s t.name) && is_unguarded s (tree_named s t.name) t.primary) (not_back (is_left_alone t) acts) in
+      let last = both (is_unshared s t.name (tree_named s t.name)) (is_unguarded s (tree_named s t.name) t.primary) idle.1 in
+      record { at = h.0; known = h.1; unreferred = idle.0; idle = last.0; unguarded = last.1 }
 
   free_untaken : (t : Table) → IsFree s t.name → Untaken t
   free_untaken t h = or_from (is_present s t) (is_some (index_named s t.name) || is_some (view_named s t.name)) (ap is_some h.table) (or_from (is_some (index_named s t.name)) (is_some (view_named s t.name)) (ap is_some h.index) (ap is_some h.view))
@@ -113,7 +113,7 @@ module _ (s : Shown) where
   clear_free : (t : Table) → Untaken t → IsClear t → IsFree s t.name
   clear_free t h clear =
       let rest = or_parts (is_some (index_named s t.name)) (is_some (view_named s t.name)) (or_parts (is_present s t) (is_some (index_named s t.name) || is_some (view_named s t.name)) h).1 in
-      let waits = (or_parts (is_awaited s t) (is_kept_out s t) (or_parts (is_acted_on s t) (is_awaited s t || is_kept_out s t) clear).1).0 in
+      let waits = (or_parts (is_awaited s t) (is_blocked s t) (or_parts (is_acted_on s t) (is_awaited s t || is_blocked s t) clear).1).0 in
       record {
         table = none_of (table_named s t.name) (away t h);
         index = none_of (index_named s t.name) rest.0;
@@ -123,24 +123,24 @@ module _ (s : Shown) where
 
   clear_counted : (t : Table) → Untaken t → IsClear t → lacks_sequence s ≡ false
   clear_counted t h clear =
-      not_both (not (is_present s t)) (lacks_sequence s) (or_parts (is_awaited s t) (is_kept_out s t) (or_parts (is_acted_on s t) (is_awaited s t || is_kept_out s t) clear).1).1 (not_from_false (is_present s t) (away t h))
+      not_both (not (is_present s t)) (lacks_sequence s) (or_parts (is_awaited s t) (is_blocked s t) (or_parts (is_acted_on s t) (is_awaited s t || is_blocked s t) clear).1).1 (not_from_false (is_present s t) (away t h))
 
   -- ---- all of them
 
-  all_clear : AllByRecursion IsClear our_tables → IsClear piece → IsClear temp_root → are_others_in_the_way s ≡ false
+  all_clear : AllByRecursion IsClear store_tables → IsClear piece → IsClear temp_root → are_others_in_the_way s ≡ false
   all_clear h k l = none_any is_hindered all_tables (together IsClear h k l)
 
-  each_clear : are_others_in_the_way s ≡ false → AllByRecursion IsClear our_tables × (IsClear piece × IsClear temp_root)
+  each_clear : are_others_in_the_way s ≡ false → AllByRecursion IsClear store_tables × (IsClear piece × IsClear temp_root)
   each_clear h = apart IsClear (any_none is_hindered all_tables h)
 
-  formed : HasTables s → AllByRecursion (HasItsForm s) our_tables
-  formed h = mapped (IsIntact s) (HasItsForm s) stands_formed our_tables h
+  formed : HasTables s → AllByRecursion (HasItsForm s) store_tables
+  formed h = mapped (IsIntact s) (HasItsForm s) stands_formed store_tables h
 
-  formed_clear : HasTables s → AllByRecursion IsClear our_tables
-  formed_clear h = mapped (IsIntact s) IsClear stands_clear our_tables h
+  formed_clear : HasTables s → AllByRecursion IsClear store_tables
+  formed_clear h = mapped (IsIntact s) IsClear stands_clear store_tables h
 
-  standing : AllByRecursion (HasItsForm s) our_tables → AllByRecursion IsClear our_tables → HasTables s
-  standing h k = zipped (HasItsForm s) IsClear (IsIntact s) clear_stands our_tables h k
+  standing : AllByRecursion (HasItsForm s) store_tables → AllByRecursion IsClear store_tables → HasTables s
+  standing h k = zipped (HasItsForm s) IsClear (IsIntact s) clear_stands store_tables h k
 
   -- tables of a schema have their forms, and are clear
   forms_of : (schema : Schema) → HasTablesOf schema s → HasFormsOf schema s × (are_others_in_the_way s ≡ false)
@@ -172,8 +172,8 @@ module _ (s : Shown) where
   none_apart : HasNone s → (has_store_tables s ≡ false) × (are_others_in_the_way s ≡ false)
   none_apart h = (
     none_any (is_name_used s) all_tables
-        (together Untaken (mapped (λ (t : Table). IsFree s t.name) Untaken free_untaken our_tables h.free) (free_untaken piece h.further.0) (free_untaken temp_root h.further.1.0)),
-    all_clear (mapped (λ (t : Table). IsFree s t.name) IsClear (free_clear h.counted) our_tables h.free) (free_clear h.counted piece h.further.0) (free_clear h.counted temp_root h.further.1.0),
+        (together Untaken (mapped (λ (t : Table). IsFree s t.name) Untaken free_untaken store_tables h.free) (free_untaken piece h.further.0) (free_untaken temp_root h.further.1.0)),
+    all_clear (mapped (λ (t : Table). IsFree s t.name) IsClear (free_clear h.counted) store_tables h.free) (free_clear h.counted piece h.further.0) (free_clear h.counted temp_root h.further.1.0),
   )
 
   none_of_ours : has_store_tables s ≡ false → are_others_in_the_way s ≡ false → HasNone s
@@ -181,15 +181,15 @@ module _ (s : Shown) where
       let it = each_clear clear in
       let untaken = apart Untaken (any_none (is_name_used s) all_tables of_store) in
       record {
-        free = zipped Untaken IsClear (λ (t : Table). IsFree s t.name) clear_free our_tables untaken.0 it.0;
+        free = zipped Untaken IsClear (λ (t : Table). IsFree s t.name) clear_free store_tables untaken.0 it.0;
         further = (clear_free piece untaken.1.0 it.1.0, (clear_free temp_root untaken.1.1 it.1.1, tt));
         counted = clear_counted piece untaken.1.0 it.1.0;
       }
 
 -- ---- a store
 
-there_by : (schema : Schema) (dir : List ℕ) (db : Database) → HoldsBy schema dir db → IsPresentBy schema dir db
-there_by schema dir db h = record { forms = (forms_of db.schema schema h.tables).0; readable = h.readable; sound = h.sound }
+present_by : (schema : Schema) (dir : List ℕ) (db : Database) → HoldsBy schema dir db → IsPresentBy schema dir db
+present_by schema dir db h = record { forms = (forms_of db.schema schema h.tables).0; readable = h.readable; sound = h.sound }
 
 holds_by : (schema : Schema) (dir : List ℕ) (db : Database) → IsPresentBy schema dir db → are_others_in_the_way db.schema ≡ false → HoldsBy schema dir db
 holds_by schema dir db h clear = record { tables = tables_of db.schema schema h.forms clear; readable = h.readable; sound = h.sound }
@@ -208,7 +208,7 @@ no_store_cause dir db h = by (are_others_in_the_way db.schema) refl
 
 -- and where this is why there is none
 pub cause_no_store : (dir : List ℕ) (db : Database) → IsRefusal dir db BadSchema → IsNoStore db
-cause_no_store dir db (inl h) = (λ none. false≢true (sym (none_apart db.schema none).0 ∙ h.0), λ d holds. h.1 d (holds.0, there_by holds.0 d db holds.1))
+cause_no_store dir db (inl h) = (λ none. false≢true (sym (none_apart db.schema none).0 ∙ h.0), λ d holds. h.1 d (holds.0, present_by holds.0 d db holds.1))
 cause_no_store dir db (inr h) = (λ none. false≢true (sym (none_apart db.schema none).1 ∙ h), λ d holds. false≢true (sym (forms_of db.schema holds.0 holds.1.tables).1 ∙ h))
 
 pub refuses_the_rest : RefusesTheRest

@@ -25,8 +25,8 @@ use Rattle.tables_world.proofs.Cuts.{cut_right, cut_whole}
 use Rattle.tables_world.proofs.Migrating.{rising}
 use Rattle.tables_world.proofs.Reported.{get-reference, get-output, get-piece}
 use Rattle.tables.proofs.Parts.{same, either, get-put_references, get-put_outputs, get-put_pieces}
-use Rattle.tables_outline.proofs.Reported.{get-reported, told_insert}
-use Rattle.tables.proofs.Kept.{Follows}
+use Rattle.tables_outline.proofs.Reported.{get-reported, reported_insert}
+use Rattle.tables.proofs.AfterWrites.{Follows}
 
 -- the object that rows with this archive, these references and these outputs tell
 abbrev pub object_of : List ℕ → Stored → List Path → List (List ℕ × Path) → Object
@@ -161,11 +161,11 @@ module _ (dir : List ℕ) (p : Path) (nar : List ℕ) (o : Stored) (rs : List Pa
   -- ---- the rows
 
   stored_after : (q : Path) (x : Stored) → finite.get (finite.insert c.objects p o) q ≡ Some x → (P : Path → Stored → Type 0) → P p o → (same q p ≡ false → finite.get c.objects q ≡ Some x → P q x) → P q x
-  stored_after q x e P mine theirs = by (same q p) refl (sym (finite.get-insert bytes_total c.objects p o q) ∙ e)
+  stored_after q x e P mine foreign_rows = by (same q p) refl (sym (finite.get-insert bytes_total c.objects p o q) ∙ e)
     where
       by : (b : Bool) → same q p ≡ b → cond b (Some o) (finite.get c.objects q) ≡ Some x → P q x
       by true t h = subst₂ P (sym (tied_is bytes_antisymmetric q p t)) (same_Some o x h) mine
-      by false t h = theirs t h
+      by false t h = foreign_rows t h
 
   still_there : (q : Path) → (same q p ≡ false → IsTrue (finite.contains_key c.objects q)) → IsTrue (finite.contains_key (finite.insert c.objects p o) q)
   still_there q h = ap is_some (finite.get-insert bytes_total c.objects p o q) ∙ by (same q p) refl
@@ -201,4 +201,4 @@ module _ (dir : List ℕ) (p : Path) (nar : List ℕ) (o : Stored) (rs : List Pa
 
 -- the outline gains it
 pub outline_follows : (p : Path) (o : Object) (w : World) → outline_of (record w { objects = finite.insert w.objects p o }) ≡ record (outline_of w) { objects = finite.insert (outline_of w).objects p (outlined o) }
-outline_follows p o w = ap (λ m. record (outline_of w) { objects = m }) (told_insert bytes_total bytes_antisymmetric (λ _ x. outlined x) w.objects p o)
+outline_follows p o w = ap (λ m. record (outline_of w) { objects = m }) (reported_insert bytes_total bytes_antisymmetric (λ _ x. outlined x) w.objects p o)

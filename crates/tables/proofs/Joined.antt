@@ -85,18 +85,18 @@ same_dir : (schema : Schema) (a b : List ℕ) → settings schema a ≡ settings
 same_dir schema a b is = same_Some a b (sym (at_dir schema a) ∙ ap (λ m. finite.get m (codes "store-dir")) is ∙ at_dir schema b)
 
 -- an option that is this
-pub none_told : {A : Type 0} (P : Type 0) (Q : A → Type 0) (o : Option A) → o ≡ None → MatchOption o P Q → P
-none_told P Q None is h = h
-none_told P Q (Some x) is h = absurd (false≢true (sym (ap is_some is)))
+pub none_reported : {A : Type 0} (P : Type 0) (Q : A → Type 0) (o : Option A) → o ≡ None → MatchOption o P Q → P
+none_reported P Q None is h = h
+none_reported P Q (Some x) is h = absurd (false≢true (sym (ap is_some is)))
 
-pub some_told : {A : Type 0} (P : Type 0) (Q : A → Type 0) (o : Option A) (d : A) → o ≡ Some d → MatchOption o P Q → Q d
-some_told P Q None d is h = absurd (false≢true (ap is_some is))
-some_told P Q (Some x) d is h = subst Q (same_Some x d is) h
+pub some_reported : {A : Type 0} (P : Type 0) (Q : A → Type 0) (o : Option A) (d : A) → o ≡ Some d → MatchOption o P Q → Q d
+some_reported P Q None d is h = absurd (false≢true (ap is_some is))
+some_reported P Q (Some x) d is h = subst Q (same_Some x d is) h
 
 -- settings that were found
 pub named_dir : (schema : Schema) (c : Contents) (o : Option (List ℕ)) (d : List ℕ) → o ≡ Some d
     → MatchOption o ((dir : List ℕ) → IsTrue (is_store_dir dir) → ¬ (c.meta ≡ settings schema dir)) (λ e. IsTrue (is_store_dir e) × (c.meta ≡ settings schema e)) → IsTrue (is_store_dir d) × (c.meta ≡ settings schema d)
-named_dir schema c o d is h = some_told ((dir : List ℕ) → IsTrue (is_store_dir dir) → ¬ (c.meta ≡ settings schema dir)) (λ e. IsTrue (is_store_dir e) × (c.meta ≡ settings schema e)) o d is h
+named_dir schema c o d is h = some_reported ((dir : List ℕ) → IsTrue (is_store_dir dir) → ¬ (c.meta ≡ settings schema dir)) (λ e. IsTrue (is_store_dir e) × (c.meta ≡ settings schema e)) o d is h
 
 module _ (schema : Schema) (c : Contents) (d : List ℕ) (are : c.meta ≡ settings schema d) where
   pub only : (dir : List ℕ) → IsSoundBy schema dir c → IsSoundBy schema d c

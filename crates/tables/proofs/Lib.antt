@@ -16,8 +16,8 @@ pub mod Free
 pub mod InTheWay
 pub mod Inserted
 pub mod Joined
-pub mod Kept
-pub mod Lasting
+pub mod AfterWrites
+pub mod AfterCrash
 pub mod Lists
 pub mod Made
 pub mod NumbersLeft

@@ -59,13 +59,13 @@ set_is_switch p t n is present = by (is_highest p t) refl
 pub set_is_new : (p : Profile) (t : Path) (n : ℕ) → n ≡ number_for p t → put_at p n t ≡ set_to p t
 set_is_new p t n is = ap (λ k. put_at p k t) is ∙ set_is_put p t
 
-pub none_there : (p : Profile) (n : ℕ) → has_generation p n ≡ false → finite.get p.generations n ≡ None
-none_there p n h = by (finite.get p.generations n) h
+pub none_present : (p : Profile) (n : ℕ) → has_generation p n ≡ false → finite.get p.generations n ≡ None
+none_present p n h = by (finite.get p.generations n) h
   where
     by : (o : Option Path) → is_some o ≡ false → o ≡ None
     by None e = refl
     by (Some q) e = absurd (false≢true (sym e))
 
-pub there_of : (o : Option Profile) (n : ℕ) → has_generation (profile_or_new o) n ≡ true → is_some o ≡ true
-there_of None n h = absurd (false≢true (sym (ap is_some (finite.get-empty nat_cmp n)) ∙ h))
-there_of (Some p) n h = refl
+pub present_of : (o : Option Profile) (n : ℕ) → has_generation (profile_or_new o) n ≡ true → is_some o ≡ true
+present_of None n h = absurd (false≢true (sym (ap is_some (finite.get-empty nat_cmp n)) ∙ h))
+present_of (Some p) n h = refl

@@ -13,7 +13,7 @@ use Rattle.tables_world.specs.Worlds.{IsSoundContents, rows_of, world_in}
 use Rattle.tables_world.proofs.Columns.{generation_at, profile_at}
 use Rattle.tables_outline.proofs.Orders.{nat_antisymmetric, pair_total, pair_antisymmetric}
 use Rattle.tables_outline.proofs.Puts.{tied_is}
-use Rattle.tables.proofs.Kept.{Follows}
+use Rattle.tables.proofs.AfterWrites.{Follows}
 
 -- Rows of profiles and generations after a change: one profile has this current number and these generations.
 pub record AreChanged (c : Contents) (profiles : finite.FinMap pair_cmp ℤ) (generations : finite.FinMap triple_cmp Path) (owned : Pair) (p : Profile) : Type 0 where

@@ -24,8 +24,8 @@ use Rattle.tables_outline.proofs.Orders.{pair_total, pair_antisymmetric}
 use Rattle.tables_outline.proofs.Puts.{tied_is, get-kept}
 use Rattle.tables.specs.Entries.{with_profile_by}
 use Rattle.tables.specs.Frames.{StaysSound}
-use Rattle.tables.specs.Kept.{Kept, Agrees}
-use Rattle.tables.proofs.Kept.{Follows, IsWrite}
+use Rattle.tables.specs.TablesValue.{TablesValue, Agrees}
+use Rattle.tables.proofs.AfterWrites.{Follows, IsWrite}
 use Rattle.tables.proofs.ProfileRows.{profile_follows}
 
 -- a profile is changed
@@ -33,7 +33,7 @@ module _ (owned : Pair) (next : Profile → Profile) where
   abbrev pub outline_next : OutlineValue → OutlineValue
   outline_next o = with_profile o owned (next (profile_of o owned))
 
-  pub profile_write : (f : Contents → Contents) {S : Type 0} (g : Ghosts S) (k now : Kept S) → k ≡ now → Agrees g k → StaysSound g now (with_profile_by owned next)
+  pub profile_write : (f : Contents → Contents) {S : Type 0} (g : Ghosts S) (k now : TablesValue S) → k ≡ now → Agrees g k → StaysSound g now (with_profile_by owned next)
       → (HasCleanDisk (state g k.connection) → IsTrue (state g k.connection).is_open → Follows k.dir f (with_profile_by owned next) (contents_of (state g k.connection).now))
       → IsWrite g k now f (with_profile_by owned next) outline_next
   profile_write f g k now view agrees sound follows = record { view = view; law = λ w. refl; follows = follows; agrees = agrees; sound = sound }
@@ -65,8 +65,8 @@ module _ (dir : List ℕ) (c : Contents) (rows : IsSoundContents dir c) (owned :
   here = profile_at (world_in c) owned
 
   -- the generations told of it are its rows, of which there are none where it isn't there
-  pub told_generation : (n : ℕ) → finite.get here.generations n ≡ finite.get c.generations (owned.0, owned.1, pos n)
-  told_generation n = ap (λ (o : Option Profile). finite.get (profile_or_new o).generations n) (columns.profile_at (rows_of c) owned) ∙ by (finite.get c.profiles owned) refl
+  pub reported_generation : (n : ℕ) → finite.get here.generations n ≡ finite.get c.generations (owned.0, owned.1, pos n)
+  reported_generation n = ap (λ (o : Option Profile). finite.get (profile_or_new o).generations n) (columns.profile_at (rows_of c) owned) ∙ by (finite.get c.profiles owned) refl
     where
       by : (o : Option ℤ) → finite.get c.profiles owned ≡ o → finite.get (profile_or_new (option_map (profile_in (rows_of c) owned) o)).generations n ≡ finite.get c.generations (owned.0, owned.1, pos n)
       by None e = finite.get-empty nat_cmp n ∙ sym (none_of (finite.get c.generations (owned.0, owned.1, pos n)) (λ present. false≢true (ap is_some (sym e) ∙ rows.generations owned.0 owned.1 (pos n) present)))
@@ -77,7 +77,7 @@ module _ (dir : List ℕ) (c : Contents) (rows : IsSoundContents dir c) (owned :
   of_either q n = by (eq_by_cmp pair_cmp q owned) refl
     where
       by : (b : Bool) → eq_by_cmp pair_cmp q owned ≡ b → finite.get c.generations (q.0, q.1, pos n) ≡ cond b (finite.get here.generations n) (finite.get c.generations (q.0, q.1, pos n))
-      by true t = ap (λ (j : Pair). finite.get c.generations (j.0, j.1, pos n)) (tied_is pair_antisymmetric q owned t) ∙ sym (told_generation n)
+      by true t = ap (λ (j : Pair). finite.get c.generations (j.0, j.1, pos n)) (tied_is pair_antisymmetric q owned t) ∙ sym (reported_generation n)
       by false t = refl
 
   -- a number becomes current
@@ -153,5 +153,5 @@ module _ (dir : List ℕ) (c : Contents) (rows : IsSoundContents dir c) (owned :
               → cond b (cond (eq_by_cmp int_cmp (pos m) (pos n)) None (finite.get c.generations (q.0, q.1, pos m))) (finite.get c.generations (q.0, q.1, pos m)) ≡ cond b (finite.get (without_generation here n).generations m) (finite.get c.generations (q.0, q.1, pos m))
           own false t = refl
           own true t =
-              ap₂ (λ d g. cond d None g) (numbers_tie m n) (ap (λ (j : Pair). finite.get c.generations (j.0, j.1, pos m)) (tied_is pair_antisymmetric q owned t) ∙ sym (told_generation m))
+              ap₂ (λ d g. cond d None g) (numbers_tie m n) (ap (λ (j : Pair). finite.get c.generations (j.0, j.1, pos m)) (tied_is pair_antisymmetric q owned t) ∙ sym (reported_generation m))
               ∙ sym (finite.get-remove nat_cmp_total here.generations n m)

@@ -26,9 +26,9 @@ use Rattle.tables_outline.proofs.Ordered.{both_T, from_both, listed_as}
 use Rattle.tables_outline.proofs.Puts.{tied_is}
 use Rattle.tables_outline.proofs.Reported.{get-reported}
 use Rattle.tables_outline.specs.Outline.{OutlineValue, Outlined, outlined}
-use Rattle.tables.proofs.AddedObjects.{none_told}
+use Rattle.tables.proofs.AddedObjects.{none_reported}
 use Rattle.tables.proofs.Cuts.{size_is}
-use Rattle.tables.specs.Kept.{Kept, Agrees, HasWorld}
+use Rattle.tables.specs.TablesValue.{TablesValue, Agrees, HasWorld}
 
 -- ---- the pieces of a path, as a read lists them
 
@@ -130,20 +130,20 @@ in_world c path = ap (option_map nar_of) (get-reported bytes_total bytes_antisym
     by None = refl
     by (Some x) = refl
 
-pub archive_told : {S : Type 0} (g : Ghosts S) (k now : Kept S) → k ≡ now → (base path : Path) (nar : Option (List ℕ)) → base ≡ path
+pub archive_reported : {S : Type 0} (g : Ghosts S) (k now : TablesValue S) → k ≡ now → (base path : Path) (nar : Option (List ℕ)) → base ≡ path
     → HasCleanDisk (state g k.connection) → IsTrue (state g k.connection).is_open → nar ≡ option_map (archive_in (rows_of (contents_of (state g k.connection).now)) base) (finite.get (contents_of (state g k.connection).now).objects base)
     → (w : World) → HasWorld g now w → nar ≡ option_map nar_of (finite.get w.objects path)
-archive_told g k now view base path nar same clean is_open is w t =
-    let reported = subst (λ (n : Kept _). HasWorld g n w) (sym view) t in
+archive_reported g k now view base path nar same clean is_open is w t =
+    let reported = subst (λ (n : TablesValue _). HasWorld g n w) (sym view) t in
     let c = contents_of (state g k.connection).now in
     is ∙ ap (λ p. option_map (archive_in (rows_of c) p) (finite.get c.objects p)) same ∙ sym (in_world c path) ∙ ap (λ (v : World). option_map nar_of (finite.get v.objects path)) (reported.rows clean is_open)
 
 -- ---- what the outline says of it
 
-some_told : {X Y : Type 0} (f : X → Y) (g : Option X) (x : X) (y : Y) → g ≡ Some x → Some y ≡ option_map f g → y ≡ f x
-some_told f g x y present is = same_Some y (f x) (is ∙ ap (option_map f) present)
+some_reported : {X Y : Type 0} (f : X → Y) (g : Option X) (x : X) (y : Y) → g ≡ Some x → Some y ≡ option_map f g → y ≡ f x
+some_reported f g x y present is = same_Some y (f x) (is ∙ ap (option_map f) present)
 
-module _ {S : Type 0} (g : Ghosts S) (k : Kept S) (agrees : Agrees g k) (base path : Path) (same : base ≡ path) (clean : HasCleanDisk (state g k.connection)) (is_open : IsTrue (state g k.connection).is_open) where
+module _ {S : Type 0} (g : Ghosts S) (k : TablesValue S) (agrees : Agrees g k) (base path : Path) (same : base ≡ path) (clean : HasCleanDisk (state g k.connection)) (is_open : IsTrue (state g k.connection).is_open) where
   abbrev contents : Contents
   contents = contents_of (state g k.connection).now
 
@@ -156,11 +156,11 @@ module _ {S : Type 0} (g : Ghosts S) (k : Kept S) (agrees : Agrees g k) (base pa
   archive_size found size at is o present =
       let reported = at ∙ ap (λ (x : OutlineValue). finite.get x.objects path) (sym (agrees.rows clean is_open).same) ∙ get-reported bytes_total bytes_antisymmetric (λ _ x. outlined x) (world_in contents).objects path in
       let stored = get-reported bytes_total bytes_antisymmetric (object_in (rows_of contents)) contents.objects path ∙ ap (option_map (object_in (rows_of contents) path)) (ap (finite.get contents.objects) (sym same) ∙ present) in
-      ap (λ p. length (archive_in (rows_of contents) p o)) same ∙ sym (is ∙ ap (λ (x : Outlined). x.size) (some_told outlined (finite.get (world_in contents).objects path) (object_in (rows_of contents) path o) found stored reported))
+      ap (λ p. length (archive_in (rows_of contents) p o)) same ∙ sym (is ∙ ap (λ (x : Outlined). x.size) (some_reported outlined (finite.get (world_in contents).objects path) (object_in (rows_of contents) path o) found stored reported))
 
 -- a path that the outline hasn't has none
-pub none_kept : {S : Type 0} (g : Ghosts S) (k now : Kept S) → k ≡ now → (path : Path) → None ≡ finite.get k.outline.objects path → (w : World) → HasWorld g now w → None ≡ option_map nar_of (finite.get w.objects path)
+pub none_kept : {S : Type 0} (g : Ghosts S) (k now : TablesValue S) → k ≡ now → (path : Path) → None ≡ finite.get k.outline.objects path → (w : World) → HasWorld g now w → None ≡ option_map nar_of (finite.get w.objects path)
 none_kept g k now view path none w t =
-    let reported = subst (λ (n : Kept _). HasWorld g n w) (sym view) t in
+    let reported = subst (λ (n : TablesValue _). HasWorld g n w) (sym view) t in
     let gone = get-reported bytes_total bytes_antisymmetric (λ _ x. outlined x) w.objects path in
-    sym (ap (option_map nar_of) (none_told outlined (finite.get w.objects path) (sym gone ∙ ap (λ (x : OutlineValue). finite.get x.objects path) reported.outline ∙ sym none)))
+    sym (ap (option_map nar_of) (none_reported outlined (finite.get w.objects path) (sym gone ∙ ap (λ (x : OutlineValue). finite.get x.objects path) reported.outline ∙ sym none)))

@@ -21,7 +21,7 @@ use Rattle.tables_outline.proofs.Orders.{bytes_total, bytes_antisymmetric, pair_
 use Rattle.tables_outline.proofs.Puts.{get-kept, retained}
 use Rattle.tables_outline.proofs.Reported.{get-reported}
 use Rattle.tables.specs.Rewritten.{without_object, without_objects}
-use Rattle.tables.proofs.Kept.{Follows}
+use Rattle.tables.proofs.AfterWrites.{Follows}
 
 -- ---- one after another
 

@@ -4,11 +4,11 @@ use Rattle.sqlite_trees.specs.declared.store.Store.{Ghosts}
 use Rattle.model.specs.World.{Path}
 use Rattle.tables.specs.Frames.{StaysSound}
 use Rattle.tables.specs.Rewritten.{without_objects}
-use Rattle.tables.specs.Kept.{Kept, Agrees}
-use Rattle.tables.proofs.Kept.{IsWrite}
+use Rattle.tables.specs.TablesValue.{TablesValue, Agrees}
+use Rattle.tables.proofs.AfterWrites.{IsWrite}
 use Rattle.tables.proofs.Removed.{world_without, outline_without, outline_follows, objects_follow}
 
-pub removed_write : {S : Type 0} (g : Ghosts S) (k now : Kept S) (ps : List Path) → k ≡ now → Agrees g k → StaysSound g now (world_without ps) → IsWrite g k now (without_objects ps) (world_without ps) (outline_without ps)
+pub removed_write : {S : Type 0} (g : Ghosts S) (k now : TablesValue S) (ps : List Path) → k ≡ now → Agrees g k → StaysSound g now (world_without ps) → IsWrite g k now (without_objects ps) (world_without ps) (outline_without ps)
 removed_write g k now ps view agrees sound = record {
   view = view;
   law = outline_follows ps;

@@ -8,8 +8,8 @@ use Rattle.model.specs.World.{World, Path, pair_cmp}
 use Rattle.tables_world.specs.Worlds.{IsSoundContents}
 use Rattle.tables_outline.specs.Outline.{OutlineValue}
 use Rattle.tables.specs.Frames.{StaysSound}
-use Rattle.tables.specs.Kept.{Kept, Agrees}
-use Rattle.tables.proofs.Kept.{Follows, IsWrite}
+use Rattle.tables.specs.TablesValue.{TablesValue, Agrees}
+use Rattle.tables.proofs.AfterWrites.{Follows, IsWrite}
 
 -- a change of the permanent roots, the user roots and the runtime roots
 module _ (f : finite.FinMap bytes_cmp Path → finite.FinMap bytes_cmp Path) (u : finite.FinMap pair_cmp Path → finite.FinMap pair_cmp Path) (r : Set pair_cmp → Set pair_cmp) where
@@ -44,7 +44,7 @@ module _ (f : finite.FinMap bytes_cmp Path → finite.FinMap bytes_cmp Path) (u 
     };
   }
 
-  pub roots_write : {S : Type 0} (g : Ghosts S) (k now : Kept S) → k ≡ now → Agrees g k → StaysSound g now with_roots → IsWrite g k now rows_with with_roots outline_with
+  pub roots_write : {S : Type 0} (g : Ghosts S) (k now : TablesValue S) → k ≡ now → Agrees g k → StaysSound g now with_roots → IsWrite g k now rows_with with_roots outline_with
   roots_write g k now view agrees sound = record {
     view = view;
     law = λ w. refl;

@@ -11,10 +11,10 @@ use Rattle.tables_world.specs.Worlds.{IsSoundContents}
 use Rattle.tables_outline.specs.Outline.{OutlineValue}
 use Rattle.tables_outline.specs.Temporary.{unkept}
 use Rattle.tables.specs.Frames.{StaysSound}
-use Rattle.tables.specs.Kept.{Kept, Agrees}
+use Rattle.tables.specs.TablesValue.{TablesValue, Agrees}
 use Rattle.tables_outline.proofs.Orders.{temporary_total, temporary_antisymmetric}
 use Rattle.tables_outline.proofs.Puts.{unput_put, tied_is}
-use Rattle.tables.proofs.Kept.{Follows, IsWrite}
+use Rattle.tables.proofs.AfterWrites.{Follows, IsWrite}
 
 -- a change of them, in the rows and in the world
 module _ (rows : Contents → Contents) (F : Set temporary_cmp → Set temporary_cmp) where
@@ -24,7 +24,7 @@ module _ (rows : Contents → Contents) (F : Set temporary_cmp → Set temporary
   abbrev outline_with : OutlineValue → OutlineValue
   outline_with o = record o { temporary = F o.temporary }
 
-  pub temporary_write : {S : Type 0} (g : Ghosts S) (k now : Kept S) → ((c : Contents) → IsSoundContents k.dir c → Follows k.dir rows with_temporary c) → k ≡ now → Agrees g k → StaysSound g now with_temporary
+  pub temporary_write : {S : Type 0} (g : Ghosts S) (k now : TablesValue S) → ((c : Contents) → IsSoundContents k.dir c → Follows k.dir rows with_temporary c) → k ≡ now → Agrees g k → StaysSound g now with_temporary
       → IsWrite g k now rows with_temporary outline_with
   temporary_write g k now follow view agrees sound = record {
     view = view;

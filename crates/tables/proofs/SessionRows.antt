@@ -9,8 +9,8 @@ use Rattle.std.specs.FinMap as finite
 use Rattle.std.proofs.lemmas.Bool.{false≢true}
 use Rattle.std.proofs.Math.Facts.{eqb_yes}
 use Rattle.paths.specs.Root.{bytes_cmp, Set}
-use Rattle.tables_sql.specs.Contents.{Contents, Kept, kept_cmp}
-use Rattle.tables_sql.proofs.Orders.{kept_total, kept_antisymmetric}
+use Rattle.tables_sql.specs.Contents.{Contents, SessionPath, session_path_cmp}
+use Rattle.tables_sql.proofs.Orders.{session_path_total, session_path_antisymmetric}
 use Rattle.model.specs.World.{Path, Temporary, temporary_cmp, World}
 use Rattle.model.specs.Sound.{IsSound}
 use Rattle.tables_world.specs.Rows.{number_in, temporary_in}
@@ -18,9 +18,10 @@ use Rattle.tables_world.specs.Worlds.{IsSoundContents, rows_of, world_in}
 use Rattle.tables_world.proofs.Columns.{temporary_at}
 use Rattle.tables_outline.proofs.Orders.{temporary_total, temporary_antisymmetric}
 use Rattle.tables_outline.proofs.Puts.{get-kept, tied_is}
-use Rattle.tables_outline.specs.Temporary.{is_of_session, without_session}
+use Rattle.model.specs.Effects.{is_of_session}
+use Rattle.tables_outline.specs.Temporary.{entries_without_session}
 use Rattle.tables.specs.Temporary.{keeps}
-use Rattle.tables.proofs.Kept.{Follows}
+use Rattle.tables.proofs.AfterWrites.{Follows}
 
 -- ---- two keys are the same in one order where they are in another
 
@@ -36,11 +37,11 @@ tied_alike {R = R} {S = S} o one p other f back again x y = same_tests (eq_by_cm
     (λ h. let e : x ≡ y = tied_is one x y h in ap (λ z. eq_by_cmp S (f x) (f z)) (sym e) ∙ (eq_by_cmp_equiv p).refl (f x))
 
 -- a temporary root, as its row has it
-abbrev row_of : Temporary → Kept
+abbrev row_of : Temporary → SessionPath
 row_of t = (t.owner, pos t.session, t.path)
 
-kept_tied : (t u : Temporary) → eq_by_cmp kept_cmp (row_of t) (row_of u) ≡ eq_by_cmp temporary_cmp t u
-kept_tied t u = tied_alike temporary_total temporary_antisymmetric kept_total kept_antisymmetric row_of temporary_in (λ x. refl) t u
+kept_tied : (t u : Temporary) → eq_by_cmp session_path_cmp (row_of t) (row_of u) ≡ eq_by_cmp temporary_cmp t u
+kept_tied t u = tied_alike temporary_total temporary_antisymmetric session_path_total session_path_antisymmetric row_of temporary_in (λ x. refl) t u
 
 yes : (b : Bool) → b ≡ true → T b
 yes true h = tt
@@ -62,8 +63,8 @@ same_set m n h = finite.same_map temporary_total temporary_antisymmetric m n (λ
 
 module _ (dir : List ℕ) (c : Contents) (rows : IsSoundContents dir c) where
   -- rows in which no number is negative tell this world, and are sound where it is
-  others_follow : (f : finite.FinMap kept_cmp (Unit {0}) → finite.FinMap kept_cmp (Unit {0})) (F : Set temporary_cmp → Set temporary_cmp)
-      → ((k : Kept) → IsTrue (finite.contains_key (f c.temp_roots) k) → (m : ℕ) × (k.1 ≡ pos m))
+  others_follow : (f : finite.FinMap session_path_cmp (Unit {0}) → finite.FinMap session_path_cmp (Unit {0})) (F : Set temporary_cmp → Set temporary_cmp)
+      → ((k : SessionPath) → IsTrue (finite.contains_key (f c.temp_roots) k) → (m : ℕ) × (k.1 ≡ pos m))
       → ((t : Temporary) → finite.contains_key (f c.temp_roots) (row_of t) ≡ finite.contains_key (F (world_in c).temporary) t)
       → Follows dir (λ (x : Contents). record x { temp_roots = f x.temp_roots }) (λ (w : World). record w { temporary = F w.temporary }) c
   others_follow f F numbers reported =
@@ -96,22 +97,22 @@ module _ (dir : List ℕ) (c : Contents) (rows : IsSoundContents dir c) where
 
   -- one more, or the same once more
   module _ (owner : List ℕ) (session : ℕ) (path : Path) where
-    abbrev more : finite.FinMap kept_cmp (Unit {0}) → finite.FinMap kept_cmp (Unit {0})
+    abbrev more : finite.FinMap session_path_cmp (Unit {0}) → finite.FinMap session_path_cmp (Unit {0})
     more m = finite.insert m (owner, pos session, path) tt
 
     abbrev gains : Set temporary_cmp → Set temporary_cmp
     gains m = finite.insert m (keeps owner session path) tt
 
-    numbers_more : (k : Kept) → IsTrue (finite.contains_key (more c.temp_roots) k) → (m : ℕ) × (k.1 ≡ pos m)
-    numbers_more k h = by (eq_by_cmp kept_cmp k (owner, pos session, path)) refl (ap is_some (sym (finite.get-insert kept_total c.temp_roots (owner, pos session, path) tt k)) ∙ h)
+    numbers_more : (k : SessionPath) → IsTrue (finite.contains_key (more c.temp_roots) k) → (m : ℕ) × (k.1 ≡ pos m)
+    numbers_more k h = by (eq_by_cmp session_path_cmp k (owner, pos session, path)) refl (ap is_some (sym (finite.get-insert session_path_total c.temp_roots (owner, pos session, path) tt k)) ∙ h)
       where
-        by : (b : Bool) → eq_by_cmp kept_cmp k (owner, pos session, path) ≡ b → is_some (cond b (Some tt) (finite.get c.temp_roots k)) ≡ true → (m : ℕ) × (k.1 ≡ pos m)
-        by true t present = (session, ap (λ (x : Kept). x.1) (tied_is kept_antisymmetric k (owner, pos session, path) t))
+        by : (b : Bool) → eq_by_cmp session_path_cmp k (owner, pos session, path) ≡ b → is_some (cond b (Some tt) (finite.get c.temp_roots k)) ≡ true → (m : ℕ) × (k.1 ≡ pos m)
+        by true t present = (session, ap (λ (x : SessionPath). x.1) (tied_is session_path_antisymmetric k (owner, pos session, path) t))
         by false t present = rows.sessions k present
 
     told_more : (t : Temporary) → finite.contains_key (more c.temp_roots) (row_of t) ≡ finite.contains_key (gains (world_in c).temporary) t
     told_more t =
-        ap is_some (finite.get-insert kept_total c.temp_roots (owner, pos session, path) tt (row_of t))
+        ap is_some (finite.get-insert session_path_total c.temp_roots (owner, pos session, path) tt (row_of t))
         ∙ ap (λ b. is_some (cond b (Some tt) (finite.get c.temp_roots (row_of t)))) (kept_tied t (keeps owner session path))
         ∙ by (eq_by_cmp temporary_cmp t (keeps owner session path)) (was_told t)
         ∙ ap is_some (sym (finite.get-insert temporary_total (world_in c).temporary (keeps owner session path) tt t))
@@ -125,17 +126,17 @@ module _ (dir : List ℕ) (c : Contents) (rows : IsSoundContents dir c) where
 
   -- those of a session gone
   module _ (owner : List ℕ) (session : ℕ) where
-    abbrev stays : Kept → Bool
+    abbrev stays : SessionPath → Bool
     stays k = not (eq_by_cmp bytes_cmp k.0 owner && eq_by_cmp int_cmp k.1 (pos session))
 
-    abbrev fewer : finite.FinMap kept_cmp (Unit {0}) → finite.FinMap kept_cmp (Unit {0})
+    abbrev fewer : finite.FinMap session_path_cmp (Unit {0}) → finite.FinMap session_path_cmp (Unit {0})
     fewer m = finite.retain_keys m stays
 
     abbrev loses : Set temporary_cmp → Set temporary_cmp
-    loses m = without_session owner session m
+    loses m = entries_without_session owner session m
 
-    numbers_fewer : (k : Kept) → IsTrue (finite.contains_key (fewer c.temp_roots) k) → (m : ℕ) × (k.1 ≡ pos m)
-    numbers_fewer k h = rows.sessions k (by (stays k) (ap is_some (sym (get-kept kept_total kept_antisymmetric c.temp_roots stays k)) ∙ h))
+    numbers_fewer : (k : SessionPath) → IsTrue (finite.contains_key (fewer c.temp_roots) k) → (m : ℕ) × (k.1 ≡ pos m)
+    numbers_fewer k h = rows.sessions k (by (stays k) (ap is_some (sym (get-kept session_path_total session_path_antisymmetric c.temp_roots stays k)) ∙ h))
       where
         by : (b : Bool) → is_some (cond b (finite.get c.temp_roots k) None) ≡ true → is_some (finite.get c.temp_roots k) ≡ true
         by true present = present
@@ -143,7 +144,7 @@ module _ (dir : List ℕ) (c : Contents) (rows : IsSoundContents dir c) where
 
     told_fewer : (t : Temporary) → finite.contains_key (fewer c.temp_roots) (row_of t) ≡ finite.contains_key (loses (world_in c).temporary) t
     told_fewer t =
-        ap is_some (get-kept kept_total kept_antisymmetric c.temp_roots stays (row_of t))
+        ap is_some (get-kept session_path_total session_path_antisymmetric c.temp_roots stays (row_of t))
         ∙ ap (λ b. is_some (cond (not (eq_by_cmp bytes_cmp t.owner owner && b)) (finite.get c.temp_roots (row_of t)) None)) (number_tied t.session session)
         ∙ by (not (is_of_session owner session t)) (was_told t)
         ∙ ap is_some (sym (get-kept temporary_total temporary_antisymmetric (world_in c).temporary (λ u. not (is_of_session owner session u)) t))
@@ -152,7 +153,7 @@ module _ (dir : List ℕ) (c : Contents) (rows : IsSoundContents dir c) where
         by true h = h
         by false h = refl
 
-    pub ended_follows : Follows dir (λ (x : Contents). record x { temp_roots = finite.retain_keys x.temp_roots (λ k. not (eq_by_cmp bytes_cmp k.0 owner && eq_by_cmp int_cmp k.1 (pos session))) }) (λ (w : World). record w { temporary = without_session owner session w.temporary }) c
+    pub ended_follows : Follows dir (λ (x : Contents). record x { temp_roots = finite.retain_keys x.temp_roots (λ k. not (eq_by_cmp bytes_cmp k.0 owner && eq_by_cmp int_cmp k.1 (pos session))) }) (λ (w : World). record w { temporary = entries_without_session owner session w.temporary }) c
     ended_follows = others_follow fewer loses numbers_fewer told_fewer
 
 -- ---- one is taken away by a test of each part
@@ -164,6 +165,6 @@ three_tied Equal Equal t = refl
 three_tied Equal Greater t = refl
 three_tied Greater s t = refl
 
-pub without_one : (m : finite.FinMap kept_cmp (Unit {0})) (owner : List ℕ) (n : ℤ) (path : Path)
-    → finite.retain_keys m (λ k. not (eq_by_cmp bytes_cmp k.0 owner && (eq_by_cmp int_cmp k.1 n && eq_by_cmp bytes_cmp k.2 path))) ≡ finite.retain_keys m (λ k. not (eq_by_cmp kept_cmp k (owner, n, path)))
+pub without_one : (m : finite.FinMap session_path_cmp (Unit {0})) (owner : List ℕ) (n : ℤ) (path : Path)
+    → finite.retain_keys m (λ k. not (eq_by_cmp bytes_cmp k.0 owner && (eq_by_cmp int_cmp k.1 n && eq_by_cmp bytes_cmp k.2 path))) ≡ finite.retain_keys m (λ k. not (eq_by_cmp session_path_cmp k (owner, n, path)))
 without_one m owner n path = λ i. finite.retain_keys m (λ k. not (sym (three_tied (bytes_cmp k.0 owner) (int_cmp k.1 n) (bytes_cmp k.2 path)) i))

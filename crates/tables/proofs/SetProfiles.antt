@@ -11,14 +11,14 @@ use Rattle.model.specs.Sound.{IsSound}
 use Rattle.tables_outline.specs.Outline.{OutlineValue, profile_of}
 use Rattle.tables.specs.Entries.{with_profile_by}
 use Rattle.tables.specs.Frames.{CommitsChange}
-use Rattle.tables.specs.Kept.{Kept, HasWorld, LeavesWorld}
+use Rattle.tables.specs.TablesValue.{TablesValue, HasWorld, LeavesWorld}
 
 on_ok_as : {A E P Q : Type 0} (r : Result A E) → (P → Q) → OnOk r P → OnOk r Q
 on_ok_as (Ok v) f h = f h
 on_ok_as (Err e) f h = h
 
 -- a change that is this one of the profile as it is
-module _ {S : Type 0} (g : Ghosts S) (old : Kept S) (owned : Pair) (t : Path) (next : Profile → Profile) (same : next (profile_of old.outline owned) ≡ set_to (profile_of old.outline owned) t) where
+module _ {S : Type 0} (g : Ghosts S) (old : TablesValue S) (owned : Pair) (t : Path) (next : Profile → Profile) (same : next (profile_of old.outline owned) ≡ set_to (profile_of old.outline owned) t) where
   abbrev given : World → World
   given = with_profile_by owned next
 
@@ -31,7 +31,7 @@ module _ {S : Type 0} (g : Ghosts S) (old : Kept S) (owned : Pair) (t : Path) (n
   pub set_sound : ((w : World) → HasWorld g old w → IsSound old.dir (wanted w)) → (w : World) → HasWorld g old w → IsSound old.dir (given w)
   set_sound sound w reported = subst (IsSound old.dir) (sym (same_at w reported)) (sound w reported)
 
-  pub set_commits : {A E : Type 0} (r : Result A E) (new : Kept S) → CommitsChange g old new r given → CommitsChange g old new r wanted
+  pub set_commits : {A E : Type 0} (r : Result A E) (new : TablesValue S) → CommitsChange g old new r given → CommitsChange g old new r wanted
   set_commits r new h = record {
     dir = h.dir;
     done = on_ok_as r (λ k w reported. subst (HasWorld g new) (same_at w reported) (k w reported)) h.done;

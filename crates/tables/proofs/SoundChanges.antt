@@ -25,10 +25,10 @@ use Rattle.model.proofs.Worlds.{kept_if, found_in}
 use Rattle.tables_outline.specs.Outline.{OutlineValue, Outlined, outlined, with_archive}
 use Rattle.tables_outline.proofs.Reported.{has-reported}
 use Rattle.tables.specs.Entries.{with_archived, with_numbers}
-use Rattle.tables.specs.Kept.{Kept, HasWorld}
+use Rattle.tables.specs.TablesValue.{TablesValue, HasWorld}
 
 -- a path is valid in each world of the tables if the outline has it, and else in none
-pub valid_by_outline : {S : Type 0} (g : Ghosts S) (k : Kept S) (w : World) → HasWorld g k w → (p : Path) → has w p ≡ finite.contains_key k.outline.objects p
+pub valid_by_outline : {S : Type 0} (g : Ghosts S) (k : TablesValue S) (w : World) → HasWorld g k w → (p : Path) → has w p ≡ finite.contains_key k.outline.objects p
 valid_by_outline g k w t p = sym (has-reported nat_list_cmp_total bytes_antisymmetric (λ _ x. outlined x) w.objects p) ∙ ap (λ (x : OutlineValue). finite.contains_key x.objects p) t.outline
 
 -- what is known of the generations of a profile, whether it is there or not

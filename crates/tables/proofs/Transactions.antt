@@ -12,11 +12,11 @@ use Rattle.sqlite.specs.Held.{Held, state}
 use Rattle.tables_sql.specs.Contents.{Contents, contents_of}
 use Rattle.tables_schema.specs.Forms.{piece, temp_root, is_our_name}
 use Rattle.tables_sql.specs.Frozen.{IsFrozen, SparesUnshown}
-use Rattle.tables_sql.specs.Calls.{HasFurther, IsReady, IsUnderWay, IsWhole, IsCommitted, KeepsTheirs, Changes}
+use Rattle.tables_sql.specs.Calls.{HasFurther, IsReady, IsUnderWay, IsWhole, IsCommitted, KeepsForeignRows, Changes}
 use Rattle.tables_sql.proofs.Frozen.{frozen_of, listed_of}
-use Rattle.tables_sql.proofs.Steps.{changes_by, changes_none, theirs_then}
+use Rattle.tables_sql.proofs.Steps.{changes_by, changes_none, foreign_then}
 use Rattle.tables_sql.proofs.Under.{piece_after, temp_root_after}
-use Rattle.tables.specs.Kept.{IsWritten}
+use Rattle.tables.specs.TablesValue.{IsWritten}
 use Rattle.tables.specs.Others.{KeepsOthers}
 
 -- what was done, in other words
@@ -31,7 +31,7 @@ changes_at a b f h same is = record {
   is_open = is.is_open;
   schema = is.schema;
   contents = is.contents ∙ same;
-  theirs = is.theirs;
+  foreign_rows = is.foreign_rows;
   unshown = is.unshown;
   of_store = is.of_store;
   further = is.further;
@@ -45,13 +45,13 @@ pub changes_nothing : (s : State) (f : Contents → Contents) → IsUnderWay s �
 changes_nothing s f under is_open same = changes_at s s (λ c. c) f (sym same) (changes_none s under is_open)
 
 -- the tables of pieces and of temporary roots still stand after a write
-pub pieces_stand : (a b : State) (f : Contents → Contents) → (HasCleanDisk b → Changes a b f) → Survives a b (λ _. ⊥) → (HasCleanDisk a → IsTrue a.is_open → HasFurther a.now piece) → HasCleanDisk b → HasFurther b.now piece
-pieces_stand a b f done survives present clean =
+pub pieces_exist : (a b : State) (f : Contents → Contents) → (HasCleanDisk b → Changes a b f) → Survives a b (λ _. ⊥) → (HasCleanDisk a → IsTrue a.is_open → HasFurther a.now piece) → HasCleanDisk b → HasFurther b.now piece
+pieces_exist a b f done survives present clean =
     let it = done clean in
     piece_after a b f it (present (omega (arith, survives.clean, clean)) it.was_open)
 
-pub temp_roots_stand : (a b : State) (f : Contents → Contents) → (HasCleanDisk b → Changes a b f) → Survives a b (λ _. ⊥) → (HasCleanDisk a → IsTrue a.is_open → HasFurther a.now temp_root) → HasCleanDisk b → HasFurther b.now temp_root
-temp_roots_stand a b f done survives present clean =
+pub temp_roots_exist : (a b : State) (f : Contents → Contents) → (HasCleanDisk b → Changes a b f) → Survives a b (λ _. ⊥) → (HasCleanDisk a → IsTrue a.is_open → HasFurther a.now temp_root) → HasCleanDisk b → HasFurther b.now temp_root
+temp_roots_exist a b f done survives present clean =
     let it = done clean in
     temp_root_after a b f it (present (omega (arith, survives.clean, clean)) it.was_open)
 
@@ -73,7 +73,7 @@ written {S} g conn start b c f P is done before after present clean k =
       is_open = k.is_open;
       schema = ap (λ (d : Database). d.schema) k.now ∙ h.schema;
       contents = ap contents_of k.now ∙ h.contents;
-      theirs = subst (λ (d : Database). KeepsTheirs (state g conn).now d) (sym k.now) h.theirs;
+      foreign_rows = subst (λ (d : Database). KeepsForeignRows (state g conn).now d) (sym k.now) h.foreign_rows;
       unshown = subst (λ (d : Database). SparesUnshown (state g conn).now d) (sym k.now) h.unshown;
       whole = whole_after (state g (record conn { in_transaction = true })) b c f h k (present early h.was_open);
       ready = k.ready;
@@ -84,14 +84,14 @@ pub others_kept : (a b : State) (f : Contents → Contents) (P : Trees → Type 
 others_kept a b f P survives ready clean it =
     let early : HasCleanDisk a = omega (arith, survives.clean, clean) in
     let sound = (ready early it.was_open).of_store.sound in
-    record { schema = it.schema; listed = listed_of a.now b.now.trees sound it.unshown; theirs = it.theirs; frozen = frozen_of a.now b.now.trees sound it.unshown }
+    record { schema = it.schema; listed = listed_of a.now b.now.trees sound it.unshown; foreign_rows = it.foreign_rows; frozen = frozen_of a.now b.now.trees sound it.unshown }
 
 -- where nothing changed, it is too
 pub nothing_changed : (a b : Database) → b ≡ a → KeepsOthers a b
 nothing_changed a b is = subst (KeepsOthers a) (sym is) (record {
   schema = refl;
   listed = refl;
-  theirs = all_of (λ (t : Table). is_our_name t.name ≡ false → a.trees t.tree ≡ a.trees t.tree) (λ t other. refl) a.schema.tables;
+  foreign_rows = all_of (λ (t : Table). is_our_name t.name ≡ false → a.trees t.tree ≡ a.trees t.tree) (λ t other. refl) a.schema.tables;
   frozen = record { rows = λ tree it. refl; texts = λ row present foreign. present; version = refl };
 })
 
@@ -100,7 +100,7 @@ pub others_then : (a b c : Database) → KeepsOthers a b → KeepsOthers b c →
 others_then a b c h k = record {
   schema = k.schema ∙ h.schema;
   listed = k.listed ∙ h.listed;
-  theirs = theirs_then a b c h.schema h.theirs k.theirs;
+  foreign_rows = foreign_then a b c h.schema h.foreign_rows k.foreign_rows;
   frozen = record {
     rows = λ tree is. k.frozen.rows tree (subst (λ (s : Schema). IsFrozen s tree) (sym h.schema) is) ∙ h.frozen.rows tree is;
     texts = λ row present foreign. k.frozen.texts row (h.frozen.texts row present foreign) foreign;

@@ -4,7 +4,7 @@ use Rattle.sqlite_trees.specs.declared.store.Store.{Ghosts}
 use Rattle.sqlite.specs.Held.{state}
 use Rattle.tables_sql.specs.Contents.{contents_of}
 use Rattle.tables_world.specs.Worlds.{world_in}
-use Rattle.tables.specs.Kept.{HaveAWorld}
+use Rattle.tables.specs.TablesValue.{HaveAWorld}
 
 pub have_a_world : {S : Type 0} (g : Ghosts S) → HaveAWorld g
 have_a_world g k agrees clean up =

@@ -1,4 +1,4 @@
--- Entries as callers give them and get them: roots by their names, generations by their numbers, objects with their
+-- Entries as callers pass and receive them: roots by their names, generations by their numbers, objects with their
 -- archives.
 use Rattle.std.specs.Prelude.{ℕ, List, Option, Some, None}
 use Rattle.std.specs.FinMap as finite
@@ -11,12 +11,12 @@ use Rattle.tables.specs.declared.entries.Object.{Object}
 use Rattle.tables.specs.declared.named_roots.RootName.{RootName}
 use Rattle.tables.specs.declared.named_roots.RootName.TheVariants.{Permanent, User}
 
--- the root of this name has this target
+-- a world in which the root of this name has this target
 abbrev pub with_root : RootName → Path → World → World
 with_root (Permanent name) target w = with_permanent w name.now target
 with_root (User owner name) target w = with_user_root w (owner.now, name.now) target
 
--- there is no root of this name
+-- a world without a root of this name
 abbrev pub without_root : RootName → World → World
 without_root (Permanent name) w = without_permanent w name.now
 without_root (User owner name) w = without_user_root w (owner.now, name.now)
@@ -26,15 +26,15 @@ abbrev pub numbered : Option (ℕ × Path) → ℕ → Profile → Profile
 numbered None current p = switched p current
 numbered (Some e) current p = switched (put_at p e.0 e.1) current
 
--- the profile of an owner and a name is changed
+-- a world in which the profile of an owner and a name is changed by a function
 abbrev pub with_profile_by : Pair → (Profile → Profile) → World → World
 with_profile_by owned change w = with_profile w owned (change (profile_at w owned))
 
--- a profile gets a path at a number, if one is given, and a current number
+-- a world in which a profile gets a path at a number, if one is given, and a current number
 abbrev pub with_numbers : Pair → Option (ℕ × Path) → ℕ → World → World
 with_numbers owned given current = with_profile_by owned (numbered given current)
 
--- the object of a path: an archive, and what its summary says
+-- a world in which a path has an object: an archive, and what its summary says
 abbrev pub with_archived : Path → List ℕ → Outlined → World → World
 with_archived path nar o w = record w { objects = finite.insert w.objects path (with_archive nar o) }
 

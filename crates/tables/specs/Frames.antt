@@ -10,7 +10,7 @@ use Rattle.tables_sql.specs.Calls.{IsDurable, IsReady, IsWhole, KeepsShown, Leav
 use Rattle.model.specs.World.{World}
 use Rattle.model.specs.Sound.{IsSound}
 use Rattle.tables_make.specs.Reasons.{Rows, HasReason}
-use Rattle.tables.specs.Kept.{Kept, HasWorld, IsWritten, LeavesWorld}
+use Rattle.tables.specs.TablesValue.{TablesValue, HasWorld, IsWritten, LeavesWorld}
 use Rattle.tables.specs.Others.{KeepsOthers}
 
 module _ {S : Type 0} (g : Ghosts S) where
@@ -19,14 +19,14 @@ module _ {S : Type 0} (g : Ghosts S) where
   -- no transaction is under way, and unless a fault has shut the connection all of the store's tables are there and
   -- committed
   pub record MayCommit (old : Held S) : Type 0 where
-    pub alone : old.in_transaction ≡ false
+    pub idle : old.in_transaction ≡ false
     pub ready : HasCleanDisk (state g old) → IsTrue (state g old).is_open → IsReady (state g old)
     pub whole : HasCleanDisk (state g old) → IsTrue (state g old).is_open → IsWhole (state g old).now
 
   -- The change is committed in one transaction, or nothing is. It ends outside a transaction.
   pub record CommitsRows {T E : Type 0} (old new : Held S) (result : Result T E)
       (change : Contents → Contents) : Type 0 where
-    pub alone : new.in_transaction ≡ false
+    pub idle : new.in_transaction ≡ false
     pub done : HasCleanDisk (state g new) → OnOk result (IsWritten (state g old) (state g new) change)
     pub others : HasCleanDisk (state g new) → OnOk result (KeepsOthers (state g old).now (state g new).now)
     pub failed : HasCleanDisk (state g new) → OnErr result (KeepsShown (state g old) (state g new))
@@ -39,11 +39,11 @@ module _ {S : Type 0} (g : Ghosts S) where
   -- ---- a write, over tables
 
   -- the change leaves each world of the tables sound
-  abbrev pub StaysSound : Kept S → (World → World) → Type 0
+  abbrev pub StaysSound : TablesValue S → (World → World) → Type 0
   StaysSound old change = (w : World) → HasWorld g old w → IsSound old.dir (change w)
 
   -- The change is made in one transaction and in memory, or not at all.
-  pub record CommitsChange {T E : Type 0} (old new : Kept S) (result : Result T E)
+  pub record CommitsChange {T E : Type 0} (old new : TablesValue S) (result : Result T E)
       (change : World → World) : Type 0 where
     -- the store directory stays
     pub dir : new.dir ≡ old.dir
@@ -67,11 +67,11 @@ module _ {S : Type 0} (g : Ghosts S) where
         (λ db. LeavesWorld old.dir (state g old.connection).now db (change w))
 
   -- why it isn't made, by the rows that it puts
-  abbrev pub FailsToChange : {T : Type 0} → Kept S → Kept S → Result T Failure → Rows → Type 0
+  abbrev pub FailsToChange : {T : Type 0} → TablesValue S → TablesValue S → Result T Failure → Rows → Type 0
   FailsToChange old new result rows = HasReason g old.connection new.connection result rows
 
   -- ---- a read over tables
 
   -- why something isn't read of the disk
-  abbrev pub FailsToAsk : {T : Type 0} → Kept S → Kept S → Result T Failure → Type 0
+  abbrev pub FailsToAsk : {T : Type 0} → TablesValue S → TablesValue S → Result T Failure → Type 0
   FailsToAsk old new result = FailsInReads g old.connection new.connection result

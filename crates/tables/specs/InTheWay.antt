@@ -7,7 +7,7 @@ use Rattle.sqlite_schema.specs.declared.schema.Table.{Table}
 use Rattle.sqlite_schema.specs.Names.{table_named, index_named, view_named}
 use Rattle.sqlite.specs.Does.{lacks_sequence}
 use Rattle.tables_schema.specs.Forms.{all_tables}
-use Rattle.tables_schema.specs.Intact.{tree_named, is_unreferred, is_alone, is_unguarded}
+use Rattle.tables_schema.specs.Intact.{tree_named, is_unreferred, is_unshared, is_unguarded}
 use Rattle.tables_schema.specs.Finding.{is_unawaited}
 
 -- a table has the name of this one of the store's
@@ -28,16 +28,16 @@ abbrev pub is_acted_on : Schema → Table → Bool
 is_acted_on s t =
     is_present s t
     && not (is_unreferred s (tree_named s t.name)
-    && (is_alone s t.name (tree_named s t.name) && is_unguarded s (tree_named s t.name) t.primary))
+    && (is_unshared s t.name (tree_named s t.name) && is_unguarded s (tree_named s t.name) t.primary))
 
 -- a table is missing, and a foreign key waits for it
 abbrev pub is_awaited : Schema → Table → Bool
 is_awaited s t = not (is_present s t) && not (is_unawaited s t.name)
 
 -- a table is missing and can't be made: it needs the counter of rowids, which is missing too
-abbrev pub is_kept_out : Schema → Table → Bool
-is_kept_out s t = not (is_present s t) && lacks_sequence s
+abbrev pub is_blocked : Schema → Table → Bool
+is_blocked s t = not (is_present s t) && lacks_sequence s
 
 -- tables of other programs are in the way: one of the store's tables is acted on, awaited or kept out
 abbrev pub are_others_in_the_way : Schema → Bool
-are_others_in_the_way s = list_any (λ t. is_acted_on s t || (is_awaited s t || is_kept_out s t)) all_tables
+are_others_in_the_way s = list_any (λ t. is_acted_on s t || (is_awaited s t || is_blocked s t)) all_tables

@@ -14,7 +14,7 @@ pub mod Causes
 pub mod Entries
 pub mod Frames
 pub mod InTheWay
-pub mod Kept
+pub mod TablesValue
 pub mod Opened
 pub mod Others
 pub mod Rewritten

@@ -1,4 +1,4 @@
--- What opening a file says of it.
+-- How a file is opened as a store, or isn't.
 use Rattle.std.specs.Prelude.{◌≡◌, ℕ, false, List, IsTrue}
 use Rattle.tables_open.specs.Disk as disk
 use Rattle.tables_open.specs.DiskCalls as calls
@@ -13,7 +13,7 @@ use Rattle.sqlite.specs.Start.{FindsIn}
 use Rattle.sqlite.specs.Files.{over_files, file_state}
 use Rattle.tables_sql.specs.Calls.{IsDurable, KeepsShown}
 use Rattle.tables_open.specs.Opened.{IsAsOpened, FailsToOpenFile}
-use Rattle.tables.specs.Kept.{Kept}
+use Rattle.tables.specs.TablesValue.{TablesValue}
 use Rattle.tables.specs.declared.refusing.Cause.{Cause}
 use Rattle.tables.specs.declared.refusing.Unopened.{Unopened}
 use Rattle.tables.specs.declared.refusing.Unopened.TheVariants.{File, Store}
@@ -21,7 +21,7 @@ use Rattle.tables.specs.Opening.{OpensStore, LeavesOpening, IsCause}
 
 module _ {D : Type 0} {g : disk.Ghosts D} where
   -- The files held this, a connection opened over them, and it was opened as the store of a directory.
-  pub record Opens (held : Image) (dir : List ℕ) (t : Kept (FileStore D g)) : Type 0 where
+  pub record Opens (held : Image) (dir : List ℕ) (t : TablesValue (FileStore D g)) : Type 0 where
     pub was : Held (FileStore D g)
     pub conn : Held (FileStore D g)
     pub opened : IsAsOpened held was conn
@@ -38,7 +38,7 @@ module _ {D : Type 0} {g : disk.Ghosts D} where
     pub opened : IsAsOpened held was conn
     pub found : HasCleanDisk (file_state left) → FindsIn held (file_state conn)
     pub because : HasCleanDisk (file_state left) → IsCause dir (file_state conn) (file_state left) cause
-    pub alone : left.in_transaction ≡ false
+    pub idle : left.in_transaction ≡ false
     pub same : HasCleanDisk (file_state left) → KeepsShown (file_state conn) (file_state left)
     pub durable : IsTrue (file_state left).is_open → IsDurable (file_state left)
     pub survives : Survives (file_state conn) (file_state left) (LeavesOpening dir (file_state conn).now)

@@ -8,15 +8,15 @@ use Rattle.sqlite_schema.specs.declared.schema.Table.{Table}
 use Rattle.sqlite.specs.Effect.{Database}
 use Rattle.sqlite.specs.State.{State}
 use Rattle.sqlite.specs.Held.{state}
-use Rattle.tables_schema.specs.Forms.{our_tables, piece, temp_root}
+use Rattle.tables_schema.specs.Forms.{store_tables, piece, temp_root}
 use Rattle.tables_schema.specs.Intact.{IsKnown, tree_named}
 use Rattle.tables_schema.specs.Finding.{HasNone, HasFirst, HasSecond, HasThird}
 use Rattle.tables_sql.specs.Contents.{contents_of}
 use Rattle.tables_sql.specs.Texts.{AreReadable}
 use Rattle.tables_sql.specs.Frozen.{SparesFrozen}
-use Rattle.tables_sql.specs.Calls.{Remains, HasFurther, KeepsTheirs}
+use Rattle.tables_sql.specs.Calls.{Remains, HasFurther, KeepsForeignRows}
 use Rattle.tables_make.specs.Making.{LeavesMade, FailsToMake, all_created, store_tables_created}
-use Rattle.tables_make.specs.Migrated.{lacking, migrated_contents, LeavesMigrated}
+use Rattle.tables_make.specs.Migrated.{missing_tables, migrated_contents, LeavesMigrated}
 use Rattle.tables_make.specs.Migrating.{FailsToMigrate}
 use Rattle.tables_sql.specs.declared.failure.Failure.{Failure}
 use Rattle.tables_open.specs.Opened.{FailsToOpen}
@@ -26,7 +26,7 @@ use Rattle.tables_schema.specs.declared.schema.Schema.TheVariants.{V1, V2, V3}
 use Rattle.tables_schema.specs.Schemas.{has_pieces, has_temporary}
 use Rattle.tables_world.specs.Worlds.{IsSoundBy, world_in}
 use Rattle.tables_outline.specs.Outline.{OutlineValue, outline_of}
-use Rattle.tables.specs.Kept.{Kept, HasWorld}
+use Rattle.tables.specs.TablesValue.{TablesValue, HasWorld}
 use Rattle.tables.specs.InTheWay.{is_name_used, has_store_tables, are_others_in_the_way}
 use Rattle.tables.specs.declared.refusing.Cause.{Cause}
 use Rattle.tables.specs.declared.refusing.Cause.TheVariants.{BadSchema, OtherStoreDir, Failed}
@@ -75,34 +75,34 @@ AreRead schema dir db outline =
 module _ {S : Type 0} (g : Ghosts S) where
   -- The database held a store of the third schema: nothing changed, the connection is open, and the tables have the
   -- world of its rows.
-  pub record OpensExisting (dir : List ℕ) (db : Database) (t : Kept S) : Type 0 where
+  pub record OpensExisting (dir : List ℕ) (db : Database) (t : TablesValue S) : Type 0 where
     pub holds : HoldsBy V3 dir db
     pub is_open : IsTrue (state g t.connection).is_open
     pub same : (state g t.connection).now ≡ db
     pub reported : HasWorld g t (world_in (contents_of db))
 
   -- None of the store's tables existed: they were made next to the tables of other programs, and have the empty world.
-  pub record OpensNew (db : Database) (t : Kept S) : Type 0 where
+  pub record OpensNew (db : Database) (t : TablesValue S) : Type 0 where
     pub none : HasNone db.schema
     pub is_open : IsTrue (state g t.connection).is_open
     pub schema : (state g t.connection).now.schema ≡ store_tables_created db.schema
-    pub theirs : KeepsTheirs db (state g t.connection).now
+    pub foreign_rows : KeepsForeignRows db (state g t.connection).now
     pub frozen : SparesFrozen db (state g t.connection).now
     pub reported : HasWorld g t no_world
 
   -- The database held a store of an earlier schema: its tables were migrated to the third, next to the tables of other
   -- programs, and the tables have the world of the rows before.
-  pub record OpensMigrated (from : Schema) (dir : List ℕ) (db : Database) (t : Kept S) : Type 0 where
+  pub record OpensMigrated (from : Schema) (dir : List ℕ) (db : Database) (t : TablesValue S) : Type 0 where
     pub holds : HoldsBy from dir db
     pub is_open : IsTrue (state g t.connection).is_open
-    pub schema : (state g t.connection).now.schema ≡ all_created db.schema (lacking from)
+    pub schema : (state g t.connection).now.schema ≡ all_created db.schema (missing_tables from)
     pub contents_are : contents_of (state g t.connection).now ≡ migrated_contents from dir (contents_of db)
-    pub theirs : KeepsTheirs db (state g t.connection).now
+    pub foreign_rows : KeepsForeignRows db (state g t.connection).now
     pub frozen : SparesFrozen db (state g t.connection).now
     pub reported : HasWorld g t (world_in (contents_of db))
 
   -- the store is opened: with new tables, as a store of the third schema, or migrated from the first or the second
-  abbrev pub OpensStore : List ℕ → Database → Kept S → Type 0
+  abbrev pub OpensStore : List ℕ → Database → TablesValue S → Type 0
   OpensStore dir db t =
       OpensNew db t ⊎ (OpensExisting dir db t ⊎ (OpensMigrated V1 dir db t ⊎ OpensMigrated V2 dir db t))
 
@@ -129,9 +129,9 @@ HasItsForm s t = (at : ℕ) × IsKnown s t.name at (record t { tree = tree_named
 -- used
 abbrev pub HasFormsOf : Schema → Shown → Type 0
 HasFormsOf V1 s =
-    AllByRecursion (HasItsForm s) our_tables × (is_name_used s piece ≡ false) × (is_name_used s temp_root ≡ false)
-HasFormsOf V2 s = AllByRecursion (HasItsForm s) our_tables × HasItsForm s piece × (is_name_used s temp_root ≡ false)
-HasFormsOf V3 s = AllByRecursion (HasItsForm s) our_tables × HasItsForm s piece × HasItsForm s temp_root
+    AllByRecursion (HasItsForm s) store_tables × (is_name_used s piece ≡ false) × (is_name_used s temp_root ≡ false)
+HasFormsOf V2 s = AllByRecursion (HasItsForm s) store_tables × HasItsForm s piece × (is_name_used s temp_root ≡ false)
+HasFormsOf V3 s = AllByRecursion (HasItsForm s) store_tables × HasItsForm s piece × HasItsForm s temp_root
 
 -- the store's tables are those of a schema, their texts can be read, and their rows are those of a database of this
 -- store directory, whatever other tables exist
@@ -154,7 +154,8 @@ FailsToAdopt dir old new f =
     ⊎ (HasSecond old.now.schema × FailsToMigrate V2 old new f)))
 
 -- Why a database isn't opened. `BadSchema`: some of the store's tables exist, but they are sound by no schema and for
--- no directory; or tables of other programs are in their way. `OtherStoreDir`: it is the store of another directory.
+-- no directory; or tables of other programs are in their way. `OtherStoreDir`: the database is the store of another
+-- directory.
 abbrev pub IsRefusal : List ℕ → Database → Cause → Type 0
 IsRefusal dir db BadSchema =
     (IsTrue (has_store_tables db.schema) × ((d : List ℕ) → ¬ IsPresent d db)) ⊎ IsTrue (are_others_in_the_way db.schema)

@@ -41,20 +41,20 @@ put_object p o references outputs pieces c = record c {
 }
 
 -- no row belongs to an object of this path
-pub record LacksObject (p : Path) (c : Contents) : Type 0 where
+pub record HasNoObject (p : Path) (c : Contents) : Type 0 where
   pub object : finite.get c.objects p ≡ None
   pub references : (r : Path) → finite.get c.refs (p, r) ≡ None
   pub outputs : (name : List ℕ) → finite.get c.outs (p, name) ≡ None
   pub pieces : (n : ℤ) → finite.get c.pieces (p, n) ≡ None
 
 -- keys in an order, each different from those after it
-abbrev pub AreApart : {K : Type 0} → (K → K → Ordering) → List K → Type 0
-AreApart R [] = ⊤
-AreApart R (k ∷ ks) = AllByRecursion (λ j. eq_by_cmp R j k ≡ false) ks × AreApart R ks
+abbrev pub AreDistinct : {K : Type 0} → (K → K → Ordering) → List K → Type 0
+AreDistinct R [] = ⊤
+AreDistinct R (k ∷ ks) = AllByRecursion (λ j. eq_by_cmp R j k ≡ false) ks × AreDistinct R ks
 
 -- distinct keys, none of which a map has
 pub record AreFree {K X : Type 0} {R : K → K → Ordering} (m : finite.FinMap R X) (ks : List K) : Type 0 where
-  pub apart : AreApart R ks
+  pub apart : AreDistinct R ks
   pub free : AllByRecursion (λ k. finite.get m k ≡ None) ks
 
 -- a set of pairs, and some more

@@ -26,12 +26,12 @@ pub(crate) fn take<S: Alter>(
     found: Recognised,
     dir: &StoreDir,
 ) -> Result<Tables<S>, Unadopted<S>>
-    requires alone { conn.in_transaction ≡ false }
+    requires idle { conn.in_transaction ≡ false }
     requires found { HasCleanDisk (state S.Store conn) → IsFound found (state S.Store conn) }
     ensures dir { IfOk result (λ t. t.dir ≡ dir.now) }
     ensures opens { IfOk result
         (λ t. HasCleanDisk (state S.Store t.connection) → OpensStore S.Store dir.now (state S.Store conn).now t) }
-    ensures alone { IfErr result (λ e. e.conn.in_transaction ≡ false) }
+    ensures idle { IfErr result (λ e. e.conn.in_transaction ≡ false) }
     ensures cause { IfErr result
         (λ e. HasCleanDisk (state S.Store e.conn)
         → IsCause dir.now (state S.Store conn) (state S.Store e.conn) e.cause) }
@@ -63,11 +63,11 @@ fn adopt_unlimited<S: Alter>(
     conn: Connection<S>,
     dir: &StoreDir,
 ) -> Result<Tables<S>, Unadopted<S>>
-    requires alone { conn.in_transaction ≡ false }
+    requires idle { conn.in_transaction ≡ false }
     ensures dir { IfOk result (λ t. t.dir ≡ dir.now) }
     ensures opens { IfOk result
         (λ t. HasCleanDisk (state S.Store t.connection) → OpensStore S.Store dir.now (state S.Store conn).now t) }
-    ensures alone { IfErr result (λ e. e.conn.in_transaction ≡ false) }
+    ensures idle { IfErr result (λ e. e.conn.in_transaction ≡ false) }
     ensures cause { IfErr result
         (λ e. HasCleanDisk (state S.Store e.conn)
         → IsCause dir.now (state S.Store conn) (state S.Store e.conn) e.cause) }
@@ -86,8 +86,8 @@ fn adopt_unlimited<S: Alter>(
             let Opened { conn, found } = opened;
             take(alloc, conn, found, dir)
         }
-        Err(untold) => {
-            let Unreadable { conn, failure } = untold;
+        Err(unreadable) => {
+            let Unreadable { conn, failure } = unreadable;
             let cause = Cause::Failed(failure);
             Err(Unadopted { conn, cause })
         }
@@ -124,11 +124,11 @@ pub fn adopt<S: Alter>(
     mut conn: Connection<S>,
     dir: &StoreDir,
 ) -> Result<Tables<S>, Unadopted<S>>
-    requires alone { conn.in_transaction ≡ false }
+    requires idle { conn.in_transaction ≡ false }
     ensures dir { IfOk result (λ t. t.dir ≡ dir.now) }
     ensures opens { IfOk result
         (λ t. HasCleanDisk (state S.Store t.connection) → OpensStore S.Store dir.now (state S.Store conn).now t) }
-    ensures alone { IfErr result (λ e. e.conn.in_transaction ≡ false) }
+    ensures idle { IfErr result (λ e. e.conn.in_transaction ≡ false) }
     ensures cause { IfErr result
         (λ e. HasCleanDisk (state S.Store e.conn)
         → IsCause dir.now (unlimited (state S.Store conn)) (state S.Store e.conn) e.cause) }

@@ -15,15 +15,15 @@ use sqlite::{Alter, Connection, Transaction};
 use tables_sql::failure::Failure;
 use tables_sql::transaction;
 
-/// What is written to the rows.
+/// A change of the rows, written in a transaction.
 pub(crate) trait Change {
-    // What it makes of their contents.
+    // The contents after the change, by those before.
     ghost change: { Self → Contents → Contents };
 
-    // The contents that it may be made of.
+    // The contents to which the change may be made.
     ghost fits: { Self → Contents → Type 0 };
 
-    // The rows that it puts.
+    // The rows that the change puts.
     ghost rows: { Self → Table → Row → Type 0 };
 
     fn write<S: Alter>(&self, tx: &mut Transaction<'_, S>) -> Result<(), Failure>
@@ -37,7 +37,7 @@ pub(crate) trait Change {
         ensures cause { HasReason S.Store tx.old.conn.now tx.new.conn.now result (rows self.now) };
 }
 
-/// Makes a change in one transaction. A failure leaves what was there.
+/// Commits a change in one transaction. A failure leaves the rows as they were.
 pub(crate) fn commit<S: Alter, C: Change>(
     conn: &mut Connection<S>,
     change: &C,

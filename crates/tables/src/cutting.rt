@@ -6,7 +6,7 @@ ghost use Rattle.sqlite.specs.Held.{state};
 ghost use Rattle.tables_schema.specs.Forms.{piece};
 ghost use Rattle.tables_sql.specs.Calls.{HasFurther};
 ghost use Rattle.tables_sql.specs.Contents.{contents_of};
-ghost use Rattle.tables_world.specs.Pieces.{row_part, further_pieces};
+ghost use Rattle.tables_world.specs.Pieces.{further_pieces};
 ghost use Rattle.tables_make.specs.Reasons.{HasReason};
 ghost use Rattle.tables.specs.Rewritten.{AreFree, put_pieces};
 ghost use Rattle.tables_make.specs.Reasons.{RowsOf};
@@ -18,20 +18,7 @@ use streams::Pieces;
 use tables_rows::pieces;
 use tables_sql::failure::Failure;
 
-/// The most bytes of an archive in one row.
-pub(crate) const PIECE_SIZE: usize = 65_536;
-
-/// What an object's row holds of its archive: the first piece, or no bytes.
-pub(crate) fn first_of(nar: &Pieces) -> &[u8]
-    ensures { result.now ≡ row_part nar.now }
-{
-    if nar.len() == 0 {
-        return b"";
-    }
-    nar.piece(0)
-}
-
-/// Adds rows for what the row of an object doesn't hold of its archive: pieces that are numbered from 1, of which none is there.
+/// Adds a row for each piece of an archive after the first, numbered from 1. The path has none of these rows yet.
 pub(crate) fn put_pieces<S: Alter>(
     tx: &mut Transaction<'_, S>,
     base: &str,

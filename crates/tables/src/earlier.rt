@@ -22,11 +22,11 @@ use tables_sql::failure::Failure;
 
 /// Migrates the tables of a schema to schema 3. Tables of schema 3 stay as they are.
 fn bring<S: Alter>(alloc: Global, conn: &mut Connection<S>, schema: Schema) -> Result<(), Failure>
-    requires alone { conn.old.in_transaction ≡ false }
+    requires idle { conn.old.in_transaction ≡ false }
     requires is_open { HasCleanDisk (state S.Store conn.old) → IsTrue (state S.Store conn.old).is_open }
     requires ready { HasCleanDisk (state S.Store conn.old) → IsReady (state S.Store conn.old) }
     requires found { HasCleanDisk (state S.Store conn.old) → IsFoundBy schema (state S.Store conn.old).now }
-    ensures alone { conn.new.in_transaction ≡ false }
+    ensures idle { conn.new.in_transaction ≡ false }
     ensures done { HasCleanDisk (state S.Store conn.new)
         → OnOk result ((dir : List ℕ) → IsSoundBy schema dir (contents_of (state S.Store conn.old).now)
         → IsMigrated schema dir (state S.Store conn.old) (state S.Store conn.new)) }
@@ -53,10 +53,10 @@ fn read_and_bring<S: Alter>(
     dir: &StoreDir,
     schema: Schema,
 ) -> Result<Loaded, Cause>
-    requires alone { conn.old.in_transaction ≡ false }
+    requires idle { conn.old.in_transaction ≡ false }
     requires ready { HasCleanDisk (state S.Store conn.old) → IsReady (state S.Store conn.old) }
     requires found { HasCleanDisk (state S.Store conn.old) → IsFoundBy schema (state S.Store conn.old).now }
-    ensures alone { conn.new.in_transaction ≡ false }
+    ensures idle { conn.new.in_transaction ≡ false }
     ensures dir { IfOk result (λ r. r.dir ≡ dir.now) }
     ensures reported { HasCleanDisk (state S.Store conn.new)
         → IfOk result (λ r. AreRead schema dir.now (state S.Store conn.old).now r.outline) }
@@ -81,14 +81,14 @@ pub(crate) fn open_earlier<S: Alter>(
     dir: &StoreDir,
     schema: Schema,
 ) -> Result<Tables<S>, Unadopted<S>>
-    requires alone { conn.in_transaction ≡ false }
+    requires idle { conn.in_transaction ≡ false }
     requires ready { HasCleanDisk (state S.Store conn) → IsReady (state S.Store conn) }
     requires found { HasCleanDisk (state S.Store conn) → IsFoundBy schema (state S.Store conn).now }
     ensures dir { IfOk result (λ t. t.dir ≡ dir.now) }
     ensures opens { IfOk result
         (λ t. HasCleanDisk (state S.Store t.connection)
         → OpensMigrated S.Store schema dir.now (state S.Store conn).now t) }
-    ensures alone { IfErr result (λ e. e.conn.in_transaction ≡ false) }
+    ensures idle { IfErr result (λ e. e.conn.in_transaction ≡ false) }
     ensures cause { IfErr result
         (λ e. HasCleanDisk (state S.Store e.conn)
         → IsCause dir.now (state S.Store conn) (state S.Store e.conn) e.cause) }

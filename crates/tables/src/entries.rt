@@ -11,7 +11,7 @@ ghost use Rattle.tables_outline.specs.Outline.{outlined};
 ghost use Rattle.paths.specs.RootView.{root_view};
 ghost use Rattle.tables.specs.Entries.{object_view};
 ghost use Rattle.tables.specs.Frames.{FailsToAsk};
-ghost use Rattle.tables.specs.Kept.{HasWorld};
+ghost use Rattle.tables.specs.TablesValue.{HasWorld};
 
 use crate::keeping::Tables;
 use crate::user_roots::owned;
@@ -95,7 +95,8 @@ impl<S: Alter> Tables<S> {
         Ok(Snapshot { objects, roots })
     }
 
-    /// The object of a path, if it has one. Its archive is read from the disk, the rest from memory. Nothing changes.
+    /// The object of a path, or `None` if the path isn't valid. The archive is read from the disk, the rest from memory. Nothing
+    /// changes.
     ///
     /// ```rust
     /// if let Some(object) = tables.object(path)? {
@@ -129,7 +130,7 @@ impl<S: Alter> Tables<S> {
         Ok(Some(Object { nar, summary }))
     }
 
-    /// The profile of an owner and a name, if there is one. The only error is that memory was refused.
+    /// The profile of an owner and a name, or `None` if no such profile exists. The only error is that memory was refused.
     ///
     /// ```rust
     /// assert!(rt; tables.profile("ann", "default")?.is_none());

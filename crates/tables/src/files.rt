@@ -25,7 +25,8 @@ use tables_open::file::Opened;
 ///
 /// # Errors
 ///
-/// `sqlite` didn't open the file, what it holds can't be read, or it isn't opened as a store. Then the database is as it was.
+/// `File`: `sqlite` didn't open the file, or can't read what it holds. `Store`: the database isn't opened as a store. Then the
+/// database is as it was.
 pub fn open<S: Start>(
     rt: &HostRuntime,
     path: &str,

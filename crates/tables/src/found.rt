@@ -1,4 +1,4 @@
-//! Opening what was found: the store's tables, or none of them.
+//! Opening a database with the store's tables of schema 3, or with none of them.
 
 ghost use Rattle.std.specs.Prelude.{◌≡◌, false, IfOk, IfErr, MatchResult};
 ghost use Rattle.sqlite.specs.State.{HasCleanDisk, Survives};
@@ -26,13 +26,13 @@ pub(crate) fn open_existing<S: Alter>(
     mut conn: Connection<S>,
     dir: &StoreDir,
 ) -> Result<Tables<S>, Unadopted<S>>
-    requires alone { conn.in_transaction ≡ false }
+    requires idle { conn.in_transaction ≡ false }
     requires ready { HasCleanDisk (state S.Store conn) → IsReady (state S.Store conn) }
     requires found { HasCleanDisk (state S.Store conn) → IsFoundBy V3 (state S.Store conn).now }
     ensures dir { IfOk result (λ t. t.dir ≡ dir.now) }
     ensures opens { IfOk result
         (λ t. HasCleanDisk (state S.Store t.connection) → OpensExisting S.Store dir.now (state S.Store conn).now t) }
-    ensures alone { IfErr result (λ e. e.conn.in_transaction ≡ false) }
+    ensures idle { IfErr result (λ e. e.conn.in_transaction ≡ false) }
     ensures cause { IfErr result
         (λ e. HasCleanDisk (state S.Store e.conn)
         → IsCause dir.now (state S.Store conn) (state S.Store e.conn) e.cause) }
@@ -57,14 +57,14 @@ fn make_new<S: Alter>(
     dir: &StoreDir,
     own: StoreDir,
 ) -> Result<Tables<S>, Unadopted<S>>
-    requires alone { conn.in_transaction ≡ false }
+    requires idle { conn.in_transaction ≡ false }
     requires own { own ≡ dir.now }
     requires none { HasCleanDisk (state S.Store conn) → HasNone (state S.Store conn).now.schema }
     requires settled { HasCleanDisk (state S.Store conn) → (state S.Store conn).now ≡ (state S.Store conn).committed }
     ensures dir { IfOk result (λ t. t.dir ≡ dir.now) }
     ensures opens { IfOk result
         (λ t. HasCleanDisk (state S.Store t.connection) → OpensNew S.Store (state S.Store conn).now t) }
-    ensures alone { IfErr result (λ e. e.conn.in_transaction ≡ false) }
+    ensures idle { IfErr result (λ e. e.conn.in_transaction ≡ false) }
     ensures cause { IfErr result
         (λ e. HasCleanDisk (state S.Store e.conn)
         → IsCause dir.now (state S.Store conn) (state S.Store e.conn) e.cause) }
@@ -86,19 +86,19 @@ fn make_new<S: Alter>(
     }
 }
 
-/// Makes the store's tables where none of them exists, and opens them.
+/// Makes the store's tables in a database that has none of them, and opens them.
 pub(crate) fn open_new<S: Alter>(
     alloc: Global,
     conn: Connection<S>,
     dir: &StoreDir,
 ) -> Result<Tables<S>, Unadopted<S>>
-    requires alone { conn.in_transaction ≡ false }
+    requires idle { conn.in_transaction ≡ false }
     requires none { HasCleanDisk (state S.Store conn) → HasNone (state S.Store conn).now.schema }
     requires settled { HasCleanDisk (state S.Store conn) → (state S.Store conn).now ≡ (state S.Store conn).committed }
     ensures dir { IfOk result (λ t. t.dir ≡ dir.now) }
     ensures opens { IfOk result
         (λ t. HasCleanDisk (state S.Store t.connection) → OpensNew S.Store (state S.Store conn).now t) }
-    ensures alone { IfErr result (λ e. e.conn.in_transaction ≡ false) }
+    ensures idle { IfErr result (λ e. e.conn.in_transaction ≡ false) }
     ensures cause { IfErr result
         (λ e. HasCleanDisk (state S.Store e.conn)
         → IsCause dir.now (state S.Store conn) (state S.Store e.conn) e.cause) }

@@ -1,5 +1,5 @@
-//! Profiles are set, switched and lose generations, one transaction a call. That the world is sound then is the caller's condition. A
-//! call fails when it runs out of memory, for a row too large, or for a fault of the disk, and then nothing has changed.
+//! Setting and switching profiles and deleting generations, one transaction a call. The caller ensures that the world is sound
+//! after each call. A call fails if memory runs out, a row is too large or the disk fails; then nothing has changed.
 
 ghost use Rattle.std.specs.Prelude.{◌≡◌, IfNone, IsTrue, None, option_map};
 ghost use Rattle.std.specs.FinMap as finite;
@@ -75,7 +75,7 @@ impl<S: Alter> Tables<S> {
         }
     }
 
-    /// Puts a path at a number of a profile that has one, and makes a number current.
+    /// Sets the target of generation `number`, which the profile has, and makes `current` the current one.
     pub(crate) fn replace_generation(
         &mut self,
         owner: &str,
@@ -153,8 +153,8 @@ impl<S: Alter> Tables<S> {
         }
     }
 
-    /// Sets a profile to a path, whose number in it is given: the highest generation becomes current if it is the path's, else a new
-    /// one is made and becomes current. The profile is made if it isn't there.
+    /// Makes a path the current generation of a profile. `number` is that of the highest generation if `target` is its target,
+    /// else that of a new one. Creates the profile if it is missing.
     ///
     /// ```rust
     /// tables.set_profile("ann", "default", 1, path)?;
@@ -183,7 +183,7 @@ impl<S: Alter> Tables<S> {
         }
     }
 
-    /// Makes a number the current one of a profile that is there.
+    /// Sets the current number of a profile that exists.
     ///
     /// ```rust
     /// tables.put_profile("ann", "default", Some((1, path)), 1)?;
@@ -209,7 +209,7 @@ impl<S: Alter> Tables<S> {
         Ok(())
     }
 
-    /// Drops a generation of a profile that is there, if it has one of this number.
+    /// Deletes generation `number` of a profile that exists, if the profile has that generation.
     ///
     /// ```rust
     /// tables.put_profile("ann", "default", Some((1, path)), 1)?;

@@ -1,4 +1,4 @@
-//! The tables: a connection, and the outline of what its rows say.
+//! The tables: a connection, and the outline of the rows.
 
 ghost use Rattle.std.specs.Prelude.{◌≡◌, false, None, length};
 ghost use Rattle.std.specs.FinMap as finite;
@@ -27,9 +27,9 @@ pub struct Tables<S: Alter> {
 }
 
 impl<S: Alter> Model for Tables<S> {
-    ghost use Rattle.tables.specs.Kept.{Kept, kept_code, Agrees};
+    ghost use Rattle.tables.specs.TablesValue.{TablesValue, kept_code, Agrees};
 
-    ghost Value = { Kept S };
+    ghost Value = { TablesValue S };
 
     ghost coded = { kept_code S.code };
 
@@ -62,19 +62,20 @@ impl<S: Alter> Tables<S> {
     /// assert!(rt; conn.is_autocommit());
     /// ```
     pub fn release(self) -> Connection<S>
-        ensures alone { result.in_transaction ≡ false }
+        ensures idle { result.in_transaction ≡ false }
         ensures same { result ≡ self.connection }
     {
         let Tables {
             alloc: _alloc,
             connection,
             dir: _dir,
-            outline: _index,
+            outline: _outline,
         } = self;
         connection
     }
 
-    /// Adds an object under a path that has none: its archive, and the summary of it. That the world is sound then is the caller's condition.
+    /// Adds an object at a path that has none: `nar` is the archive, `object` the summary. The caller ensures that the world is
+    /// sound afterwards.
     ///
     /// ```rust
     /// use nar::Node;

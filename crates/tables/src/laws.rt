@@ -1,6 +1,6 @@
 //! Laws of the definitions: each is the contract of a function that does nothing.
 
-ghost use Rattle.tables.specs.Kept.{HaveAWorld};
+ghost use Rattle.tables.specs.TablesValue.{HaveAWorld};
 ghost use Rattle.tables.specs.Opening.{RefusesTheRest};
 
 use sqlite::Alter;

@@ -43,4 +43,4 @@ pub use sqlite::{Alter, Connection, FileFrom, FileStore, MemStore, Start, Unknow
 pub use streams::Pieces;
 pub use tables_open::Disk;
 pub use tables_outline::{Outline, Profile, Summary};
-pub use tables_sql::failure::Failure;
+pub use tables_sql::failure::Failure as Failed;

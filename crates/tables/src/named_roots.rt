@@ -1,4 +1,4 @@
-//! Permanent and user roots, put and dropped by their names.
+//! Setting and dropping permanent and user roots by their names.
 
 ghost use Rattle.tables.specs.Entries.{with_root, without_root};
 ghost use Rattle.tables.specs.Frames.{StaysSound, CommitsChange, FailsToChange};
@@ -20,7 +20,7 @@ pub enum RootName<'a> {
 }
 
 impl<S: Alter> Tables<S> {
-    /// Puts a root, whether one of this name was there or not. That the world is sound then is the caller's condition.
+    /// Sets a root, new or not. The caller ensures that the world is sound afterwards.
     ///
     /// ```rust
     /// use tables::RootName;
@@ -43,7 +43,7 @@ impl<S: Alter> Tables<S> {
         }
     }
 
-    /// Drops a root, if it is there. That the world is sound then is the caller's condition.
+    /// Drops a root, if it exists. The caller ensures that the world is sound afterwards.
     ///
     /// ```rust
     /// use tables::RootName;

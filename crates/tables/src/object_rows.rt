@@ -1,5 +1,5 @@
-//! Deleting the rows that belong to an object's own: its references, its outputs and the further pieces of its archive. Nothing is asked of
-//! the disk where the outline says that it has none.
+//! Deletion of the rows of an object's references, outputs and further pieces. No statement runs for rows that the object doesn't
+//! have by the outline.
 
 ghost use Rattle.std.specs.Prelude.{◌<◌, ℕ, ℤ, List, IsTrue, not};
 ghost use Rattle.std.specs.FinMap as finite;
@@ -14,13 +14,13 @@ ghost use Rattle.tables_make.specs.Reasons.{HasReason};
 ghost use Rattle.tables_make.specs.Reasons.{NoRow};
 ghost use Rattle.tables_rows.specs.Frames.{IsInside, Makes, StaysInside};
 
-use crate::cutting::PIECE_SIZE;
 use sqlite::{Alter, Transaction};
+use streams::PIECE_SIZE;
 use tables_outline::Summary;
 use tables_rows::{outputs, pieces, references};
 use tables_sql::failure::Failure;
 
-/// Removes the references of an object, if it has some.
+/// Deletes the rows of an object's references, if it has any.
 pub(crate) fn delete_references<S: Alter>(
     tx: &mut Transaction<'_, S>,
     base: &str,
@@ -42,7 +42,7 @@ pub(crate) fn delete_references<S: Alter>(
     references::delete_of(tx, base)
 }
 
-/// Removes the outputs of an object, if it has some.
+/// Deletes the rows of an object's outputs, if it has any.
 pub(crate) fn delete_outputs<S: Alter>(
     tx: &mut Transaction<'_, S>,
     base: &str,
@@ -64,7 +64,7 @@ pub(crate) fn delete_outputs<S: Alter>(
     outputs::delete_of(tx, base)
 }
 
-/// Removes the further pieces of an archive, if its object's row doesn't hold all of it.
+/// Deletes the rows of an archive's further pieces, if the object's row doesn't hold the whole archive.
 pub(crate) fn delete_pieces<S: Alter>(
     tx: &mut Transaction<'_, S>,
     base: &str,

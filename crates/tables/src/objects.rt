@@ -13,7 +13,7 @@ ghost use Rattle.tables.specs.RowsPut.{ReferenceRow, OutputRow};
 ghost use Rattle.tables_rows.specs.Frames.{IsInside, Makes, StaysInside};
 
 use crate::change::Change;
-use crate::cutting::{first_of, put_pieces};
+use crate::cutting::put_pieces;
 use crate::texts::Texts;
 use paths::StorePath;
 use sqlite::{Alter, Transaction};
@@ -82,12 +82,12 @@ pub(crate) struct InsertObject<'a> {
 impl<'a> Change for InsertObject<'a> {
     ghost use Rattle.tables_sql.specs.Entries.{stored};
     ghost use Rattle.tables_world.specs.Pieces.{row_part, further_pieces};
-    ghost use Rattle.tables.specs.Rewritten.{LacksObject, put_object};
+    ghost use Rattle.tables.specs.Rewritten.{HasNoObject, put_object};
     ghost use Rattle.tables.specs.RowsPut.{ObjectRows};
 
     ghost change = { λ o c. put_object o.base.now (stored (row_part o.nar.now) o.object.now.hash o.texts.now.deriver o.texts.now.ca) (finite.keys o.object.now.references) (finite.entries o.object.now.outputs) (further_pieces o.nar.now) c };
 
-    ghost fits = { λ o c. LacksObject o.base.now c };
+    ghost fits = { λ o c. HasNoObject o.base.now c };
 
     ghost rows = { λ o. ObjectRows o.base.now (stored (row_part o.nar.now) o.object.now.hash o.texts.now.deriver o.texts.now.ca) (finite.keys o.object.now.references) (finite.entries o.object.now.outputs) (further_pieces o.nar.now) };
 
@@ -95,7 +95,7 @@ impl<'a> Change for InsertObject<'a> {
         objects::insert(
             tx,
             self.base,
-            first_of(self.nar),
+            self.nar.first(),
             self.object.hash(),
             &self.texts.deriver,
             &self.texts.ca,

@@ -4,7 +4,7 @@ ghost use Rattle.std.specs.Prelude.{◌≡◌, IfErr, IfOk};
 ghost use Rattle.sqlite.specs.Steps.{over_memory};
 ghost use Rattle.model.specs.World.{no_world};
 ghost use Rattle.tables_sql.specs.declared.failure.Failure.TheVariants.{Memory};
-ghost use Rattle.tables.specs.Kept.{Agrees, HasWorld};
+ghost use Rattle.tables.specs.TablesValue.{Agrees, HasWorld};
 
 use crate::keeping::Tables;
 use paths::StoreDir;

@@ -10,7 +10,7 @@ use sqlite::{Alter, Transaction};
 use tables_rows::permanent;
 use tables_sql::failure::Failure;
 
-/// Puts a permanent root in place of the one of its name, if there is one.
+/// Sets a permanent root, in place of that of its name, if one exists.
 fn replace<S: Alter>(tx: &mut Transaction<'_, S>, name: &str, target: &str) -> Result<(), Failure>
     requires { IsInside S.Store tx.old.conn }
     ensures frame { StaysInside S.Store tx.old.conn tx.new.conn result }
@@ -22,7 +22,7 @@ fn replace<S: Alter>(tx: &mut Transaction<'_, S>, name: &str, target: &str) -> R
     permanent::insert(tx, name, target)
 }
 
-/// A permanent root gets a target, whether it had one or not.
+/// The change that sets the target of a permanent root, new or not.
 #[derive(Drop)]
 pub(crate) struct PutPermanent<'a> {
     pub(crate) name: &'a str,
@@ -45,7 +45,7 @@ impl<'a> Change for PutPermanent<'a> {
     }
 }
 
-/// Deletes a permanent root, if it is there.
+/// The change that deletes a permanent root, if it exists.
 #[derive(Drop)]
 pub(crate) struct DropPermanent<'a> {
     pub(crate) name: &'a str,

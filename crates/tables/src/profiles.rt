@@ -11,7 +11,7 @@ use sqlite::{Alter, Transaction};
 use tables_rows::{generations, profiles};
 use tables_sql::failure::Failure;
 
-/// A profile gets a current number, whether it was there or not.
+/// Sets the current number of a profile, new or not.
 pub(crate) fn put_current<S: Alter>(
     tx: &mut Transaction<'_, S>,
     owner: &str,
@@ -29,7 +29,7 @@ pub(crate) fn put_current<S: Alter>(
     profiles::insert(tx, owner, name, current)
 }
 
-/// A number becomes the current one of a profile.
+/// The change that sets the current number of a profile.
 #[derive(Drop)]
 pub(crate) struct Switch<'a> {
     pub(crate) owner: &'a str,
@@ -52,7 +52,7 @@ impl<'a> Change for Switch<'a> {
     }
 }
 
-/// Deletes a generation, if it is there.
+/// The change that deletes a generation, if it exists.
 #[derive(Drop)]
 pub(crate) struct DropGeneration<'a> {
     pub(crate) owner: &'a str,
@@ -78,7 +78,7 @@ impl<'a> Change for DropGeneration<'a> {
     }
 }
 
-/// A profile gets a path at a number, whether it had one there or not, and a current number. It is made if it isn't there.
+/// The change that sets the target of a generation and the current number of a profile. Generation and profile may be new.
 #[derive(Drop)]
 pub(crate) struct PutGeneration<'a> {
     pub(crate) owner: &'a str,

@@ -14,14 +14,13 @@ ghost use Rattle.tables_world.specs.Pieces.{IsCut};
 ghost use Rattle.tables_world.specs.Rows.{archive_in, pieces_in};
 ghost use Rattle.tables_world.specs.Worlds.{rows_of};
 ghost use Rattle.tables.specs.Frames.{FailsToAsk};
-ghost use Rattle.tables.specs.Kept.{HasWorld};
+ghost use Rattle.tables.specs.TablesValue.{HasWorld};
 
-use crate::cutting::PIECE_SIZE;
 use crate::keeping::Tables;
 use paths::StorePath;
 use sqlite::{Alter, Connection};
 use std::alloc::{AllocError, Global};
-use streams::Pieces;
+use streams::{PIECE_SIZE, Pieces};
 use tables_rows::pieces::Piece;
 use tables_rows::{objects, pieces};
 use tables_sql::failure::Failure;
@@ -47,7 +46,7 @@ pub(crate) fn read_archive<S: Alter>(
     base: &str,
     size: usize,
 ) -> Result<Option<Pieces>, Failure>
-    requires alone { conn.old.in_transaction ≡ false }
+    requires idle { conn.old.in_transaction ≡ false }
     requires ready { HasCleanDisk (state S.Store conn.old) → IsTrue (state S.Store conn.old).is_open
         → IsReady (state S.Store conn.old) }
     requires exists { HasCleanDisk (state S.Store conn.old) → IsTrue (state S.Store conn.old).is_open
@@ -58,7 +57,7 @@ pub(crate) fn read_archive<S: Alter>(
     requires size { HasCleanDisk (state S.Store conn.old) → IsTrue (state S.Store conn.old).is_open
         → (o : Stored) → finite.get (contents_of (state S.Store conn.old).now).objects base.now ≡ Some o
         → length (archive_in (rows_of (contents_of (state S.Store conn.old).now)) base.now o) ≡ size }
-    ensures alone { conn.new.in_transaction ≡ false }
+    ensures idle { conn.new.in_transaction ≡ false }
     ensures reads { HasCleanDisk (state S.Store conn.new)
         → IfOk result (λ nar. IsUnchanged (state S.Store conn.old) (state S.Store conn.new)
         × (nar ≡ option_map (archive_in (rows_of (contents_of (state S.Store conn.old).now)) base.now)
@@ -82,7 +81,7 @@ pub(crate) fn read_archive<S: Alter>(
 }
 
 impl<S: Alter> Tables<S> {
-    /// The archive of a path, if it is valid. It is read from the disk, and nothing changes.
+    /// The archive of a path, read from the disk, or `None` if the path isn't valid. Nothing changes.
     ///
     /// ```rust
     /// assert_eq!(rt; tables.archive(path)?.map(|nar| nar.len()), Some(128));

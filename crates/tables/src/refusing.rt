@@ -34,21 +34,21 @@ impl From<Failure> for Cause {
 pub struct Unadopted<S: Alter> {
     /// The connection, outside a transaction.
     pub conn: Connection<S>,
-    /// Why it isn't opened.
+    /// Why the connection isn't opened as a store.
     pub cause: Cause,
 }
 
 /// Why a file isn't opened as a store, and what is left of it. `cause` says why. `S` is the store of a connection, over files `D`.
 #[derive(Drop)]
 pub enum Unopened<S: Alter, D: Disk> {
-    /// The file wasn't opened, or what it holds can't be read.
+    /// The file wasn't opened, or its database can't be read.
     File(file::Unopened<S, D>),
-    /// What it holds isn't opened as a store.
+    /// The database of the file isn't opened as a store.
     Store(Unadopted<S>),
 }
 
 impl<S: Alter, D: Disk> Unopened<S, D> {
-    /// Why the file isn't opened as a store. What isn't a database is no store: `BadSchema`.
+    /// Why the file isn't opened as a store. `BadSchema` for a file that isn't a database.
     ///
     /// ```rust
     /// use tables::Cause;
@@ -69,7 +69,9 @@ impl<S: Alter, D: Disk> Unopened<S, D> {
                 Some(failure) => Cause::Failed(*failure),
                 None => Cause::BadSchema,
             },
-            Unopened::File(file::Unopened::Unreadable(untold)) => Cause::Failed(untold.failure),
+            Unopened::File(file::Unopened::Unreadable(unreadable)) => Cause::Failed(
+                unreadable.failure,
+            ),
             Unopened::Store(unadopted) => unadopted.cause,
         }
     }

@@ -1,4 +1,4 @@
-//! Objects are removed, one transaction a call.
+//! Deletion of objects, one transaction a call.
 
 ghost use Rattle.std.specs.Prelude.{not};
 ghost use Rattle.live.specs.Graph.{holds};

@@ -1,5 +1,5 @@
-//! Roots are put and dropped, one transaction a call. That the world is sound then is the caller's condition. A call fails when it runs out
-//! of memory, for a row too large, or for a fault of the disk, and then nothing has changed.
+//! Setting and dropping roots, one transaction a call. The caller ensures that the world is sound after each call. A call fails
+//! if memory runs out, a row is too large or the disk fails; then nothing has changed.
 
 ghost use Rattle.std.specs.Prelude.{map};
 ghost use Rattle.model.specs.World.{pair_cmp};
@@ -20,7 +20,7 @@ use std::collections::BTreeSet;
 use tables_sql::failure::Failure;
 
 impl<S: Alter> Tables<S> {
-    /// Puts a permanent root, whether one of this name was there or not.
+    /// Sets a permanent root, new or not.
     ///
     /// ```rust
     /// tables.put_permanent("system", path)?;
@@ -50,7 +50,7 @@ impl<S: Alter> Tables<S> {
         }
     }
 
-    /// Drops a permanent root, if it is there.
+    /// Drops a permanent root, if it exists.
     ///
     /// ```rust
     /// tables.put_permanent("system", path)?;
@@ -67,7 +67,7 @@ impl<S: Alter> Tables<S> {
         Ok(())
     }
 
-    /// Puts a user root, whether one of this owner and name was there or not.
+    /// Sets a user root, new or not.
     ///
     /// ```rust
     /// tables.put_user_root("ann", "editor", path)?;
@@ -105,7 +105,7 @@ impl<S: Alter> Tables<S> {
         }
     }
 
-    /// Drops a user root, if it is there.
+    /// Drops a user root, if it exists.
     ///
     /// ```rust
     /// tables.put_user_root("ann", "editor", path)?;
@@ -124,7 +124,7 @@ impl<S: Alter> Tables<S> {
         Ok(())
     }
 
-    /// Makes the runtime roots these, each a label and a target, in place of all that there were.
+    /// Replaces all runtime roots by `roots`, each a label and a target.
     ///
     /// ```rust
     /// use std::collections::BTreeSet;

@@ -1,4 +1,4 @@
-//! All rows, read and tested, and the directory compared.
+//! Reading and testing of all rows, and the comparison of the directory.
 
 ghost use Rattle.std.specs.Prelude.{◌≡◌, ◌↔◌, List, ℕ, false, IsTrue, IfOk, IfErr, OnOk, MatchOption};
 ghost use Rattle.sqlite.specs.State.{HasCleanDisk, IsUnchanged, Survives};
@@ -20,25 +20,25 @@ use tables_roots::{load_roots, settings};
 use tables_schema::Schema;
 use tables_sql::failure::Failure;
 
-/// What the rows of a store say: its directory, and all that is kept in memory.
+/// The contents of a store's rows: the directory, and the outline, which stays in memory.
 #[derive(Drop)]
 pub(crate) struct Loaded {
     pub(crate) dir: StoreDir,
     pub(crate) outline: Outline,
 }
 
-/// The store directory and the outline of the rows, if they are sound by their schema.
+/// The store directory and the outline of the rows. `None` if the rows aren't sound by the schema.
 fn read<S: Alter>(
     alloc: Global,
     conn: &mut Connection<S>,
     schema: Schema,
 ) -> Result<Option<Loaded>, Failure>
-    requires alone { conn.old.in_transaction ≡ false }
+    requires idle { conn.old.in_transaction ≡ false }
     requires ready { HasCleanDisk (state S.Store conn.old) → IsTrue (state S.Store conn.old).is_open
         → IsReady (state S.Store conn.old) }
     requires further { HasCleanDisk (state S.Store conn.old) → IsTrue (state S.Store conn.old).is_open
         → HasFurtherOf schema (state S.Store conn.old).now }
-    ensures alone { conn.new.in_transaction ≡ false }
+    ensures idle { conn.new.in_transaction ≡ false }
     ensures reported { HasCleanDisk (state S.Store conn.new) → IfOk result (λ o. MatchOption o
         ((dir : List ℕ) → ¬ IsSoundBy schema dir (contents_of (state S.Store conn.old).now))
         (λ r. IsSoundBy schema r.dir (contents_of (state S.Store conn.old).now)
@@ -71,17 +71,18 @@ fn is_same(a: &StoreDir, b: &StoreDir) -> bool
     a.as_str() == b.as_str()
 }
 
-/// What the rows say, if they are sound by their schema, and then the directory that they name is this one.
+/// The contents of the rows. `BadSchema` if the rows aren't sound by the schema; then `OtherStoreDir` if they name a directory
+/// other than `dir`.
 pub(crate) fn read_as<S: Alter>(
     alloc: Global,
     conn: &mut Connection<S>,
     dir: &StoreDir,
     schema: Schema,
 ) -> Result<Loaded, Cause>
-    requires alone { conn.old.in_transaction ≡ false }
+    requires idle { conn.old.in_transaction ≡ false }
     requires ready { HasCleanDisk (state S.Store conn.old) → IsReady (state S.Store conn.old) }
     requires found { HasCleanDisk (state S.Store conn.old) → IsFoundBy schema (state S.Store conn.old).now }
-    ensures alone { conn.new.in_transaction ≡ false }
+    ensures idle { conn.new.in_transaction ≡ false }
     ensures dir { IfOk result (λ r. r.dir ≡ dir.now) }
     ensures reported { HasCleanDisk (state S.Store conn.new)
         → IfOk result (λ r. AreRead schema r.dir (state S.Store conn.old).now r.outline) }

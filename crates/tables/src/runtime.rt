@@ -19,7 +19,7 @@ use std::collections::BTreeSet;
 use tables_rows::runtime;
 use tables_sql::failure::Failure;
 
-/// Adds rows for these runtime roots, where there is none.
+/// Adds a row for each runtime root of `roots`. The table has no rows yet.
 pub(crate) fn put_runtime<S: Alter>(
     tx: &mut Transaction<'_, S>,
     roots: &BTreeSet<(String, StorePath)>,
@@ -42,7 +42,7 @@ pub(crate) fn put_runtime<S: Alter>(
     Ok(())
 }
 
-/// All runtime roots are replaced.
+/// The change that replaces all runtime roots.
 #[derive(Drop)]
 pub(crate) struct ReplaceRuntime<'a> {
     pub(crate) roots: &'a BTreeSet<(String, StorePath)>,

@@ -1,10 +1,10 @@
-//! Sessions keep paths, and end, one transaction a call. That the world is sound then is the caller's condition. A call fails when it runs out
-//! of memory, for a row too large, or for a fault of the disk, and then nothing has changed.
+//! Adding the paths that sessions keep, and ending sessions, one transaction a call. The caller ensures that the world is sound
+//! after each call. A call fails if memory runs out, a row is too large or the disk fails; then nothing has changed.
 
 ghost use Rattle.std.specs.Prelude.{◌≡◌, IfOk};
 ghost use Rattle.std.specs.FinMap as finite;
 ghost use Rattle.model.specs.Effects.{with_temporary};
-ghost use Rattle.tables_outline.specs.Temporary.{of_session, without_session};
+ghost use Rattle.tables_outline.specs.Temporary.{entries_of_session, entries_without_session};
 ghost use Rattle.tables.specs.Frames.{StaysSound, CommitsChange, FailsToChange};
 ghost use Rattle.tables_make.specs.Reasons.{NoRow};
 ghost use Rattle.tables.specs.RowsPut.{TemporaryRow};
@@ -12,13 +12,13 @@ ghost use Rattle.tables.specs.Temporary.{keeps};
 
 use crate::change;
 use crate::keeping::Tables;
-use crate::temporary::{EndSession, PutTemporary, kept};
+use crate::temporary::{EndSession, PutTemporary, temporary_entry};
 use paths::StorePath;
 use sqlite::Alter;
 use tables_sql::failure::Failure;
 
 impl<S: Alter> Tables<S> {
-    /// Keeps a path for a session of an owner, whether that kept it already or not.
+    /// Adds a path to those that a session of an owner keeps. It may be one of them already.
     ///
     /// ```rust
     /// tables.add_temp("ann", 7, path)?;
@@ -31,8 +31,8 @@ impl<S: Alter> Tables<S> {
         ensures cause { FailsToChange S.Store self.old self.new result
             (TemporaryRow (keeps owner.now session target.now)) }
     {
-        let key = kept(self.alloc, owner, session, target)?;
-        let again = kept(self.alloc, owner, session, target)?;
+        let key = temporary_entry(self.alloc, owner, session, target)?;
+        let again = temporary_entry(self.alloc, owner, session, target)?;
         let had = self.outline.put_temporary(key)?;
         let put = PutTemporary {
             owner,
@@ -48,7 +48,8 @@ impl<S: Alter> Tables<S> {
         }
     }
 
-    /// Ends a session of an owner, and deletes what it kept. The answer is how many paths those were, 0 too.
+    /// Ends a session of an owner, and deletes the roots of the paths that the session kept. Returns how many they were, which
+    /// may be 0.
     ///
     /// ```rust
     /// tables.add_temp("ann", 7, path)?;
@@ -57,10 +58,11 @@ impl<S: Alter> Tables<S> {
     /// ```
     pub fn end_session(&mut self, owner: &str, session: u32) -> Result<usize, Failure>
         requires sound { StaysSound S.Store self.old
-            (λ w. record w { temporary = without_session owner.now session w.temporary }) }
-        ensures count { IfOk result (λ n. n ≡ finite.len (of_session owner.now session self.old.outline.temporary)) }
+            (λ w. record w { temporary = entries_without_session owner.now session w.temporary }) }
+        ensures count { IfOk result
+            (λ n. n ≡ finite.len (entries_of_session owner.now session self.old.outline.temporary)) }
         ensures frame { CommitsChange S.Store self.old self.new result
-            (λ w. record w { temporary = without_session owner.now session w.temporary }) }
+            (λ w. record w { temporary = entries_without_session owner.now session w.temporary }) }
         ensures cause { FailsToChange S.Store self.old self.new result NoRow }
     {
         change::commit(&mut self.connection, &EndSession { owner, session })?;

@@ -12,7 +12,7 @@ use tables_rows::temp_roots;
 use tables_sql::failure::Failure;
 
 /// Owned copies of an owner and a target, with the session's number: the form of the outline.
-pub(crate) fn kept(
+pub(crate) fn temporary_entry(
     alloc: Global,
     owner: &str,
     session: u32,
@@ -25,7 +25,7 @@ pub(crate) fn kept(
     Ok((owner, session, target))
 }
 
-/// A session keeps a path, whether it kept it or not.
+/// The change that adds a path to those that a session keeps, new or not.
 #[derive(Drop)]
 pub(crate) struct PutTemporary<'a> {
     pub(crate) owner: &'a str,
@@ -50,7 +50,7 @@ impl<'a> Change for PutTemporary<'a> {
     }
 }
 
-/// Ends a session, and deletes what it kept.
+/// The change that ends a session: deletes the rows of the paths that the session keeps.
 #[derive(Drop)]
 pub(crate) struct EndSession<'a> {
     pub(crate) owner: &'a str,

@@ -1,4 +1,4 @@
-//! Texts of an object, as its row has them.
+//! The texts in the row of an object.
 
 ghost use Rattle.std.specs.Prelude.{◌≡◌, List, ℕ, Some, IfOk, IsSome, option_map, string_bytes};
 ghost use Rattle.paths.specs.ContentAddress.{address_of};
@@ -7,7 +7,7 @@ ghost use Rattle.tables_world.specs.Rows.{address_in};
 use std::alloc::{AllocError, Global};
 use tables_outline::Summary;
 
-/// The deriver and the content address of an object, where it has one.
+/// The deriver and the content address of an object as texts, if it has them.
 #[derive(Drop)]
 pub(crate) struct Texts {
     pub(crate) deriver: Option<String>,

@@ -18,7 +18,7 @@ pub(crate) fn owned(alloc: Global, owner: &str, name: &str) -> Result<(String, S
     Ok((owner, name))
 }
 
-/// A user root gets a target, whether it had one or not.
+/// The change that sets the target of a user root, new or not.
 #[derive(Drop)]
 pub(crate) struct PutUserRoot<'a> {
     pub(crate) owner: &'a str,
@@ -43,7 +43,7 @@ impl<'a> Change for PutUserRoot<'a> {
     }
 }
 
-/// Deletes a user root, if it is there.
+/// The change that deletes a user root, if it exists.
 #[derive(Drop)]
 pub(crate) struct DropUserRoot<'a> {
     pub(crate) owner: &'a str,

@@ -32,7 +32,7 @@ use Rattle.tables_schema.specs.Forms.{strict}
 use Rattle.tables_schema.specs.Finding.{IsFree}
 use Rattle.tables_schema.specs.Intact.{IsNamed, tree_named}
 use Rattle.tables_sql.specs.Contents.{Bytes}
-use Rattle.tables_make.specs.Making.{IsMaking, Makes, all_created, placed, index_of, is_clear, are_apart}
+use Rattle.tables_make.specs.Making.{IsMaking, Makes, all_created, placed, index_of, is_clear, have_distinct_names}
 use Rattle.tables_sql.proofs.Means.{Means, IsMeant, understood_as}
 use Rattle.tables_sql.proofs.Writes.{went, same_value}
 use Rattle.tables_sql.proofs.Truths.{and_so, not_so}
@@ -121,10 +121,10 @@ some_or : {X : Type 0} (a b : Option X) → is_some a ≡ true → is_some (opti
 some_or None b h = absurd cc
 some_or (Some x) b h = refl
 
-lacking : (a b c : Bool) → (b ≡ true → c ≡ true) → (a && not b) ≡ false → ((a || false) && not c) ≡ false
-lacking false b c f h = refl
-lacking true true c f h = rw (f refl) refl
-lacking true false c f h = absurd cc
+missing_tables : (a b c : Bool) → (b ≡ true → c ≡ true) → (a && not b) ≡ false → ((a || false) && not c) ≡ false
+missing_tables false b c f h = refl
+missing_tables true true c f h = rw (f refl) refl
+missing_tables true false c f h = absurd cc
 
 pub counted_after : (s : Schema) (title : Bytes) (cs : List Column) (key : List ℕ) → lacks_sequence s ≡ false → lacks_sequence (created s (strict title cs key)) ≡ false
 counted_after s title cs key h =
@@ -132,7 +132,7 @@ counted_after s title cs key h =
     let is = λ (u : Table). same_name u.name (codes "sqlite_sequence") in
     let more : is_some (sequence s) ≡ true → is_some (sequence (created s (strict title cs key))) ≡ true =
     λ e. ap is_some (found_by_place is (s.tables ++ t ∷ []) ∙ find-append is s.tables (t ∷ [])) ∙ some_or _ _ (sym (ap is_some (found_by_place is s.tables)) ∙ e) in
-    ap (λ a. a && not (is_some (sequence (created s (strict title cs key))))) (list_any-append (λ (u : Table). u.is_counted) s.tables (t ∷ [])) ∙ lacking (list_any (λ (u : Table). u.is_counted) s.tables) (is_some (sequence s)) _ more h
+    ap (λ a. a && not (is_some (sequence (created s (strict title cs key))))) (list_any-append (λ (u : Table). u.is_counted) s.tables (t ∷ [])) ∙ missing_tables (list_any (λ (u : Table). u.is_counted) s.tables) (is_some (sequence s)) _ more h
 
 -- ---- one table
 
@@ -163,7 +163,7 @@ makes_in text title cs key old new count making lacks inside h =
       mode = w.shown.mode ∙ inside;
     }
 
-pub making_after : (title : Bytes) (cs : List Column) (key : List ℕ) (rest : List Table) (old new : State) → are_apart (strict title cs key ∷ rest) ≡ true → IsMaking (strict title cs key ∷ rest) old
+pub making_after : (title : Bytes) (cs : List Column) (key : List ℕ) (rest : List Table) (old new : State) → have_distinct_names (strict title cs key ∷ rest) ≡ true → IsMaking (strict title cs key ∷ rest) old
     → IsTrue old.is_open → IsDatabase new.now → new.now.schema ≡ created old.now.schema (strict title cs key) → new.in_transaction ≡ true → IsMaking rest new
 making_after title cs key rest old new apart under was_open sound made mode = record {
   sound = λ is_open. sound;

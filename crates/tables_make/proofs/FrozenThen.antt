@@ -13,9 +13,9 @@ use Rattle.tables_make.specs.Making.{all_created}
 use Rattle.tables_sql.proofs.Lists.{one_list, two_lists}
 use Rattle.tables_sql.proofs.Frozen.{frozen_both}
 
-automatics_apart : (table : Table) (at tree : ℕ) (keys : List (List ℕ)) (t : ℕ) → t < tree → AllByRecursion (λ (i : Index). i.tree ≢ t) (automatics table at tree keys)
-automatics_apart table at tree [] t h = tt
-automatics_apart table at tree (key ∷ keys) t h = (λ (e : tree ≡ t). absurd (omega (arith, h, e)), automatics_apart table (at + 1) (tree + 1) keys t (omega (arith, h)))
+automatics_distinct : (table : Table) (at tree : ℕ) (keys : List (List ℕ)) (t : ℕ) → t < tree → AllByRecursion (λ (i : Index). i.tree ≢ t) (automatics table at tree keys)
+automatics_distinct table at tree [] t h = tt
+automatics_distinct table at tree (key ∷ keys) t h = (λ (e : tree ≡ t). absurd (omega (arith, h, e)), automatics_distinct table (at + 1) (tree + 1) keys t (omega (arith, h)))
 
 -- what is frozen has a tree below the next
 below_next : (s : Schema) (tree : ℕ) → IsFrozen s tree → tree < next_tree s
@@ -32,7 +32,7 @@ still_one s t tree is =
       aside = is.aside;
       unshown = (
         two_lists (λ (u : Table). u.tree ≢ tree) s.tables (new ∷ []) is.unshown.0 (λ (e : next_tree s ≡ tree). absurd (omega (arith, below, e)), tt),
-        two_lists (λ (i : Index). i.tree ≢ tree) s.indexes _ is.unshown.1 (automatics_apart new 0 (next_tree s + 1) t.uniques tree (omega (arith, below))),
+        two_lists (λ (i : Index). i.tree ≢ tree) s.indexes _ is.unshown.1 (automatics_distinct new 0 (next_tree s + 1) t.uniques tree (omega (arith, below))),
       );
     }
 

@@ -9,7 +9,7 @@ use Rattle.sqlite_tied.specs.Compute.{everything}
 use Rattle.sqlite.specs.Does.{lacks_sequence}
 use Rattle.sqlite.specs.Effect.{Database, IsDatabase}
 use Rattle.sqlite.specs.State.{State}
-use Rattle.tables_schema.specs.Forms.{piece, temp_root, our_tables}
+use Rattle.tables_schema.specs.Forms.{piece, temp_root, store_tables}
 use Rattle.tables_schema.specs.Intact.{IsIntact, tree_named}
 use Rattle.tables_schema.specs.Finding.{IsFree, HasFirst, HasSecond}
 use Rattle.tables_sql.specs.Contents.{rows_named, rows_if_any}
@@ -18,26 +18,26 @@ use Rattle.tables_sql.specs.Calls.{IsKeyed, IsStoreDatabase, HasFurther, KeepsFu
 use Rattle.tables_sql.proofs.Contents.{contents_alike}
 use Rattle.tables_make.proofs.Creates.{tree_is}
 use Rattle.tables_sql.proofs.FurtherTables.{if_any_named, if_any_free}
-use Rattle.tables_make.specs.Making.{IsMaking, Makes, all_created, are_apart, placed}
+use Rattle.tables_make.specs.Making.{IsMaking, Makes, all_created, have_distinct_names, placed}
 use Rattle.tables_make.specs.Further.{MakesFurther}
-use Rattle.tables_make.proofs.Made.{nine, made_further, theirs_of}
+use Rattle.tables_make.proofs.Made.{nine, made_further, foreign_of}
 use Rattle.tables_make.proofs.MakingTogether.{part}
 use Rattle.tables_make.proofs.Settles.{making_free}
-use Rattle.tables_make.proofs.Stood.{Parts, table_of, StandsAs, all_still, all_stand, one_stands, each_stands, by_names, are_low}
+use Rattle.tables_make.proofs.Placed.{Parts, table_of, ExistsAs, all_still, all_exist, one_exists, each_exists, by_names, are_low}
 
 -- ---- the tables that were there
 
-as_it_stands : (s : Schema) (t : Table) → IsIntact s t → StandsAs s (record t { tree = tree_named s t.name })
-as_it_stands s t it = record { at = it.at; named = it.known.named; by_tree = it.known.by_tree; unreferred = it.unreferred; alone = it.alone; unguarded = it.unguarded }
+as_it_exists : (s : Schema) (t : Table) → IsIntact s t → ExistsAs s (record t { tree = tree_named s t.name })
+as_it_exists s t it = record { at = it.at; named = it.known.named; by_tree = it.known.by_tree; unreferred = it.unreferred; idle = it.idle; unguarded = it.unguarded }
 
 module _ (a b : Database) (sound : IsDatabase b) (fs : List Parts) (made : b.schema ≡ all_created a.schema (map table_of fs)) (kept : AllByRecursion (λ t. b.trees t.tree ≡ a.trees t.tree) a.schema.tables) where
-  stays : (f : Parts) → IsIntact a.schema (table_of f) → StandsAs b.schema (record (table_of f) { tree = tree_named a.schema f.0 })
+  stays : (f : Parts) → IsIntact a.schema (table_of f) → ExistsAs b.schema (record (table_of f) { tree = tree_named a.schema f.0 })
   stays f it =
       let t : Table = record (table_of f) { tree = tree_named a.schema f.0 } in
-      subst (λ (s : Schema). StandsAs s t) (sym made) (all_still a.schema fs t (as_it_stands a.schema (table_of f) it))
+      subst (λ (s : Schema). ExistsAs s t) (sym made) (all_still a.schema fs t (as_it_exists a.schema (table_of f) it))
 
   still_stands : (f : Parts) → IsIntact a.schema (table_of f) → IsIntact b.schema (table_of f)
-  still_stands f it = one_stands b sound f (tree_named a.schema f.0) (stays f it)
+  still_stands f it = one_exists b sound f (tree_named a.schema f.0) (stays f it)
 
   rows_still : (f : Parts) → IsIntact a.schema (table_of f) → rows_named b f.0 ≡ rows_named a f.0
   rows_still f it =
@@ -45,7 +45,7 @@ module _ (a b : Database) (sound : IsDatabase b) (fs : List Parts) (made : b.sch
       let now = stays f it in
       ap b.trees (tree_is b.schema t now.at now.named) ∙ all-slice_get (λ (u : Table). b.trees u.tree ≡ a.trees u.tree) a.schema.tables it.at t it.known.named.1 kept
 
-  same_rows : AllByRecursion (IsIntact a.schema) our_tables → AllByRecursion (λ t. rows_named b t.name ≡ rows_named a t.name) our_tables
+  same_rows : AllByRecursion (IsIntact a.schema) store_tables → AllByRecursion (λ t. rows_named b t.name ≡ rows_named a t.name) store_tables
   same_rows has = all-map (λ (t : Table). rows_named b t.name ≡ rows_named a t.name) table_of nine
       (all_weaker (λ f. IsIntact a.schema (table_of f)) (λ f. rows_named b f.0 ≡ rows_named a f.0) rows_still nine (all_from_map (IsIntact a.schema) table_of nine has))
 
@@ -57,8 +57,8 @@ module _ (a b : Database) (sound : IsDatabase b) (fs : List Parts) (made : b.sch
       record {
         sound = sound;
         has = all-map (IsIntact b.schema) table_of nine (all_weaker (λ f. IsIntact a.schema (table_of f)) (λ f. IsIntact b.schema (table_of f)) still_stands nine (all_from_map (IsIntact a.schema) table_of nine of_store.has));
-        keyed = all_both Same (λ t. IsKeyed (rows_named a t.name)) (λ t. IsKeyed (rows_named b t.name)) (λ t is. subst IsKeyed (sym is)) our_tables same of_store.keyed;
-        readable = all_both Same (λ t. AreReadableRows t (rows_named a t.name)) (λ t. AreReadableRows t (rows_named b t.name)) (λ t is. subst (AreReadableRows t) (sym is)) our_tables same of_store.readable;
+        keyed = all_both Same (λ t. IsKeyed (rows_named a t.name)) (λ t. IsKeyed (rows_named b t.name)) (λ t is. subst IsKeyed (sym is)) store_tables same of_store.keyed;
+        readable = all_both Same (λ t. AreReadableRows t (rows_named a t.name)) (λ t. AreReadableRows t (rows_named b t.name)) (λ t is. subst (AreReadableRows t) (sym is)) store_tables same of_store.readable;
       }
 
   further_still : (f : Parts) → HasFurther a (table_of f) → HasFurther b (table_of f)
@@ -75,17 +75,17 @@ pub record IsKept (a b : Database) (t : Table) : Type 0 where
   pub rows : rows_if_any b t.name ≡ rows_if_any a t.name
   pub exists : HasFurther a t → HasFurther b t
 
-module _ (fs : List Parts) (apart : are_apart (map table_of fs) ≡ true) (a b : State) (under : IsUnderWay a) (free : AllByRecursion (λ t. IsFree a.now.schema t.name) (map table_of fs)) (h : Makes (map table_of fs) a b) where
+module _ (fs : List Parts) (apart : have_distinct_names (map table_of fs) ≡ true) (a b : State) (under : IsUnderWay a) (free : AllByRecursion (λ t. IsFree a.now.schema t.name) (map table_of fs)) (h : Makes (map table_of fs) a b) where
   abbrev of_store : IsStoreDatabase a.now
   of_store = under.of_store h.was_open
 
-  made : AllByRecursion (StandsAs b.now.schema) (placed a.now.schema (map table_of fs))
-  made = subst (λ (s : Schema). AllByRecursion (StandsAs s) (placed a.now.schema (map table_of fs))) (sym h.schema) (all_stand a.now.schema fs apart free (are_low a.now of_store.sound))
+  made : AllByRecursion (ExistsAs b.now.schema) (placed a.now.schema (map table_of fs))
+  made = subst (λ (s : Schema). AllByRecursion (ExistsAs s) (placed a.now.schema (map table_of fs))) (sym h.schema) (all_exist a.now.schema fs apart free (are_low a.now of_store.sound))
 
   -- each stands, with no row
   pub these : AllByRecursion (λ t. HasFurther b.now t × (rows_named b.now t.name ≡ [])) (map table_of fs)
   these = all_both (IsIntact b.now.schema) (λ t. rows_named b.now t.name ≡ []) (λ t. HasFurther b.now t × (rows_named b.now t.name ≡ [])) (λ t stand none. (made_further b.now t stand none, none)) (map table_of fs)
-      (each_stands b.now h.sound a.now.schema fs made) (by_names (λ n. b.now.trees n ≡ []) b.now.schema a.now.schema fs made h.empty)
+      (each_exists b.now h.sound a.now.schema fs made) (by_names (λ n. b.now.trees n ≡ []) b.now.schema a.now.schema fs made h.empty)
 
   -- neither before nor after is there a row
   pub new_kept : (t : Table) → IsFree a.now.schema t.name → HasFurther b.now t × (rows_named b.now t.name ≡ []) → IsKept a.now b.now t
@@ -104,7 +104,7 @@ module _ (fs : List Parts) (apart : are_apart (map table_of fs) ≡ true) (a b :
     is_open = h.is_open;
     schema = h.schema;
     contents = contents_alike (rows_named b.now) (rows_named a.now) _ _ _ _ (same_rows a.now b.now h.sound fs h.schema h.kept of_store.has) pieces.rows temp_roots.rows;
-    theirs = theirs_of a.now b.now.trees a.now.schema.tables h.kept;
+    foreign_rows = foreign_of a.now b.now.trees a.now.schema.tables h.kept;
     frozen = h.frozen of_store.sound;
     of_store = ours_still a.now b.now h.sound fs h.schema h.kept of_store;
     exist = all_weaker (λ (t : Table). HasFurther b.now t × (rows_named b.now t.name ≡ [])) (HasFurther b.now) (λ t it. it.0) (map table_of fs) these;

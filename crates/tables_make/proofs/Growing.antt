@@ -10,8 +10,8 @@ use Rattle.sqlite.proofs.StateLemmas.{survives_then}
 use Rattle.tables_schema.specs.Forms.{is_our_name}
 use Rattle.tables_sql.specs.Contents.{Contents, contents_of}
 use Rattle.tables_sql.specs.Frozen.{IsFrozen}
-use Rattle.tables_sql.specs.Calls.{Changes, KeepsTheirs, Leaves}
-use Rattle.tables_sql.proofs.Steps.{theirs_then, leaves_from, clean_before}
+use Rattle.tables_sql.specs.Calls.{Changes, KeepsForeignRows, Leaves}
+use Rattle.tables_sql.proofs.Steps.{foreign_then, leaves_from, clean_before}
 use Rattle.tables_make.specs.Making.{placed}
 use Rattle.tables_make.specs.Further.{MakesFurther, grown}
 use Rattle.tables_make.proofs.Creates.{tables_after}
@@ -19,10 +19,10 @@ use Rattle.tables_make.proofs.FrozenThen.{frozen_before}
 
 module _ (tables : List Table) (named : (s : Schema) → AllByRecursion (λ t. is_our_name t.name ≡ true) (placed s tables)) where
   -- the tables that were made are the store's, and theirs keep their rows
-  pub theirs_grown : (a b : State) → MakesFurther tables a b → KeepsTheirs (grown tables a.now) b.now
-  theirs_grown a b h =
+  pub foreign_grown : (a b : State) → MakesFurther tables a b → KeepsForeignRows (grown tables a.now) b.now
+  foreign_grown a b h =
       subst (AllByRecursion (λ (t : Table). is_our_name t.name ≡ false → b.now.trees t.tree ≡ a.now.trees t.tree)) (sym (tables_after a.now.schema tables))
-      (all-append (λ (t : Table). is_our_name t.name ≡ false → b.now.trees t.tree ≡ a.now.trees t.tree) a.now.schema.tables _ h.theirs
+      (all-append (λ (t : Table). is_our_name t.name ≡ false → b.now.trees t.tree ≡ a.now.trees t.tree) a.now.schema.tables _ h.foreign_rows
       (all_weaker (λ (t : Table). is_our_name t.name ≡ true) (λ t. is_our_name t.name ≡ false → b.now.trees t.tree ≡ a.now.trees t.tree) (λ t of_store other. absurd (let e = sym of_store ∙ other in cc)) (placed a.now.schema tables) (named a.now.schema)))
 
   -- what a crash leaves of the changed tables, seen from before the further ones were made
@@ -31,7 +31,7 @@ module _ (tables : List Table) (named : (s : Schema) → AllByRecursion (λ t. i
       let left = leaves_from b c f db h.of_store.sound k l in
       record {
         of_store = subst (λ (s : Schema). contents_of (record b.now { schema = s; trees = db }) ≡ f (contents_of b.now)) h.schema left.of_store ∙ ap f h.contents;
-        theirs = theirs_then (grown tables a.now) b.now (record b.now { trees = db }) h.schema (theirs_grown a b h) left.theirs;
+        foreign_rows = foreign_then (grown tables a.now) b.now (record b.now { trees = db }) h.schema (foreign_grown a b h) left.foreign_rows;
         frozen = record {
           rows = λ tree is. left.frozen.rows tree (subst (λ (s : Schema). IsFrozen s tree) (sym h.schema) is) ∙ h.frozen.rows tree (frozen_before a.now.schema tables tree is);
           texts = λ row present foreign. left.frozen.texts row (h.frozen.texts row present foreign) foreign;

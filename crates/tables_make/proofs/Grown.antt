@@ -14,10 +14,10 @@ use Rattle.sqlite.proofs.StateLemmas.{survives_then}
 use Rattle.tables_schema.specs.Forms.{piece, temp_root, is_our_name}
 use Rattle.tables_sql.specs.Contents.{Contents, contents_of}
 use Rattle.tables_sql.specs.Frozen.{IsFrozen, SparesFrozen}
-use Rattle.tables_sql.specs.Calls.{HasFurther, KeepsFurther, KeepsTheirs, IsUnderWay, Changes, IsCommitted, IsWhole, KeepsShown, Leaves}
+use Rattle.tables_sql.specs.Calls.{HasFurther, KeepsFurther, KeepsForeignRows, IsUnderWay, Changes, IsCommitted, IsWhole, KeepsShown, Leaves}
 use Rattle.tables_sql.proofs.Frozen.{frozen_of}
 use Rattle.tables_sql.proofs.Lists.{one_list, two_lists}
-use Rattle.tables_sql.proofs.Steps.{theirs_then, clean_before, shown_then}
+use Rattle.tables_sql.proofs.Steps.{foreign_then, clean_before, shown_then}
 use Rattle.tables_sql.proofs.Transactions.{survives_begun}
 use Rattle.tables_sql.proofs.Under.{piece_after, temp_root_after}
 use Rattle.tables_make.specs.Making.{all_created, placed}
@@ -29,11 +29,11 @@ use Rattle.tables_make.specs.Migrated.{Grows, IsGrown}
 -- ---- inside the transaction
 
 module _ (tables : List Table) (a b c : State) (f : Contents → Contents) (made : MakesFurther tables a b) (changed : Changes b c f) where
-  theirs_still : KeepsTheirs a.now c.now
+  theirs_still : KeepsForeignRows a.now c.now
   theirs_still =
       let P : Table → Type 0 = λ t. is_our_name t.name ≡ false → c.now.trees t.tree ≡ b.now.trees t.tree in
-      let all = subst (λ (ts : List Table). AllByRecursion P ts) (ap (λ (s : Schema). s.tables) made.schema ∙ tables_after a.now.schema tables) changed.theirs in
-      theirs_then a.now (record b.now { schema = a.now.schema }) c.now refl made.theirs (one_list P a.now.schema.tables (placed a.now.schema tables) all).0
+      let all = subst (λ (ts : List Table). AllByRecursion P ts) (ap (λ (s : Schema). s.tables) made.schema ∙ tables_after a.now.schema tables) changed.foreign_rows in
+      foreign_then a.now (record b.now { schema = a.now.schema }) c.now refl made.foreign_rows (one_list P a.now.schema.tables (placed a.now.schema tables) all).0
 
   pub grows : HasFurther b.now piece → HasFurther b.now temp_root → Grows tables (f (contents_of a.now)) a c
   grows pieces temp_roots = record {
@@ -41,7 +41,7 @@ module _ (tables : List Table) (a b c : State) (f : Contents → Contents) (made
     is_open = changed.is_open;
     schema = changed.schema ∙ made.schema;
     contents_are = changed.contents ∙ ap f made.contents;
-    theirs = theirs_still;
+    foreign_rows = theirs_still;
     frozen = frozen_then a.now b.now c.now.trees tables made.schema made.frozen (frozen_of b.now c.now.trees made.of_store.sound changed.unshown);
     whole = record { of_store = changed.of_store; pieces = piece_after b c f changed pieces; temp_roots = temp_root_after b c f changed temp_roots };
     committed = changed.committed ∙ made.committed;
@@ -66,7 +66,7 @@ is_grown tables contents a b c h k = record {
   is_open = k.is_open;
   schema = ap (λ (x : Database). x.schema) k.now ∙ h.schema;
   contents_are = ap contents_of k.now ∙ h.contents_are;
-  theirs = subst (λ (x : Database). KeepsTheirs a.now x) (sym k.now) h.theirs;
+  foreign_rows = subst (λ (x : Database). KeepsForeignRows a.now x) (sym k.now) h.foreign_rows;
   frozen = subst (λ (x : Database). SparesFrozen a.now x) (sym k.now) h.frozen;
   whole = subst IsWhole (sym k.now) h.whole;
   ready = k.ready;
@@ -79,7 +79,7 @@ grown_from tables contents a b c same h = record {
   is_open = h.is_open;
   schema = h.schema ∙ ap (λ (x : Database). all_created x.schema tables) same.0.now_is;
   contents_are = h.contents_are;
-  theirs = subst (λ (x : Database). KeepsTheirs x c.now) same.0.now_is h.theirs;
+  foreign_rows = subst (λ (x : Database). KeepsForeignRows x c.now) same.0.now_is h.foreign_rows;
   frozen = subst (λ (x : Database). SparesFrozen x c.now) same.0.now_is h.frozen;
   whole = h.whole;
   ready = h.ready;
@@ -98,17 +98,17 @@ pub last_named : (s : Schema) → AllByRecursion (λ t. is_our_name t.name ≡ t
 last_named s = (refl, tt)
 
 module _ (tables : List Table) (named : (s : Schema) → AllByRecursion (λ t. is_our_name t.name ≡ true) (placed s tables)) (contents : Contents) where
-  theirs_grown : (a b : State) → Grows tables contents a b → KeepsTheirs (grown tables a.now) b.now
-  theirs_grown a b h =
+  foreign_grown : (a b : State) → Grows tables contents a b → KeepsForeignRows (grown tables a.now) b.now
+  foreign_grown a b h =
       let P : Table → Type 0 = λ t. is_our_name t.name ≡ false → b.now.trees t.tree ≡ a.now.trees t.tree in
       subst (λ (ts : List Table). AllByRecursion P ts) (sym (tables_after a.now.schema tables))
-      (two_lists P a.now.schema.tables (placed a.now.schema tables) h.theirs
+      (two_lists P a.now.schema.tables (placed a.now.schema tables) h.foreign_rows
       (all_weaker (λ (t : Table). is_our_name t.name ≡ true) P (λ t of_store other. absurd (let e = sym of_store ∙ other in cc)) (placed a.now.schema tables) (named a.now.schema)))
 
   leaves_grown : (a b : State) (db : Trees) → Grows tables contents a b → Leaves b.now db (contents_of b.now) → Leaves (grown tables a.now) db contents
   leaves_grown a b db h l = record {
     of_store = subst (λ (s : Schema). contents_of (record b.now { schema = s; trees = db }) ≡ contents_of b.now) h.schema l.of_store ∙ h.contents_are;
-    theirs = theirs_then (grown tables a.now) b.now (record b.now { trees = db }) h.schema (theirs_grown a b h) l.theirs;
+    foreign_rows = foreign_then (grown tables a.now) b.now (record b.now { trees = db }) h.schema (foreign_grown a b h) l.foreign_rows;
     frozen = record {
       rows = λ tree is. l.frozen.rows tree (subst (λ (s : Schema). IsFrozen s tree) (sym h.schema) is) ∙ h.frozen.rows tree (frozen_before a.now.schema tables tree is);
       texts = λ row present foreign. l.frozen.texts row (h.frozen.texts row present foreign) foreign;
@@ -141,7 +141,7 @@ keeps_then (Err e) a b c h k = record { was_open = λ is_open. h.was_open (k.was
 
 -- what was committed, from before the transaction was begun
 grown_begun : {S : Type 0} (g : Ghosts S) (conn : Held S) (tables : List Table) (contents : Contents) (c : State) → IsGrown tables contents (state g (record conn { in_transaction = true })) c → IsGrown tables contents (state g conn) c
-grown_begun g conn tables contents c h = record { was_open = h.was_open; is_open = h.is_open; schema = h.schema; contents_are = h.contents_are; theirs = h.theirs; frozen = h.frozen; whole = h.whole; ready = h.ready }
+grown_begun g conn tables contents c h = record { was_open = h.was_open; is_open = h.is_open; schema = h.schema; contents_are = h.contents_are; foreign_rows = h.foreign_rows; frozen = h.frozen; whole = h.whole; ready = h.ready }
 
 pub grown_whole : {S : Type 0} (g : Ghosts S) (conn start : Held S) (tables : List Table) (f : Contents → Contents) (b c : State) → start ≡ record conn { in_transaction = true }
     → Grows tables (f (contents_of (state g start).now)) (state g start) b → IsCommitted b c → IsGrown tables (f (contents_of (state g conn).now)) (state g conn) c

@@ -11,7 +11,7 @@ use Rattle.tables_sql.proofs.Transactions.{failed_next}
 use Rattle.tables_rows.specs.Frames.{StaysInside}
 use Rattle.tables_make.specs.Frames.{KeepsInside}
 use Rattle.tables_make.proofs.Failing.{err_kept}
-use Rattle.tables_make.proofs.Kept.{both_keep_commit}
+use Rattle.tables_make.proofs.CallsInTurn.{both_keep_commit}
 
 module _ {S : Type 0} (g : Ghosts S) (a b c : MutBor (Held S)) where
   -- each of them commits nothing

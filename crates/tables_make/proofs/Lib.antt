@@ -8,7 +8,7 @@ pub mod Growing
 pub mod Grown
 pub mod InTurn
 pub mod Inside
-pub mod Kept
+pub mod CallsInTurn
 pub mod Made
 pub mod MakingFailures
 pub mod MakingTexts
@@ -20,5 +20,5 @@ pub mod Rewritten
 pub mod SettingFailures
 pub mod Settles
 pub mod Steps
-pub mod Stood
+pub mod Placed
 pub mod Uncut

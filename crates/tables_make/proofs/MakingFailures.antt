@@ -30,7 +30,7 @@ use Rattle.tables_schema.specs.Forms.{strict}
 use Rattle.tables_schema.specs.Finding.{IsFree}
 use Rattle.tables_sql.specs.Contents.{Bytes}
 use Rattle.tables_sql.specs.Failures.{failure_of, without_size, FailsWith, IsWriteFailure}
-use Rattle.tables_make.specs.Making.{LacksNumbers, LacksNames, FailsToMakeThese}
+use Rattle.tables_make.specs.Making.{RunsOutOfTrees, LacksNames, FailsToMakeThese}
 use Rattle.tables_make.proofs.Creates.{IsUnused, IsMakingIn, counted_after}
 use Rattle.tables_sql.proofs.Writes.{same_value}
 use Rattle.tables_sql.proofs.WriteFailures.{MayStop, OrShut, is_write, write_fails, fails_wider, fails_unsized}
@@ -67,7 +67,7 @@ module _ (s : Schema) (text : List ℕ) (title : Bytes) (cs : List Column) (key 
   not_wide (k, inr none, wide) = none
 
   -- what is left of the reasons to refuse it
-  refused_table : IsFree s title → (why : Refusal) → RefusesTable s text why → LacksNumbers s (form ∷ []) ⊎ LacksNames s (form ∷ [])
+  refused_table : IsFree s title → (why : Refusal) → RefusesTable s text why → RunsOutOfTrees s (form ∷ []) ⊎ LacksNames s (form ∷ [])
   refused_table free (Invalid e) h = absurd (let no = sym accepted.defined ∙ h in cc)
   refused_table free NameTaken (t, is, inl used) = absurd (let no = sym (none_used s title (free.table, free.index, free.view)) ∙ ap (λ (x : Table). is_used s x.name) (sym (its t is)) ∙ used in cc)
   refused_table free NameTaken (t, is, inr loaded) = inr (loaded_outline (subst (λ (x : Table). (index : Index) × Has (automatics x 0 0 x.uniques) index × (is_used s index.name ≡ true)) (its t is) loaded))
@@ -97,7 +97,7 @@ module _ (s : Schema) (text : List ℕ) (title : Bytes) (cs : List Column) (key 
 -- ---- what the failure is
 
 -- a write that failed
-pub reported : (tables : List Table) (large refused : Type 0) (old new : State) → (large → IsTrue old.is_open) → (f : Failure) → FailsWith old new large (refused ⊎ (LacksNumbers old.now.schema tables ⊎ LacksNames old.now.schema tables)) f → FailsToMakeThese tables large refused old new f
+pub reported : (tables : List Table) (large refused : Type 0) (old new : State) → (large → IsTrue old.is_open) → (f : Failure) → FailsWith old new large (refused ⊎ (RunsOutOfTrees old.now.schema tables ⊎ LacksNames old.now.schema tables)) f → FailsToMakeThese tables large refused old new f
 reported tables large refused old new up Memory h = tt
 reported tables large refused old new up Size h = (h.0, up h.0)
 reported tables large refused old new up Disk (inl h) = inl h.0
@@ -112,7 +112,7 @@ module _ (text : List ℕ) (title : Bytes) (cs : List Column) (key : List ℕ) (
   these = strict title cs key ∷ []
 
   abbrev Refused : Type 0
-  Refused = ⊥ ⊎ (LacksNumbers old.now.schema these ⊎ LacksNames old.now.schema these)
+  Refused = ⊥ ⊎ (RunsOutOfTrees old.now.schema these ⊎ LacksNames old.now.schema these)
 
   table_may_stop : IsFree old.now.schema title → (stop : Option Error) → MakesTable text old.now (Err stop) → MayStop ⊥ Refused stop
   table_may_stop free None h = not_long old.now.schema text title cs key accepted h

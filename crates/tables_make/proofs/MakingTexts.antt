@@ -7,8 +7,8 @@ use Rattle.sqlite_schema.specs.declared.schema.Table.{Table}
 use Rattle.sqlite_tied.specs.Compute.{everything}
 use Rattle.tables_schema.specs.OurTables.{form}
 use Rattle.tables_schema.specs.Finding.{IsFree}
-use Rattle.tables_schema.specs.declared.our_table.OurTable.{OurTable}
-use Rattle.tables_schema.specs.declared.our_table.OurTable.TheVariants.{Meta}
+use Rattle.tables_schema.specs.declared.our_table.StoreTable.{StoreTable}
+use Rattle.tables_schema.specs.declared.our_table.StoreTable.TheVariants.{Meta}
 use Rattle.tables_make.specs.Making.{making_text}
 use Rattle.tables_make.proofs.Creates.{IsMakingIn, making, create_means}
 use Rattle.tables_make.proofs.MakingFailures.{IsAccepted}
@@ -18,7 +18,7 @@ pub record IsCreating (text : List ℕ) (table : Table) : Type 0 where
   pub makes : (s : Schema) → IsFree s table.name → IsMakingIn s text table
   pub accepted : IsAccepted text table
 
-pub texts_are : (t : OurTable) → IsCreating (making_text t) (form t)
+pub texts_are : (t : StoreTable) → IsCreating (making_text t) (form t)
 unfolding everything fits_kind is_free_name same_name begins value_cmp lib.Ieee.is_nan lib.Ieee.lt lib.Utf8.encode
 texts_are Meta = record {
   makes = λ s free. making s (making_text Meta) (form Meta) _ (create_means (making_text Meta) refl s (form Meta) free refl refl refl refl refl refl) refl refl (refl, refl) refl refl refl;

@@ -19,10 +19,10 @@ use Rattle.tables_sql.specs.declared.failure.Failure.{Failure}
 use Rattle.tables_sql.specs.declared.failure.Failure.TheVariants.{Memory, Size, Disk}
 use Rattle.tables_schema.specs.Forms.{strict}
 use Rattle.tables_sql.specs.Contents.{Bytes}
-use Rattle.tables_make.specs.Making.{Makes, index_of, all_created, is_clear, are_apart, LacksNumbers, LacksNames, FailsToMakeThese}
+use Rattle.tables_make.specs.Making.{Makes, index_of, all_created, is_clear, have_distinct_names, RunsOutOfTrees, LacksNames, FailsToMakeThese}
 use Rattle.tables_make.proofs.Creates.{IsUnused, unused_after}
 use Rattle.tables_sql.proofs.Truths.{and_so}
-use Rattle.tables_make.proofs.Stood.{Parts, table_of}
+use Rattle.tables_make.proofs.Placed.{Parts, table_of}
 use Rattle.tables_make.proofs.MakingFailures.{none_used}
 
 -- ---- numbers
@@ -62,7 +62,7 @@ module _ (s : Schema) (title : Bytes) (cs : List Column) (key : List ℕ) where
       some_from (λ (u : Table). is_used s (index_of u.name)) us used.0 used.1 (used_before (index_of used.0.name) apart.1 used.2)
 
   abbrev Lacks : Schema → List Table → Type 0
-  Lacks of tables = LacksNumbers of tables ⊎ LacksNames of tables
+  Lacks of tables = RunsOutOfTrees of tables ⊎ LacksNames of tables
 
   -- what the others lack then, they lacked together with it
   lacks_before : (us : List Table) → list_all (λ u. is_clear title u.name && is_clear title (index_of u.name)) us ≡ true → Lacks after us → Lacks s (strict title cs key ∷ us)
@@ -72,22 +72,22 @@ module _ (s : Schema) (title : Bytes) (cs : List Column) (key : List ℕ) where
 abbrev pub part : Table → Parts
 part t = (t.name, (t.columns, t.primary))
 
-lacks_then : (fs : List Parts) (us : List Table) (s : Schema) → are_apart (map table_of fs ++ us) ≡ true → LacksNumbers (all_created s (map table_of fs)) us ⊎ LacksNames (all_created s (map table_of fs)) us → LacksNumbers s (map table_of fs ++ us) ⊎ LacksNames s (map table_of fs ++ us)
-lacks_then [] us s clear h = h
-lacks_then (f ∷ fs) us s clear h = let b = and_so _ _ clear in lacks_before s f.0 f.1.0 f.1.1 (map table_of fs ++ us) b.0 (lacks_then fs us (created s (table_of f)) b.1 h)
+misses_then : (fs : List Parts) (us : List Table) (s : Schema) → have_distinct_names (map table_of fs ++ us) ≡ true → RunsOutOfTrees (all_created s (map table_of fs)) us ⊎ LacksNames (all_created s (map table_of fs)) us → RunsOutOfTrees s (map table_of fs ++ us) ⊎ LacksNames s (map table_of fs ++ us)
+misses_then [] us s clear h = h
+misses_then (f ∷ fs) us s clear h = let b = and_so _ _ clear in lacks_before s f.0 f.1.0 f.1.1 (map table_of fs ++ us) b.0 (misses_then fs us (created s (table_of f)) b.1 h)
 
 -- ---- failures
 
 module _ (large refused : Type 0) (a b c : State) where
   -- after these were made
-  pub fails_then : (fs : List Parts) (us : List Table) → are_apart (map table_of fs ++ us) ≡ true → IsTrue a.is_open → b.now.schema ≡ all_created a.now.schema (map table_of fs) → IsTrue b.is_open → a.faults ≤ b.faults
+  pub fails_then : (fs : List Parts) (us : List Table) → have_distinct_names (map table_of fs ++ us) ≡ true → IsTrue a.is_open → b.now.schema ≡ all_created a.now.schema (map table_of fs) → IsTrue b.is_open → a.faults ≤ b.faults
       → (f : Failure) → FailsToMakeThese us large refused b c f → FailsToMakeThese (map table_of fs ++ us) large refused a c f
   fails_then fs us clear was_open made is_open rise Memory h = tt
   fails_then fs us clear was_open made is_open rise Size h = (h.0, was_open)
   fails_then fs us clear was_open made is_open rise Disk (inl (inl more)) = inl (inl (omega (arith, rise, more)))
   fails_then fs us clear was_open made is_open rise Disk (inl (inr shut)) = absurd (let no = sym is_open ∙ shut in cc)
   fails_then fs us clear was_open made is_open rise Disk (inr (inl why)) = inr (inl why)
-  fails_then fs us clear was_open made is_open rise Disk (inr (inr lacks)) = inr (inr (lacks_then fs us a.now.schema clear (subst (λ s. LacksNumbers s us ⊎ LacksNames s us) made lacks)))
+  fails_then fs us clear was_open made is_open rise Disk (inr (inr lacks)) = inr (inr (misses_then fs us a.now.schema clear (subst (λ s. RunsOutOfTrees s us ⊎ LacksNames s us) made lacks)))
 
   -- for another reason too, and the call that fails may note more faults
   pub fails_wider : (large_too refused_too : Type 0) → (large → large_too) → (refused → refused_too) → (ts us : List Table) → b.faults ≤ c.faults → (f : Failure) → FailsToMakeThese ts large refused a b f → FailsToMakeThese (ts ++ us) large_too refused_too a c f
@@ -100,12 +100,12 @@ module _ (large refused : Type 0) (a b c : State) where
   fails_wider large_too refused_too grows more ts us rise Disk (inr (inr (inr loaded))) = inr (inr (inr (list_any-append (λ (t : Table). is_used a.now.schema (index_of t.name)) ts us ∙ or_left _ _ loaded)))
 
 -- one of several, after these were made, where the whole may fail for further reasons
-pub fails_after : (large refused : Type 0) (a b c : State) (fs : List Parts) (ts us : List Table) → are_apart (map table_of fs ++ (ts ++ us)) ≡ true → IsTrue a.is_open → b.now.schema ≡ all_created a.now.schema (map table_of fs) → IsTrue b.is_open → a.faults ≤ b.faults
+pub fails_after : (large refused : Type 0) (a b c : State) (fs : List Parts) (ts us : List Table) → have_distinct_names (map table_of fs ++ (ts ++ us)) ≡ true → IsTrue a.is_open → b.now.schema ≡ all_created a.now.schema (map table_of fs) → IsTrue b.is_open → a.faults ≤ b.faults
     → (f : Failure) → FailsToMakeThese ts ⊥ ⊥ b c f → FailsToMakeThese (map table_of fs ++ (ts ++ us)) large refused a c f
 fails_after large refused a b c fs ts us clear was_open made is_open rise f h = fails_then large refused a b c fs (ts ++ us) clear was_open made is_open rise f (fails_wider ⊥ ⊥ b c c large refused (λ no. absurd no) (λ no. absurd no) ts us (omega arith) f h)
 
 -- the same for the same reasons
-pub fails_among : (large refused : Type 0) (a b c : State) (fs : List Parts) (ts us : List Table) → are_apart (map table_of fs ++ (ts ++ us)) ≡ true → Makes (map table_of fs) a b → a.faults ≤ b.faults → (f : Failure) → FailsToMakeThese ts large refused b c f
+pub fails_among : (large refused : Type 0) (a b c : State) (fs : List Parts) (ts us : List Table) → have_distinct_names (map table_of fs ++ (ts ++ us)) ≡ true → Makes (map table_of fs) a b → a.faults ≤ b.faults → (f : Failure) → FailsToMakeThese ts large refused b c f
     → FailsToMakeThese (map table_of fs ++ (ts ++ us)) large refused a c f
 fails_among large refused a b c fs ts us clear made rise f h = fails_then large refused a b c fs (ts ++ us) clear made.was_open made.schema made.is_open rise f (fails_wider large refused b c c large refused (λ x. x) (λ x. x) ts us (omega arith) f h)
 

@@ -16,33 +16,33 @@ use Rattle.tables_sql.specs.Failures.{HasDiskCause, FailsFor, FailsToCommit}
 use Rattle.tables_sql.specs.declared.failure.Failure.{Failure}
 use Rattle.tables_sql.specs.declared.failure.Failure.TheVariants.{Memory, Size, Disk}
 use Rattle.tables_make.specs.Further.{MakesFurther, grown}
-use Rattle.tables_make.specs.Making.{FailsToMakeThese, LacksNames, LacksNumbers, placed}
-use Rattle.tables_make.specs.Migrated.{Grows, lacking}
-use Rattle.tables_make.specs.Migrating.{FailsToMigrate, MigratedRows, with_lacking}
-use Rattle.tables_make.specs.Reasons.{IsReason, IsWithin, LacksRowid, Rows}
-use Rattle.tables_make.proofs.Growing.{theirs_grown}
+use Rattle.tables_make.specs.Making.{FailsToMakeThese, LacksNames, RunsOutOfTrees, placed}
+use Rattle.tables_make.specs.Migrated.{Grows, missing_tables}
+use Rattle.tables_make.specs.Migrating.{FailsToMigrate, MigratedRows, with_missing}
+use Rattle.tables_make.specs.Reasons.{IsReason, IsWithin, RunsOutOfRowids, Rows}
+use Rattle.tables_make.proofs.Growing.{foreign_grown}
 use Rattle.tables_make.proofs.Reasons.{within_then}
 
 -- the tables that a schema lacks are the store's
-abbrev AreOurs : Schema → Type 0
-AreOurs from = (s : Shown) → AllByRecursion (λ t. is_our_name t.name ≡ true) (placed s (lacking from))
+abbrev AreOwn : Schema → Type 0
+AreOwn from = (s : Shown) → AllByRecursion (λ t. is_our_name t.name ≡ true) (placed s (missing_tables from))
 
 -- ---- rows that weren't put next to the tables that were made
 
-module _ (from : Schema) (of_store : AreOurs from) (a b c : State) (made : MakesFurther (lacking from) a b) (before : Survives a b (λ _. ⊥)) where
-  grown_within : IsWithin (grown (lacking from) a.now) b.now
-  grown_within = record { schema = made.schema; theirs = theirs_grown (lacking from) of_store a b made }
+module _ (from : Schema) (of_store : AreOwn from) (a b c : State) (made : MakesFurther (missing_tables from) a b) (before : Survives a b (λ _. ⊥)) where
+  grown_within : IsWithin (grown (missing_tables from) a.now) b.now
+  grown_within = record { schema = made.schema; foreign_rows = foreign_grown (missing_tables from) of_store a b made }
 
-  reason_before : (rows : Rows) (f : Failure) → IsReason rows b c f → IsReason rows (with_lacking from a) c f
+  reason_before : (rows : Rows) (f : Failure) → IsReason rows b c f → IsReason rows (with_missing from a) c f
   reason_before rows Memory h = tt
-  reason_before rows Size h = let it = h.1 in (made.was_open, (it.0, within_then (grown (lacking from) a.now) b.now it.0 grown_within it.1, it.2, it.3, it.4, it.5))
+  reason_before rows Size h = let it = h.1 in (made.was_open, (it.0, within_then (grown (missing_tables from) a.now) b.now it.0 grown_within it.1, it.2, it.3, it.4, it.5))
   reason_before rows Disk (inl (inl more)) = inl (inl (omega (arith, more, before.counts)))
   reason_before rows Disk (inl (inr shut)) = absurd (let no = sym made.is_open ∙ shut in cc)
   reason_before rows Disk (inr (inl limit)) = inr (inl (subst IsSome before.limit limit))
-  reason_before rows Disk (inr (inr it)) = inr (inr (it.0, within_then (grown (lacking from) a.now) b.now it.0 grown_within it.1, it.2, it.3, it.4, it.5))
+  reason_before rows Disk (inr (inr it)) = inr (inr (it.0, within_then (grown (missing_tables from) a.now) b.now it.0 grown_within it.1, it.2, it.3, it.4, it.5))
 
   pub rows_fail : (f : Failure) → IsReason (MigratedRows from (contents_of b.now)) b c f → FailsToMigrate from a c f
-  rows_fail f h = inr (subst (λ (x : Contents). IsReason (MigratedRows from x) (with_lacking from a) c f) made.contents (reason_before (MigratedRows from (contents_of b.now)) f h))
+  rows_fail f h = inr (subst (λ (x : Contents). IsReason (MigratedRows from x) (with_missing from a) c f) made.contents (reason_before (MigratedRows from (contents_of b.now)) f h))
 
 -- ---- the transaction
 
@@ -60,7 +60,7 @@ module _ (from : Schema) (a b c : State) where
   migrating_later P after Disk (inr (inr h)) = inr (inr h)
 
   -- a commit that failed after all was written
-  pub migrating_commit : (contents : Contents) → Grows (lacking from) contents a b → Survives a b (λ _. ⊥) → (f : Failure) → FailsToCommit b c f → FailsToMigrate from a c f
+  pub migrating_commit : (contents : Contents) → Grows (missing_tables from) contents a b → Survives a b (λ _. ⊥) → (f : Failure) → FailsToCommit b c f → FailsToMigrate from a c f
   migrating_commit contents grew before Memory h = inl tt
   migrating_commit contents grew before Size h = absurd h
   migrating_commit contents grew before Disk (inl more, undone) = inl (inl (inl (omega (arith, more, before.counts))))
@@ -91,13 +91,13 @@ module _ (from : Schema) (a b c : State) (same : IsUnchanged a b) (first : Survi
   disk_before (inr shut) = absurd (let no = sym same.0.is_open ∙ shut in cc)
 
   abbrev Lacks : Database → Type 0
-  Lacks db = LacksNumbers db.schema (lacking from) ⊎ LacksNames db.schema (lacking from)
+  Lacks db = RunsOutOfTrees db.schema (missing_tables from) ⊎ LacksNames db.schema (missing_tables from)
 
   abbrev Large : Database → Type 0
-  Large db = IsReason (MigratedRows from (contents_of db)) (with_lacking from (record a { now = db })) c Size
+  Large db = IsReason (MigratedRows from (contents_of db)) (with_missing from (record a { now = db })) c Size
 
   abbrev Full : Database → Type 0
-  Full db = LacksRowid (MigratedRows from (contents_of db)) (grown (lacking from) db)
+  Full db = RunsOutOfRowids (MigratedRows from (contents_of db)) (grown (missing_tables from) db)
 
   pub migrating_before : (f : Failure) → FailsToMigrate from b c f → FailsToMigrate from a c f
   migrating_before Memory h = inl tt

@@ -24,17 +24,17 @@ tied_both Less s = refl
 tied_both Equal s = refl
 tied_both Greater s = refl
 
-less_is_apart : (r : Ordering) → T (is_lt r) → is_eq r ≡ false
-less_is_apart Less h = refl
-less_is_apart Equal h = absurd h
-less_is_apart Greater h = absurd h
+less_is_distinct : (r : Ordering) → T (is_lt r) → is_eq r ≡ false
+less_is_distinct Less h = refl
+less_is_distinct Equal h = absurd h
+less_is_distinct Greater h = absurd h
 
 -- a number below all isn't found
 none_below : (n : ℤ) (es : List (ℤ × List ℕ)) → T (below_all int_cmp n es) → find_entry int_cmp n es ≡ None
 none_below n [] h = refl
 none_below n (e ∷ es) h =
     let parts = both_T (is_lt (int_cmp n e.0)) (below_all int_cmp n es) h in
-    ap (λ b. cond b (Some e.1) (find_entry int_cmp n es)) (less_is_apart (int_cmp n e.0) parts.0) ∙ none_below n es parts.1
+    ap (λ b. cond b (Some e.1) (find_entry int_cmp n es)) (less_is_distinct (int_cmp n e.0) parts.0) ∙ none_below n es parts.1
 
 -- one piece, before those that follow
 joins : (q : Path) (n : ℤ) (e : ℤ × List ℕ) (es : List (ℤ × List ℕ)) (a b : Bool) → eq_by_cmp int_cmp n e.0 ≡ b → T (below_all int_cmp e.0 es) → (g : Option (List ℕ))

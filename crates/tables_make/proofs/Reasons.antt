@@ -18,14 +18,14 @@ use Rattle.tables_sql.specs.Calls.{Changes}
 use Rattle.tables_sql.specs.Failures.{FailsFor, FailsToInsert, FailsToCommit}
 use Rattle.tables_sql.specs.declared.failure.Failure.{Failure}
 use Rattle.tables_sql.specs.declared.failure.Failure.TheVariants.{Memory, Size, Disk}
-use Rattle.tables_sql.proofs.Steps.{theirs_then}
+use Rattle.tables_sql.proofs.Steps.{foreign_then}
 use Rattle.tables_make.specs.Reasons.{Rows, RowsOf, IsWithin, IsReason}
 
 -- ---- one call
 
 -- the database itself is one that the transaction shows
 here : (db : Database) → IsWithin db db
-here db = record { schema = refl; theirs = all_of (λ (t : Table). is_our_name t.name ≡ false → db.trees t.tree ≡ db.trees t.tree) (λ t other. refl) db.schema.tables }
+here db = record { schema = refl; foreign_rows = all_of (λ (t : Table). is_our_name t.name ≡ false → db.trees t.tree ≡ db.trees t.tree) (λ t other. refl) db.schema.tables }
 
 -- a call that puts no row
 pub removal_reason : (rows : Rows) (a b : State) (f : Failure) → FailsFor a b f → IsReason rows a b f
@@ -58,10 +58,10 @@ more_reason rows more into a b Disk (inr (inr it)) = inr (inr (it.0, it.1, it.2,
 -- ---- after others
 
 pub within_then : (a b c : Database) → IsWithin a b → IsWithin b c → IsWithin a c
-within_then a b c h k = record { schema = k.schema ∙ h.schema; theirs = theirs_then a b c h.schema h.theirs k.theirs }
+within_then a b c h k = record { schema = k.schema ∙ h.schema; foreign_rows = foreign_then a b c h.schema h.foreign_rows k.foreign_rows }
 
 changed_within : {a b : State} {f : Contents → Contents} → Changes a b f → IsWithin a.now b.now
-changed_within h = record { schema = h.schema; theirs = h.theirs }
+changed_within h = record { schema = h.schema; foreign_rows = h.foreign_rows }
 
 module _ (rows : Rows) (a b c : State) (f : Contents → Contents) (done : Changes a b f) (before : Survives a b (λ _. ⊥)) where
   -- a call that failed after a change that was done

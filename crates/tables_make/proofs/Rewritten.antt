@@ -22,7 +22,7 @@ use Rattle.tables_world.proofs.Migrating.{rising, or_none, piece_of, get-migrate
 use Rattle.tables_world.proofs.Reported.{whole}
 use Rattle.tables_make.specs.Cutting.{cut_found, cut_object, cut_objects, renumbered}
 use Rattle.tables_make.specs.Migrated.{migrated_contents}
-use Rattle.tables_make.proofs.Cuts.{taken_once, none_further}
+use Rattle.tables_make.proofs.Cuts.{used_once, none_further}
 use Rattle.tables_make.proofs.Pieces.{get-put_pieces}
 use lib.ListN.{drop}
 
@@ -62,7 +62,7 @@ piece_at n (Some o) = find_entry int_cmp n (further_pieces o.nar)
 
 cut_twice : (g : Option Stored) → option_map cut_stored (option_map cut_stored g) ≡ option_map cut_stored g
 cut_twice None = refl
-cut_twice (Some o) = ap (λ (nar : List ℕ). Some (record o { nar = nar })) (taken_once o.nar)
+cut_twice (Some o) = ap (λ (nar : List ℕ). Some (record o { nar = nar })) (used_once o.nar)
 
 none_again : (n : ℤ) (g : Option Stored) → piece_at n (option_map cut_stored g) ≡ None
 none_again n None = refl

@@ -32,14 +32,14 @@ use Rattle.tables_schema.specs.Intact.{IsIntact, tree_named}
 use Rattle.tables_schema.specs.Finding.{IsFree}
 use Rattle.tables_sql.specs.Contents.{Bytes, rows_named}
 use Rattle.tables_sql.specs.Failures.{FailsWith, IsWriteFailure, IsTooLarge, HasNoRowidLeft}
-use Rattle.tables_make.specs.Making.{Makes, Puts, placed, IsTooLong, LacksNumbers, LacksNames, FailsToMakeThese}
+use Rattle.tables_make.specs.Making.{Makes, Puts, placed, IsTooLong, RunsOutOfTrees, LacksNames, FailsToMakeThese}
 use Rattle.tables_sql.proofs.Truths.{cast_null}
 use Rattle.tables_sql.proofs.Description.{terms_of}
 use Rattle.tables_sql.proofs.SettingLemmas.{insert_text, insert_is, table as settings}
 use Rattle.tables_sql.proofs.WriteFailures as write
 use Rattle.tables_sql.proofs.Additions.{IsNewKey, insert_stops}
 use Rattle.tables_make.proofs.Settles.{meta_tree}
-use Rattle.tables_make.proofs.Stood.{AreLow, StandsAs, are_low, all_stand, each_stands}
+use Rattle.tables_make.proofs.Placed.{AreLow, ExistsAs, are_low, all_exist, each_exists}
 use Rattle.tables_make.proofs.MakingFailures.{reported}
 use Rattle.tables_make.proofs.MakingTogether.{part, fails_then}
 
@@ -110,10 +110,10 @@ oversized s tree id word value own short (inr (i, listed, its, large)) =
 
 -- ---- one setting more
 
-no_rowid_lacks : (db : Database) (rows : List Row) (word value : Bytes) → rows_named db meta.name ≡ rows → IsNew rows word value → HasNoRowidLeft db meta → ⊥
+no_rowid_misses : (db : Database) (rows : List Row) (word value : Bytes) → rows_named db meta.name ≡ rows → IsNew rows word value → HasNoRowidLeft db meta → ⊥
 unfolding HasNoRowidLeft
-no_rowid_lacks db rows word value has new (inl unfit) = both_ways _ (subst (λ r. fits_i64 (next_rowid r) ≡ false) has unfit) new.fits
-no_rowid_lacks db rows word value has new (inr loaded) = both_ways _ new.fresh (subst (λ r. list_any (has_rowid (next_rowid r)) r ≡ true) has loaded)
+no_rowid_misses db rows word value has new (inl unfit) = both_ways _ (subst (λ r. fits_i64 (next_rowid r) ≡ false) has unfit) new.fits
+no_rowid_misses db rows word value has new (inr loaded) = both_ways _ new.fresh (subst (λ r. list_any (has_rowid (next_rowid r)) r ≡ true) has loaded)
 
 new_key : (db : Database) (rows : List Row) (word value : Bytes) → rows_named db meta.name ≡ rows → IsNew rows word value → IsNewKey meta.name meta.primary db (Text word ∷ Text value ∷ [])
 new_key db rows word value has new = subst (λ all. (r : Row) → Has all r → agree plain (1 ∷ []) r (1 ∷ []) (row_of all word value) ≡ true → ⊥) (sym has) (λ r present same. both_ways _ (new.apart r present) same)
@@ -126,7 +126,7 @@ module _ (a : State) (free : IsFree a.now.schema (codes "meta")) (sound : IsData
   stands_in : (db : Database) → IsDatabase db → db.schema ≡ created a.now.schema meta → IsIntact db.schema meta
   unfolding everything
   stands_in db sound_there made =
-      (each_stands db sound_there a.now.schema (part meta ∷ []) (subst (λ s. AllByRecursion (StandsAs s) (placed a.now.schema (meta ∷ []))) (sym made) (all_stand a.now.schema (part meta ∷ []) refl (free, tt) (are_low a.now sound)))).0
+      (each_exists db sound_there a.now.schema (part meta ∷ []) (subst (λ s. AllByRecursion (ExistsAs s) (placed a.now.schema (meta ∷ []))) (sym made) (all_exist a.now.schema (part meta ∷ []) refl (free, tt) (are_low a.now sound)))).0
 
   -- `meta` stands with these rows, and gets one more
   in_meta : (b c : State) (rows : List Row) (word value : Bytes) (large : Type 0) → IsTrue a.is_open → b.now.schema ≡ created a.now.schema meta → IsTrue b.is_open → IsDatabase b.now → rows_named b.now meta.name ≡ rows → IsNew rows word value → length word + 36 ≤ 10 ^ 9
@@ -139,9 +139,9 @@ module _ (a : State) (free : IsFree a.now.schema (codes "meta")) (sound : IsData
       let Refused = IsSome b.step_limit ⊎ (HasNoRowidLeft b.now meta ⊎ ⊥) in
       let it = write.write_fails b c insert_text values (Insert exists.at (Values (terms_of settings) 3)) refl (IsTooLarge b.now meta values) Refused (λ up. write.is_write b insert_text values _ refl (insert_is b.now.schema exists.at _ exists.known.named))
       (λ up st its. insert_stops meta.name meta.columns meta.primary b.now sound_b exists values refl refl ⊥ (inl (new_key b.now rows word value has new)) b.step_limit values (terms_of settings) 3 refl (rw cast_null refl) st) h.0 h.2 in
-      let Lacks = LacksNumbers b.now.schema [] ⊎ LacksNames b.now.schema [] in
+      let Lacks = RunsOutOfTrees b.now.schema [] ⊎ LacksNames b.now.schema [] in
       let big : write.OrShut b (IsTooLarge b.now meta values) → large = λ x. elim x [ inl long ↦ grows (too_long b.now word value own short long) | inr shut ↦ absurd (both_ways _ shut is_open) ] in
-      let why : Refused → IsSome a.step_limit ⊎ Lacks = λ x. elim x [ inl limited ↦ inl (subst IsSome limit limited) | inr more ↦ elim more [ inl full ↦ absurd (no_rowid_lacks b.now rows word value has new full) | inr none ↦ absurd none ] ] in
+      let why : Refused → IsSome a.step_limit ⊎ Lacks = λ x. elim x [ inl limited ↦ inl (subst IsSome limit limited) | inr more ↦ elim more [ inl full ↦ absurd (no_rowid_misses b.now rows word value has new full) | inr none ↦ absurd none ] ] in
       fails_then large (IsSome a.step_limit) a b c (part meta ∷ []) [] refl was_open made is_open rise f
       (reported [] large (IsSome a.step_limit) b c (λ big. is_open) f (write.fails_wider b c _ large _ (IsSome a.step_limit ⊎ Lacks) big why f (subst (FailsWith b c (write.OrShut b (IsTooLarge b.now meta values)) Refused) (sym h.1) it)))
 

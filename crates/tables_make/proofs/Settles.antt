@@ -106,7 +106,7 @@ none_in_none = refl
 
 pub keyed_none : IsKeyed []
 unfolding IsDistinct
-keyed_none = record { ints = λ a h. absurd h; apart = tt }
+keyed_none = record { ints = λ a h. absurd h; distinct_rowids = tt }
 
 words_utf8 : IsUtf8 (codes "schema") × IsUtf8 (codes "3") × IsUtf8 (codes "store-dir")
 unfolding lib.Utf8.encode

@@ -31,8 +31,8 @@ use Rattle.tables_make.proofs.Rewritten.{cut_stored, one_object, one_piece, piec
 -- ---- one key
 
 -- what was taken away isn't there
-pub gone : {K X : Type 0} {R : K → K → Ordering} → IsTotalOrder R → finite.IsAntisymmetric R → (m : finite.FinMap R X) (k : K) → finite.get (finite.retain_keys m (λ x. not (eq_by_cmp R x k))) k ≡ None
-gone {R = R} o same m k =
+pub deleted : {K X : Type 0} {R : K → K → Ordering} → IsTotalOrder R → finite.IsAntisymmetric R → (m : finite.FinMap R X) (k : K) → finite.get (finite.retain_keys m (λ x. not (eq_by_cmp R x k))) k ≡ None
+deleted {R = R} o same m k =
     finite.get-retain_keys m (λ x. not (eq_by_cmp R x k)) k (λ x e. ap (λ y. not (eq_by_cmp R y k)) (sym (same k x e)))
     ∙ ap (λ r. cond (not (is_eq r)) (finite.get m k) None) (tied_itself o k)
 

@@ -7,7 +7,7 @@ use Rattle.sqlite.specs.Effect.{Database}
 use Rattle.sqlite.specs.State.{State}
 use Rattle.tables_sql.specs.Contents.{contents_of}
 use Rattle.tables_sql.specs.Frozen.{SparesFrozen}
-use Rattle.tables_sql.specs.Calls.{IsStoreDatabase, HasFurther, KeepsFurther, KeepsTheirs}
+use Rattle.tables_sql.specs.Calls.{IsStoreDatabase, HasFurther, KeepsFurther, KeepsForeignRows}
 use Rattle.tables_make.specs.Making.{all_created}
 
 -- a database with these tables in addition to what it has
@@ -22,7 +22,7 @@ pub record MakesFurther (tables : List Table) (old new : State) : Type 0 where
   pub is_open : IsTrue new.is_open
   pub schema : new.now.schema ≡ all_created old.now.schema tables
   pub contents : contents_of new.now ≡ contents_of old.now
-  pub theirs : KeepsTheirs old.now new.now
+  pub foreign_rows : KeepsForeignRows old.now new.now
   pub frozen : SparesFrozen old.now new.now
   pub of_store : IsStoreDatabase new.now
   pub exist : AllByRecursion (HasFurther new.now) tables

@@ -16,20 +16,20 @@ use Rattle.sqlite.specs.Does.{lacks_sequence}
 use Rattle.sqlite.specs.Effect.{Database, IsDatabase}
 use Rattle.sqlite.specs.State.{State}
 use Rattle.tables_schema.specs.Forms.{meta, object, refs, outs, permanent, user_root, profile, generation, runtime, piece, temp_root, all_tables}
-use Rattle.tables_schema.specs.declared.our_table.OurTable.{OurTable}
-use Rattle.tables_schema.specs.declared.our_table.OurTable.TheVariants.{Meta, Object, Refs, Outs, Permanent, UserRoot, Profile, Generation, Runtime, Piece, TempRoot}
+use Rattle.tables_schema.specs.declared.our_table.StoreTable.{StoreTable}
+use Rattle.tables_schema.specs.declared.our_table.StoreTable.TheVariants.{Meta, Object, Refs, Outs, Permanent, UserRoot, Profile, Generation, Runtime, Piece, TempRoot}
 use Rattle.tables_schema.specs.Intact.{IsNamed, tree_named}
 use Rattle.tables_schema.specs.Finding.{IsFree}
 use Rattle.tables_sql.specs.Contents.{Bytes, Contents, contents_of, texts_cmp, is_pair, pair_of, map_of, rows_named}
 use Rattle.tables_sql.specs.Frozen.{KeepsFrozen, SparesFrozen}
 use Rattle.tables_sql.specs.Texts.{AreReadable, AreReadableRows}
-use Rattle.tables_sql.specs.Calls.{IsKeyed, IsWhole, IsReady, KeepsTheirs, Leaves}
+use Rattle.tables_sql.specs.Calls.{IsKeyed, IsWhole, IsReady, KeepsForeignRows, Leaves}
 use Rattle.tables_sql.specs.Failures.{HasDiskCause}
 use Rattle.tables_sql.specs.declared.failure.Failure.{Failure}
 use Rattle.tables_sql.specs.declared.failure.Failure.TheVariants.{Memory, Size, Disk}
 
 -- the text that makes a table
-abbrev pub making_text : OurTable → List ℕ
+abbrev pub making_text : StoreTable → List ℕ
 making_text Meta = codes "CREATE TABLE meta (word TEXT NOT NULL, val TEXT NOT NULL, PRIMARY KEY (word)) STRICT"
 making_text Object =
     codes "CREATE TABLE object (base TEXT NOT NULL, nar BLOB NOT NULL, hash BLOB NOT NULL, deriver TEXT, ca TEXT, PRIMARY KEY (base)) STRICT"
@@ -61,9 +61,10 @@ abbrev pub is_clear : Bytes → Bytes → Bool
 is_clear title name = not (same_name title name) && not (same_name (index_of title) name)
 
 -- none of these tables takes the name of a later one, or that of its index
-abbrev pub are_apart : List Table → Bool
-are_apart [] = true
-are_apart (t ∷ ts) = list_all (λ u. is_clear t.name u.name && is_clear t.name (index_of u.name)) ts && are_apart ts
+abbrev pub have_distinct_names : List Table → Bool
+have_distinct_names [] = true
+have_distinct_names (t ∷ ts) =
+    list_all (λ u. is_clear t.name u.name && is_clear t.name (index_of u.name)) ts && have_distinct_names ts
 
 -- the tables made in this order
 abbrev pub all_created : Schema → List Table → Schema
@@ -128,7 +129,7 @@ pub record IsMade (dir : Bytes) (old new : State) : Type 0 where
   pub is_open : IsTrue new.is_open
   pub schema : new.now.schema ≡ store_tables_created old.now.schema
   pub contents : contents_of new.now ≡ first_contents dir
-  pub theirs : KeepsTheirs old.now new.now
+  pub foreign_rows : KeepsForeignRows old.now new.now
   pub frozen : SparesFrozen old.now new.now
   pub whole : IsWhole new.now
   pub readable : AreReadable (contents_of new.now)
@@ -230,8 +231,8 @@ IsTooLong dir = 10 ^ 9 < length dir + 63
 
 -- The trees of these tables have no numbers: there are 65536, and each table takes two, one for itself and one for its
 -- key's index.
-abbrev pub LacksNumbers : Schema → List Table → Type 0
-LacksNumbers s tables = 65536 < next_tree s + 2 * length tables
+abbrev pub RunsOutOfTrees : Schema → List Table → Type 0
+RunsOutOfTrees s tables = 65536 < next_tree s + 2 * length tables
 
 -- something of the schema has the name that the index of one of these tables would have
 abbrev pub LacksNames : Schema → List Table → Type 0
@@ -244,7 +245,7 @@ abbrev pub FailsToMakeThese : List Table → (large refused : Type 0) → State 
 FailsToMakeThese tables large refused old new Memory = ⊤
 FailsToMakeThese tables large refused old new Size = large × IsTrue old.is_open
 FailsToMakeThese tables large refused old new Disk =
-    HasDiskCause old new ⊎ (refused ⊎ (LacksNumbers old.now.schema tables ⊎ LacksNames old.now.schema tables))
+    HasDiskCause old new ⊎ (refused ⊎ (RunsOutOfTrees old.now.schema tables ⊎ LacksNames old.now.schema tables))
 
 -- Why all eleven aren't made: the store directory may be too long, and a limit on steps may stop the statement that
 -- stores a setting.

@@ -6,7 +6,7 @@ use Rattle.sqlite.specs.State.{State}
 use Rattle.tables_schema.specs.Forms.{piece, temp_root}
 use Rattle.tables_sql.specs.Contents.{Contents, contents_of}
 use Rattle.tables_sql.specs.Frozen.{SparesFrozen}
-use Rattle.tables_sql.specs.Calls.{IsReady, IsWhole, KeepsTheirs, Remains, Leaves}
+use Rattle.tables_sql.specs.Calls.{IsReady, IsWhole, KeepsForeignRows, Remains, Leaves}
 use Rattle.tables_make.specs.Making.{all_created}
 use Rattle.tables_make.specs.Further.{grown}
 use Rattle.tables_world.specs.Rows.{Rows, migrated}
@@ -35,10 +35,10 @@ abbrev pub migrated_contents : Schema → List ℕ → Contents → Contents
 migrated_contents from dir c = contents_from (migrated from dir (rows_of c))
 
 -- the tables that a schema lacks
-abbrev pub lacking : Schema → List Table
-lacking V1 = piece ∷ temp_root ∷ []
-lacking V2 = temp_root ∷ []
-lacking V3 = []
+abbrev pub missing_tables : Schema → List Table
+missing_tables V1 = piece ∷ temp_root ∷ []
+missing_tables V2 = temp_root ∷ []
+missing_tables V3 = []
 
 -- Inside a transaction, which goes on: these tables were made after all that was there, and the store's were left with
 -- these contents. All eleven exist, and other tables have the rows that they had, also where the schema doesn't show
@@ -48,7 +48,7 @@ pub record Grows (tables : List Table) (contents : Contents) (old new : State) :
   pub is_open : IsTrue new.is_open
   pub schema : new.now.schema ≡ all_created old.now.schema tables
   pub contents_are : contents_of new.now ≡ contents
-  pub theirs : KeepsTheirs old.now new.now
+  pub foreign_rows : KeepsForeignRows old.now new.now
   pub frozen : SparesFrozen old.now new.now
   pub whole : IsWhole new.now
   pub committed : new.committed ≡ old.committed
@@ -62,15 +62,16 @@ pub record IsGrown (tables : List Table) (contents : Contents) (old new : State)
   pub is_open : IsTrue new.is_open
   pub schema : new.now.schema ≡ all_created old.now.schema tables
   pub contents_are : contents_of new.now ≡ contents
-  pub theirs : KeepsTheirs old.now new.now
+  pub foreign_rows : KeepsForeignRows old.now new.now
   pub frozen : SparesFrozen old.now new.now
   pub whole : IsWhole new.now
   pub ready : IsReady new
 
 -- the tables of a schema were brought to the third, with what the rows of a store directory are then
 abbrev pub IsMigrated : Schema → List ℕ → State → State → Type 0
-IsMigrated from dir old new = IsGrown (lacking from) (migrated_contents from dir (contents_of old.now)) old new
+IsMigrated from dir old new = IsGrown (missing_tables from) (migrated_contents from dir (contents_of old.now)) old new
 
 -- what a crash may leave of that, if it leaves any of it
 abbrev pub LeavesMigrated : Schema → List ℕ → Database → Remains → Type 0
-LeavesMigrated from dir db left = Leaves (grown (lacking from) db) left (migrated_contents from dir (contents_of db))
+LeavesMigrated from dir db left =
+    Leaves (grown (missing_tables from) db) left (migrated_contents from dir (contents_of db))

@@ -15,7 +15,7 @@ use Rattle.tables_world.specs.Pieces.{piece_size, row_part, further_pieces}
 use Rattle.tables_make.specs.Reasons.{Rows, IsRow, RowsOf, IsReason}
 use Rattle.tables_make.specs.Making.{FailsToMakeThese}
 use Rattle.tables_make.specs.Further.{grown}
-use Rattle.tables_make.specs.Migrated.{lacking}
+use Rattle.tables_make.specs.Migrated.{missing_tables}
 
 -- ---- rows
 
@@ -58,12 +58,12 @@ IsUncut c =
 -- ---- why it fails
 
 -- a connection with the tables that a schema lacks
-abbrev pub with_lacking : Schema → State → State
-with_lacking from s = record s { now = grown (lacking from) s.now }
+abbrev pub with_missing : Schema → State → State
+with_missing from s = record s { now = grown (missing_tables from) s.now }
 
 -- Why the tables of a schema aren't brought to the third: those that it lacks aren't made, or next to them the rows
 -- aren't put.
 abbrev pub FailsToMigrate : Schema → State → State → Failure → Type 0
 FailsToMigrate from old new f =
-    FailsToMakeThese (lacking from) ⊥ ⊥ old new f
-    ⊎ IsReason (MigratedRows from (contents_of old.now)) (with_lacking from old) new f
+    FailsToMakeThese (missing_tables from) ⊥ ⊥ old new f
+    ⊎ IsReason (MigratedRows from (contents_of old.now)) (with_missing from old) new f

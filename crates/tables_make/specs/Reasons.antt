@@ -6,7 +6,7 @@ use Rattle.sqlite_trees.specs.declared.store.Store.{Ghosts}
 use Rattle.sqlite.specs.Effect.{Database}
 use Rattle.sqlite.specs.State.{State, HasCleanDisk}
 use Rattle.sqlite.specs.Held.{Held, state}
-use Rattle.tables_sql.specs.Calls.{KeepsTheirs}
+use Rattle.tables_sql.specs.Calls.{KeepsForeignRows}
 use Rattle.tables_sql.specs.Failures.{HasDiskCause, HasNoRowidLeft, IsTooLarge}
 use Rattle.tables_sql.specs.declared.failure.Failure.{Failure}
 use Rattle.tables_sql.specs.declared.failure.Failure.TheVariants.{Memory, Size, Disk}
@@ -19,7 +19,7 @@ Rows = Table → Row → Type 0
 abbrev pub IsRow : Table → Row → Rows
 IsRow table values t row = (t ≡ table) × (row ≡ values)
 
--- none
+-- no row of any table
 abbrev pub NoRow : Rows
 NoRow t row = ⊥
 
@@ -32,16 +32,16 @@ RowsOf rows (x ∷ xs) t row = rows x t row ⊎ RowsOf rows xs t row
 -- were
 pub record IsWithin (old db : Database) : Type 0 where
   pub schema : db.schema ≡ old.schema
-  pub theirs : KeepsTheirs old db
+  pub foreign_rows : KeepsForeignRows old db
 
--- there, one of the rows, or its entry in an index, is larger than the store takes
+-- in such a database one of the rows, or its entry in an index, is larger than the store takes
 abbrev pub HasLargeRow : Rows → Database → Type 0
 HasLargeRow rows old =
     (db : Database) × IsWithin old db × (t : Table) × (values : Row) × rows t values × IsTooLarge db t values
 
--- there, no rowid is left for one of the rows
-abbrev pub LacksRowid : Rows → Database → Type 0
-LacksRowid rows old =
+-- in such a database no rowid is left for one of the rows
+abbrev pub RunsOutOfRowids : Rows → Database → Type 0
+RunsOutOfRowids rows old =
     (db : Database) × IsWithin old db × (t : Table) × (values : Row) × rows t values × HasNoRowidLeft db t
 
 -- Why a call that puts these rows failed. A size is named for one of them alone, over an open connection. The disk is
@@ -50,7 +50,7 @@ LacksRowid rows old =
 abbrev pub IsReason : Rows → State → State → Failure → Type 0
 IsReason rows old new Memory = ⊤
 IsReason rows old new Size = IsTrue old.is_open × HasLargeRow rows old.now
-IsReason rows old new Disk = HasDiskCause old new ⊎ (IsSome old.step_limit ⊎ LacksRowid rows old.now)
+IsReason rows old new Disk = HasDiskCause old new ⊎ (IsSome old.step_limit ⊎ RunsOutOfRowids rows old.now)
 
 -- a failed result has a reason among some rows
 abbrev pub HasReason : {S T : Type 0} → Ghosts S → Held S → Held S → Result T Failure → Rows → Type 0

@@ -6,50 +6,50 @@ ghost use Rattle.sqlite.specs.Held.{state};
 ghost use Rattle.tables_schema.specs.OurTables.{form};
 ghost use Rattle.tables_sql.specs.declared.failure.Failure.{Failure};
 ghost use Rattle.tables_sql.specs.Failures.{IsWriteFailure, without_size};
-ghost use Rattle.tables_make.specs.Making.{making_text, are_apart, IsMaking, Makes, FailsToMakeThese};
+ghost use Rattle.tables_make.specs.Making.{making_text, have_distinct_names, IsMaking, Makes, FailsToMakeThese};
 ghost use Rattle.tables_make.specs.Frames.{IfFailed, KeepsInside, OnDone};
 
 use sqlite::{Alter, Transaction};
-use tables_schema::our_table::OurTable;
+use tables_schema::our_table::StoreTable;
 use tables_sql::failure::Failure;
 use tables_sql::statement::without_size;
 
 /// The text that makes the table.
-fn text(table: OurTable) -> &'static str
+fn text(table: StoreTable) -> &'static str
     ensures { result.now ≡ making_text table }
 {
     match table {
-        OurTable::Meta => {
+        StoreTable::Meta => {
             "CREATE TABLE meta (word TEXT NOT NULL, val TEXT NOT NULL, PRIMARY KEY (word)) STRICT"
         }
-        OurTable::Object => {
+        StoreTable::Object => {
             "CREATE TABLE object (base TEXT NOT NULL, nar BLOB NOT NULL, hash BLOB NOT NULL, deriver TEXT, ca TEXT, PRIMARY KEY (base)) STRICT"
         }
-        OurTable::Refs => {
+        StoreTable::Refs => {
             "CREATE TABLE refs (base TEXT NOT NULL, target TEXT NOT NULL, PRIMARY KEY (base, target)) STRICT"
         }
-        OurTable::Outs => {
+        StoreTable::Outs => {
             "CREATE TABLE outs (base TEXT NOT NULL, name TEXT NOT NULL, target TEXT NOT NULL, PRIMARY KEY (base, name)) STRICT"
         }
-        OurTable::Permanent => {
+        StoreTable::Permanent => {
             "CREATE TABLE permanent (name TEXT NOT NULL, target TEXT NOT NULL, PRIMARY KEY (name)) STRICT"
         }
-        OurTable::UserRoot => {
+        StoreTable::UserRoot => {
             "CREATE TABLE user_root (owner TEXT NOT NULL, name TEXT NOT NULL, target TEXT NOT NULL, PRIMARY KEY (owner, name)) STRICT"
         }
-        OurTable::Profile => {
+        StoreTable::Profile => {
             "CREATE TABLE profile (owner TEXT NOT NULL, name TEXT NOT NULL, cur INTEGER NOT NULL, PRIMARY KEY (owner, name)) STRICT"
         }
-        OurTable::Generation => {
+        StoreTable::Generation => {
             "CREATE TABLE generation (owner TEXT NOT NULL, name TEXT NOT NULL, num INTEGER NOT NULL, target TEXT NOT NULL, PRIMARY KEY (owner, name, num)) STRICT"
         }
-        OurTable::Runtime => {
+        StoreTable::Runtime => {
             "CREATE TABLE runtime (label TEXT NOT NULL, target TEXT NOT NULL, PRIMARY KEY (label, target)) STRICT"
         }
-        OurTable::Piece => {
+        StoreTable::Piece => {
             "CREATE TABLE piece (base TEXT NOT NULL, num INTEGER NOT NULL, bytes BLOB NOT NULL, PRIMARY KEY (base, num)) STRICT"
         }
-        OurTable::TempRoot => {
+        StoreTable::TempRoot => {
             "CREATE TABLE temp_root (owner TEXT NOT NULL, session INTEGER NOT NULL, target TEXT NOT NULL, PRIMARY KEY (owner, session, target)) STRICT"
         }
     }
@@ -73,7 +73,7 @@ fn create<S: Alter>(tx: &mut Transaction<'_, S>, text: &str) -> Result<(), Failu
 }
 
 /// The table, with no row.
-pub(crate) fn one<S: Alter>(tx: &mut Transaction<'_, S>, table: OurTable) -> Result<(), Failure>
+pub(crate) fn one<S: Alter>(tx: &mut Transaction<'_, S>, table: StoreTable) -> Result<(), Failure>
     requires { HasCleanDisk (state S.Store tx.old.conn.now)
         → IsMaking (form table ∷ []) (state S.Store tx.old.conn.now) }
     ensures frame { KeepsInside S.Store tx.old.conn tx.new.conn }
@@ -84,9 +84,12 @@ pub(crate) fn one<S: Alter>(tx: &mut Transaction<'_, S>, table: OurTable) -> Res
 }
 
 /// Makes these tables, one after another.
-pub(crate) fn all<S: Alter>(tx: &mut Transaction<'_, S>, tables: &[OurTable]) -> Result<(), Failure>
+pub(crate) fn all<S: Alter>(
+    tx: &mut Transaction<'_, S>,
+    tables: &[StoreTable],
+) -> Result<(), Failure>
     requires some { 0 < length tables.now }
-    requires apart { are_apart (map form tables.now) ≡ true }
+    requires apart { have_distinct_names (map form tables.now) ≡ true }
     requires making { HasCleanDisk (state S.Store tx.old.conn.now)
         → IsMaking (map form tables.now) (state S.Store tx.old.conn.now) }
     ensures frame { KeepsInside S.Store tx.old.conn tx.new.conn }

@@ -16,12 +16,10 @@ ghost use Rattle.tables_make.specs.Frames.{MayCut};
 
 use sqlite::{Alter, Transaction};
 use std::alloc::Global;
+use streams::PIECE_SIZE;
 use tables_rows::objects::Object;
 use tables_rows::{objects, pieces};
 use tables_sql::failure::Failure;
-
-/// The most bytes of an archive in one row.
-const PIECE_SIZE: usize = 65_536;
 
 /// Adds the pieces of what is left of an archive, numbered from 1.
 pub(crate) fn put_pieces<S: Alter>(

@@ -12,7 +12,7 @@ ghost use Rattle.tables_make.specs.Frames.{IfFailed, KeepsInside, OnDone};
 
 use crate::creating;
 use sqlite::{Alter, Transaction};
-use tables_schema::our_table::OurTable;
+use tables_schema::our_table::StoreTable;
 use tables_sql::failure::Failure;
 
 /// Makes the table of pieces and that of temporary roots next to the nine of the first schema, with no row. What the tables hold is as
@@ -26,7 +26,7 @@ pub fn make_both<S: Alter>(tx: &mut Transaction<'_, S>) -> Result<(), Failure>
     ensures cause { IfFailed S.Store tx.old.conn.now tx.new.conn.now result
         (FailsToMakeThese (piece ∷ temp_root ∷ []) ⊥ ⊥) }
 {
-    creating::all(tx, &[OurTable::Piece, OurTable::TempRoot])
+    creating::all(tx, &[StoreTable::Piece, StoreTable::TempRoot])
 }
 
 /// Makes the table of temporary roots next to the ten of the second schema, with no row. What the tables hold is as it was, and the
@@ -39,5 +39,5 @@ pub fn make_temp_root<S: Alter>(tx: &mut Transaction<'_, S>) -> Result<(), Failu
     ensures done { OnDone S.Store tx.old.conn.now tx.new.conn.now result (MakesFurther (temp_root ∷ [])) }
     ensures cause { IfFailed S.Store tx.old.conn.now tx.new.conn.now result (FailsToMakeThese (temp_root ∷ []) ⊥ ⊥) }
 {
-    creating::all(tx, &[OurTable::TempRoot])
+    creating::all(tx, &[StoreTable::TempRoot])
 }

@@ -15,7 +15,7 @@ ghost use Rattle.tables_make.specs.Frames.{IfFailed, KeepsInside, OnDone};
 use crate::creating;
 use sqlite::{Alter, Connection, Transaction, params};
 use tables_schema::Schema;
-use tables_schema::our_table::{OurTable, schema_tables};
+use tables_schema::our_table::{StoreTable, schema_tables};
 use tables_sql::failure::Failure;
 
 fn put<S: Alter>(tx: &mut Transaction<'_, S>, word: &str, value: &str) -> Result<(), Failure>
@@ -41,8 +41,8 @@ fn settle<S: Alter>(tx: &mut Transaction<'_, S>, store_dir: &str) -> Result<(), 
     ensures cause { IfFailed S.Store tx.old.conn.now tx.new.conn.now result
         (FailsToMakeThese (meta ∷ []) (IsTooLong store_dir.now) (IsSome (state S.Store tx.old.conn.now).step_limit)) }
 {
-    creating::one(tx, OurTable::Meta)?;
-    put(tx, "schema", "3")?;
+    creating::one(tx, StoreTable::Meta)?;
+    put(tx, "schema", Schema::V3.text())?;
     put(tx, "store-dir", store_dir)
 }
 
@@ -54,7 +54,7 @@ fn make_all<S: Alter>(tx: &mut Transaction<'_, S>, store_dir: &str) -> Result<()
         → OnOk result (MakesAll store_dir.now (state S.Store tx.old.conn.now) (state S.Store tx.new.conn.now)) }
     ensures cause { HasCleanDisk (state S.Store tx.new.conn.now)
         → IfErr result (FailsToMake store_dir.now (state S.Store tx.old.conn.now) (state S.Store tx.new.conn.now)) }
-    ensures kept { HasCleanDisk (state S.Store tx.new.conn.now)
+    ensures clean_disk { HasCleanDisk (state S.Store tx.new.conn.now)
         → KeepsCommit (state S.Store tx.old.conn.now) (state S.Store tx.new.conn.now) }
     ensures survives { Survives (state S.Store tx.old.conn.now) (state S.Store tx.new.conn.now) (λ _. ⊥) }
 {
@@ -64,12 +64,12 @@ fn make_all<S: Alter>(tx: &mut Transaction<'_, S>, store_dir: &str) -> Result<()
 
 #[tactic(auto, using(crate::proofs::Settles::committed_made))]
 fn make_and_commit<S: Alter>(conn: &mut Connection<S>, store_dir: &str) -> Result<(), Failure>
-    requires alone { conn.old.in_transaction ≡ false }
+    requires idle { conn.old.in_transaction ≡ false }
     requires sound { HasCleanDisk (state S.Store conn.old) → IsTrue (state S.Store conn.old).is_open
         → IsDatabase (state S.Store conn.old).now }
     requires none { HasCleanDisk (state S.Store conn.old) → IsTrue (state S.Store conn.old).is_open
         → HasNone (state S.Store conn.old).now.schema }
-    ensures alone { conn.new.in_transaction ≡ false }
+    ensures idle { conn.new.in_transaction ≡ false }
     ensures done { HasCleanDisk (state S.Store conn.new)
         → OnOk result (IsMadeIn store_dir.now (state S.Store conn.old) (state S.Store conn.new)) }
     ensures cause { HasCleanDisk (state S.Store conn.new)
@@ -91,10 +91,10 @@ fn make_and_commit<S: Alter>(conn: &mut Connection<S>, store_dir: &str) -> Resul
 /// Makes the store's eleven tables next to whatever tables there are, `meta` with the settings `schema` = `3` and `store-dir`,
 /// the others with no row: all at once, or nothing. Then the connection is ready for transactions.
 pub fn make<S: Alter>(conn: &mut Connection<S>, store_dir: &str) -> Result<(), Failure>
-    requires alone { conn.old.in_transaction ≡ false }
+    requires idle { conn.old.in_transaction ≡ false }
     requires none { HasCleanDisk (state S.Store conn.old) → IsTrue (state S.Store conn.old).is_open
         → HasNone (state S.Store conn.old).now.schema }
-    ensures alone { conn.new.in_transaction ≡ false }
+    ensures idle { conn.new.in_transaction ≡ false }
     ensures done { HasCleanDisk (state S.Store conn.new)
         → OnOk result (IsMade store_dir.now (state S.Store conn.old) (state S.Store conn.new)) }
     ensures cause { HasCleanDisk (state S.Store conn.new)

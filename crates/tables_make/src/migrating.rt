@@ -11,7 +11,7 @@ ghost use Rattle.tables_make.specs.Further.{grown};
 ghost use Rattle.tables_schema.specs.declared.schema.Schema.TheVariants.{V1, V2};
 ghost use Rattle.tables_world.specs.Worlds.{IsSoundBy};
 ghost use Rattle.tables_make.specs.Cutting.{cut_objects, renumbered};
-ghost use Rattle.tables_make.specs.Migrated.{lacking, Grows, IsGrown, IsMigrated, LeavesMigrated};
+ghost use Rattle.tables_make.specs.Migrated.{missing_tables, Grows, IsGrown, IsMigrated, LeavesMigrated};
 ghost use Rattle.tables_make.specs.Migrating.{FailsToMigrate, IsUncut, MigratedRows};
 ghost use Rattle.tables_make.specs.Reasons.{HasReason};
 ghost use Rattle.tables_rows.specs.Frames.{Makes, StaysInside};
@@ -57,7 +57,7 @@ fn write_first<S: Alter>(
     ensures same_reference { tx.new.conn.ghost_name ≡ tx.old.conn.ghost_name }
     ensures done { HasCleanDisk (state S.Store tx.new.conn.now)
         → OnOk result
-        (Grows (lacking V1)
+        (Grows (missing_tables V1)
         (renumbered (cut_objects (map string_bytes bases.now) (contents_of (state S.Store tx.old.conn.now).now)))
         (state S.Store tx.old.conn.now) (state S.Store tx.new.conn.now)) }
     ensures failed { HasCleanDisk (state S.Store tx.new.conn.now)
@@ -76,15 +76,15 @@ fn commit_first<S: Alter>(
     conn: &mut Connection<S>,
     bases: &[String],
 ) -> Result<(), Failure>
-    requires alone { conn.old.in_transaction ≡ false }
+    requires idle { conn.old.in_transaction ≡ false }
     requires ready { HasCleanDisk (state S.Store conn.old) → IsTrue (state S.Store conn.old).is_open
         → IsReady (state S.Store conn.old) }
     requires first { HasCleanDisk (state S.Store conn.old) → IsTrue (state S.Store conn.old).is_open
         → HasFirst (state S.Store conn.old).now.schema }
-    ensures alone { conn.new.in_transaction ≡ false }
+    ensures idle { conn.new.in_transaction ≡ false }
     ensures done { HasCleanDisk (state S.Store conn.new)
         → OnOk result
-        (IsGrown (lacking V1)
+        (IsGrown (missing_tables V1)
         (renumbered (cut_objects (map string_bytes bases.now) (contents_of (state S.Store conn.old).now)))
         (state S.Store conn.old) (state S.Store conn.new)) }
     ensures failed { HasCleanDisk (state S.Store conn.new)
@@ -93,7 +93,7 @@ fn commit_first<S: Alter>(
         → IfErr result (FailsToMigrate V1 (state S.Store conn.old) (state S.Store conn.new)) }
     ensures durable { OnOk result (IsTrue (state S.Store conn.new).is_open → IsDurable (state S.Store conn.new)) }
     ensures survives { Survives (state S.Store conn.old) (state S.Store conn.new)
-        (λ db. Leaves (grown (lacking V1) (state S.Store conn.old).now) db
+        (λ db. Leaves (grown (missing_tables V1) (state S.Store conn.old).now) db
         (renumbered (cut_objects (map string_bytes bases.now) (contents_of (state S.Store conn.old).now)))) }
 {
     let mut tx = transaction::begin(conn);
@@ -108,12 +108,12 @@ fn commit_first<S: Alter>(
 ///
 /// Memory was refused, a row is too large, the disk failed, or no number or name is left for a table; then the tables hold what they held.
 pub fn from_first<S: Alter>(alloc: Global, conn: &mut Connection<S>) -> Result<(), Failure>
-    requires alone { conn.old.in_transaction ≡ false }
+    requires idle { conn.old.in_transaction ≡ false }
     requires ready { HasCleanDisk (state S.Store conn.old) → IsTrue (state S.Store conn.old).is_open
         → IsReady (state S.Store conn.old) }
     requires first { HasCleanDisk (state S.Store conn.old) → IsTrue (state S.Store conn.old).is_open
         → HasFirst (state S.Store conn.old).now.schema }
-    ensures alone { conn.new.in_transaction ≡ false }
+    ensures idle { conn.new.in_transaction ≡ false }
     ensures done { HasCleanDisk (state S.Store conn.new)
         → OnOk result ((dir : List ℕ) → IsSoundBy V1 dir (contents_of (state S.Store conn.old).now)
         → IsMigrated V1 dir (state S.Store conn.old) (state S.Store conn.new)) }
@@ -140,7 +140,7 @@ fn write_second<S: Alter>(tx: &mut Transaction<'_, S>) -> Result<(), Failure>
     ensures same_reference { tx.new.conn.ghost_name ≡ tx.old.conn.ghost_name }
     ensures done { HasCleanDisk (state S.Store tx.new.conn.now)
         → OnOk result
-        (Grows (lacking V2) (renumbered (contents_of (state S.Store tx.old.conn.now).now))
+        (Grows (missing_tables V2) (renumbered (contents_of (state S.Store tx.old.conn.now).now))
         (state S.Store tx.old.conn.now) (state S.Store tx.new.conn.now)) }
     ensures failed { HasCleanDisk (state S.Store tx.new.conn.now)
         → OnErr result (KeepsCommit (state S.Store tx.old.conn.now) (state S.Store tx.new.conn.now)) }
@@ -159,14 +159,14 @@ fn write_second<S: Alter>(tx: &mut Transaction<'_, S>) -> Result<(), Failure>
 ///
 /// Memory was refused, the disk failed, or no number or name is left for a table; then the tables hold what they held.
 pub fn from_second<S: Alter>(conn: &mut Connection<S>) -> Result<(), Failure>
-    requires alone { conn.old.in_transaction ≡ false }
+    requires idle { conn.old.in_transaction ≡ false }
     requires ready { HasCleanDisk (state S.Store conn.old) → IsTrue (state S.Store conn.old).is_open
         → IsReady (state S.Store conn.old) }
     requires second { HasCleanDisk (state S.Store conn.old) → IsTrue (state S.Store conn.old).is_open
         → HasSecond (state S.Store conn.old).now.schema }
     requires pieces { HasCleanDisk (state S.Store conn.old) → IsTrue (state S.Store conn.old).is_open
         → HasFurther (state S.Store conn.old).now piece }
-    ensures alone { conn.new.in_transaction ≡ false }
+    ensures idle { conn.new.in_transaction ≡ false }
     ensures done { HasCleanDisk (state S.Store conn.new)
         → OnOk result ((dir : List ℕ) → IsSoundBy V2 dir (contents_of (state S.Store conn.old).now)
         → IsMigrated V2 dir (state S.Store conn.old) (state S.Store conn.new)) }

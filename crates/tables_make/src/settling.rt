@@ -7,6 +7,7 @@ ghost use Rattle.tables_rows.specs.Frames.{IsInside, Makes, StaysInside};
 
 use sqlite::{Alter, Transaction};
 use tables_rows::meta;
+use tables_schema::Schema;
 use tables_sql::failure::Failure;
 
 /// Makes the setting of the schema that of the third, whatever it was.
@@ -17,5 +18,5 @@ pub(crate) fn renumber<S: Alter>(tx: &mut Transaction<'_, S>) -> Result<(), Fail
     ensures cause { HasReason S.Store tx.old.conn.now tx.new.conn.now result SettingRow }
 {
     meta::delete(tx, "schema")?;
-    meta::insert(tx, "schema", "3")
+    meta::insert(tx, "schema", Schema::V3.text())
 }

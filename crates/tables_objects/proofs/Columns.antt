@@ -82,8 +82,8 @@ module _ {L X : Type 0} (S : L → L → Ordering) (o : IsTotalOrder S) (alike :
     turned = λ i. filter (λ (e : (Path × L) × X). (eq_by_cmp_equiv bytes_total).symm e.0.0 p i) (finite.entries m)
 
     -- the same, taken from a list of all entries
-    pub taken_part : (all : List ((Path × L) × X)) → all ≡ finite.entries m → filter own all ≡ finite.entries (finite.retain_keys m of_path)
-    taken_part all is = ap (filter own) is ∙ sym turned ∙ sym kept
+    pub used_part : (all : List ((Path × L) × X)) → all ≡ finite.entries m → filter own all ≡ finite.entries (finite.retain_keys m of_path)
+    used_part all is = ap (filter own) is ∙ sym turned ∙ sym kept
 
     pub read_part : (rows : List ((Path × L) × X)) → rows ≡ finite.entries (finite.retain_keys m of_path) → map cut rows ≡ finite.entries (finite.from_entries {R = S} (part (finite.entries m)))
     read_part rows is = ap (map cut) (is ∙ kept ∙ turned) ∙ sym (listed_as o alike (part (finite.entries m)) (part_sorted (finite.entries m) (finite.entries_sorted m)))
@@ -115,25 +115,25 @@ module _ (c : Contents) (p : Path) where
   parts_read rows is = sym (parts_cut rows) ∙ read_part int_cmp int_cmp_total finite.int_cmp-IsAntisymmetric numbered_total numbered_antisymmetric p c.pieces (map piece_in rows) is
 
   -- rows of the path among all rows
-  pub targets_taken : (all own : List Reference) → map reference_of all ≡ finite.entries c.refs
+  pub targets_used : (all own : List Reference) → map reference_of all ≡ finite.entries c.refs
       → (Rises (map (λ (r : Reference). string_bytes r.base) all) → own ≡ filter (λ (r : Reference). eq_by_cmp bytes_cmp p (string_bytes r.base)) all)
       → targets_of own ≡ finite.keys (references_in (rows_of c) p)
-  targets_taken all own is found =
+  targets_used all own is found =
       let up : Rises (map (λ (r : Reference). string_bytes r.base) all) =
       subst Rises (ap (map (λ (e : (Path × Path) × Unit {0}). e.0.0)) (sym is) ∙ sym (map_both reference_of (λ (e : (Path × Path) × Unit {0}). e.0.0) all))
       (paths_rise bytes_cmp (finite.entries c.refs) (finite.entries_sorted c.refs)) in
       targets_read own (ap (map reference_of) (found up) ∙ filter_mapped reference_of (λ (e : (Path × Path) × Unit {0}). eq_by_cmp bytes_cmp p e.0.0) all
-      ∙ taken_part bytes_cmp bytes_total bytes_antisymmetric pair_total pair_antisymmetric p c.refs (map reference_of all) is)
+      ∙ used_part bytes_cmp bytes_total bytes_antisymmetric pair_total pair_antisymmetric p c.refs (map reference_of all) is)
 
-  pub named_taken : (all own : List Output) → map output_of all ≡ finite.entries c.outs
+  pub named_used : (all own : List Output) → map output_of all ≡ finite.entries c.outs
       → (Rises (map (λ (r : Output). string_bytes r.base) all) → own ≡ filter (λ (r : Output). eq_by_cmp bytes_cmp p (string_bytes r.base)) all)
       → named_of own ≡ finite.entries (outputs_in (rows_of c) p)
-  named_taken all own is found =
+  named_used all own is found =
       let up : Rises (map (λ (r : Output). string_bytes r.base) all) =
       subst Rises (ap (map (λ (e : (Path × Path) × Path). e.0.0)) (sym is) ∙ sym (map_both output_of (λ (e : (Path × Path) × Path). e.0.0) all))
       (paths_rise bytes_cmp (finite.entries c.outs) (finite.entries_sorted c.outs)) in
       named_read own (ap (map output_of) (found up) ∙ filter_mapped output_of (λ (e : (Path × Path) × Path). eq_by_cmp bytes_cmp p e.0.0) all
-      ∙ taken_part bytes_cmp bytes_total bytes_antisymmetric pair_total pair_antisymmetric p c.outs (map output_of all) is)
+      ∙ used_part bytes_cmp bytes_total bytes_antisymmetric pair_total pair_antisymmetric p c.outs (map output_of all) is)
 
   -- where no piece of the path is listed, it has none
   pub no_parts : (keys own : List PieceKey) → map numbered_in keys ≡ finite.keys c.pieces
@@ -147,5 +147,5 @@ module _ (c : Contents) (p : Path) where
       let test : Path × ℤ → Bool = λ k. eq_by_cmp bytes_cmp p k.0 in
       let listed : filter test (map numbered_in keys) ≡ [] =
       sym (filter_mapped numbered_in test keys) ∙ ap (map numbered_in) (sym (found up) ∙ none) in
-      sym (taken_part int_cmp int_cmp_total finite.int_cmp-IsAntisymmetric numbered_total numbered_antisymmetric p c.pieces (finite.entries c.pieces) refl)
+      sym (used_part int_cmp int_cmp_total finite.int_cmp-IsAntisymmetric numbered_total numbered_antisymmetric p c.pieces (finite.entries c.pieces) refl)
       ∙ none_mapped first (filter (λ (e : (Path × ℤ) × List ℕ). test e.0) (finite.entries c.pieces)) (filter_mapped first test (finite.entries c.pieces) ∙ ap (filter test) (sym is) ∙ listed)

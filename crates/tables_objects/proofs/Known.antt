@@ -13,19 +13,19 @@ use Rattle.tables_sql.specs.declared.outputs.Output.{Output}
 use Rattle.tables_sql.specs.declared.pieces.PieceKey.{PieceKey}
 use Rattle.tables_sql.specs.Entries.{reference_of, output_of, numbered_in}
 use Rattle.model.specs.World.{Path, Pair}
-use Rattle.tables_objects.specs.Known.{lent, is_known, is_known_reference, is_known_output, is_known_piece}
+use Rattle.tables_objects.specs.Known.{borrowed, is_known, is_known_reference, is_known_output, is_known_piece}
 use Rattle.tables_objects.specs.Rising.{Rises}
 use Rattle.tables_objects.specs.Loaded.{Objects, is_object, is_reference, is_output, is_owned}
 use Rattle.tables_objects.proofs.Lists.{map-append}
 use Rattle.tables_objects.proofs.OwnRows.{keys_rise}
 
 -- one path more is lent
-pub lent_more : (paths : List (Bor Path)) (b : Bor Path) (rest : List Path) → lent (paths ++ b ∷ []) ++ rest ≡ lent paths ++ b.now ∷ rest
-lent_more paths b rest = ap (λ l. l ++ rest) (map-append (λ (p : Bor Path). p.now) paths (b ∷ [])) ∙ append_assoc (lent paths) (b.now ∷ []) rest
+pub borrowed_more : (paths : List (Bor Path)) (b : Bor Path) (rest : List Path) → borrowed (paths ++ b ∷ []) ++ rest ≡ borrowed paths ++ b.now ∷ rest
+borrowed_more paths b rest = ap (λ l. l ++ rest) (map-append (λ (p : Bor Path). p.now) paths (b ∷ [])) ∙ append_assoc (borrowed paths) (b.now ∷ []) rest
 
-pub any_lent : (q : Path → Bool) (paths : List (Bor Path)) → list_any q (lent paths) ≡ list_any (λ (b : Bor Path). q b.now) paths
-any_lent q [] = refl
-any_lent q (b ∷ paths) = ap (λ x. q b.now || x) (any_lent q paths)
+pub any_borrowed : (q : Path → Bool) (paths : List (Bor Path)) → list_any q (borrowed paths) ≡ list_any (λ (b : Bor Path). q b.now) paths
+any_borrowed q [] = refl
+any_borrowed q (b ∷ paths) = ap (λ x. q b.now || x) (any_borrowed q paths)
 
 -- the paths of all objects
 module _ (objects : Objects) (paths : List Path) (all : paths ≡ finite.keys objects) where

@@ -4,7 +4,6 @@ pub mod Columns
 pub mod Cut
 pub mod Each
 pub mod EachEntry
-pub mod Fronts
 pub mod Known
 pub mod Lists
 pub mod OfArchive

@@ -40,12 +40,12 @@ module _ (dir : List ℕ) (p : Path) (nar : List ℕ) (tree : Tree)
   outputs_same = ap (λ (r : Result Tree NarError). if is_derivation p then tree_outputs dir r else finite.empty) (sym outcome)
 
   -- the same of an answer
-  pub told_by : (r : Result (Option Listed) AllocError) (rows : List (List ℕ × Path))
+  pub reported_by : (r : Result (Option Listed) AllocError) (rows : List (List ℕ × Path))
       → IfOk r (λ o. MatchOption o (¬ (IfDerivation dir p tree × (rows ≡ finite.entries (outputs_in dir p tree)))) (λ l. IfDerivation dir p tree × (rows ≡ finite.entries (outputs_in dir p tree)) × IsListed (map string_bytes l.names.items) l.paths.items (outputs_in dir p tree)))
       → IfOk r (λ o. MatchOption o (¬ (IsRecorded dir p nar × (rows ≡ finite.entries (outputs_at dir p nar)))) (λ l. IsRecorded dir p nar × (rows ≡ finite.entries (outputs_at dir p nar)) × IsListed (map string_bytes l.names.items) l.paths.items (outputs_at dir p nar)))
-  told_by (Err e) rows h = tt
-  told_by (Ok None) rows h = λ it. h (recorded_of it.0, it.1 ∙ ap finite.entries (sym outputs_same))
-  told_by (Ok (Some l)) rows h = (
+  reported_by (Err e) rows h = tt
+  reported_by (Ok None) rows h = λ it. h (recorded_of it.0, it.1 ∙ ap finite.entries (sym outputs_same))
+  reported_by (Ok (Some l)) rows h = (
     recorded_by h.0,
     h.1 ∙ ap finite.entries outputs_same,
     subst (IsListed (map string_bytes l.names.items) l.paths.items) outputs_same h.2,
@@ -65,10 +65,10 @@ module _ (dir : List ℕ) (p : Path) (a : Arrived) (reported : DescribesBytes a)
   found : (t : Tree) × (outcome_of a.pieces ≡ Ok t)
   found = tree_found (outcome_of a.pieces) (sym reported.fault ∙ sound)
 
-  pub told_of : (r : Result (Option Listed) AllocError) (rows : List (List ℕ × Path))
+  pub reported_of : (r : Result (Option Listed) AllocError) (rows : List (List ℕ × Path))
       → ((t : Tree) → outcome_of a.pieces ≡ Ok t → IfOk r (λ o. MatchOption o (¬ (IfDerivation dir p t × (rows ≡ finite.entries (outputs_in dir p t)))) (λ l. IfDerivation dir p t × (rows ≡ finite.entries (outputs_in dir p t)) × IsListed (map string_bytes l.names.items) l.paths.items (outputs_in dir p t))))
       → IfOk r (λ o. MatchOption o (¬ (IsRecorded dir p a.pieces × (rows ≡ finite.entries (outputs_at dir p a.pieces)))) (λ l. IsRecorded dir p a.pieces × (rows ≡ finite.entries (outputs_at dir p a.pieces)) × IsListed (map string_bytes l.names.items) l.paths.items (outputs_at dir p a.pieces)))
-  told_of r rows h = told_by dir p a.pieces found.0
+  reported_of r rows h = reported_by dir p a.pieces found.0
       ((outcome_archive a.pieces found.0 reported.bytes).0 found.1)
       (λ t is. same_tree found.0 t (sym found.1 ∙ (outcome_archive a.pieces t reported.bytes).1 is))
       found.1 r rows (h found.0 found.1)

@@ -9,7 +9,8 @@ use Rattle.drv.specs.Outcome.{outputs_of}
 use Rattle.intake.specs.Contents.{contents_of}
 use Rattle.model.specs.World.{Path}
 use Rattle.model.specs.Objects.{outputs_if_sound, tree_outputs}
-use Rattle.tables_objects.specs.Tested.{HoldsDerivation, outputs_view}
+use Rattle.intake.specs.Recorded.{outputs_view}
+use Rattle.tables_objects.specs.Tested.{HoldsDerivation}
 
 module _ (dir : List ℕ) where
   abbrev Reported : List ℕ → Option (BTreeMap (String Global) Path) → Type 0

@@ -35,8 +35,8 @@ not_below q x p h g = by (bytes_cmp q p) refl (bytes_cmp x p) refl
     by Greater e s f = refl
 
 -- what isn't below x isn't p, if x is above p
-apart : (q x p : Path) → is_lt (bytes_cmp q x) ≡ false → is_lt (bytes_cmp x p) ≡ false → eq_by_cmp bytes_cmp p x ≡ false → eq_by_cmp bytes_cmp p q ≡ false
-apart q x p h g k = by (eq_by_cmp bytes_cmp p q) refl
+unzipped : (q x p : Path) → is_lt (bytes_cmp q x) ≡ false → is_lt (bytes_cmp x p) ≡ false → eq_by_cmp bytes_cmp p x ≡ false → eq_by_cmp bytes_cmp p q ≡ false
+unzipped q x p h g k = by (eq_by_cmp bytes_cmp p q) refl
   where
     less : is_lt (bytes_cmp p x) ≡ false → (r : Ordering) → bytes_cmp p x ≡ r → ⊥
     less n Less e = false≢true (sym n ∙ ap is_lt e)
@@ -47,8 +47,8 @@ apart q x p h g k = by (eq_by_cmp bytes_cmp p q) refl
     by true t = absurd (less (ap (λ y. is_lt (bytes_cmp y x)) (tied_is bytes_antisymmetric p q t) ∙ h) (bytes_cmp p x) refl)
     by false t = refl
 
-below_apart : (x p : Path) → is_lt (bytes_cmp x p) ≡ true → eq_by_cmp bytes_cmp p x ≡ false
-below_apart x p h = by (bytes_cmp x p) refl
+below_unzipped : (x p : Path) → is_lt (bytes_cmp x p) ≡ true → eq_by_cmp bytes_cmp p x ≡ false
+below_unzipped x p h = by (bytes_cmp x p) refl
   where
     by : (r : Ordering) → bytes_cmp x p ≡ r → eq_by_cmp bytes_cmp p x ≡ false
     by Less e = ap is_eq (turned x p Less e)
@@ -112,7 +112,7 @@ module _ {X : Type 0} (key : X → Path) (p : Path) where
 
   later_apart : (x : X) (xs : List X) → Later x xs → below x ≡ false → own x ≡ false → AllByRecursion (λ y. own y ≡ false) xs
   later_apart x [] h t k = tt
-  later_apart x (y ∷ ys) h t k = (apart (key y) (key x) p h.0 t k, later_apart x ys h.1 t k)
+  later_apart x (y ∷ ys) h t k = (unzipped (key y) (key x) p h.0 t k, later_apart x ys h.1 t k)
 
   below_down : (xs : List X) → Rises (map key xs) → Down below xs
   below_down [] up = tt
@@ -162,7 +162,7 @@ module _ {X : Type 0} (key : X → Path) (p : Path) where
           → list_any own (x ∷ xs) ≡ is_own (slice_get (drop (cond b (1 + prefix_len below xs) 0) (x ∷ xs)) 0)
       by true t rest =
           let one : suc (prefix_len below xs) ≡ 1 + prefix_len below xs = omega arith in
-          ap (λ b. b || list_any own xs) (below_apart (key x) p t) ∙ rest ∙ ap (λ n. is_own (slice_get (drop n (x ∷ xs)) 0)) one
+          ap (λ b. b || list_any own xs) (below_unzipped (key x) p t) ∙ rest ∙ ap (λ n. is_own (slice_get (drop n (x ∷ xs)) 0)) one
       by false t rest = head_own x xs up.0 t
 
   -- what is left behind those below the path
@@ -178,7 +178,7 @@ module _ {X : Type 0} (key : X → Path) (p : Path) where
       by : (b : Bool) → below x ≡ b → IsAfter xs (drop (prefix_len below xs) xs) → IsAfter (x ∷ xs) (drop (cond b (1 + prefix_len below xs) 0) (x ∷ xs))
       by true t rest =
           let one : suc (prefix_len below xs) ≡ 1 + prefix_len below xs = omega arith in
-          let same : filter own (x ∷ xs) ≡ filter own xs = ap (λ b. cond b (x ∷ filter own xs) (filter own xs)) (below_apart (key x) p t) in
+          let same : filter own (x ∷ xs) ≡ filter own xs = ap (λ b. cond b (x ∷ filter own xs) (filter own xs)) (below_unzipped (key x) p t) in
           subst (IsAfter (x ∷ xs)) (ap (λ n. drop n (x ∷ xs)) one) (record { rises = rest.rises; above = rest.above; same = same ∙ rest.same })
       by false t rest = record { rises = up; above = (t, later_above x xs up.0 t); same = refl }
 

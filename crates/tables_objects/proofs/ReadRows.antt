@@ -83,7 +83,7 @@ module _ {S : Type 0} {g : Ghosts S} where
   as_it_was a may opened =
       let s = state g a in
       record {
-        alone = may.alone;
+        idle = may.idle;
         same = λ clean. shown_of s s (no_change s (opened clean));
         ready = may.ready;
         survives = survives_none s;

@@ -15,7 +15,8 @@ use Rattle.paths.specs.Root.{bytes_cmp}
 use Rattle.model.specs.World.{Path}
 use Rattle.tables_outline.proofs.Orders.{bytes_total, bytes_antisymmetric}
 use Rattle.tables_outline.proofs.Trees.{cmp, listed, sorted_seen}
-use Rattle.tables_objects.specs.Tested.{named_view, outputs_view, same_outputs, IsListed, IfDerivation, outputs_in}
+use Rattle.intake.specs.Recorded.{outputs_view}
+use Rattle.tables_objects.specs.Tested.{named_view, same_outputs, IsListed, IfDerivation, outputs_in}
 use Rattle.tables_objects.proofs.Lists.{both_so, and_so, to_true}
 
 abbrev Named : Type 0

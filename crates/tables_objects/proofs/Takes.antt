@@ -79,8 +79,8 @@ module _ (schema : Schema) (dir : List ℕ) (c : Contents) (p : Path) (r : Objec
         (subst (λ (o : Stored). IsSoundRow dir p o (archive_in (rows_of c) p o) (references_in (rows_of c) p) (outputs_in (rows_of c) p)) (same_stored s.stored s.found) s.row)),
   )
 
-  pub told_one : (b : Bool) → IsTrue b ↔ IsTested → IsTrue b ↔ IsSoundOne schema dir c p
-  told_one b t = (λ x. one_of (t.0 x), λ s. t.1 (of_one s))
+  pub reported_one : (b : Bool) → IsTrue b ↔ IsTested → IsTrue b ↔ IsSoundOne schema dir c p
+  reported_one b t = (λ x. one_of (t.0 x), λ s. t.1 (of_one s))
 
   -- what is kept is the outline of the object
   abbrev kept : Set bytes_cmp → finite.FinMap bytes_cmp Path → Outlined

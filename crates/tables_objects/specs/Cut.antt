@@ -25,6 +25,6 @@ abbrev pub is_next : ℕ → ℕ → ℤ × List ℕ → Bool
 is_next size number e = size == 65536 && (is_number e.0 number && not (length e.1 == 0))
 
 -- a part of `n` bytes and the pieces after it, the first of which has this number, are cut the right way
-abbrev pub goes_on : ℕ → ℕ → List (ℤ × List ℕ) → Bool
-goes_on size number [] = nat_le size 65536
-goes_on size number (e ∷ es) = is_next size number e && goes_on (length e.1) (number + 1) es
+abbrev pub continues : ℕ → ℕ → List (ℤ × List ℕ) → Bool
+continues size number [] = nat_le size 65536
+continues size number (e ∷ es) = is_next size number e && continues (length e.1) (number + 1) es

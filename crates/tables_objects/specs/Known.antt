@@ -9,8 +9,8 @@ use Rattle.tables_sql.specs.Contents.{Numbered}
 use Rattle.model.specs.World.{Path, Pair}
 
 -- paths that are lent
-abbrev pub lent : List (Bor Path) → List Path
-lent paths = map (λ p. p.now) paths
+abbrev pub borrowed : List (Bor Path) → List Path
+borrowed paths = map (λ p. p.now) paths
 
 -- a base name, and one of the paths
 abbrev pub is_known : List Path → Path → Bool

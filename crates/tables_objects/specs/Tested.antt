@@ -20,7 +20,6 @@ use Rattle.model.specs.World.{Path}
 use Rattle.model.specs.Objects.{most_references, outputs_at, tree_outputs}
 use Rattle.model.specs.Sound.{IsDerivation}
 use Rattle.tables_world.specs.Rows.{address_in}
-use Rattle.tables_outline.specs.Maps.{seen_map}
 use Rattle.tables_outline.specs.Outline.{Outlined, rise}
 
 -- ---- texts
@@ -76,12 +75,9 @@ pub record IsRecorded (dir : List ℕ) (p : Path) (nar : List ℕ) : Type 0 wher
   pub archive : IsArchive tree nar
   pub derivation : IsTrue (is_derivation p) → IsDerivation dir nar
 
--- outputs in memory, and the map that they are
+-- outputs in memory
 abbrev pub named_view : List (String Global × Path) → List (List ℕ × Path)
 named_view entries = map (λ e. (string_bytes e.0, e.1)) entries
-
-abbrev pub outputs_view : List (String Global × Path) → finite.FinMap bytes_cmp Path
-outputs_view entries = seen_map bytes_cmp string_bytes (λ p. p) entries
 
 -- two lists have the same names with the same paths, in the same order
 abbrev pub same_outputs : List (List ℕ × Path) → List (List ℕ × Path) → Bool

@@ -3,12 +3,11 @@
 ghost use Rattle.std.specs.Prelude.{◌≡◌, IfOk};
 ghost use Rattle.std.specs.List.{list_any};
 ghost use Rattle.std.specs.Str.{bytes_eq};
-ghost use Rattle.paths.specs.Facts.{HasFactsFor};
 ghost use Rattle.intake.specs.Described.{DescribesBytes};
 ghost use Rattle.tables_objects.specs.Tested as tested;
 
 use intake::Arrived;
-use paths::{Ca, Facts, Method, StoreDir, StorePath, VerifyError};
+use paths::{Ca, StoreDir, StorePath, VerifyError};
 use std::alloc::{AllocError, Global};
 
 pub(crate) fn are_same(a: &[u8], b: &[u8]) -> bool
@@ -21,21 +20,6 @@ fn refers_to(refs: &[StorePath], path: &StorePath) -> bool
     ensures { result ≡ list_any (bytes_eq path.now) refs.now }
 {
     refs.iter().any(|r| are_same(path.as_str().as_bytes(), r.as_str().as_bytes()))
-}
-
-/// What an address of such a method asks for of an archive: its contents are hashed for that of a text alone.
-fn facts(method: Method, archive: &Arrived) -> Facts
-    requires reported { DescribesBytes archive.now }
-    ensures { HasFactsFor method archive.now.pieces result }
-{
-    match method {
-        Method::Text => archive.facts(),
-        Method::Source => Facts {
-            nar_hash: archive.nar_hash,
-            nar_size: archive.pieces.len() as u64,
-            plain: None,
-        },
-    }
 }
 
 /// Whether an address, if there is one, is that of the object, which doesn't refer to itself then.
@@ -56,7 +40,7 @@ pub(crate) fn fits_address(
     if refers_to(refs, path) {
         return Ok(false);
     }
-    let facts = facts(ca.method(), archive);
+    let facts = archive.facts_for(ca.method());
     match ca.verify_facts(alloc, dir, path, refs, &facts) {
         Ok(()) => Ok(true),
         Err(VerifyError::Memory) => Err(AllocError),

@@ -3,12 +3,10 @@
 ghost use Rattle.std.specs.Prelude.{◌≡◌, ◌↔◌, length, IsTrue};
 ghost use Rattle.tables_world.specs.Pieces.{IsCut};
 ghost use Rattle.tables_objects.specs.Cut as cut;
-ghost use Rattle.tables_objects.specs.Cut.{goes_on, part_of, parts_of};
+ghost use Rattle.tables_objects.specs.Cut.{continues, part_of, parts_of};
 
+use streams::PIECE_SIZE;
 use tables_sql::pieces::Piece;
-
-/// The most bytes of an archive in one row.
-const PIECE_SIZE: usize = 65536;
 
 fn is_number(value: i64, number: u64) -> bool
     ensures { result ≡ cut.is_number value number }
@@ -27,7 +25,7 @@ fn is_next(size: usize, number: u64, piece: &Piece) -> bool
 }
 
 fn go_on(row: &[u8], pieces: &[Piece]) -> bool
-    ensures { result ≡ goes_on (length row.now) 1 (parts_of pieces.now) }
+    ensures { result ≡ continues (length row.now) 1 (parts_of pieces.now) }
 {
     let mut size = row.len();
     let mut number: u64 = 1;

@@ -6,7 +6,7 @@ ghost use Rattle.std.specs.FinMap as finite;
 ghost use Rattle.std.specs.Option.{ForSome, option_copied};
 ghost use Rattle.tables_sql.specs.Entries.{numbered_in, reference_of, output_of};
 ghost use Rattle.tables_objects.specs.Known as known;
-ghost use Rattle.tables_objects.specs.Known.{is_known, lent};
+ghost use Rattle.tables_objects.specs.Known.{is_known, borrowed};
 ghost use Rattle.tables_objects.specs.Rising.{Rises};
 
 use crate::groups::first_of;
@@ -22,7 +22,7 @@ pub(crate) fn paths_in<'a>(
     alloc: Global,
     outline: &'a Outline,
 ) -> Result<Vec<&'a StorePath>, AllocError>
-    ensures { IfOk result (λ v. lent v.items ≡ finite.keys outline.now.objects) }
+    ensures { IfOk result (λ v. borrowed v.items ≡ finite.keys outline.now.objects) }
 {
     let mut paths = Vec::new(alloc);
     'objects: for path in outline.objects().keys() {
@@ -33,8 +33,8 @@ pub(crate) fn paths_in<'a>(
 
 /// Whether a text is one of the paths.
 fn is_known(paths: &[&StorePath], text: &str) -> bool
-    requires { Rises (lent paths.now) }
-    ensures { result ≡ is_known (lent paths.now) text.now }
+    requires { Rises (borrowed paths.now) }
+    ensures { result ≡ is_known (borrowed paths.now) text.now }
 {
     match first_of(paths, text) {
         Some(path) => {
@@ -58,9 +58,9 @@ fn is_last(last: Option<&str>, text: &str) -> bool
 /// Whether a text is one of the paths, as the last one was, if there is one. Rows come in the order of their bases, so each base is
 /// looked up once.
 fn is_next_known(paths: &[&StorePath], last: Option<&str>, text: &str) -> bool
-    requires rises { Rises (lent paths.now) }
-    requires last { ForSome (option_copied last) (λ base. is_known (lent paths.now) base ≡ true) }
-    ensures { result ≡ is_known (lent paths.now) text.now }
+    requires rises { Rises (borrowed paths.now) }
+    requires last { ForSome (option_copied last) (λ base. is_known (borrowed paths.now) base ≡ true) }
+    ensures { result ≡ is_known (borrowed paths.now) text.now }
 {
     if is_last(last, text) {
         return true;
@@ -70,9 +70,9 @@ fn is_next_known(paths: &[&StorePath], last: Option<&str>, text: &str) -> bool
 
 /// Whether the base and the target of a reference are among the paths.
 fn is_reference(paths: &[&StorePath], last: Option<&str>, row: &Reference) -> bool
-    requires rises { Rises (lent paths.now) }
-    requires last { ForSome (option_copied last) (λ base. is_known (lent paths.now) base ≡ true) }
-    ensures { result ≡ known.is_known_reference (lent paths.now) (reference_of row.now) }
+    requires rises { Rises (borrowed paths.now) }
+    requires last { ForSome (option_copied last) (λ base. is_known (borrowed paths.now) base ≡ true) }
+    ensures { result ≡ known.is_known_reference (borrowed paths.now) (reference_of row.now) }
 {
     if !is_next_known(paths, last, row.base.as_str()) {
         return false;
@@ -82,8 +82,8 @@ fn is_reference(paths: &[&StorePath], last: Option<&str>, row: &Reference) -> bo
 
 /// Whether each reference is one of a path to a path.
 pub(crate) fn are_references(paths: &[&StorePath], rows: &[Reference]) -> bool
-    requires { Rises (lent paths.now) }
-    ensures { result ≡ list_all (known.is_known_reference (lent paths.now)) (map reference_of rows.now) }
+    requires { Rises (borrowed paths.now) }
+    ensures { result ≡ list_all (known.is_known_reference (borrowed paths.now)) (map reference_of rows.now) }
 {
     let mut last = None;
     'rows: for row in rows {
@@ -97,8 +97,8 @@ pub(crate) fn are_references(paths: &[&StorePath], rows: &[Reference]) -> bool
 
 /// Whether each output is a path's.
 pub(crate) fn are_outputs(paths: &[&StorePath], rows: &[Output]) -> bool
-    requires { Rises (lent paths.now) }
-    ensures { result ≡ list_all (known.is_known_output (lent paths.now)) (map output_of rows.now) }
+    requires { Rises (borrowed paths.now) }
+    ensures { result ≡ list_all (known.is_known_output (borrowed paths.now)) (map output_of rows.now) }
 {
     let mut last = None;
     'rows: for row in rows {
@@ -113,8 +113,8 @@ pub(crate) fn are_outputs(paths: &[&StorePath], rows: &[Output]) -> bool
 
 /// Whether each piece is one of a path's archive.
 pub(crate) fn are_owned(paths: &[&StorePath], rows: &[PieceKey]) -> bool
-    requires { Rises (lent paths.now) }
-    ensures { result ≡ list_all (known.is_known_piece (lent paths.now)) (map numbered_in rows.now) }
+    requires { Rises (borrowed paths.now) }
+    ensures { result ≡ list_all (known.is_known_piece (borrowed paths.now)) (map numbered_in rows.now) }
 {
     let mut last = None;
     'rows: for row in rows {

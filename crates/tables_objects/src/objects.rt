@@ -20,14 +20,12 @@ use crate::texts::{address_of, deriver_of, path_of};
 use intake::Arrived;
 use paths::{Ca, StoreDir, StorePath};
 use std::alloc::{AllocError, Global};
+use streams::MAX_REFERENCES;
 use tables_outline::Summary;
 use tables_sql::objects::Object;
 use tables_sql::outputs::Output;
 use tables_sql::pieces::Piece;
 use tables_sql::references::Reference;
-
-/// The most references of an object.
-const MOST_REFERENCES: usize = 4096;
 
 /// The outputs of an object, where its rows have exactly those that its archive records.
 fn sound_outputs(
@@ -143,7 +141,7 @@ pub(crate) fn sound_object(
         × (s.1 ≡ kept_of dir.now (stored_of object).0 (whole_of (stored_of object).1 (parts_of pieces.items))
         (targets_of references.now)))) }
 {
-    if references.len() > MOST_REFERENCES {
+    if references.len() > MAX_REFERENCES {
         return Ok(None);
     }
     let Some(path) = path_of(alloc, object.base.as_str())? else {

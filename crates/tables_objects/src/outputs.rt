@@ -5,7 +5,8 @@ ghost use Rattle.std.specs.FinMap as finite;
 ghost use Rattle.std.specs.Str.{bytes_eq};
 ghost use Rattle.nar.specs.Tree.{Tree};
 ghost use Rattle.nar.specs.Outcome.{outcome_of};
-ghost use Rattle.tables_objects.specs.Tested.{IfDerivation, IsListed, outputs_in, outputs_view, named_view, same_outputs, named_of};
+ghost use Rattle.intake.specs.Recorded.{outputs_view};
+ghost use Rattle.tables_objects.specs.Tested.{IfDerivation, IsListed, outputs_in, named_view, same_outputs, named_of};
 
 use crate::recorded::found_in;
 use paths::{StoreDir, StorePath};
@@ -45,7 +46,7 @@ fn are_recorded(rows: &[Output], found: &BTreeMap<String, StorePath>) -> bool
 }
 
 /// Outputs in order, each list by itself.
-fn apart(alloc: Global, found: BTreeMap<String, StorePath>) -> Result<Listed, AllocError>
+fn unzipped(alloc: Global, found: BTreeMap<String, StorePath>) -> Result<Listed, AllocError>
     ensures { IfOk result (λ l. IsListed (map string_bytes l.names.items) l.paths.items (outputs_view found.entries)) }
 {
     let mut names = Vec::new(alloc);
@@ -78,5 +79,5 @@ pub(crate) fn recorded(
     if !are_recorded(rows, &found) {
         return Ok(None);
     }
-    Ok(Some(apart(alloc, found)?))
+    Ok(Some(unzipped(alloc, found)?))
 }

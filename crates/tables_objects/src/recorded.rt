@@ -1,36 +1,20 @@
 //! The outputs that the archive of an object records.
 
 ghost use Rattle.std.specs.Prelude.{◌≡◌, Ok, IfOk, IsOk, MatchOption};
-ghost use Rattle.std.specs.FinMap as finite;
 ghost use Rattle.nar.specs.declared.error.NarError.{NarError as Fault};
 ghost use Rattle.nar.specs.Tree.{Tree};
 ghost use Rattle.nar.specs.Outcome.{outcome_of};
 ghost use Rattle.drv.specs.Outcome as outcome;
-ghost use Rattle.drv.specs.View.{pairs};
+ghost use Rattle.intake.specs.Recorded.{outputs_view};
 ghost use Rattle.model.specs.Objects as objects;
-ghost use Rattle.tables_objects.specs.Tested.{HoldsDerivation, IfDerivation, outputs_in, outputs_view};
+ghost use Rattle.tables_objects.specs.Tested.{HoldsDerivation, IfDerivation, outputs_in};
 
 use drv::DrvError;
-use intake::file_contents;
+use intake::{file_contents, recorded_outputs};
 use paths::{StoreDir, StorePath};
 use std::alloc::{AllocError, Global};
 use std::collections::BTreeMap;
 use streams::Pieces;
-
-/// The paths of outputs by their names.
-fn by_name(
-    alloc: Global,
-    found: Vec<(String, StorePath)>,
-) -> Result<BTreeMap<String, StorePath>, AllocError>
-    ensures { IfOk result (λ map. outputs_view map.entries ≡ finite.from_entries (pairs found.items)) }
-{
-    let mut left = found;
-    let mut map = BTreeMap::new(alloc);
-    while let Some((name, path)) = left.pop() {
-        map.insert(name, path)?;
-    }
-    Ok(map)
-}
 
 /// The outputs of a derivation text, if it is one and no two share a name.
 fn outputs_of(
@@ -43,8 +27,8 @@ fn outputs_of(
         (λ map. IsOk (outcome.outputs_of dir.now text.now)
         × (outputs_view map.entries ≡ objects.outputs_if_sound (outcome.outputs_of dir.now text.now)))) }
 {
-    match drv::outputs(alloc, text, dir) {
-        Ok(found) => Ok(Some(by_name(alloc, found)?)),
+    match recorded_outputs(alloc, dir, text) {
+        Ok(found) => Ok(Some(found)),
         Err(DrvError::Memory) => Err(AllocError),
         Err(_) => Ok(None),
     }

@@ -13,7 +13,7 @@ use Rattle.tables_sql.specs.Queries.{IsSelect}
 use Rattle.tables_sql.specs.Failures.{failure_of, FailsWith}
 use Rattle.tables_sql.proofs.Scans.{IsScan}
 use Rattle.tables_sql.proofs.Statements.{Compiles}
-use Rattle.tables_sql.proofs.ReadFailures.{standing_read_fails}
+use Rattle.tables_sql.proofs.ReadFailures.{open_read_fails}
 use Rattle.tables_sql.proofs.Ordered.{outputs_of, query_on, names_on, scan_of}
 use Rattle.tables_sql.proofs.Description.{Description, Part, PartReading, Selection}
 
@@ -35,5 +35,5 @@ asks_all d q {text} s is = record {
   scan = scan_of (outputs_of q.shown) (take q.by q.shown) [];
   is = is;
   reads = s.reads;
-  fails = λ old new exists. standing_read_fails d.name d.columns d.key old new exists text [] (names_on q.shown) (query_on q.shown q.by s.filter) (scan_of (outputs_of q.shown) (take q.by q.shown) s.filter) s.is s.reads s.accepts;
+  fails = λ old new exists. open_read_fails d.name d.columns d.key old new exists text [] (names_on q.shown) (query_on q.shown q.by s.filter) (scan_of (outputs_of q.shown) (take q.by q.shown) s.filter) s.is s.reads s.accepts;
 }

@@ -6,5 +6,6 @@ pub mod OwnRowids
 pub mod ReadableRows
 pub mod RowidFailures
 pub mod RowidQueries
+pub mod Shown
 pub mod Tested
 pub mod Tests

@@ -13,13 +13,13 @@ use Rattle.tables_schema.specs.declared.schema.Schema.{Schema}
 use Rattle.tables_schema.specs.declared.schema.Schema.TheVariants.{V1, V2, V3}
 use Rattle.tables_schema.specs.Intact.{IsIntact}
 use Rattle.tables_sql.specs.Texts.{AreReadable, AreReadableRows, HasReadableRows}
-use Rattle.tables_schema.specs.declared.our_table.OurTable.{OurTable}
+use Rattle.tables_schema.specs.declared.our_table.StoreTable.{StoreTable}
 use Rattle.tables_schema.specs.OurTables.{schema_tables, form}
 use Rattle.tables_open.specs.Tables.{HasOwnRowids, HasReadableTexts}
 use Rattle.tables_open.specs.Opened.{IsRecognised, IsBySchema, IsReadyBy, IsFound}
 use Rattle.sqlite.specs.Effect.{Database, IsDatabase}
 use Rattle.tables_sql.specs.declared.failure.Failure.{Failure}
-use Rattle.tables_schema.specs.Forms.{piece, our_tables, further_tables}
+use Rattle.tables_schema.specs.Forms.{piece, store_tables, further_tables}
 use Rattle.tables_sql.specs.Contents.{contents_of, rows_named}
 use Rattle.tables_sql.specs.Calls.{IsKeyed, IsStoreDatabase, IsWhole, HasFurther, IsReady}
 use Rattle.sqlite.proofs.Callers.{unchanged_then}
@@ -31,9 +31,9 @@ use Rattle.tables_sql.proofs.Lists.{one_list}
 -- ---- what the tests told
 
 -- rowids were tested, and then it was told of the texts: of what the connection showed at first
-pub then_told : (K R : Database → Type 0) (a m n : State) (r : Result Bool Failure) → IsUnchanged a m × K a.now → IfOk r (λ b. IsUnchanged m n × (IsTrue b ↔ R m.now)) → IfOk r (λ b. IsUnchanged a n × K a.now × (IsTrue b ↔ R a.now))
-then_told K R a m n (Err e) keyed reported = tt
-then_told K R a m n (Ok b) keyed reported = (unchanged_then a m n keyed.0 reported.0, keyed.1, subst (λ (d : Database). IsTrue b ↔ R d) keyed.0.0.now_is reported.1)
+pub then_reported : (K R : Database → Type 0) (a m n : State) (r : Result Bool Failure) → IsUnchanged a m × K a.now → IfOk r (λ b. IsUnchanged m n × (IsTrue b ↔ R m.now)) → IfOk r (λ b. IsUnchanged a n × K a.now × (IsTrue b ↔ R a.now))
+then_reported K R a m n (Err e) keyed reported = tt
+then_reported K R a m n (Ok b) keyed reported = (unchanged_then a m n keyed.0 reported.0, keyed.1, subst (λ (d : Database). IsTrue b ↔ R d) keyed.0.0.now_is reported.1)
 
 -- ---- what is found then
 
@@ -94,7 +94,7 @@ found_none r a n by same settled not = record {
 -- ---- by each schema
 
 -- what the tests of these tables told
-abbrev pub Tested : List OurTable → State → State → Bool → Type 0
+abbrev pub Tested : List StoreTable → State → State → Bool → Type 0
 Tested ts a n b = IsUnchanged a n × AllByRecursion (HasOwnRowids a.now) ts × (IsTrue b ↔ AllByRecursion (HasReadableTexts a.now) ts)
 
 module _ (a n : State) (b : Bool) (sound : IsDatabase a.now) (settled : a.now ≡ a.committed) where
@@ -116,23 +116,23 @@ module _ (a n : State) (b : Bool) (sound : IsDatabase a.now) (settled : a.now �
       (λ rows. ready_by reported.0 (record { sound = sound; has = has.0; keyed = reported.1; readable = rows })) (λ is. absurd cc)
   found_by V2 by reported =
       let has = by.second.0 refl in
-      let keyed = one_list Keyed our_tables (piece ∷ []) reported.1 in
+      let keyed = one_list Keyed store_tables (piece ∷ []) reported.1 in
       let maps = readable_by_maps a.now sound has.0 keyed.0 _ _ (pieces_by_maps a.now sound has.1 keyed.1.0) (no_temp_roots a.now has.2) in
-      found_if (Tables V2) a n by reported.0 settled (AllByRecursion Readable (our_tables ++ piece ∷ [])) b reported.2
-      (λ rows. let each = one_list Readable our_tables (piece ∷ []) rows in maps.0 (each.0, each.1.0, tt), λ readable. let all = maps.1 readable in all-append Readable our_tables (piece ∷ []) all.0 (all.1, tt))
+      found_if (Tables V2) a n by reported.0 settled (AllByRecursion Readable (store_tables ++ piece ∷ [])) b reported.2
+      (λ rows. let each = one_list Readable store_tables (piece ∷ []) rows in maps.0 (each.0, each.1.0, tt), λ readable. let all = maps.1 readable in all-append Readable store_tables (piece ∷ []) all.0 (all.1, tt))
       (λ rows.
-      let each = one_list Readable our_tables (piece ∷ []) rows in (
+      let each = one_list Readable store_tables (piece ∷ []) rows in (
         ready_by reported.0 (record { sound = sound; has = has.0; keyed = keyed.0; readable = each.0 }),
         subst (λ (d : Database). HasFurther d piece) (sym reported.0.0.now_is) (record { exists = has.1; keyed = keyed.1.0; readable = each.1.0 }),
       )) (λ is. absurd cc)
   found_by V3 by reported =
       let has = by.third.0 refl in
-      let keyed = one_list Keyed our_tables further_tables reported.1 in
+      let keyed = one_list Keyed store_tables further_tables reported.1 in
       let maps = readable_by_maps a.now sound has.0 keyed.0 _ _ (pieces_by_maps a.now sound has.1 keyed.1.0) (temp_roots_by_maps a.now sound has.2 keyed.1.1.0) in
-      found_if (Tables V3) a n by reported.0 settled (AllByRecursion Readable (our_tables ++ further_tables)) b reported.2
-      (λ rows. let each = one_list Readable our_tables further_tables rows in maps.0 (each.0, each.1.0, each.1.1.0), λ readable. let all = maps.1 readable in all-append Readable our_tables further_tables all.0 (all.1, (all.2, tt)))
+      found_if (Tables V3) a n by reported.0 settled (AllByRecursion Readable (store_tables ++ further_tables)) b reported.2
+      (λ rows. let each = one_list Readable store_tables further_tables rows in maps.0 (each.0, each.1.0, each.1.1.0), λ readable. let all = maps.1 readable in all-append Readable store_tables further_tables all.0 (all.1, (all.2, tt)))
       (λ rows.
-      let each = one_list Readable our_tables further_tables rows in
+      let each = one_list Readable store_tables further_tables rows in
       let of_store : IsStoreDatabase a.now = record { sound = sound; has = has.0; keyed = keyed.0; readable = each.0 } in (
         ready_by reported.0 of_store,
         subst IsWhole (sym reported.0.0.now_is) (record {
@@ -144,10 +144,10 @@ module _ (a n : State) (b : Bool) (sound : IsDatabase a.now) (settled : a.now �
 
 -- ---- which tables stand, and why it fails
 
-pub stand_by : (v : Schema) (s : Shown) → IsRecognised (Tables v) s → AllByRecursion (λ t. IsIntact s (form t)) (schema_tables v)
-stand_by V1 s by = (by.first.0 refl).0
-stand_by V2 s by = let has = by.second.0 refl in all-append (IsIntact s) our_tables (piece ∷ []) has.0 (has.1, tt)
-stand_by V3 s by = let has = by.third.0 refl in all-append (IsIntact s) our_tables further_tables has.0 (has.1, (has.2, tt))
+pub intact_by : (v : Schema) (s : Shown) → IsRecognised (Tables v) s → AllByRecursion (λ t. IsIntact s (form t)) (schema_tables v)
+intact_by V1 s by = (by.first.0 refl).0
+intact_by V2 s by = let has = by.second.0 refl in all-append (IsIntact s) store_tables (piece ∷ []) has.0 (has.1, tt)
+intact_by V3 s by = let has = by.third.0 refl in all-append (IsIntact s) store_tables further_tables has.0 (has.1, (has.2, tt))
 
 pub some_tables : (v : Schema) → 0 < length (schema_tables v)
 some_tables V1 = omega arith

@@ -3,8 +3,8 @@ use Rattle.std.proofs.Common.{refl}
 use Rattle.std.specs.Prelude.{map}
 use Rattle.sqlite_tied.specs.Compute.{everything}
 use Rattle.tables_schema.specs.OurTables.{form}
-use Rattle.tables_schema.specs.declared.our_table.OurTable.{OurTable}
-use Rattle.tables_schema.specs.declared.our_table.OurTable.TheVariants.{Meta, Object, Permanent, Generation, TempRoot}
+use Rattle.tables_schema.specs.declared.our_table.StoreTable.{StoreTable}
+use Rattle.tables_schema.specs.declared.our_table.StoreTable.TheVariants.{Meta, Object, Permanent, Generation, TempRoot}
 use Rattle.tables_sql.proofs.Ordered.{key_of}
 use Rattle.tables_open.specs.Tables.{rowids_text}
 use Rattle.tables_open.proofs.Asking.{Asks}
@@ -12,7 +12,7 @@ use Rattle.tables_open.proofs.OwnRowids.{query}
 use Rattle.tables_open.proofs.RowidQueries.{names, key_columns, asks}
 
 -- by a key of one column, of three, or of two
-pub our_rowids : (t : OurTable) → Asks (form t).name (form t).columns (form t).primary (rowids_text t) names (query (map key_of (key_columns (form t))))
+pub our_rowids : (t : StoreTable) → Asks (form t).name (form t).columns (form t).primary (rowids_text t) names (query (map key_of (key_columns (form t))))
 unfolding everything
 our_rowids Meta =
     asks (form Meta).name (form Meta).columns (form Meta).primary refl (rowids_text Meta) (key_columns (form Meta)) ((refl, (_, refl, refl, refl)), tt) (_, _, _, _, _, refl)

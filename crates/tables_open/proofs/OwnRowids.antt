@@ -49,7 +49,7 @@ use Rattle.tables_sql.specs.Queries.{IsAnswered}
 use Rattle.tables_open.specs.Opened.{ShowIds}
 use Rattle.tables_sql.proofs.Means.{plain_state}
 use Rattle.tables_sql.proofs.Scans.{IsScan, scan_complete, kept, listed}
-use Rattle.tables_sql.proofs.Apart.{tie, turned}
+use Rattle.tables_sql.proofs.Distinct.{tie, turned}
 use Rattle.tables_sql.proofs.Rising.{rising, parted}
 use Rattle.std.proofs.lemmas.List.{map-append}
 use Rattle.tables_sql.proofs.Lists.{one_list}
@@ -144,16 +144,16 @@ keyed_from order tree db rows answer ids =
     let own : IsDistinct tie (map rowid (db tree)) = IsDistinct-IsPermutation tie turned _ _ (IsPermutation-sym _ _ (same_rowids order tree db rows answer)) shown in
     record {
       ints = λ a h. ap is_int (int_of rows ids.0 ids.1 (rowid a ∷ []) (scan_complete (query order tree) tree (scan order tree) db [] rows answer a h refl)).1;
-      apart = own;
+      distinct_rowids = own;
     }
 
 -- the rows that were shown, whose first values are integers that differ
-abbrev pub ShowsApart : List ℕ → State → State → Type 0
-ShowsApart text old new = (rows : List Row) × IsAnswered text [] old new rows × ShowIds rows
+abbrev pub ShowsDistinct : List ℕ → State → State → Type 0
+ShowsDistinct text old new = (rows : List Row) × IsAnswered text [] old new rows × ShowIds rows
 
 -- each row of the table has a rowid of its own, and nothing changes
 pub keyed_if : (name : List ℕ) (columns : List Column) (key : List ℕ) (text : List ℕ) (order : List (Term × Key)) (old new : State) → IsIntact old.now.schema (strict name columns key)
-    → {count : ℕ} → Compiles name columns key text count (λ at tree. Select (whole order tree) (codes "rowid" ∷ [])) → ShowsApart text old new → IsUnchanged old new × IsKeyed (rows_named old.now name)
+    → {count : ℕ} → Compiles name columns key text count (λ at tree. Select (whole order tree) (codes "rowid" ∷ [])) → ShowsDistinct text old new → IsUnchanged old new × IsKeyed (rows_named old.now name)
 keyed_if name columns key text order old new exists is h =
     let tree = tree_named old.now.schema name in
     let answer = answer_of name columns key old new text [] (query order) is exists h.0 h.1.0 in
@@ -192,12 +192,12 @@ differ_not rows ns shown same ids = same (subst (IsDistinct (eq_by_cmp int_cmp))
 
 -- ---- the first rows of those that show integers that differ
 
-front_apart : (ns ms : List ℤ) → IsDistinct (eq_by_cmp int_cmp) (ns ++ ms) → IsDistinct (eq_by_cmp int_cmp) ns
+prefix_distinct : (ns ms : List ℤ) → IsDistinct (eq_by_cmp int_cmp) (ns ++ ms) → IsDistinct (eq_by_cmp int_cmp) ns
 unfolding IsDistinct
-front_apart [] ms h = tt
-front_apart (n ∷ ns) ms h = ((one_list (λ m. eq_by_cmp int_cmp n m ≡ false) ns ms h.0).0, front_apart ns ms h.1)
+prefix_distinct [] ms h = tt
+prefix_distinct (n ∷ ns) ms h = ((one_list (λ m. eq_by_cmp int_cmp n m ≡ false) ns ms h.0).0, prefix_distinct ns ms h.1)
 
-pub front : (rows tail : List Row) → ShowIds (rows ++ tail) → ShowIds rows
-front rows tail ids =
+pub prefix : (rows tail : List Row) → ShowIds (rows ++ tail) → ShowIds rows
+prefix rows tail ids =
     let part = parted Int ids.0 (map first rows) (map first tail) (sym (map-append first rows tail) ∙ ids.1) in
-    (part.0, part.3, front_apart part.0 part.1 (subst (IsDistinct (eq_by_cmp int_cmp)) part.2 ids.2))
+    (part.0, part.3, prefix_distinct part.0 part.1 (subst (IsDistinct (eq_by_cmp int_cmp)) part.2 ids.2))

@@ -43,14 +43,14 @@ all_cells n row = (
 )
 
 -- the rows that were shown, and whether their texts are UTF-8
-abbrev pub Tells : List ℕ → State → State → Bool → Type 0
-Tells text old new b = (rows : List Row) × IsAnswered text [] old new rows × (IsTrue b ↔ AllByRecursion IsReadableRow rows)
+abbrev pub Reports : List ℕ → State → State → Bool → Type 0
+Reports text old new b = (rows : List Row) × IsAnswered text [] old new rows × (IsTrue b ↔ AllByRecursion IsReadableRow rows)
 
 module _ (name : List ℕ) (columns : List Column) (key : List ℕ) (text : List ℕ) (names : List (List ℕ)) (query : ℕ → Query) (scan : (tree : ℕ) → IsScan (query tree) tree) (whole : (tree : ℕ) → (query tree).filter ≡ [])
     {count : ℕ} (is : Compiles name columns key text count (λ at tree. Select (record { lets = []; body = query tree }) names)) where
   -- nothing changes, and the texts of the table are UTF-8 exactly where those are that were shown
   pub told_if : (old new : State) → IsIntact old.now.schema (strict name columns key) → ((tree : ℕ) (r : Row) → Has (rows_named old.now name) r → IsReadableRow (shows (query tree) [] r) ↔ AreOfUtf8 (length columns) r)
-      → (b : Bool) → Tells text old new b → IsUnchanged old new × (IsTrue b ↔ AreReadableRows (strict name columns key) (rows_named old.now name))
+      → (b : Bool) → Reports text old new b → IsUnchanged old new × (IsTrue b ↔ AreReadableRows (strict name columns key) (rows_named old.now name))
   told_if old new exists each b h =
       let tree = tree_named old.now.schema name in
       let db = overlay old.now.trees [] in

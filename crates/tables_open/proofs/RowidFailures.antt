@@ -27,14 +27,14 @@ use Rattle.tables_sql.specs.Failures.{IsQueryFailure, FailsToTest}
 use Rattle.tables_sql.specs.Queries.{HasBegunWith}
 use Rattle.tables_open.specs.Opened.{ShowIds}
 use Rattle.tables_sql.proofs.Scans.{scan_sound}
-use Rattle.tables_sql.proofs.Apart.{tie, turned}
+use Rattle.tables_sql.proofs.Distinct.{tie, turned}
 use Rattle.sqlite_rules.proofs.TableLemmas.{int_is}
 use Rattle.tables_sql.proofs.Statements.{answer_of, Compiles}
 use Rattle.tables_sql.proofs.Writes.{overlay_low}
 use Rattle.tables_sql.proofs.RowByRow.{whole as all_rows}
 use Rattle.tables_sql.proofs.TestFailures.{test_fails}
 use Rattle.tables_open.proofs.Asking.{Asks}
-use Rattle.tables_open.proofs.OwnRowids.{query, whole, scan, first, same_rowids, front}
+use Rattle.tables_open.proofs.OwnRowids.{query, whole, scan, first, same_rowids, prefix}
 use Rattle.tables_open.proofs.RowidQueries.{names}
 use Rattle.sqlite_trees.proofs.ListLemmas.{all_weaker, all_from_map}
 
@@ -56,7 +56,7 @@ ints_distinct (n ∷ ns) h =
 ids_from : (order : List (Term × Key)) (tree : ℕ) (db : Trees) (rows : List Row) → IsAnswer (query order tree) db [] rows → IsKeyed (db tree) → ShowIds rows
 ids_from order tree db rows answer keyed =
     let ints = ints_are rows (λ x present. let r = scan_sound (query order tree) tree (scan order tree) db [] rows answer x present in subst (λ y. IsTrue (is_int (first y))) (sym r.3) (keyed.ints r.0 r.1)) in
-    let shown : IsDistinct tie (map first rows) = IsDistinct-IsPermutation tie turned _ _ (same_rowids order tree db rows answer) keyed.apart in
+    let shown : IsDistinct tie (map first rows) = IsDistinct-IsPermutation tie turned _ _ (same_rowids order tree db rows answer) keyed.distinct_rowids in
     (ints_of rows, ints, ints_distinct (ints_of rows) (subst (IsDistinct tie) ints shown))
 
 -- where each row has a rowid of its own, those are shown
@@ -81,4 +81,4 @@ module _ (name : List ℕ) (columns : List Column) (key : List ℕ) (text : List
       let exists = at given.1.0.was_open in
       let tree = tree_named old.now.schema name in
       let all = all_rows text [] old new names (query order tree) (it.is old.now.schema exists.at tree exists.known) rows given in
-      subst (FailsToTest old new (¬ IsKeyed (rows_named old.now name))) (sym h.0) (inr (inr (λ keyed. h.1 (front rows all.0 (ids_if name columns key text order old new exists it.is (rows ++ all.0) all.1 keyed)))))
+      subst (FailsToTest old new (¬ IsKeyed (rows_named old.now name))) (sym h.0) (inr (inr (λ keyed. h.1 (prefix rows all.0 (ids_if name columns key text order old new exists it.is (rows ++ all.0) all.1 keyed)))))

@@ -23,7 +23,7 @@ use Rattle.tables_schema.specs.Forms.{strict}
 use Rattle.tables_schema.specs.Intact.{IsKnown}
 use Rattle.tables_sql.specs.Queries.{IsSelect}
 use Rattle.tables_sql.proofs.Means.{plain_state}
-use Rattle.tables_sql.proofs.ReadFailures.{standing_read_fails}
+use Rattle.tables_sql.proofs.ReadFailures.{open_read_fails}
 use Rattle.tables_sql.proofs.Ordered.{Place, IsColumn, IsOfOne, AreSorts, AreAbove, key_of, context, selects_by}
 use Rattle.tables_open.proofs.Asking.{Asks}
 use Rattle.tables_open.proofs.OwnRowids.{query, scan, draft, whole, rowid_column, outputs_rowid, below, IsRowid}
@@ -63,14 +63,14 @@ module _ (name : Name) (columns : List Column) (key : List ℕ) (bare : column_n
       → ((s : Schema) (at tree : ℕ) → IsKnown s name at (record (strict name columns key) { tree = tree }) → program s [] (draft (map key_of places) tree) ≡ Ok (whole (map key_of places) tree))
       → nat_le (length text) reads.3 ≡ true → length reads.0 ≡ 0
       → ((s : Schema) (at tree : ℕ) → IsKnown s name at (record (strict name columns key) { tree = tree }) → accepts_program s [] (query (map key_of places) tree) [] ≡ true) → Asks name columns key text names (query (map key_of places))
-  asks text places are reads one alone sorted enough every typed ends given accepts =
+  asks text places are reads one idle sorted enough every typed ends given accepts =
       let order = map key_of places in
       let is = selects_by name columns key text (rowid_column ∷ []) places are reads one sorted None None 99999 99999
-      (λ s at tree known. outputs_rowid (context name columns key s at [] true) (record { name = name; table = at; slot = 1; shared = [] } ∷ []) (out-Core (out-Select reads.4).first).shown alone.3 alone.4 at (rowid_is s at tree known.named.1 (below tree known.low) alone.1 alone.5) None max_budget refl)
+      (λ s at tree known. outputs_rowid (context name columns key s at [] true) (record { name = name; table = at; slot = 1; shared = [] } ∷ []) (out-Core (out-Select reads.4).first).shown idle.3 idle.4 at (rowid_is s at tree known.named.1 (below tree known.low) idle.1 idle.5) None max_budget refl)
       [] enough (λ s at tree known. unfiltered s at every) typed ends given in
       record {
         scan = scan order;
         is = is;
         reads = reads;
-        fails = λ old new exists. standing_read_fails name columns key old new exists text [] names (query order) (scan order) is reads accepts;
+        fails = λ old new exists. open_read_fails name columns key old new exists text [] names (query order) (scan order) is reads accepts;
       }

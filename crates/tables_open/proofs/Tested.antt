@@ -21,8 +21,8 @@ use Rattle.tables_sql.specs.declared.failure.Failure.TheVariants.{Memory}
 use Rattle.tables_sql.proofs.Scans.{shows}
 use Rattle.tables_sql.proofs.TestFailures.{texts_fail}
 use Rattle.tables_open.proofs.Asking.{Asks}
-use Rattle.tables_open.proofs.OwnRowids.{query, keyed_if, ShowsApart}
-use Rattle.tables_open.proofs.ReadableRows.{Tells, AreOfUtf8, told_if}
+use Rattle.tables_open.proofs.OwnRowids.{query, keyed_if, ShowsDistinct}
+use Rattle.tables_open.proofs.ReadableRows.{Reports, AreOfUtf8, told_if}
 use Rattle.tables_open.proofs.RowidFailures.{FailsToCheck, check_fails}
 use Rattle.tables_open.proofs.RowidQueries.{names}
 
@@ -33,10 +33,10 @@ FailsOfTexts text old new f = IsQueryFailure text [] old new f ⊎ ((f ≡ Memor
 -- what both tests of a table say by these texts
 pub record AreTests (t : Table) (rowids texts : List ℕ) : Type 1 where
   pub rowids_read : IsSelect rowids
-  pub keyed : (old new : State) → IsIntact old.now.schema t → ShowsApart rowids old new → IsUnchanged old new × IsKeyed (rows_named old.now t.name)
+  pub keyed : (old new : State) → IsIntact old.now.schema t → ShowsDistinct rowids old new → IsUnchanged old new × IsKeyed (rows_named old.now t.name)
   pub unkeyed : (old new : State) → (IsTrue old.is_open → IsIntact old.now.schema t) → (f : Failure) → FailsToCheck rowids old new f → FailsToTest old new (¬ IsKeyed (rows_named old.now t.name)) f
   pub texts_read : IsSelect texts
-  pub reported : (old new : State) → IsDatabase old.now → IsIntact old.now.schema t → (b : Bool) → Tells texts old new b → IsUnchanged old new × (IsTrue b ↔ AreReadableRows t (rows_named old.now t.name))
+  pub reported : (old new : State) → IsDatabase old.now → IsIntact old.now.schema t → (b : Bool) → Reports texts old new b → IsUnchanged old new × (IsTrue b ↔ AreReadableRows t (rows_named old.now t.name))
   pub untold : (old new : State) → (IsTrue old.is_open → IsIntact old.now.schema t) → (f : Failure) → FailsOfTexts texts old new f → FailsToTest old new ⊥ f
 
 -- the queries mean so: the second shows texts that are UTF-8 where all of a row are

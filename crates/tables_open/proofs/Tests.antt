@@ -19,8 +19,8 @@ use Rattle.tables_sql.proofs.PieceKeyLemmas as piece_keys
 use Rattle.tables_sql.proofs.TempRootLemmas as temp_roots
 use Rattle.tables_sql.proofs.Typed.{objects_typed, pieces_typed}
 use Rattle.tables_sql.proofs.ReadableValues.{blob_readable}
-use Rattle.tables_schema.specs.declared.our_table.OurTable.{OurTable}
-use Rattle.tables_schema.specs.declared.our_table.OurTable.TheVariants.{Meta, Object, Refs, Outs, Permanent, UserRoot, Profile, Generation, Runtime, Piece, TempRoot}
+use Rattle.tables_schema.specs.declared.our_table.StoreTable.{StoreTable}
+use Rattle.tables_schema.specs.declared.our_table.StoreTable.TheVariants.{Meta, Object, Refs, Outs, Permanent, UserRoot, Profile, Generation, Runtime, Piece, TempRoot}
 use Rattle.tables_schema.specs.OurTables.{form}
 use Rattle.tables_open.specs.Tables.{rowids_text, texts_text}
 use Rattle.tables_open.proofs.Asking.{asks_all}
@@ -56,7 +56,7 @@ key_columns r h = let P = λ (at : ℕ). IsReadable (column (key_of r) at) in be
 
 -- ---- each table
 
-pub tests_of : (t : OurTable) → AreTests (form t) (rowids_text t) (texts_text t)
+pub tests_of : (t : StoreTable) → AreTests (form t) (rowids_text t) (texts_text t)
 tests_of Meta = tests_by meta.name meta.columns meta.primary _ (our_rowids Meta) (asks_all settings.table settings.reading settings.all settings.all.is) (λ tree. refl) (λ db sound exists tree r present. all_cells 2 r)
 tests_of Object = tests_by object.name object.columns object.primary _ (our_rowids Object) (asks_all objects.table listing.listing listing.all listing.all.is) (λ tree. refl)
     (λ db sound exists tree r present. (all_columns r (blob_readable (column r 2) (and_so _ _ (and_so _ _ (and_so _ _ (and_so _ _ (objects_typed db sound exists r present)).0).0).0).1), shown_columns r))

@@ -109,7 +109,7 @@ module _ {D : Type 0} {g : disk.Ghosts D} where
   -- `sqlite` opened it over files which held this, and it is as it was
   pub record IsAsOpened (held : Image) (was now : Held (FileStore D g)) : Type 0 where
     pub opened : IsOpenedOver held was
-    pub alone : now.in_transaction ≡ false
+    pub idle : now.in_transaction ≡ false
     pub same : HasCleanDisk (file_state now) → KeepsShown (file_state was) (file_state now)
     pub survives : Survives (file_state was) (file_state now) (λ _. ⊥)
 

@@ -5,11 +5,11 @@ use Rattle.tables_schema.specs.OurTables.{form}
 use Rattle.tables_sql.specs.Contents.{rows_named}
 use Rattle.tables_sql.specs.Texts.{AreReadableRows}
 use Rattle.tables_sql.specs.Calls.{IsKeyed}
-use Rattle.tables_schema.specs.declared.our_table.OurTable.{OurTable}
-use Rattle.tables_schema.specs.declared.our_table.OurTable.TheVariants.{Meta, Object, Refs, Outs, Permanent, UserRoot, Profile, Generation, Runtime, Piece, TempRoot}
+use Rattle.tables_schema.specs.declared.our_table.StoreTable.{StoreTable}
+use Rattle.tables_schema.specs.declared.our_table.StoreTable.TheVariants.{Meta, Object, Refs, Outs, Permanent, UserRoot, Profile, Generation, Runtime, Piece, TempRoot}
 
 -- the query for the rowid of each row
-abbrev pub rowids_text : OurTable → List ℕ
+abbrev pub rowids_text : StoreTable → List ℕ
 rowids_text Meta = codes "SELECT rowid FROM meta ORDER BY word"
 rowids_text Object = codes "SELECT rowid FROM object ORDER BY base"
 rowids_text Refs = codes "SELECT rowid FROM refs ORDER BY base, target"
@@ -23,7 +23,7 @@ rowids_text Piece = codes "SELECT rowid FROM piece ORDER BY base, num"
 rowids_text TempRoot = codes "SELECT rowid FROM temp_root ORDER BY owner, session, target"
 
 -- the query for each text of each row
-abbrev pub texts_text : OurTable → List ℕ
+abbrev pub texts_text : StoreTable → List ℕ
 texts_text Meta = codes "SELECT word, val FROM meta ORDER BY word"
 texts_text Object = codes "SELECT base, hash, deriver, ca FROM object ORDER BY base"
 texts_text Refs = codes "SELECT base, target FROM refs ORDER BY base, target"
@@ -37,9 +37,9 @@ texts_text Piece = codes "SELECT base, num FROM piece ORDER BY base, num"
 texts_text TempRoot = codes "SELECT owner, session, target FROM temp_root ORDER BY owner, session, target"
 
 -- each of its rows has a rowid of its own, an integer
-abbrev pub HasOwnRowids : Database → OurTable → Type 0
+abbrev pub HasOwnRowids : Database → StoreTable → Type 0
 HasOwnRowids db t = IsKeyed (rows_named db (form t).name)
 
 -- each of its texts is UTF-8
-abbrev pub HasReadableTexts : Database → OurTable → Type 0
+abbrev pub HasReadableTexts : Database → StoreTable → Type 0
 HasReadableTexts db t = AreReadableRows (form t) (rows_named db (form t).name)

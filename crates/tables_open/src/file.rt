@@ -67,8 +67,8 @@ fn opening_failure(error: Error) -> Option<Failure>
 /// Opens a connection: finds what its database has of the store's tables. Nothing changes, and where it can't be read, the connection is
 /// returned with the failure.
 pub fn inspect<S: Alter>(alloc: Global, mut conn: Connection<S>) -> Result<Opened<S>, Unreadable<S>>
-    requires alone { conn.in_transaction ≡ false }
-    ensures alone { MatchResult result (λ it. it.conn.in_transaction ≡ false) (λ e. e.conn.in_transaction ≡ false) }
+    requires idle { conn.in_transaction ≡ false }
+    ensures idle { MatchResult result (λ it. it.conn.in_transaction ≡ false) (λ e. e.conn.in_transaction ≡ false) }
     ensures found { IfOk result
         (λ it. HasCleanDisk (state S.Store it.conn) → IsFound it.found (state S.Store it.conn)) }
     ensures unchanged { IfOk result
@@ -98,7 +98,7 @@ pub fn open<S: Start>(
 ) -> Result<Opened<FileStore<FileFrom<S>>>, Unopened<FileStore<FileFrom<S>>, FileFrom<S>>>
     ensures memory { path.now ≡ codes ":memory:"
         → IsErrAnd result (λ e. (left : _) × (e ≡ Unopened.Refused None left)) }
-    ensures alone { IfOk result (λ it. it.conn.in_transaction ≡ false) }
+    ensures idle { IfOk result (λ it. it.conn.in_transaction ≡ false) }
     ensures found { IfOk result (λ it. HasCleanDisk (file_state it.conn) → IsFound it.found (file_state it.conn)) }
     ensures opened { IfOk result (λ it. (was : _) × IsAsOpened (image_at S.Start) was it.conn) }
     ensures held { IfOk result

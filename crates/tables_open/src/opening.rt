@@ -1,15 +1,14 @@
 //! Opening a connection: by which schema its database has the store's tables, and that their rows are distinct and their texts read.
 
 ghost use Rattle.std.specs.Prelude.{◌≡◌, ◌≢◌, ◌↔◌, false, IsTrue, IfOk, IfErr, OnOk};
-ghost use Rattle.sqlite.specs.Effect.{IsDatabase};
-ghost use Rattle.sqlite.specs.State.{HasCleanDisk, IsLive, IsUnchanged, Survives};
+ghost use Rattle.sqlite.specs.State.{HasCleanDisk, IsLive, IsUnchanged};
 ghost use Rattle.sqlite.specs.Held.{state};
 ghost use Rattle.tables_schema.specs.Finding.{HasNone, HasFirst, HasSecond, HasThird};
-ghost use Rattle.tables_sql.specs.Calls.{KeepsShown};
 ghost use Rattle.tables_open.specs.Opened.{IsFound, IsRecognised, FailsToOpen};
 ghost use Rattle.tables_sql.specs.Failures.{FailsToTest};
 ghost use Rattle.tables_schema.specs.declared.recognising.Recognised.TheVariants.{Nothing, Tables};
 ghost use Rattle.tables_schema.specs.declared.schema.Schema.TheVariants.{V1, V2, V3};
+ghost use Rattle.tables_open.specs.Frames.{LeavesShown, MayTest};
 
 use crate::testing;
 use sqlite::{Alter, Connection};
@@ -26,22 +25,15 @@ fn inspect_tables<S: Alter>(
     conn: &mut Connection<S>,
     schema: Schema,
 ) -> Result<Recognised, Failure>
-    requires alone { conn.old.in_transaction ≡ false }
-    requires settled { HasCleanDisk (state S.Store conn.old) → IsTrue (state S.Store conn.old).is_open
-        → (state S.Store conn.old).now ≡ (state S.Store conn.old).committed }
-    requires sound { HasCleanDisk (state S.Store conn.old) → IsTrue (state S.Store conn.old).is_open
-        → IsDatabase (state S.Store conn.old).now }
+    requires frame { MayTest S.Store conn.old }
     requires recognised { IsRecognised (Tables schema) (state S.Store conn.old).now.schema }
-    ensures alone { conn.new.in_transaction ≡ false }
+    ensures frame { LeavesShown S.Store conn.old conn.new }
     ensures unchanged { HasCleanDisk (state S.Store conn.new)
         → OnOk result (IsUnchanged (state S.Store conn.old) (state S.Store conn.new)) }
     ensures found { HasCleanDisk (state S.Store conn.new) → IfOk result (λ r. IsFound r (state S.Store conn.new)) }
     ensures some { IfOk result (λ r. r ≢ Nothing) }
     ensures cause { HasCleanDisk (state S.Store conn.new)
         → IfErr result (FailsToOpen (state S.Store conn.old) (state S.Store conn.new)) }
-    ensures same { HasCleanDisk (state S.Store conn.new)
-        → KeepsShown (state S.Store conn.old) (state S.Store conn.new) }
-    ensures survives { Survives (state S.Store conn.old) (state S.Store conn.new) (λ _. ⊥) }
 {
     if testing::all(alloc, conn, schema_tables(schema))? {
         Ok(Recognised::Tables(schema))
@@ -52,17 +44,14 @@ fn inspect_tables<S: Alter>(
 
 /// Succeeds only if no fault has shut the connection. Nothing changes.
 fn probe<S: Alter>(conn: &mut Connection<S>) -> Result<(), Failure>
-    requires alone { conn.old.in_transaction ≡ false }
+    requires idle { conn.old.in_transaction ≡ false }
     requires settled { HasCleanDisk (state S.Store conn.old) → IsTrue (state S.Store conn.old).is_open
         → (state S.Store conn.old).now ≡ (state S.Store conn.old).committed }
-    ensures alone { conn.new.in_transaction ≡ false }
+    ensures frame { LeavesShown S.Store conn.old conn.new }
     ensures unchanged { HasCleanDisk (state S.Store conn.new)
         → OnOk result (IsUnchanged (state S.Store conn.old) (state S.Store conn.new)) }
     ensures cause { HasCleanDisk (state S.Store conn.new)
         → IfErr result (FailsToTest (state S.Store conn.old) (state S.Store conn.new) ⊥) }
-    ensures same { HasCleanDisk (state S.Store conn.new)
-        → KeepsShown (state S.Store conn.old) (state S.Store conn.new) }
-    ensures survives { Survives (state S.Store conn.old) (state S.Store conn.new) (λ _. ⊥) }
 {
     conn.query_all("SELECT 1", &[])?;
     Ok(())
@@ -83,17 +72,14 @@ pub fn recognise<S: Alter>(conn: &Connection<S>) -> Recognised
 /// is UTF-8. Then the connection is ready for transactions. Nothing changes. It fails when it runs out of memory, for a fault of the disk, where
 /// an earlier one has shut the connection, where a limit on steps stops it, and if two rows of a store's table share a rowid or a rowid is no integer.
 pub fn open<S: Alter>(alloc: Global, conn: &mut Connection<S>) -> Result<Recognised, Failure>
-    requires alone { conn.old.in_transaction ≡ false }
-    ensures alone { conn.new.in_transaction ≡ false }
+    requires idle { conn.old.in_transaction ≡ false }
+    ensures frame { LeavesShown S.Store conn.old conn.new }
     ensures unchanged { HasCleanDisk (state S.Store conn.new)
         → OnOk result (IsUnchanged (state S.Store conn.old) (state S.Store conn.new)) }
     ensures found { HasCleanDisk (state S.Store conn.new) → IfOk result (λ r. IsFound r (state S.Store conn.new)) }
     ensures nothing { IfOk result (λ r. r ≡ Nothing ↔ HasNone (state S.Store conn.old).now.schema) }
     ensures cause { HasCleanDisk (state S.Store conn.new)
         → IfErr result (FailsToOpen (state S.Store conn.old) (state S.Store conn.new)) }
-    ensures same { HasCleanDisk (state S.Store conn.new)
-        → KeepsShown (state S.Store conn.old) (state S.Store conn.new) }
-    ensures survives { Survives (state S.Store conn.old) (state S.Store conn.new) (λ _. ⊥) }
 {
     // Outside a transaction, what is shown is what the last commit left.
     let settled = conn.is_autocommit();

@@ -6,7 +6,7 @@
 //! that is no better off with some more places, since whoever goes through all pages in turn finds none of them again.
 
 ghost use Rattle.std.specs.Prelude.{◌≡◌, ◌≤◌, ℕ, IfOk, IfErr};
-ghost use Rattle.tables_open.specs.Pages.{kept_pages};
+ghost use Rattle.tables_open.specs.Pages.{cached_pages};
 
 use crate::measuring::{Measured, measure};
 use sqlite::{Error, ErrorCode, Options};
@@ -32,9 +32,9 @@ const CHECKPOINT_FRAMES: usize = 1000;
 
 /// How many pages of a database are kept: all of them where that is within the bounds. After a large transaction its log has
 /// more than its file has.
-fn kept_pages(found: &Measured) -> usize
+fn cached_pages(found: &Measured) -> usize
     requires { 512 ≤ found.now.page }
-    ensures { result ≡ kept_pages found.now.len found.now.logged found.now.page }
+    ensures { result ≡ cached_pages found.now.len found.now.logged found.now.page }
 {
     let pages = (found.len / found.page).max(u64::from(found.logged)) + ROOM;
     let least = LEAST_BYTES / found.page;
@@ -54,7 +54,7 @@ fn kept_pages(found: &Measured) -> usize
 pub fn options(rt: &HostRuntime, path: &str) -> Result<Options, Error>
     ensures kept { IfOk result
         (λ it. (found : Measured) × (512 ≤ found.page) × (found.page ≤ 65536)
-        × (it.cache_pages ≡ kept_pages found.len found.logged found.page)) }
+        × (it.cache_pages ≡ cached_pages found.len found.logged found.page)) }
     ensures log { IfOk result (λ it. (it.spill_pages ≡ 1000) × (it.checkpoint_frames ≡ 1000)) }
     ensures cause { IfErr result (λ e. e ≡ Error.SqliteFailure ErrorCode.CannotOpen) }
 {
@@ -63,7 +63,7 @@ pub fn options(rt: &HostRuntime, path: &str) -> Result<Options, Error>
         Err(_) => return Err(Error::SqliteFailure(ErrorCode::CannotOpen)),
     };
     let mut options = Options::new(seed);
-    options.cache_pages = kept_pages(&measure(rt, path));
+    options.cache_pages = cached_pages(&measure(rt, path));
     options.spill_pages = SPILL_PAGES;
     options.checkpoint_frames = CHECKPOINT_FRAMES;
     Ok(options)

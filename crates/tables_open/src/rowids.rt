@@ -79,7 +79,7 @@ pub(crate) fn check<S: Alter>(
     text: &str,
 ) -> Result<(), Failure>
     requires { IsSelect text.now }
-    ensures alone { conn.old.in_transaction ≡ false → conn.new.in_transaction ≡ false }
+    ensures idle { conn.old.in_transaction ≡ false → conn.new.in_transaction ≡ false }
     ensures shown { HasCleanDisk (state S.Store conn.new)
         → OnOk result ((rows : List Values)
         × IsAnswered text.now [] (state S.Store conn.old) (state S.Store conn.new) rows × ShowIds rows) }

@@ -60,7 +60,7 @@ impl Sink for Texts {
 /// Whether each text that the query shows is UTF-8.
 pub(crate) fn check<S: Alter>(conn: &mut Connection<S>, text: &str) -> Result<bool, Failure>
     requires { IsSelect text.now }
-    ensures alone { conn.old.in_transaction ≡ false → conn.new.in_transaction ≡ false }
+    ensures idle { conn.old.in_transaction ≡ false → conn.new.in_transaction ≡ false }
     ensures shown { HasCleanDisk (state S.Store conn.new)
         → IfOk result
         (λ all. (rows : List Values) × IsAnswered text.now [] (state S.Store conn.old) (state S.Store conn.new) rows

@@ -16,8 +16,8 @@ module _ (es : List ((String Global × String Global) × Profile)) (owned : Pair
   abbrev at : Option Profile
   at = lookup (λ k. eq_by_cmp pair_cmp owned (pair_bytes k)) es
 
-  pub profile_there : (o : Option Profile) → at ≡ o → finite.contains_key (seen_map pair_cmp pair_bytes profile_view es) owned ≡ is_some o
-  profile_there o is = has_seen pair_cmp pair_bytes profile_view pair_total pair_antisymmetric es owned ∙ ap is_some is
+  pub profile_present : (o : Option Profile) → at ≡ o → finite.contains_key (seen_map pair_cmp pair_bytes profile_view es) owned ≡ is_some o
+  profile_present o is = has_seen pair_cmp pair_bytes profile_view pair_total pair_antisymmetric es owned ∙ ap is_some is
 
   pub generation_put : (was now : Profile) (n : ℕ) (t : Path) → at ≡ Some was → profile_view now ≡ with_number n t (profile_view was)
       → seen_map pair_cmp pair_bytes profile_view (set_value (λ k. eq_by_cmp pair_cmp owned (pair_bytes k)) es now) ≡ with_generation owned n t (seen_map pair_cmp pair_bytes profile_view es)

@@ -21,9 +21,9 @@ use Rattle.tables_outline.proofs.Puts.{tied_is}
 use Rattle.tables_outline.proofs.Trees.{get_seen, keys_seen}
 use Rattle.tables_outline.proofs.Written.{insert_same, written}
 
-is_there : (found : Option Path) (t : Path) → is_path found t ≡ true → found ≡ Some t
-is_there None t h = absurd (false≢true h)
-is_there (Some q) t h = ap Some (tied_is bytes_antisymmetric q t h)
+is_present : (found : Option Path) (t : Path) → is_path found t ≡ true → found ≡ Some t
+is_present None t h = absurd (false≢true h)
+is_present (Some q) t h = ap Some (tied_is bytes_antisymmetric q t h)
 
 -- to set a path is to put it at its number
 pub set_is_put : (p : Profile) (t : Path) → put_at p (number_for p t) t ≡ set_to p t
@@ -31,7 +31,7 @@ set_is_put p t = by (is_highest p t) refl
   where
     by : (b : Bool) → is_highest p t ≡ b
         → put_at p (if b then highest p else highest p + 1) t ≡ (if b then switched p (highest p) else record { generations = finite.insert p.generations (highest p + 1) t; current = highest p + 1 })
-    by true h = ap (λ g. record { generations = g; current = highest p }) (insert_same nat_cmp_total nat_antisymmetric p.generations (highest p) t (is_there (finite.get p.generations (highest p)) t h))
+    by true h = ap (λ g. record { generations = g; current = highest p }) (insert_same nat_cmp_total nat_antisymmetric p.generations (highest p) t (is_present (finite.get p.generations (highest p)) t h))
     by false h = refl
 
 -- the numbers of a profile in memory
@@ -44,33 +44,33 @@ generation_at es n = get_seen nat_cmp (λ n. n) (λ (t : Path). t) nat_cmp_total
 
 -- ---- the profiles of an outline
 
-abbrev Kept : Type 0
-Kept = List ((String Global × String Global) × InMemory)
+abbrev ProfileList : Type 0
+ProfileList = List ((String Global × String Global) × InMemory)
 
-abbrev pub find_profile : Kept → Pair → Option InMemory
+abbrev pub find_profile : ProfileList → Pair → Option InMemory
 find_profile es q = lookup (λ k. eq_by_cmp pair_cmp q (pair_bytes k)) es
 
-abbrev pub profiles_seen : Kept → finite.FinMap pair_cmp Profile
+abbrev pub profiles_seen : ProfileList → finite.FinMap pair_cmp Profile
 profiles_seen es = seen_map pair_cmp pair_bytes profile_view es
 
-pub profile_found : (es : Kept) (q : Pair) (p : InMemory) → Some p ≡ find_profile es q → finite.get (profiles_seen es) q ≡ Some (profile_view p)
+pub profile_found : (es : ProfileList) (q : Pair) (p : InMemory) → Some p ≡ find_profile es q → finite.get (profiles_seen es) q ≡ Some (profile_view p)
 profile_found es q p found = get_seen pair_cmp pair_bytes profile_view pair_total pair_antisymmetric es q ∙ sym (ap (option_map profile_view) found)
 
-pub profile_is : (es : Kept) (q : Pair) (p : InMemory) → Some p ≡ find_profile es q → profile_view p ≡ profile_or_new (finite.get (profiles_seen es) q)
+pub profile_is : (es : ProfileList) (q : Pair) (p : InMemory) → Some p ≡ find_profile es q → profile_view p ≡ profile_or_new (finite.get (profiles_seen es) q)
 profile_is es q p found = sym (ap profile_or_new (profile_found es q p found))
 
-pub profile_missing : (es : Kept) (q : Pair) → None ≡ find_profile es q → is_some (finite.get (profiles_seen es) q) ≡ true → ⊥
+pub profile_missing : (es : ProfileList) (q : Pair) → None ≡ find_profile es q → is_some (finite.get (profiles_seen es) q) ≡ true → ⊥
 profile_missing es q none present =
     false≢true (ap (λ o. is_some (option_map profile_view o)) none ∙ sym (ap is_some (get_seen pair_cmp pair_bytes profile_view pair_total pair_antisymmetric es q)) ∙ present)
 
 -- and it has no generation
-pub generation_missing : (es : Kept) (q : Pair) (n : ℕ) → None ≡ find_profile es q → has_generation (profile_or_new (finite.get (profiles_seen es) q)) n ≡ true → ⊥
+pub generation_missing : (es : ProfileList) (q : Pair) (n : ℕ) → None ≡ find_profile es q → has_generation (profile_or_new (finite.get (profiles_seen es) q)) n ≡ true → ⊥
 generation_missing es q n none present =
     false≢true (sym (ap is_some (finite.get-empty nat_cmp n)) ∙ ap (λ o. has_generation (profile_or_new (option_map profile_view o)) n) none
     ∙ sym (ap (λ o. has_generation (profile_or_new o) n) (get_seen pair_cmp pair_bytes profile_view pair_total pair_antisymmetric es q)) ∙ present)
 
 -- a profile is written at a key that is there
-pub profile_written : (es new : Kept) (q : Pair) (p x : InMemory) (v : Profile) → Some p ≡ find_profile es q → new ≡ set_value (λ k. eq_by_cmp pair_cmp q (pair_bytes k)) es x → profile_view x ≡ v
+pub profile_written : (es new : ProfileList) (q : Pair) (p x : InMemory) (v : Profile) → Some p ≡ find_profile es q → new ≡ set_value (λ k. eq_by_cmp pair_cmp q (pair_bytes k)) es x → profile_view x ≡ v
     → profiles_seen new ≡ finite.insert (profiles_seen es) q v
 profile_written es new q p x v found is value =
     ap profiles_seen is ∙ written pair_cmp pair_bytes profile_view pair_total pair_antisymmetric es q x (sym (ap is_some found)) ∙ ap (finite.insert (profiles_seen es) q) value

@@ -30,8 +30,8 @@ module _ {K X Y : Type 0} {R : K → K → Ordering} (o : IsTotalOrder R) (alike
       some None = refl
       some (Some x) = refl
 
-  pub told_insert : (m : finite.FinMap R X) (k : K) (x : X) → reported (finite.insert m k x) ≡ finite.insert (reported m) k (f k x)
-  told_insert m k x = finite.same_map o alike _ _ (λ q.
+  pub reported_insert : (m : finite.FinMap R X) (k : K) (x : X) → reported (finite.insert m k x) ≡ finite.insert (reported m) k (f k x)
+  reported_insert m k x = finite.same_map o alike _ _ (λ q.
       get-reported (finite.insert m k x) q ∙ ap (option_map (f q)) (finite.get-insert o m k x q) ∙ by q (eq_by_cmp R q k) refl (finite.get m q)
       ∙ sym (finite.get-insert o (reported m) k (f k x) q ∙ ap (cond (eq_by_cmp R q k) (Some (f k x))) (get-reported m q)))
     where

@@ -18,7 +18,7 @@ use Rattle.tables_outline.specs.Temporary.{unkept}
 use Rattle.tables_outline.proofs.Orders.{temporary_total, temporary_antisymmetric}
 use Rattle.tables_outline.proofs.Ordered.{mapped_length}
 use Rattle.tables_outline.proofs.Puts.{tied_is, get-kept, unput_put}
-use Rattle.tables_outline.proofs.SetTrees.{with_unit, key_inserted, set_keys, then_assoc, Kept}
+use Rattle.tables_outline.proofs.SetTrees.{with_unit, key_inserted, set_keys, then_assoc, SessionEntry}
 
 module _ {K L : Type 0} (R : L → L → Ordering) (key : K → L) (o : IsTotalOrder R) (same : finite.IsAntisymmetric R) where
   find-any : (q : L) (keys : List K) → is_some (find_entry R q (map with_unit (map key keys))) ≡ list_any (λ k. eq_by_cmp R q (key k)) keys
@@ -96,24 +96,24 @@ module _ {K L : Type 0} (R : L → L → Ordering) (key : K → L) (o : IsTotalO
 -- ---- what sessions keep
 
 -- the order of tuples, as comparisons of them give it
-abbrev pub tuple_cmp : Kept → Kept → Ordering
+abbrev pub tuple_cmp : SessionEntry → SessionEntry → Ordering
 tuple_cmp a b = ordering_then (ordering_then (bytes_cmp (string_bytes a.0) (string_bytes b.0)) (nat_cmp a.1 b.1)) (bytes_cmp a.2 b.2)
 
-pub tuples_alike : tuple_cmp ≡ (λ (a b : Kept). temporary_cmp (temporary_bytes a) (temporary_bytes b))
+pub tuples_alike : tuple_cmp ≡ (λ (a b : SessionEntry). temporary_cmp (temporary_bytes a) (temporary_bytes b))
 tuples_alike = λ i a b. then_assoc (bytes_cmp (string_bytes a.0) (string_bytes b.0)) (nat_cmp a.1 b.1) (bytes_cmp a.2 b.2) i
 
-pub has_kept : (keys : List Kept) (q : Kept) → list_any (λ k. is_eq (tuple_cmp q k)) keys ≡ finite.contains_key (seen_set temporary_cmp temporary_bytes keys) (temporary_bytes q)
+pub has_kept : (keys : List SessionEntry) (q : SessionEntry) → list_any (λ k. is_eq (tuple_cmp q k)) keys ≡ finite.contains_key (seen_set temporary_cmp temporary_bytes keys) (temporary_bytes q)
 has_kept keys q = (λ i. list_any (λ k. is_eq (tuples_alike i q k)) keys) ∙ sym (has_key temporary_cmp temporary_bytes temporary_total temporary_antisymmetric keys (temporary_bytes q))
 
-pub put_kept : (keys : List Kept) (k : Kept) → seen_set temporary_cmp temporary_bytes (insert_key tuple_cmp keys k) ≡ finite.insert (seen_set temporary_cmp temporary_bytes keys) (temporary_bytes k) tt
+pub put_kept : (keys : List SessionEntry) (k : SessionEntry) → seen_set temporary_cmp temporary_bytes (insert_key tuple_cmp keys k) ≡ finite.insert (seen_set temporary_cmp temporary_bytes keys) (temporary_bytes k) tt
 put_kept keys k =
     (λ i. seen_set temporary_cmp temporary_bytes (insert_key (tuples_alike i) keys k))
     ∙ key_inserted temporary_cmp temporary_bytes temporary_total temporary_antisymmetric keys k
 
-pub drop_kept : (keys : List Kept) (q : Kept) → list_any (λ k. is_eq (tuple_cmp q k)) (remove_key (λ k. is_eq (tuple_cmp q k)) keys) ≡ false
+pub drop_kept : (keys : List SessionEntry) (q : SessionEntry) → list_any (λ k. is_eq (tuple_cmp q k)) (remove_key (λ k. is_eq (tuple_cmp q k)) keys) ≡ false
     → seen_set temporary_cmp temporary_bytes (remove_key (λ k. is_eq (tuple_cmp q k)) keys) ≡ finite.remove (seen_set temporary_cmp temporary_bytes keys) (temporary_bytes q)
 drop_kept keys q =
-    subst (λ (R : Kept → Kept → Ordering). list_any (λ k. is_eq (R q k)) (remove_key (λ k. is_eq (R q k)) keys) ≡ false
+    subst (λ (R : SessionEntry → SessionEntry → Ordering). list_any (λ k. is_eq (R q k)) (remove_key (λ k. is_eq (R q k)) keys) ≡ false
     → seen_set temporary_cmp temporary_bytes (remove_key (λ k. is_eq (R q k)) keys) ≡ finite.remove (seen_set temporary_cmp temporary_bytes keys) (temporary_bytes q)) (sym tuples_alike)
     (key_removed temporary_cmp temporary_bytes temporary_total temporary_antisymmetric keys (temporary_bytes q))
 

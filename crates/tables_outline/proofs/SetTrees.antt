@@ -73,13 +73,13 @@ then_assoc Less b c = refl
 then_assoc Equal b c = refl
 then_assoc Greater b c = refl
 
-abbrev pub Kept : Type 0
-Kept = String Global × ℕ × List ℕ
+abbrev pub SessionEntry : Type 0
+SessionEntry = String Global × ℕ × List ℕ
 
 -- the order of tuples is that of what they are seen as
-pub temporary_sorted : (keys : List Kept) → IsStrictlySortedBy (λ a b. ordering_then (ordering_then (bytes_cmp (string_bytes a.0) (string_bytes b.0)) (nat_cmp a.1 b.1)) (bytes_cmp a.2 b.2)) keys
-    → IsStrictlySortedBy (λ (a b : Kept). temporary_cmp (temporary_bytes a) (temporary_bytes b)) keys
+pub temporary_sorted : (keys : List SessionEntry) → IsStrictlySortedBy (λ a b. ordering_then (ordering_then (bytes_cmp (string_bytes a.0) (string_bytes b.0)) (nat_cmp a.1 b.1)) (bytes_cmp a.2 b.2)) keys
+    → IsStrictlySortedBy (λ (a b : SessionEntry). temporary_cmp (temporary_bytes a) (temporary_bytes b)) keys
 temporary_sorted keys h =
-    let same : (λ (a b : Kept). ordering_then (ordering_then (bytes_cmp (string_bytes a.0) (string_bytes b.0)) (nat_cmp a.1 b.1)) (bytes_cmp a.2 b.2)) ≡ (λ (a b : Kept). temporary_cmp (temporary_bytes a) (temporary_bytes b)) =
+    let same : (λ (a b : SessionEntry). ordering_then (ordering_then (bytes_cmp (string_bytes a.0) (string_bytes b.0)) (nat_cmp a.1 b.1)) (bytes_cmp a.2 b.2)) ≡ (λ (a b : SessionEntry). temporary_cmp (temporary_bytes a) (temporary_bytes b)) =
     λ i a b. then_assoc (bytes_cmp (string_bytes a.0) (string_bytes b.0)) (nat_cmp a.1 b.1) (bytes_cmp a.2 b.2) i in
-    subst (λ (R : Kept → Kept → Ordering). IsStrictlySortedBy R keys) same h
+    subst (λ (R : SessionEntry → SessionEntry → Ordering). IsStrictlySortedBy R keys) same h

@@ -75,7 +75,7 @@ without_added o owned n None = finite.remove o.profiles owned
 without_added o owned n (Some current) =
     finite.insert o.profiles owned (switched (without_generation (profile_of o owned) n) current)
 
--- ---- their codes
+-- ---- codes of the parts of an outline
 
 abbrev pub bytes_code : Coded (List ℕ)
 bytes_code = coded_list coded_ℕ

@@ -1,11 +1,11 @@
 //! The outline of the tables, which is kept in memory: everything but the bytes of archives.
 #![tactic(auto)]
 
+mod borrowed_roots;
 mod filling;
-mod kept_profiles;
-mod lent_roots;
 mod objects;
 mod outline;
+mod profile_changes;
 mod profiles;
 mod roots;
 mod summary;

@@ -6,11 +6,9 @@ ghost use Rattle.model.specs.Profiles.{has_generation, highest, is_highest, last
 ghost use Rattle.tables_outline.specs.View.{profile_view};
 
 use paths::StorePath;
+use paths::numbers::MAX_GENERATION;
 use std::alloc::AllocError;
 use std::collections::BTreeMap;
-
-/// The greatest number of a generation.
-const LAST_NUMBER: u32 = 9999;
 
 /// A profile: the targets of its generations by number, and the number of the current one.
 #[derive(Drop)]
@@ -61,13 +59,13 @@ impl Profile {
     {
         let highest = self.highest();
         if self.is_highest(target) {
-            return if highest <= LAST_NUMBER {
+            return if highest <= MAX_GENERATION {
                 Some(highest)
             } else {
                 None
             };
         }
-        if highest < LAST_NUMBER {
+        if highest < MAX_GENERATION {
             Some(highest + 1)
         } else {
             None

@@ -3,7 +3,8 @@
 ghost use Rattle.std.specs.Prelude.{◌≡◌, IfOk, IsTrue, OnErr, OnOk};
 ghost use Rattle.std.specs.FinMap as finite;
 ghost use Rattle.tables_outline.specs.Maps.{temporary_bytes};
-ghost use Rattle.tables_outline.specs.Temporary.{is_of_session, of_session, unkept, without_session};
+ghost use Rattle.model.specs.Effects.{is_of_session};
+ghost use Rattle.tables_outline.specs.Temporary.{entries_of_session, unkept, entries_without_session};
 
 use crate::outline::Outline;
 use paths::StorePath;
@@ -46,7 +47,7 @@ impl Outline {
 
     /// How many paths a session of an owner keeps.
     pub fn session_len(&self, owner: &str, session: u32) -> usize
-        ensures { result ≡ finite.len (of_session owner.now session self.now.temporary) }
+        ensures { result ≡ finite.len (entries_of_session owner.now session self.now.temporary) }
     {
         // Owners, sessions and paths rise.
         let _count = self.temporary.len();
@@ -58,8 +59,9 @@ impl Outline {
 
     /// Drops all that a session of an owner keeps, and answers how many paths that was. It takes no memory.
     pub fn end_session(&mut self, owner: &str, session: u32) -> usize
-        ensures done { self.new ≡ record self.old { temporary = without_session owner.now session self.old.temporary } }
-        ensures count { result ≡ finite.len (of_session owner.now session self.old.temporary) }
+        ensures done { self.new
+            ≡ record self.old { temporary = entries_without_session owner.now session self.old.temporary } }
+        ensures count { result ≡ finite.len (entries_of_session owner.now session self.old.temporary) }
     {
         let count = self.session_len(owner, session);
         self.temporary

@@ -14,20 +14,20 @@ use Rattle.tables_root_list.specs.Gaining.{has_tied, Gains}
 
 -- ---- truth values
 
-front_last : (a b r : Bool) → (a || (b || r)) ≡ ((b || r) || (a || false))
-front_last true true r = refl
-front_last true false true = refl
-front_last true false false = refl
-front_last false true r = refl
-front_last false false true = refl
-front_last false false false = refl
+prefix_last : (a b r : Bool) → (a || (b || r)) ≡ ((b || r) || (a || false))
+prefix_last true true r = refl
+prefix_last true false true = refl
+prefix_last true false false = refl
+prefix_last false true r = refl
+prefix_last false false true = refl
+prefix_last false false false = refl
 
-there_already : (a b r : Bool) → a ≡ b → (b || r) ≡ ((b || r) || (a || false))
-there_already true true r e = refl
-there_already true false r e = absurd cc
-there_already false true r e = refl
-there_already false false true e = refl
-there_already false false false e = refl
+present_already : (a b r : Bool) → a ≡ b → (b || r) ≡ ((b || r) || (a || false))
+present_already true true r e = refl
+present_already true false r e = absurd cc
+present_already false true r e = refl
+present_already false false true e = refl
+present_already false false false e = refl
 
 pub joined : (a b r : Bool) → (a || (b || r)) ≡ ((a || b) || r)
 joined true b r = refl
@@ -50,8 +50,8 @@ module _ {K L : Type 0} (R : L → L → Ordering) (key : K → L) (o : IsTotalO
       where
         by : (r : Ordering) → C k x ≡ r → has_tied R q (map key (insert_key C xs k)) ≡ (has_tied R q (map key xs) || (eq_by_cmp R q (key k) || false))
             → has_tied R q (map key (match_ordering r (k ∷ x ∷ xs) (x ∷ xs) (x ∷ insert_key C xs k))) ≡ ((eq_by_cmp R q (key x) || has_tied R q (map key xs)) || (eq_by_cmp R q (key k) || false))
-        by Less e later = front_last (eq_by_cmp R q (key k)) (eq_by_cmp R q (key x)) (has_tied R q (map key xs))
-        by Equal e later = there_already (eq_by_cmp R q (key k)) (eq_by_cmp R q (key x)) (has_tied R q (map key xs)) (tied_by k x q e)
+        by Less e later = prefix_last (eq_by_cmp R q (key k)) (eq_by_cmp R q (key x)) (has_tied R q (map key xs))
+        by Equal e later = present_already (eq_by_cmp R q (key k)) (eq_by_cmp R q (key x)) (has_tied R q (map key xs)) (tied_by k x q e)
         by Greater e later = ap (λ b. eq_by_cmp R q (key x) || b) later ∙ joined (eq_by_cmp R q (key x)) (has_tied R q (map key xs)) (eq_by_cmp R q (key k) || false)
 
   -- a key is inserted: the set gains it

@@ -24,8 +24,8 @@ module _ (objects : Objects) (c : Contents) where
   )
 
   -- there is no table of temporary roots
-  pub all_lasting : (ok : Bool) → ok ≡ true → c.temp_roots ≡ finite.empty → Reported ok → ToldAll true
-  all_lasting ok passed none reported are = (
+  pub all_read : (ok : Bool) → ok ≡ true → c.temp_roots ≡ finite.empty → Reported ok → ToldAll true
+  all_read ok passed none reported are = (
     λ h. record { roots = (reported are).0 passed; sessions = no_session c none },
     λ all. sym passed ∙ (reported are).1 all.roots,
   )
@@ -37,6 +37,6 @@ module _ (objects : Objects) (c : Contents) where
     λ all. is ∙ (sessions_sound objects c are).1 all.sessions,
   )
 
-  pub sessions_told : (r : Result Bool Failure) (ok : Bool) → ok ≡ true → Reported ok → (y : Bool) → y ≡ are_temporary objects c → IfOk r (λ last. last ≡ y) → IfOk r ToldAll
-  sessions_told (Ok last) ok passed reported y same h = sessions_decide ok passed reported last (h ∙ same)
-  sessions_told (Err e) ok passed reported y same h = tt
+  pub sessions_reported : (r : Result Bool Failure) (ok : Bool) → ok ≡ true → Reported ok → (y : Bool) → y ≡ are_temporary objects c → IfOk r (λ last. last ≡ y) → IfOk r ToldAll
+  sessions_reported (Ok last) ok passed reported y same h = sessions_decide ok passed reported last (h ∙ same)
+  sessions_reported (Err e) ok passed reported y same h = tt

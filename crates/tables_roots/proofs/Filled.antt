@@ -21,7 +21,7 @@ use Rattle.tables_outline.specs.Outline.{OutlineValue}
 use Rattle.tables_outline.specs.Filling.{with_number, with_found, with_generation}
 use Rattle.tables_outline.proofs.Orders.{nat_antisymmetric, pair_total, pair_antisymmetric}
 use Rattle.tables_outline.proofs.Puts.{tied_is, option_same}
-use Rattle.tables_outline.proofs.Reported.{reported, told_insert, get-reported}
+use Rattle.tables_outline.proofs.Reported.{reported, reported_insert, get-reported}
 use Rattle.tables_roots.specs.Loaded.{all_pass, all_put, LoadAs, Objects, is_target, is_number, is_generation, bare, bare_profiles}
 use Rattle.tables_roots.proofs.PutAll.{all_put_again}
 use Rattle.tables_roots.proofs.EachEntry.{all_true, each_key}
@@ -35,19 +35,19 @@ bare_of e = (e.0, bare e.1)
 module _ {K X Y : Type 0} {R : K → K → Ordering} (o : IsTotalOrder R) (alike : finite.IsAntisymmetric R) (f : K → X → Y) where
   told_each : (es : List (K × X)) (m : finite.FinMap R X) → put_all (map (λ e. (e.0, f e.0 e.1)) es) (reported o alike f m) ≡ reported o alike f (put_all es m)
   told_each [] m = refl
-  told_each (e ∷ es) m = ap (put_all (map (λ d. (d.0, f d.0 d.1)) es)) (sym (told_insert o alike f m e.0 e.1)) ∙ told_each es (finite.insert m e.0 e.1)
+  told_each (e ∷ es) m = ap (put_all (map (λ d. (d.0, f d.0 d.1)) es)) (sym (reported_insert o alike f m e.0 e.1)) ∙ told_each es (finite.insert m e.0 e.1)
 
   told_none : reported o alike f finite.empty ≡ finite.empty
   told_none = finite.same_map o alike _ _ (λ q. get-reported o alike f finite.empty q ∙ ap (option_map (f q)) (finite.get-empty R q) ∙ sym (finite.get-empty R q))
 
   -- entries whose values are changed make the map with its values changed
-  pub told_again : (m : finite.FinMap R X) → put_all (map (λ e. (e.0, f e.0 e.1)) (finite.entries m)) finite.empty ≡ reported o alike f m
-  told_again m =
+  pub reported_again : (m : finite.FinMap R X) → put_all (map (λ e. (e.0, f e.0 e.1)) (finite.entries m)) finite.empty ≡ reported o alike f m
+  reported_again m =
       ap (put_all (map (λ e. (e.0, f e.0 e.1)) (finite.entries m))) (sym told_none) ∙ told_each (finite.entries m) finite.empty
       ∙ ap (reported o alike f) (all_put_again o alike m)
 
 pub bare_again : (m : finite.FinMap pair_cmp ℤ) → put_all (map bare_of (finite.entries m)) finite.empty ≡ bare_profiles m
-bare_again = told_again pair_total pair_antisymmetric (λ _ n. bare n)
+bare_again = reported_again pair_total pair_antisymmetric (λ _ n. bare n)
 
 -- ---- one generation
 
@@ -224,15 +224,15 @@ bare_has m q = ap is_some (get-reported pair_total pair_antisymmetric (λ _ n. b
     some None = refl
     some (Some n) = refl
 
-beside_bare : (objects : Objects) (m : finite.FinMap pair_cmp ℤ) (es : List (Triple × Path)) → list_all (is_generation objects (bare_profiles m)) es ≡ list_all (is_generation objects m) es
-beside_bare objects m [] = refl
-beside_bare objects m (e ∷ es) = ap₂ (λ a b. (is_number e.0.2 && (is_target objects e.1 && a)) && b) (bare_has m (e.0.0, e.0.1)) (beside_bare objects m es)
+next_to_bare : (objects : Objects) (m : finite.FinMap pair_cmp ℤ) (es : List (Triple × Path)) → list_all (is_generation objects (bare_profiles m)) es ≡ list_all (is_generation objects m) es
+next_to_bare objects m [] = refl
+next_to_bare objects m (e ∷ es) = ap₂ (λ a b. (is_number e.0.2 && (is_target objects e.1 && a)) && b) (bare_has m (e.0.0, e.0.1)) (next_to_bare objects m es)
 
 module _ (xs : List Generation) (o : OutlineValue) (c : Contents) (reads : map generation_in xs ≡ finite.entries c.generations) (profiles : o.profiles ≡ bare_profiles c.profiles) where
   generations_told : all_pass (λ r (p : OutlineValue). is_generation p.objects p.profiles (generation_in r)) put_generation xs o ≡ list_all (is_generation o.objects c.profiles) (finite.entries c.generations)
   generations_told =
       generation_pass xs o ∙ ap₂ (λ (m : finite.FinMap pair_cmp Profile) es. list_all (is_generation o.objects m) es) profiles reads
-      ∙ beside_bare o.objects c.profiles (finite.entries c.generations)
+      ∙ next_to_bare o.objects c.profiles (finite.entries c.generations)
 
   pub load_generations : LoadAs (λ r (p : OutlineValue). is_generation p.objects p.profiles (generation_in r)) put_generation xs o (list_all (is_generation o.objects c.profiles) (finite.entries c.generations)) (record o { profiles = (world_in c).profiles })
   load_generations = record {

@@ -7,8 +7,8 @@ use Rattle.std.specs.Cmp.{IsTotalOrder}
 use Rattle.std.specs.FinMap as finite
 use Rattle.std.specs.FinMap.Entries.{find as find_entry}
 use Rattle.std.proofs.lemmas.Bool.{false≢true}
-use Rattle.tables_sql.specs.Contents.{Contents, Kept, kept_cmp}
-use Rattle.tables_sql.proofs.Orders.{kept_total, kept_antisymmetric}
+use Rattle.tables_sql.specs.Contents.{Contents, SessionPath, session_path_cmp}
+use Rattle.tables_sql.proofs.Orders.{session_path_total, session_path_antisymmetric}
 use Rattle.paths.specs.Names.{is_plain_name}
 use Rattle.paths.specs.Root.{Set, set_of}
 use Rattle.model.specs.World.{Temporary, temporary_cmp}
@@ -23,7 +23,7 @@ use Rattle.tables_roots.proofs.EachEntry.{tested_entries}
 use Rattle.tables_roots.proofs.SoundRoots.{first_true, second_true, both_true, some_key, from_target, to_target}
 
 -- what a row makes a member of
-abbrev pub member : Kept × Unit {0} → Temporary × Unit {0}
+abbrev pub member : SessionPath × Unit {0} → Temporary × Unit {0}
 member e = (temporary_in e.0, tt)
 
 -- ---- members that are put one after another make the set of all
@@ -51,12 +51,12 @@ module _ {K : Type 0} {R : K → K → Ordering} (o : IsTotalOrder R) (alike : f
   members_put es = finite.same_map o alike _ _ (λ q.
       get-members es finite.empty q ∙ ap (either (find_entry R q es)) (finite.get-empty R q) ∙ or_none (find_entry R q es) ∙ sym (finite.get-from_entries o es q))
 
-members_of : (es : List (Kept × Unit {0})) → map member es ≡ map (λ (t : Temporary). let d : Temporary × Unit {0} = (t, tt) in d) (map temporary_in (map (λ (e : Kept × Unit {0}). e.0) es))
+members_of : (es : List (SessionPath × Unit {0})) → map member es ≡ map (λ (t : Temporary). let d : Temporary × Unit {0} = (t, tt) in d) (map temporary_in (map (λ (e : SessionPath × Unit {0}). e.0) es))
 members_of [] = refl
 members_of (e ∷ es) = ap (λ (l : List (Temporary × Unit {0})). (temporary_in e.0, tt) ∷ l) (members_of es)
 
 -- all rows make what the world has
-pub temporary_again : (m : Set kept_cmp) → put_all (map member (finite.entries m)) finite.empty ≡ set_of temporary_cmp (map temporary_in (finite.keys m))
+pub temporary_again : (m : Set session_path_cmp) → put_all (map member (finite.entries m)) finite.empty ≡ set_of temporary_cmp (map temporary_in (finite.keys m))
 temporary_again m =
     members_put temporary_total temporary_antisymmetric (map member (finite.entries m))
     ∙ ap (finite.from_entries {R = temporary_cmp}) (members_of (finite.entries m))
@@ -65,7 +65,7 @@ temporary_again m =
 pub none_kept : (c : Contents) → c.temp_roots ≡ finite.empty → (world_in c).temporary ≡ finite.empty
 none_kept c none =
     sym (temporary_again c.temp_roots)
-    ∙ ap (λ (es : List (Kept × Unit {0})). put_all {R = temporary_cmp} (map member es) finite.empty) (ap finite.entries none ∙ no_entries (Unit {0}) kept_cmp)
+    ∙ ap (λ (es : List (SessionPath × Unit {0})). put_all {R = temporary_cmp} (map member es) finite.empty) (ap finite.entries none ∙ no_entries (Unit {0}) session_path_cmp)
 
 -- ---- the tests
 
@@ -74,7 +74,7 @@ is_natural (pos k) h = (k, refl)
 is_natural (negsuc k) h = absurd (false≢true h)
 
 module _ (objects : Objects) (c : Contents) (are : AreObjects objects c) where
-  session_from : (k : Kept) → is_temporary_root objects (k, tt) ≡ true → IsSoundSession (rows_of c) k
+  session_from : (k : SessionPath) → is_temporary_root objects (k, tt) ≡ true → IsSoundSession (rows_of c) k
   session_from k h =
       let rest = second_true (is_plain_name k.0) _ h in
       let number = first_true (is_session_number k.1) _ rest in
@@ -87,19 +87,19 @@ module _ (objects : Objects) (c : Contents) (are : AreObjects objects c) where
         target = from_target objects c are k.2 (second_true (is_session_number k.1) _ rest);
       }
 
-  session_to : (k : Kept) → IsSoundSession (rows_of c) k → is_temporary_root objects (k, tt) ≡ true
+  session_to : (k : SessionPath) → IsSoundSession (rows_of c) k → is_temporary_root objects (k, tt) ≡ true
   session_to k s =
       both_true (is_plain_name k.0) _ s.owner
       (both_true (is_session_number k.1) _ (ap is_session_number s.is_number ∙ s.session) (to_target objects c are k.2 s.target))
 
-  pub sessions_sound : (are_temporary objects c ≡ true) ↔ ((k : Kept) → IsTrue (finite.contains_key c.temp_roots k) → IsSoundSession (rows_of c) k)
+  pub sessions_sound : (are_temporary objects c ≡ true) ↔ ((k : SessionPath) → IsTrue (finite.contains_key c.temp_roots k) → IsSoundSession (rows_of c) k)
   sessions_sound = (
     λ h k present.
         let x = some_key (finite.get c.temp_roots k) present in
-        session_from k ((tested_entries kept_total kept_antisymmetric c.temp_roots (is_temporary_root objects)).0 h k x.0 x.1),
-    λ sound. (tested_entries kept_total kept_antisymmetric c.temp_roots (is_temporary_root objects)).1 (λ k x e. session_to k (sound k (ap is_some e))),
+        session_from k ((tested_entries session_path_total session_path_antisymmetric c.temp_roots (is_temporary_root objects)).0 h k x.0 x.1),
+    λ sound. (tested_entries session_path_total session_path_antisymmetric c.temp_roots (is_temporary_root objects)).1 (λ k x e. session_to k (sound k (ap is_some e))),
   )
 
 -- none is unsound where there are no rows
-pub no_session : (c : Contents) → c.temp_roots ≡ finite.empty → (k : Kept) → IsTrue (finite.contains_key c.temp_roots k) → IsSoundSession (rows_of c) k
-no_session c none k present = absurd (no_key (Unit {0}) kept_cmp k (sym (ap (λ (m : Set kept_cmp). finite.contains_key m k) none) ∙ present))
+pub no_session : (c : Contents) → c.temp_roots ≡ finite.empty → (k : SessionPath) → IsTrue (finite.contains_key c.temp_roots k) → IsSoundSession (rows_of c) k
+no_session c none k present = absurd (no_key (Unit {0}) session_path_cmp k (sym (ap (λ (m : Set session_path_cmp). finite.contains_key m k) none) ∙ present))

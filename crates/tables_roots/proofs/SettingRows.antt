@@ -25,7 +25,7 @@ settings_listed schema dir =
 
 module _ (schema : Schema) (m : finite.FinMap bytes_cmp (List ℕ)) (xs : List (List ℕ × List ℕ)) (is : xs ≡ finite.entries m) where
   -- what the list is told of, the map is
-  pub settings_told : (o : Option (List ℕ)) → MatchOption o ((dir : List ℕ) → IsTrue (is_store_dir dir) → ¬ (xs ≡ two_settings schema dir)) (λ d. IsTrue (is_store_dir d) × (xs ≡ two_settings schema d))
+  pub settings_reported : (o : Option (List ℕ)) → MatchOption o ((dir : List ℕ) → IsTrue (is_store_dir dir) → ¬ (xs ≡ two_settings schema dir)) (λ d. IsTrue (is_store_dir d) × (xs ≡ two_settings schema d))
       → MatchOption o ((dir : List ℕ) → IsTrue (is_store_dir dir) → ¬ (m ≡ settings schema dir)) (λ d. IsTrue (is_store_dir d) × (m ≡ settings schema d))
-  settings_told None h = λ dir valid e. h dir valid (is ∙ ap finite.entries e ∙ settings_listed schema dir)
-  settings_told (Some d) h = (h.0, finite.same_entries_map m (settings schema d) (sym is ∙ h.1 ∙ sym (settings_listed schema d)))
+  settings_reported None h = λ dir valid e. h dir valid (is ∙ ap finite.entries e ∙ settings_listed schema dir)
+  settings_reported (Some d) h = (h.0, finite.same_entries_map m (settings schema d) (sym is ∙ h.1 ∙ sym (settings_listed schema d)))

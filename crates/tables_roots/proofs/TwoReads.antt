@@ -11,13 +11,13 @@ use Rattle.tables_roots.specs.Loaded.{Objects, are_fixed, are_moving, AreObjects
 use Rattle.tables_roots.proofs.SoundRoots.{roots_sound}
 
 -- the first passed, so the second decides
-pub told_next : (r : Result Bool Failure) (x y z : Bool) → x ≡ true → y ≡ z → IfOk r (λ ok. ok ≡ y) → IfOk r (λ ok. ok ≡ (x && z))
-told_next (Ok v) x y z first same h = h ∙ same ∙ sym (ap (λ b. b && z) first)
-told_next (Err e) x y z first same h = tt
+pub reported_next : (r : Result Bool Failure) (x y z : Bool) → x ≡ true → y ≡ z → IfOk r (λ ok. ok ≡ y) → IfOk r (λ ok. ok ≡ (x && z))
+reported_next (Ok v) x y z first same h = h ∙ same ∙ sym (ap (λ b. b && z) first)
+reported_next (Err e) x y z first same h = tt
 
-pub taken_next : (r : Result Bool Failure) (o x y : OutlineValue) → x ≡ y → IfOk r (λ ok. IsTrue ok → o ≡ x) → IfOk r (λ ok. IsTrue ok → o ≡ y)
-taken_next (Ok v) o x y same h = λ ok. h ok ∙ same
-taken_next (Err e) o x y same h = tt
+pub read_next : (r : Result Bool Failure) (o x y : OutlineValue) → x ≡ y → IfOk r (λ ok. IsTrue ok → o ≡ x) → IfOk r (λ ok. IsTrue ok → o ≡ y)
+read_next (Ok v) o x y same h = λ ok. h ok ∙ same
+read_next (Err e) o x y same h = tt
 
 -- ---- all roots
 
@@ -28,13 +28,13 @@ module _ (objects : Objects) (c : Contents) where
     λ sound. sym (ap (λ b. b && are_moving objects c) failed) ∙ (roots_sound objects c are).1 sound,
   )
 
-  pub roots_told : are_fixed objects c ≡ true → (ok : Bool) → ok ≡ are_moving objects c → AreObjects objects c → IsTrue ok ↔ AreSoundRoots (rows_of c)
-  roots_told passed ok is are =
+  pub roots_reported : are_fixed objects c ≡ true → (ok : Bool) → ok ≡ are_moving objects c → AreObjects objects c → IsTrue ok ↔ AreSoundRoots (rows_of c)
+  roots_reported passed ok is are =
       let all : ok ≡ (are_fixed objects c && are_moving objects c) = is ∙ sym (ap (λ b. b && are_moving objects c) passed) in (
         λ h. (roots_sound objects c are).0 (sym all ∙ h),
         λ sound. all ∙ (roots_sound objects c are).1 sound,
       )
 
-  pub roots_told_next : (r : Result Bool Failure) → are_fixed objects c ≡ true → (y : Bool) → y ≡ are_moving objects c → IfOk r (λ ok. ok ≡ y) → IfOk r (λ ok. AreObjects objects c → (IsTrue ok ↔ AreSoundRoots (rows_of c)))
-  roots_told_next (Ok v) passed y same h = roots_told passed v (h ∙ same)
-  roots_told_next (Err e) passed y same h = tt
+  pub roots_reported_next : (r : Result Bool Failure) → are_fixed objects c ≡ true → (y : Bool) → y ≡ are_moving objects c → IfOk r (λ ok. ok ≡ y) → IfOk r (λ ok. AreObjects objects c → (IsTrue ok ↔ AreSoundRoots (rows_of c)))
+  roots_reported_next (Ok v) passed y same h = roots_reported passed v (h ∙ same)
+  roots_reported_next (Err e) passed y same h = tt

@@ -2,7 +2,7 @@
 use Rattle.std.specs.Prelude.{◌≡◌, ◌&&◌, Bool, IsTrue, true, false, List, [], ◌∷◌, map, ℕ, nat_le, ℤ, pos, negsuc}
 use Rattle.std.specs.List.{list_all}
 use Rattle.std.specs.FinMap as finite
-use Rattle.tables_sql.specs.Contents.{Contents, Triple, Kept}
+use Rattle.tables_sql.specs.Contents.{Contents, Triple, SessionPath}
 use Rattle.paths.specs.Names.{is_plain_name}
 use Rattle.paths.specs.StorePath.{is_base_name}
 use Rattle.paths.specs.Root.{bytes_cmp, is_runtime_label, is_session}
@@ -59,7 +59,7 @@ is_session_number (pos n) = is_session n
 is_session_number (negsuc n) = false
 
 -- what a session keeps: its owner has a plain name, its number is one of a session, and the path is an object's
-abbrev pub is_temporary_root : Objects → Kept × Unit {0} → Bool
+abbrev pub is_temporary_root : Objects → SessionPath × Unit {0} → Bool
 is_temporary_root objects e = is_plain_name e.0.0 && (is_session_number e.0.1 && is_target objects e.0.2)
 
 -- ---- profiles
@@ -130,7 +130,7 @@ with_roots o c = record (with_explicit o c) { temporary = (world_in c).temporary
 -- the roots of the rows are sound, and so is what sessions keep
 pub record AreAllSound (c : Rows) : Type 0 where
   pub roots : AreSoundRoots c
-  pub sessions : (k : Kept) → IsTrue (finite.contains_key c.temp_roots k) → IsSoundSession c k
+  pub sessions : (k : SessionPath) → IsTrue (finite.contains_key c.temp_roots k) → IsSoundSession c k
 
 -- the objects are those of the rows, and have base names for paths
 pub record AreObjects (objects : Objects) (c : Contents) : Type 0 where

@@ -2,7 +2,6 @@
 #![tactic(auto)]
 
 mod generations;
-mod labels;
 mod numbers;
 mod permanent;
 pub mod profiles;

@@ -1,8 +1,8 @@
 //! Runtime roots.
 
-use crate::labels::is_runtime_label;
 use crate::table::RootTable;
 use crate::targets::target_of;
+use paths::labels::is_runtime_label;
 use sqlite::{Alter, Connection};
 use std::alloc::{AllocError, Global};
 use tables_outline::Outline;

@@ -5,7 +5,7 @@ ghost use Rattle.sqlite.specs.Effect.{Database};
 ghost use Rattle.sqlite.specs.State.{HasCleanDisk};
 ghost use Rattle.sqlite.specs.Held.{state};
 ghost use Rattle.tables_sql.specs.Contents.{Contents, contents_of};
-ghost use Rattle.tables_rows.specs.Frames.{MayRead, LeftAsItWas, Reads, FailsAlone, ReadsAlone};
+ghost use Rattle.tables_rows.specs.Frames.{MayRead, LeftAsItWas, Reads, FailsWithCause, ReadsAlone};
 ghost use Rattle.tables_outline.specs.Outline.{OutlineValue};
 ghost use Rattle.tables_roots.specs.Loaded.{Objects, all_pass, all_put, LoadAs};
 
@@ -42,7 +42,7 @@ pub trait RootTable: Sized + Drop {
         ensures frame { LeftAsItWas S.Store conn.old conn.new }
         ensures reads { Reads S.Store conn.old conn.new result (λ c rows. (o : OutlineValue) → fits o c
             → LoadAs passes put rows.items o (are_sound o.objects c) (with_rows o c)) }
-        ensures cause { FailsAlone S.Store conn.old conn.new result };
+        ensures cause { FailsWithCause S.Store conn.old conn.new result };
 
     /// Whether the row passes. If so, its root is put into the outline.
     fn take(self, alloc: Global, outline: &mut Outline) -> Result<bool, AllocError>

@@ -23,7 +23,7 @@ use Rattle.tables_sql.proofs.Statements.{Selects}
 use Rattle.tables_sql.proofs.Steps.{ready_after}
 use Rattle.tables_sql.proofs.WriteFailures.{removal_failed}
 use Rattle.tables_sql.proofs.Alike.{made, all_made}
-use Rattle.tables_sql.proofs.Description.{Description, Addition, Removal, Part, PartReading, Reading, Selection, form, adds, adds_not, removes, removes_not, selects, selects_not, never_amiss, told_as, with_all, keys_of}
+use Rattle.tables_sql.proofs.Description.{Description, Addition, Removal, Part, PartReading, Reading, Selection, form, adds, adds_not, removes, removes_not, selects, selects_not, never_amiss, reported_as, with_all, keys_of}
 
 pub early : {old new : State} → Survives old new (λ _. ⊥) → HasCleanDisk new → HasCleanDisk old
 early {old} {new} survives clean = omega (arith, survives.clean, clean)
@@ -60,14 +60,14 @@ module _ {K X Y T : Type 0} {d : Description K X} {p : Part d Y} {ShowsItem : Ro
   pub reads_all_parts : Selection d q text params (λ _. true) → Survives old new (λ _. ⊥) → WasReady old → WasOwn d old → HasCleanDisk new
       → (r : Result (Vec T Global) Failure) → Selects ShowsItem old new text params r → Rises d item r
       → IfOk r (λ all. IsUnchanged old new × (map item all.items ≡ map (made d.order p.of) (finite.entries (d.of (contents_of old.now)))))
-  reads_all_parts s survives ready own clean r got up = told_as r _ item item _ _ (λ ts is. is ∙ with_all d (d.of (contents_of old.now)) p.of) (reads_part s survives ready own clean r got up)
+  reads_all_parts s survives ready own clean r got up = reported_as r _ item item _ _ (λ ts is. is ∙ with_all d (d.of (contents_of old.now)) p.of) (reads_part s survives ready own clean r got up)
 
   -- of the keys alone
   pub reads_keys : Selection d q text params (λ _. true) → Survives old new (λ _. ⊥) → WasReady old → WasOwn d old → HasCleanDisk new
       → (r : Result (Vec T Global) Failure) → Selects ShowsItem old new text params r → Rises d item r
       → IfOk r (λ all. IsUnchanged old new × (map (λ t. (item t).0) all.items ≡ finite.keys (d.of (contents_of old.now))))
   reads_keys s survives ready own clean r got up =
-      told_as r _ item (λ t. (item t).0) _ _ (keys_of d (d.of (contents_of old.now)) p.of item) (reads_all_parts s survives ready own clean r got up)
+      reported_as r _ item (λ t. (item t).0) _ _ (keys_of d (d.of (contents_of old.now)) p.of item) (reads_all_parts s survives ready own clean r got up)
 
   -- why it fails
   pub fails_to_read : {test : K → Bool} → Selection d q text params test → Survives old new (λ _. ⊥) → WasReady old → WasOwn d old → HasCleanDisk new
@@ -82,12 +82,12 @@ module _ {K X T : Type 0} {d : Description K X} {ShowsItem : Row → T → Type 
   pub reads : {test : K → Bool} → Selection d q text params test → Survives old new (λ _. ⊥) → WasReady old → WasOwn d old → HasCleanDisk new
       → (r : Result (Vec T Global) Failure) → Selects ShowsItem old new text params r → Rises d item r
       → IfOk r (λ all. IsUnchanged old new × (map item all.items ≡ finite.entries (finite.retain_keys (d.of (contents_of old.now)) test)))
-  reads s survives ready own clean r got up = told_as r _ item item _ _ (λ ts is. is ∙ all_made d.order _) (reads_part s survives ready own clean r got up)
+  reads s survives ready own clean r got up = reported_as r _ item item _ _ (λ ts is. is ∙ all_made d.order _) (reads_part s survives ready own clean r got up)
 
   pub reads_all : Selection d q text params (λ _. true) → Survives old new (λ _. ⊥) → WasReady old → WasOwn d old → HasCleanDisk new
       → (r : Result (Vec T Global) Failure) → Selects ShowsItem old new text params r → Rises d item r
       → IfOk r (λ all. IsUnchanged old new × (map item all.items ≡ finite.entries (d.of (contents_of old.now))))
-  reads_all s survives ready own clean r got up = told_as r _ item item _ _ (λ ts is. is ∙ all_made d.order _) (reads_all_parts s survives ready own clean r got up)
+  reads_all s survives ready own clean r got up = reported_as r _ item item _ _ (λ ts is. is ∙ all_made d.order _) (reads_all_parts s survives ready own clean r got up)
 
 -- what a connection shows stays, so it is ready as before
 module _ {old new : State} (survives : Survives old new (λ _. ⊥)) (ready : WasReady old) (same : HasCleanDisk new → (IsTrue old.is_open → old.now ≡ old.committed) → KeepsShown old new) (clean : HasCleanDisk new) where

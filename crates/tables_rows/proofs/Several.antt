@@ -11,7 +11,7 @@ use Rattle.tables_sql.specs.Contents.{Contents, contents_of}
 use Rattle.tables_sql.specs.Failures.{FailsFor, FailsToRead}
 use Rattle.tables_sql.proofs.Steps.{clean_before}
 use Rattle.tables_sql.proofs.TestFailures.{both_keep, survives_both, passed_on, read_fails, read_passed, memory_passed, read_then}
-use Rattle.tables_rows.specs.Frames.{LeftAsItWas, Reads, FailsAlone, ReadsAlone, FindsInReads}
+use Rattle.tables_rows.specs.Frames.{LeftAsItWas, Reads, FailsWithCause, ReadsAlone, FindsInReads}
 
 not_ok : {T : Type 0} (r : Result T Failure) (e : Failure) (P : Type 0) → IsErrAnd r (λ f. f ≡ e) → OnOk r P
 not_ok (Ok x) e P is = absurd is
@@ -33,7 +33,7 @@ module _ {S : Type 0} {g : Ghosts S} where
   -- two leave a connection as one does
   pub left_then : (a b c : Held S) → LeftAsItWas g a b → LeftAsItWas g b c → LeftAsItWas g a c
   left_then a b c first next = record {
-    alone = next.alone;
+    idle = next.idle;
     same = both_keep (state g a) (state g b) (state g c) first.same next.same next.survives;
     ready = next.ready;
     survives = survives_both (state g a) (state g b) (state g c) first.survives next.survives;
@@ -80,7 +80,7 @@ module _ {S : Type 0} {g : Ghosts S} where
 
   -- ---- reads that find something
 
-  pub finds_one : {T : Type 0} (a b : Held S) (r : Result T Failure) (shows : Contents → T → Type 0) → LeftAsItWas g a b → Reads g a b r shows → FailsAlone g a b r → FindsInReads g a b r shows
+  pub finds_one : {T : Type 0} (a b : Held S) (r : Result T Failure) (shows : Contents → T → Type 0) → LeftAsItWas g a b → Reads g a b r shows → FailsWithCause g a b r → FindsInReads g a b r shows
   finds_one a b r shows left reads cause = record {
     frame = left;
     reads = reads;

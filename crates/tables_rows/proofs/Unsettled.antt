@@ -31,17 +31,17 @@ use Rattle.tables_rows.proofs.Clauses.{WasOwn, Rises, Amiss, IsReadFailure, earl
 
 -- ---- a list, up to one of its items
 
-pub front_more : {X : Type 0} (xs : List X) (i : ℕ) (x : X) → i < length xs → x ≡ get_or xs i x → xs ≡ (take i xs ++ x ∷ []) ++ drop (i + 1) xs
-front_more xs i x h is =
+pub prefix_more : {X : Type 0} (xs : List X) (i : ℕ) (x : X) → i < length xs → x ≡ get_or xs i x → xs ≡ (take i xs ++ x ∷ []) ++ drop (i + 1) xs
+prefix_more xs i x h is =
     sym (take-append-drop (i + 1) xs) ∙ ap (λ l. l ++ drop (i + 1) xs) (take_more xs i x h ∙ ap (λ y. take i xs ++ y ∷ []) (sym is))
 
 -- ---- what a SELECT shows, whose answer is known whole
 
 -- each front of an answer begins it
-front_read : (command : Command) (db : Database) (params : Row) (rows tail : List Row) → Reads command db params (rows ++ tail) → ReadsFirst command db params rows
-front_read (Select q names) db params rows tail h = (h.typed, computes_weaker db.trees params (lets_of q) [] _ _ (λ all sure. (tail, sure)) h.answer)
-front_read (Rows values width names) db params rows tail h = (tail, h)
-front_read _ db params rows tail h = absurd h
+prefix_read : (command : Command) (db : Database) (params : Row) (rows tail : List Row) → Reads command db params (rows ++ tail) → ReadsFirst command db params rows
+prefix_read (Select q names) db params rows tail h = (h.typed, computes_weaker db.trees params (lets_of q) [] _ _ (λ all sure. (tail, sure)) h.answer)
+prefix_read (Rows values width names) db params rows tail h = (tail, h)
+prefix_read _ db params rows tail h = absurd h
 
 module _ (text : List ℕ) (params : Row) (reads : IsSelect text) where
   silent : (s : State) (c : Compiled) → understood s.now.schema text ≡ Ok c → c.returning ≡ None
@@ -54,7 +54,7 @@ module _ (text : List ℕ) (params : Row) (reads : IsSelect text) where
       let none = silent old h.0 h.1.is in
       let full = timed params h.0.formats h.1.now in
       let it = subst (ShowsRows old new text h.0 full (front ++ back)) none h.2 in
-      ((h.0, h.1, none, it.0, it.1, front_read h.0.command it.0 full front back it.2), it.3)
+      ((h.0, h.1, none, it.0, it.1, prefix_read h.0.command it.0 full front back it.2), it.3)
 
   pub answered : (old new : State) (rows : List Row) → Shown text params old new rows → IsAnswered text params old new rows
   answered old new rows h = (h, begun old new rows [] (subst (Shown text params old new) (sym (append-nil rows)) h))

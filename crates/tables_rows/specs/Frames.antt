@@ -17,13 +17,13 @@ module _ {S : Type 0} (g : Ghosts S) where
 
   -- no transaction is under way, and unless a fault has shut the connection its tables are the store's, and committed
   pub record MayRead (old : Held S) : Type 0 where
-    pub alone : old.in_transaction ≡ false
+    pub idle : old.in_transaction ≡ false
     pub ready : HasCleanDisk (state g old) → IsTrue (state g old).is_open → IsReady (state g old)
 
   -- A read ends outside a transaction, whether it succeeds or fails. The connection shows what it showed, unless a
   -- fault has shut it, and is as ready as before. A crash leaves what it could leave before.
   pub record LeftAsItWas (old new : Held S) : Type 0 where
-    pub alone : new.in_transaction ≡ false
+    pub idle : new.in_transaction ≡ false
     pub same : HasCleanDisk (state g new) → KeepsShown (state g old) (state g new)
     pub ready : HasCleanDisk (state g new) → IsTrue (state g new).is_open → IsReady (state g new)
     pub survives : Survives (state g old) (state g new) (λ _. ⊥)
@@ -60,8 +60,8 @@ module _ {S : Type 0} (g : Ghosts S) where
       HasCleanDisk (state g new.now) → OnOk result (Changes (state g old.now) (state g new.now) change)
 
   -- an error comes of memory, of a fault of the disk or of a limit on steps
-  abbrev pub FailsAlone : {T : Type 0} (old new : Held S) (result : Result T Failure) → Type 0
-  FailsAlone old new result = HasCleanDisk (state g new) → IfErr result (FailsFor (state g old) (state g new))
+  abbrev pub FailsWithCause : {T : Type 0} (old new : Held S) (result : Result T Failure) → Type 0
+  FailsWithCause old new result = HasCleanDisk (state g new) → IfErr result (FailsFor (state g old) (state g new))
 
   -- and so does one of several reads, one after another
   abbrev pub FailsInReads : {T : Type 0} (old new : Held S) (result : Result T Failure) → Type 0
@@ -88,14 +88,14 @@ module _ {S : Type 0} (g : Ghosts S) where
       : Type 0 where
     pub frame : LeftAsItWas old new
     pub reads : Reads old new result shows
-    pub cause : FailsAlone old new result
+    pub cause : FailsWithCause old new result
 
   -- so does one of a further table, which is there afterwards too
   pub record FindsInFurther {T : Type 0} (old new : Held S) (result : Result T Failure) (table : Table)
       (shows : Contents → T → Type 0) : Type 0 where
     pub frame : LeftAsItWas old new
     pub reads : Reads old new result shows
-    pub cause : FailsAlone old new result
+    pub cause : FailsWithCause old new result
     pub exists : HasTable new table
 
   -- and a read inside a transaction, of what that has written so far
@@ -103,7 +103,7 @@ module _ {S : Type 0} (g : Ghosts S) where
       (shows : Contents → T → Type 0) : Type 0 where
     pub frame : StaysInside old new result
     pub reads : Reads old.now new.now result shows
-    pub cause : FailsAlone old.now new.now result
+    pub cause : FailsWithCause old.now new.now result
 
   -- an insert of this row makes this change, where there was no entry of its key
   pub record Inserts {T X : Type 0} (before after : MutBor (Held S)) (result : Result T Failure) (table : Table)
@@ -118,7 +118,7 @@ module _ {S : Type 0} (g : Ghosts S) where
       (change : Contents → Contents) : Type 0 where
     pub frame : StaysInside old new result
     pub done : Makes old new result change
-    pub cause : FailsAlone old.now new.now result
+    pub cause : FailsWithCause old.now new.now result
 
   -- ---- several reads, one after another
 

@@ -5,8 +5,8 @@ use Rattle.sqlite_schema.specs.declared.schema.Schema.{Schema}
 use Rattle.sqlite_schema.specs.declared.schema.Table.{Table}
 use Rattle.sqlite_schema.specs.Names.{same_name, table_named, index_named, view_named}
 use Rattle.sqlite.specs.Does.{lacks_sequence}
-use Rattle.tables_schema.specs.Forms.{our_tables, further_tables, piece, temp_root}
-use Rattle.tables_schema.specs.Intact.{IsIntact, HasTables, is_unreferred, is_alone, is_unguarded}
+use Rattle.tables_schema.specs.Forms.{store_tables, further_tables, piece, temp_root}
+use Rattle.tables_schema.specs.Intact.{IsIntact, HasTables, is_unreferred, is_unshared, is_unguarded}
 
 -- the table has the form, and is found by its tree too, which is below the numbers that a query gives to tables of its
 -- own
@@ -16,15 +16,15 @@ pub record HasForm (tables : List Table) (form found : Table) : Type 0 where
   pub low : nat_le (2 ^ 31) found.tree ≡ false
 
 -- nothing else acts on the table of this tree
-pub record IsLeftAlone (s : Schema) (name : List ℕ) (tree : ℕ) (key : List ℕ) : Type 0 where
+pub record IsUnaffected (s : Schema) (name : List ℕ) (tree : ℕ) (key : List ℕ) : Type 0 where
   pub unreferred : is_unreferred s tree ≡ true
-  pub alone : is_alone s name tree ≡ true
+  pub idle : is_unshared s name tree ≡ true
   pub unguarded : is_unguarded s tree key ≡ true
 
 -- the table is the store's: of the form, and left alone
 pub record IsThis (s : Schema) (form found : Table) : Type 0 where
   pub has_form : HasForm s.tables form found
-  pub left_alone : IsLeftAlone s form.name found.tree form.primary
+  pub left_alone : IsUnaffected s form.name found.tree form.primary
 
 -- no foreign key waits for a table of the name
 abbrev pub is_unawaited : Schema → List ℕ → Bool
@@ -39,7 +39,7 @@ pub record IsFree (s : Schema) (name : List ℕ) : Type 0 where
 
 -- none of the store's names is in use, and a table that counts its rowids has its counter
 pub record HasNone (s : Schema) : Type 0 where
-  pub free : AllByRecursion (λ t. IsFree s t.name) our_tables
+  pub free : AllByRecursion (λ t. IsFree s t.name) store_tables
   pub further : AllByRecursion (λ t. IsFree s t.name) further_tables
   pub counted : lacks_sequence s ≡ false
 

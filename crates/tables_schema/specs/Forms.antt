@@ -76,8 +76,8 @@ temp_root =
     (1 ∷ 2 ∷ 3 ∷ [])
 
 -- the nine that every schema has, in the order in which they are made
-abbrev pub our_tables : List Table
-our_tables = meta ∷ object ∷ refs ∷ outs ∷ permanent ∷ user_root ∷ profile ∷ generation ∷ runtime ∷ []
+abbrev pub store_tables : List Table
+store_tables = meta ∷ object ∷ refs ∷ outs ∷ permanent ∷ user_root ∷ profile ∷ generation ∷ runtime ∷ []
 
 -- the two that later schemas have besides: the second schema has the first of them, and the third both
 abbrev pub further_tables : List Table

@@ -5,7 +5,7 @@ use Rattle.sqlite_schema.specs.declared.schema.Schema.{Schema}
 use Rattle.sqlite_schema.specs.declared.schema.Table.{Table}
 use Rattle.sqlite_schema.specs.declared.schema.Reference.{Reference}
 use Rattle.sqlite_schema.specs.Names.{table_named}
-use Rattle.tables_schema.specs.Forms.{our_tables}
+use Rattle.tables_schema.specs.Forms.{store_tables}
 
 -- the first table of the name is this one, at this place
 abbrev pub IsNamed : Schema → List ℕ → ℕ → Table → Type 0
@@ -27,8 +27,8 @@ abbrev pub is_unreferred : Schema → ℕ → Bool
 is_unreferred s tree = list_all (λ t. list_all (λ r. not (points_at s tree r)) t.references) s.tables
 
 -- no table of another name has the tree
-abbrev pub is_alone : Schema → List ℕ → ℕ → Bool
-is_alone s name tree = list_all (λ t. not (t.tree == tree) || bytes_eq t.name name) s.tables
+abbrev pub is_unshared : Schema → List ℕ → ℕ → Bool
+is_unshared s name tree = list_all (λ t. not (t.tree == tree) || bytes_eq t.name name) s.tables
 
 -- no unique index keeps rows out of the table but that of the key, which compares bytes
 abbrev pub is_unguarded : Schema → ℕ → List ℕ → Bool
@@ -45,9 +45,9 @@ pub record IsIntact (s : Schema) (table : Table) : Type 0 where
   pub at : ℕ
   pub known : IsKnown s table.name at (record table { tree = tree_named s table.name })
   pub unreferred : is_unreferred s (tree_named s table.name) ≡ true
-  pub alone : is_alone s table.name (tree_named s table.name) ≡ true
+  pub idle : is_unshared s table.name (tree_named s table.name) ≡ true
   pub unguarded : is_unguarded s (tree_named s table.name) table.primary ≡ true
 
 -- all nine are there
 abbrev pub HasTables : Schema → Type 0
-HasTables s = AllByRecursion (IsIntact s) our_tables
+HasTables s = AllByRecursion (IsIntact s) store_tables

@@ -2,21 +2,21 @@
 use Rattle.std.specs.Prelude.{List, [], ◌∷◌, ◌++◌}
 use Rattle.sqlite_schema.specs.declared.schema.Table.{Table}
 use Rattle.tables_schema.specs.Forms.{meta, object, refs, outs, permanent, user_root, profile, generation, runtime, piece, temp_root}
-use Rattle.tables_schema.specs.declared.our_table.OurTable.{OurTable}
-use Rattle.tables_schema.specs.declared.our_table.OurTable.TheVariants.{Meta, Object, Refs, Outs, Permanent, UserRoot, Profile, Generation, Runtime, Piece, TempRoot}
+use Rattle.tables_schema.specs.declared.our_table.StoreTable.{StoreTable}
+use Rattle.tables_schema.specs.declared.our_table.StoreTable.TheVariants.{Meta, Object, Refs, Outs, Permanent, UserRoot, Profile, Generation, Runtime, Piece, TempRoot}
 use Rattle.tables_schema.specs.declared.schema.Schema.{Schema}
 use Rattle.tables_schema.specs.declared.schema.Schema.TheVariants.{V1, V2, V3}
 
-abbrev nine : List OurTable
+abbrev nine : List StoreTable
 nine = Meta ∷ Object ∷ Refs ∷ Outs ∷ Permanent ∷ UserRoot ∷ Profile ∷ Generation ∷ Runtime ∷ []
 
 -- the tables of a schema, in the order in which they are made in a new database
-abbrev pub schema_tables : Schema → List OurTable
+abbrev pub schema_tables : Schema → List StoreTable
 schema_tables V1 = nine
 schema_tables V2 = nine ++ Piece ∷ []
 schema_tables V3 = nine ++ Piece ∷ TempRoot ∷ []
 
-abbrev pub form : OurTable → Table
+abbrev pub form : StoreTable → Table
 form Meta = meta
 form Object = object
 form Refs = refs

@@ -4,8 +4,8 @@ ghost use Rattle.std.specs.Prelude.{◌≡◌, ◌↔◌, ◌==◌, ◌^◌, ◌
 ghost use Rattle.std.specs.List.{list_all};
 ghost use Rattle.tables_schema.specs.Forms.{strict};
 ghost use Rattle.tables_schema.specs.Shapes.{expected_column};
-ghost use Rattle.tables_schema.specs.Intact.{IsIntact, points_at, is_unreferred, is_alone, is_unguarded};
-ghost use Rattle.tables_schema.specs.Finding.{HasForm, IsLeftAlone, IsThis};
+ghost use Rattle.tables_schema.specs.Intact.{IsIntact, points_at, is_unreferred, is_unshared, is_unguarded};
+ghost use Rattle.tables_schema.specs.Finding.{HasForm, IsUnaffected, IsThis};
 
 use crate::form::{Expected, is_table, same_places, same_text};
 use sqlite_schema::schema::{Index, Reference, Schema, Table};
@@ -47,19 +47,21 @@ fn none_refers(schema: &Schema, tree: u32, tables: &[Table]) -> bool
 }
 
 /// Whether it is another tree's table, or of this name.
-fn is_apart(table: &Table, name: &[u8], tree: u32) -> bool
+fn is_unshared_by(table: &Table, name: &[u8], tree: u32) -> bool
     ensures { result ≡ (not (table.now.tree == tree) || bytes_eq table.now.name name.now) }
 {
     table.tree != tree || same_text(table.name.as_slice(), name)
 }
 
 /// Whether no table of another name has the tree.
-fn are_apart(tables: &[Table], name: &[u8], tree: u32) -> bool
+fn are_unshared(tables: &[Table], name: &[u8], tree: u32) -> bool
     ensures { result ≡ list_all (λ t. not (t.tree == tree) || bytes_eq t.name name.now) tables.now }
 {
     match tables {
         [] => true,
-        [first, rest @ ..] => { is_apart(first, name, tree) && are_apart(rest, name, tree) }
+        [first, rest @ ..] => {
+            is_unshared_by(first, name, tree) && are_unshared(rest, name, tree)
+        }
     }
 }
 
@@ -135,11 +137,11 @@ fn has_form(
 
 /// Whether nothing else acts on the table of this tree.
 fn is_left_alone(schema: &Schema, name: &[u8], tree: u32, key: &[usize]) -> bool
-    ensures { IsTrue result ↔ IsLeftAlone schema.now name.now tree key.now }
+    ensures { IsTrue result ↔ IsUnaffected schema.now name.now tree key.now }
 {
     let tables = schema.tables.as_slice();
     none_refers(schema, tree, tables)
-        && are_apart(tables, name, tree)
+        && are_unshared(tables, name, tree)
         && are_keys(schema.indexes.as_slice(), tree, key)
 }
 

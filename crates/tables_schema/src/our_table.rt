@@ -7,7 +7,7 @@ use crate::schema::Schema;
 
 /// A table of the store, by its name.
 #[derive(Clone, Copy)]
-pub enum OurTable {
+pub enum StoreTable {
     Meta,
     Object,
     Refs,
@@ -21,22 +21,22 @@ pub enum OurTable {
     TempRoot,
 }
 
-const ALL: [OurTable; 11] = [
-    OurTable::Meta,
-    OurTable::Object,
-    OurTable::Refs,
-    OurTable::Outs,
-    OurTable::Permanent,
-    OurTable::UserRoot,
-    OurTable::Profile,
-    OurTable::Generation,
-    OurTable::Runtime,
-    OurTable::Piece,
-    OurTable::TempRoot,
+const ALL: [StoreTable; 11] = [
+    StoreTable::Meta,
+    StoreTable::Object,
+    StoreTable::Refs,
+    StoreTable::Outs,
+    StoreTable::Permanent,
+    StoreTable::UserRoot,
+    StoreTable::Profile,
+    StoreTable::Generation,
+    StoreTable::Runtime,
+    StoreTable::Piece,
+    StoreTable::TempRoot,
 ];
 
 /// The tables of a schema, in the order in which they are made in a new database.
-pub fn schema_tables(schema: Schema) -> &'static [OurTable]
+pub fn schema_tables(schema: Schema) -> &'static [StoreTable]
     ensures { result.now ≡ schema_tables schema }
 {
     match schema {

@@ -37,7 +37,7 @@ use Rattle.tables_sql.specs.Contents.{rows_named}
 use Rattle.tables_sql.specs.Calls.{IsUnderWay}
 use Rattle.tables_sql.specs.Failures.{failure_of, FailsWith, IsTooLarge, HasNoRowidLeft}
 use Rattle.tables_sql.proofs.Writes.{same_value, at_place}
-use Rattle.tables_sql.proofs.KeptRules.{refers_still, only_ours}
+use Rattle.tables_sql.proofs.KeptRules.{refers_still, only_own}
 use Rattle.tables_sql.proofs.NewKeys.{unique_put}
 use Rattle.tables_sql.proofs.Stops.{stops_at, gives_no_stop, no_end, plain_mode, concluded}
 use Rattle.tables_sql.proofs.Statements.{Compiles}
@@ -111,7 +111,7 @@ module _ (name : List ℕ) (columns : List Column) (key : List ℕ) (db : Databa
       refers_grown next h =
           let a = one_step db.schema Enforced db.trees next addition (works_of_none db.schema Enforced 0 tree (row ∷ [])) h in
           refers_still db.schema tree exists.unreferred db.trees next (λ t listed other. all_has _ db.schema.tables t a.tables listed other)
-          (λ t r listed same there. inr (ap (λ (u : Table). u.references) (only_ours db (strict name columns key) sound exists t listed same))) (sound.obeys.rules ForeignKey)
+          (λ t r listed same there. inr (ap (λ (u : Table). u.references) (only_own db (strict name columns key) sound exists t listed same))) (sound.obeys.rules ForeignKey)
 
       module _ (params : Row) (terms : List Term) (width : ℕ) (accepts : accepts_terms terms (stamped own params) ≡ true)
           (made : numbered Chosen rows (map (λ s. cast_row own (drop 0 s)) (value_rows (stamped own params) width (length terms / width) terms)) ≡ row ∷ []) where

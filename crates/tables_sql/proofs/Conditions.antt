@@ -28,7 +28,7 @@ use Rattle.sqlite_tied.specs.Compute.{everything}
 use Rattle.tables_schema.specs.Forms.{strict}
 use Rattle.tables_sql.proofs.Means.{lower_to_column, plain_state}
 use Rattle.tables_sql.proofs.Truths.{and_so}
-use Rattle.tables_sql.proofs.Ordered.{IsColumn, Place, column, context, found, fronts}
+use Rattle.tables_sql.proofs.Ordered.{IsColumn, Place, column, context, found, prefixes}
 
 -- ---- what an expression stands for
 
@@ -82,7 +82,7 @@ turned_all P [] done h k = k
 turned_all P (c ∷ cs) done h k = turned_all P cs (c ∷ done) h.1 (h.0, k)
 
 pub first_all : (P : Place → Type 0) (cs : List Place) (m : ℕ) → AllByRecursion P cs → AllByRecursion P (first_of_them cs m)
-first_all P cs m h = turned_all P (take m cs) [] (fronts P m cs h) tt
+first_all P cs m h = turned_all P (take m cs) [] (prefixes P m cs h) tt
 
 -- the terms of such a comparison, and of all of them
 abbrev test_of : Place → ℕ → Term

@@ -8,7 +8,7 @@ use Rattle.sqlite_schema.specs.Names.{same_name}
 use Rattle.sqlite.specs.State.{State}
 use Rattle.tables_schema.specs.Forms.{meta, object, refs, outs, permanent, user_root, profile, generation, runtime, piece, temp_root}
 use Rattle.tables_schema.specs.Intact.{HasTables, IsIntact, tree_named}
-use Rattle.tables_sql.specs.Contents.{Contents, Bytes, rows_named, rows_if_any, Stored, PairSet, contents_of, map_of, texts_cmp, pair_cmp, triple_cmp, is_pair, pair_of, member_of, is_triple, target_of, is_object, object_of, is_profile, profile_of, is_generation, generation_of, numbered_cmp, is_piece, piece_of, kept_cmp, is_kept, kept_of}
+use Rattle.tables_sql.specs.Contents.{Contents, Bytes, rows_named, rows_if_any, Stored, PairSet, contents_of, map_of, texts_cmp, pair_cmp, triple_cmp, is_pair, pair_of, member_of, is_triple, target_of, is_object, object_of, is_profile, profile_of, is_generation, generation_of, numbered_cmp, is_piece, piece_of, session_path_cmp, is_session_path, session_path_of}
 use Rattle.tables_sql.proofs.Writes.{SetsRows}
 use Rattle.tables_sql.proofs.Places.{own_rows, others_kept, if_any_kept}
 
@@ -38,7 +38,7 @@ module _ (old new : State) (has : HasTables old.now.schema) (rows : List Row) (a
     generations = map_of triple_cmp is_generation generation_of (after generation);
     runtime = map_of pair_cmp is_pair member_of (after runtime);
     pieces = map_of numbered_cmp is_piece piece_of pieces;
-    temp_roots = map_of kept_cmp is_kept kept_of temp_roots;
+    temp_roots = map_of session_path_cmp is_session_path session_path_of temp_roots;
   }
 
   pub after_write : (pieces temp_roots : List Row) → rows_if_any new.now piece.name ≡ pieces → rows_if_any new.now temp_root.name ≡ temp_roots → contents_of new.now ≡ contents_by pieces temp_roots
@@ -53,7 +53,7 @@ module _ (old new : State) (has : HasTables old.now.schema) (rows : List Row) (a
     generations = map_of triple_cmp is_generation generation_of (has_after generation has.1.1.1.1.1.1.1.0 i);
     runtime = map_of pair_cmp is_pair member_of (has_after runtime has.1.1.1.1.1.1.1.1.0 i);
     pieces = map_of numbered_cmp is_piece piece_of (has_pieces i);
-    temp_roots = map_of kept_cmp is_kept kept_of (has_temp_roots i);
+    temp_roots = map_of session_path_cmp is_session_path session_path_of (has_temp_roots i);
   }
 
   -- a write to one of them leaves the further tables

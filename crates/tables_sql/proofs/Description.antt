@@ -44,7 +44,7 @@ use Rattle.tables_sql.proofs.Entries.{put_map, map-map, all_kept}
 use Rattle.tables_sql.proofs.ReadableWrites.{put_readable}
 use Rattle.tables_sql.proofs.Scans.{IsScan, shows}
 use Rattle.tables_sql.proofs.Statements.{Compiles, Selects, reads_part, deletes_part}
-use Rattle.tables_sql.proofs.ReadFailures.{standing_read_fails}
+use Rattle.tables_sql.proofs.ReadFailures.{open_read_fails}
 use Rattle.tables_sql.proofs.Rising.{AreKept, shown_well}
 use Rattle.tables_sql.proofs.Additions.{IsNewKey, insert_fails}
 use Rattle.tables_sql.proofs.Removals.{delete_fails}
@@ -251,7 +251,7 @@ module _ {K X Y T : Type 0} (d : Description K X) {p : Part d Y} {ShowsItem : Ro
 
   -- why they aren't read
   pub selects_not : (IsTrue old.is_open → d.IsIn old.now.schema) → (e : Error) → FailsToQuery text params old new e → FailsWith old new ⊥ (IsSome old.step_limit) (failure_of e)
-  selects_not here = standing_read_fails d.name d.columns d.key old new (λ up. d.exists old.now.schema (here up)) text params (names_on q.shown) (query_on q.shown q.by s.filter) scan s.is s.reads s.accepts
+  selects_not here = open_read_fails d.name d.columns d.key old new (λ up. d.exists old.now.schema (here up)) text params (names_on q.shown) (query_on q.shown q.by s.filter) scan s.is s.reads s.accepts
 
   -- what is shown can be read, and rises
   pub never_amiss : (IsTrue old.is_open → IsReady old) → (IsTrue old.is_open → d.IsOwn old.now) → (rows : List Row) → HasBegunWith text params old new rows → ¬ IsAmiss IsLegible ShowsItem (λ x y. is_lt (d.order (item x).0 (item y).0)) rows
@@ -263,9 +263,9 @@ module _ {K X Y T : Type 0} (d : Description K X) {p : Part d Y} {ShowsItem : Ro
 -- ---- in other words
 
 -- one equation for another
-pub told_as : {T Y Z : Type 0} (r : Result (Vec T Global) Failure) (P : Type 0) (f : T → Y) (g : T → Z) (a : List Y) (b : List Z) → ((ts : List T) → map f ts ≡ a → map g ts ≡ b) → IfOk r (λ all. P × (map f all.items ≡ a)) → IfOk r (λ all. P × (map g all.items ≡ b))
-told_as (Err e) P f g a b leads h = tt
-told_as (Ok all) P f g a b leads h = (h.0, leads all.items h.1)
+pub reported_as : {T Y Z : Type 0} (r : Result (Vec T Global) Failure) (P : Type 0) (f : T → Y) (g : T → Z) (a : List Y) (b : List Z) → ((ts : List T) → map f ts ≡ a → map g ts ≡ b) → IfOk r (λ all. P × (map f all.items ≡ a)) → IfOk r (λ all. P × (map g all.items ≡ b))
+reported_as (Err e) P f g a b leads h = tt
+reported_as (Ok all) P f g a b leads h = (h.0, leads all.items h.1)
 
 module _ {K X Y : Type 0} (d : Description K X) (m : finite.FinMap d.order X) where
   -- where no key is left out

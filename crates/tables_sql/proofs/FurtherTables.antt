@@ -12,10 +12,10 @@ use Rattle.sqlite.specs.State.{State}
 use Rattle.tables_schema.specs.Forms.{piece, temp_root}
 use Rattle.tables_schema.specs.Intact.{IsIntact, HasTables, tree_named}
 use Rattle.tables_schema.specs.Finding.{IsFree}
-use Rattle.tables_sql.specs.Contents.{Bytes, contents_of, rows_named, rows_if_any, map_of, numbered_cmp, kept_cmp, is_text, is_piece, piece_of, is_kept, kept_of}
+use Rattle.tables_sql.specs.Contents.{Bytes, contents_of, rows_named, rows_if_any, map_of, numbered_cmp, session_path_cmp, is_text, is_piece, piece_of, is_session_path, session_path_of}
 use Rattle.tables_sql.specs.Calls.{IsKeyed, IsStoreDatabase, HasFurther}
 use Rattle.tables_sql.proofs.Finds.{found_by_place}
-use Rattle.tables_sql.proofs.Orders.{numbered_total, numbered_antisymmetric, kept_total, kept_antisymmetric}
+use Rattle.tables_sql.proofs.Orders.{numbered_total, numbered_antisymmetric, session_path_total, session_path_antisymmetric}
 use Rattle.tables_sql.proofs.Rising.{AreKept}
 use Rattle.tables_sql.proofs.Truths.{and_so}
 use Rattle.tables_sql.proofs.Writes.{SetsRows}
@@ -34,20 +34,20 @@ module _ (db : Database) (sound : IsDatabase db) where
       key : (r : Row) → is_piece r ≡ true → (is_text (column r 1) ≡ true) × (is_int (column r 2) ≡ true)
       key r k = and_so _ _ (and_so (is_text (column r 1) && is_int (column r 2)) _ k).0
 
-  pub temp_roots_once : IsIntact db.schema temp_root → IsKeyed (rows_named db temp_root.name) → HasOneRowEach kept_total kept_antisymmetric is_kept kept_of (rows_named db temp_root.name)
+  pub temp_roots_once : IsIntact db.schema temp_root → IsKeyed (rows_named db temp_root.name) → HasOneRowEach session_path_total session_path_antisymmetric is_session_path session_path_of (rows_named db temp_root.name)
   temp_roots_once exists keyed a b here present ka kb same =
       one_key db sound temp_root.name temp_root.columns temp_root.primary exists keyed a b here present
       (agree_three a b 1 2 3 (texts_equal (column a 1) (column b 1) (front a ka).0 (front b kb).0 (ap (λ k. k.0) same)) (ints_equal (column a 2) (column b 2) (front a ka).1 (front b kb).1 (ap (λ k. k.1) same)) (texts_equal (column a 3) (column b 3) (and_so _ _ ka).1 (and_so _ _ kb).1 (ap (λ k. k.2) same)))
     where
-      front : (r : Row) → is_kept r ≡ true → (is_text (column r 1) ≡ true) × (is_int (column r 2) ≡ true)
+      front : (r : Row) → is_session_path r ≡ true → (is_text (column r 1) ≡ true) × (is_int (column r 2) ≡ true)
       front r k = and_so _ _ (and_so (is_text (column r 1) && is_int (column r 2)) _ k).0
 
 module _ (db : Database) (of_store : IsStoreDatabase db) where
   pub piece_kept : HasFurther db piece → AreKept is_piece (λ r. (piece_of r).0) 3 (rows_named db piece.name)
-  piece_kept it = record { typed = pieces_typed db of_store.sound it.exists; once = pieces_once db of_store.sound it.exists it.keyed; apart = it.keyed.apart; readable = it.readable }
+  piece_kept it = record { typed = pieces_typed db of_store.sound it.exists; once = pieces_once db of_store.sound it.exists it.keyed; distinct_rowids = it.keyed.distinct_rowids; readable = it.readable }
 
-  pub temp_root_kept : HasFurther db temp_root → AreKept is_kept (λ r. (kept_of r).0) 3 (rows_named db temp_root.name)
-  temp_root_kept it = record { typed = temp_roots_typed db of_store.sound it.exists; once = temp_roots_once db of_store.sound it.exists it.keyed; apart = it.keyed.apart; readable = it.readable }
+  pub temp_root_kept : HasFurther db temp_root → AreKept is_session_path (λ r. (session_path_of r).0) 3 (rows_named db temp_root.name)
+  temp_root_kept it = record { typed = temp_roots_typed db of_store.sound it.exists; once = temp_roots_once db of_store.sound it.exists it.keyed; distinct_rowids = it.keyed.distinct_rowids; readable = it.readable }
 
 -- where a table stands, its rows are those of the first table of its name
 pub if_any_named : (db : Database) (t : Table) → IsIntact db.schema t → rows_if_any db t.name ≡ rows_named db t.name
@@ -68,8 +68,8 @@ if_any_free db name free =
 pub pieces_held : (db : Database) → IsIntact db.schema piece → (contents_of db).pieces ≡ map_of numbered_cmp is_piece piece_of (rows_named db piece.name)
 pieces_held db exists = ap (map_of numbered_cmp is_piece piece_of) (if_any_named db piece exists)
 
-pub temp_roots_held : (db : Database) → IsIntact db.schema temp_root → (contents_of db).temp_roots ≡ map_of kept_cmp is_kept kept_of (rows_named db temp_root.name)
-temp_roots_held db exists = ap (map_of kept_cmp is_kept kept_of) (if_any_named db temp_root exists)
+pub temp_roots_held : (db : Database) → IsIntact db.schema temp_root → (contents_of db).temp_roots ≡ map_of session_path_cmp is_session_path session_path_of (rows_named db temp_root.name)
+temp_roots_held db exists = ap (map_of session_path_cmp is_session_path session_path_of) (if_any_named db temp_root exists)
 
 -- ---- after a write
 
@@ -81,6 +81,6 @@ module _ (old new : State) (has : HasTables old.now.schema) (rows : List Row) wh
   unfolding same_name
   pieces_set exists sets m is = after_write old new has rows piece exists sets rows (rows_if_any old.now temp_root.name) (own_if_any piece old new rows exists sets) (if_any_kept piece old new rows exists sets temp_root.name refl) ∙ ap (λ x. record (contents_of old.now) { pieces = x }) is
 
-  pub temp_roots_set : (exists : IsIntact old.now.schema temp_root) → SetsRows old new (tree_named old.now.schema temp_root.name) rows → (m : finite.FinMap kept_cmp (Unit {0})) → map_of kept_cmp is_kept kept_of rows ≡ m → contents_of new.now ≡ record (contents_of old.now) { temp_roots = m }
+  pub temp_roots_set : (exists : IsIntact old.now.schema temp_root) → SetsRows old new (tree_named old.now.schema temp_root.name) rows → (m : finite.FinMap session_path_cmp (Unit {0})) → map_of session_path_cmp is_session_path session_path_of rows ≡ m → contents_of new.now ≡ record (contents_of old.now) { temp_roots = m }
   unfolding same_name
   temp_roots_set exists sets m is = after_write old new has rows temp_root exists sets (rows_if_any old.now piece.name) rows (if_any_kept temp_root old new rows exists sets piece.name refl) (own_if_any temp_root old new rows exists sets) ∙ ap (λ x. record (contents_of old.now) { temp_roots = x }) is

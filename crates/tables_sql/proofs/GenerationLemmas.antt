@@ -20,7 +20,7 @@ use Rattle.tables_sql.proofs.Parts.{IsAsked, added, selected, removed, said_two,
 use Rattle.tables_sql.proofs.KeyOrders.{by_triple}
 use Rattle.tables_sql.proofs.Legible.{generation_row}
 use Rattle.tables_sql.proofs.FreeKeys.{agreed_three}
-use Rattle.tables_sql.proofs.Kept.{generation_kept}
+use Rattle.tables_sql.proofs.RowKinds.{generation_kept}
 use Rattle.tables_sql.proofs.OneOfNine.{one_of_nine}
 use Rattle.tables_sql.proofs.Description.{Description, Addition, Removal, Reading, Selection}
 

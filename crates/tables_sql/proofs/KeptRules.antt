@@ -93,8 +93,8 @@ none_to_fit s own at named unreferred = test_from _ s.tables (λ t listed. test_
 
 -- ---- a table of the store is found by its tree
 
-pub only_ours : (db : Database) (table : Table) → IsDatabase db → (exists : IsIntact db.schema table) → (t : Table) → Has db.schema.tables t → t.tree ≡ tree_named db.schema table.name → t ≡ record table { tree = tree_named db.schema table.name }
-only_ours db table sound exists t listed same =
+pub only_own : (db : Database) (table : Table) → IsDatabase db → (exists : IsIntact db.schema table) → (t : Table) → Has db.schema.tables t → t.tree ≡ tree_named db.schema table.name → t ≡ record table { tree = tree_named db.schema table.name }
+only_own db table sound exists t listed same =
     let own : Table = record table { tree = tree_named db.schema table.name } in
-    let named : bytes_eq t.name table.name ≡ true = rw (eq-eqb _ _ same) at (test_has _ db.schema.tables t exists.alone listed) in
+    let named : bytes_eq t.name table.name ≡ true = rw (eq-eqb _ _ same) at (test_has _ db.schema.tables t exists.idle listed) in
     named_once db.schema.tables t own sound.lists.listed.named listed (has_got db.schema.tables exists.at own exists.known.named.1) ((lowered t.name table.name).1 (ap (map to_ascii_lowercase) ((bytes_eq-Decides _ _).0 named)))

@@ -8,7 +8,7 @@ use Rattle.sqlite_value.specs.Order.{Row, column, bytes, value_cmp}
 use Rattle.sqlite_value.proofs.OrderLemmas.{value_cmp-Text, value_cmp-Int, then-Equal}
 use Rattle.sqlite_trees.specs.View.{is_int}
 use Rattle.sqlite_rules.specs.Edit.{id_in}
-use Rattle.tables_sql.specs.Contents.{texts_cmp, pair_cmp, triple_cmp, numbered_cmp, kept_cmp, is_text, is_pair, pair_of, is_generation, generation_of, is_piece, piece_of, is_kept, kept_of}
+use Rattle.tables_sql.specs.Contents.{texts_cmp, pair_cmp, triple_cmp, numbered_cmp, session_path_cmp, is_text, is_pair, pair_of, is_generation, generation_of, is_piece, piece_of, is_session_path, session_path_of}
 use Rattle.tables_sql.proofs.Truths.{and_so}
 
 texts_in_order : (v w : Value) → is_text v ≡ true → is_text w ≡ true → value_cmp v w ≡ texts_cmp (bytes v) (bytes w)
@@ -62,8 +62,8 @@ by_numbered a b h k =
     rw (texts_in_order (column a 1) (column b 1) p.0 q.0, ints_in_order (column a 2) (column b 2) p.1 q.1, then-Equal (int_cmp (id_in (column a 2)) (id_in (column b 2)))) refl
 
 -- of a text, an integer and a text
-pub by_kept : (a b : Row) → is_kept a ≡ true → is_kept b ≡ true
-    → ordering_then (value_cmp (column a 1) (column b 1)) (ordering_then (value_cmp (column a 2) (column b 2)) (ordering_then (value_cmp (column a 3) (column b 3)) Equal)) ≡ kept_cmp (kept_of a).0 (kept_of b).0
+pub by_kept : (a b : Row) → is_session_path a ≡ true → is_session_path b ≡ true
+    → ordering_then (value_cmp (column a 1) (column b 1)) (ordering_then (value_cmp (column a 2) (column b 2)) (ordering_then (value_cmp (column a 3) (column b 3)) Equal)) ≡ session_path_cmp (session_path_of a).0 (session_path_of b).0
 by_kept a b h k =
     let whole = and_so _ _ h in
     let other = and_so _ _ k in

@@ -5,7 +5,7 @@ use Rattle.sqlite_value.specs.declared.value.Value.TheVariants.{Null, Int, Real,
 use Rattle.sqlite_value.specs.Order.{Row, column}
 use Rattle.sqlite_trees.specs.View.{is_int}
 use Rattle.sqlite.specs.Values.{IsInt}
-use Rattle.tables_sql.specs.Contents.{is_text, is_blob, is_text_or_null, is_pair, is_triple, is_profile, is_generation, is_object, is_piece, is_kept}
+use Rattle.tables_sql.specs.Contents.{is_text, is_blob, is_text_or_null, is_pair, is_triple, is_profile, is_generation, is_object, is_piece, is_session_path}
 use Rattle.tables_sql.specs.Texts.{IsReadable}
 use Rattle.tables_sql.specs.Entries.{IsLegibleIfAny, IsBlob, IsPairRow, IsTripleRow, IsProfileRow, IsGenerationRow, IsObjectRow, IsListedRow, IsPieceRow, IsPieceKeyRow, IsTempRootRow}
 use Rattle.tables_sql.specs.Reading.{IsLegible, IsTextRow}
@@ -90,7 +90,7 @@ piece_row r h utf8 =
 pub piece_key_row : (r : Row) → is_piece r ≡ true → IsReadableTo 3 r → IsPieceKeyRow (column r 1 ∷ column r 2 ∷ [])
 piece_key_row r h utf8 = let all = piece_row r h utf8 in (refl, all.1, all.2)
 
-pub temp_root_row : (r : Row) → is_kept r ≡ true → IsReadableTo 3 r → IsTempRootRow (column r 1 ∷ column r 2 ∷ column r 3 ∷ [])
+pub temp_root_row : (r : Row) → is_session_path r ≡ true → IsReadableTo 3 r → IsTempRootRow (column r 1 ∷ column r 2 ∷ column r 3 ∷ [])
 temp_root_row r h utf8 =
     let front = and_so _ _ (and_so _ _ h).0 in
     (refl, text (column r 1) front.0 (utf8 0 (omega arith)), int (column r 2) front.1, text (column r 3) (and_so _ _ h).1 (utf8 2 (omega arith)))

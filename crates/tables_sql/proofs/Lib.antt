@@ -1,6 +1,6 @@
 pub mod Additions
 pub mod Alike
-pub mod Apart
+pub mod Distinct
 pub mod Conditions
 pub mod Contents
 pub mod ContentsLemmas
@@ -12,7 +12,7 @@ pub mod Frozen
 pub mod FurtherTables
 pub mod GenerationLemmas
 pub mod Going
-pub mod Kept
+pub mod RowKinds
 pub mod KeptRules
 pub mod KeyOrders
 pub mod Legible

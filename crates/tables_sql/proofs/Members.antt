@@ -19,7 +19,7 @@ use Rattle.sqlite_rules.proofs.TableLemmas.{has_put, put_has as from_put, put_al
 use Rattle.sqlite_trees.specs.View.{is_int}
 use Rattle.sqlite_value.proofs.OrderLemmas.{value_cmp_total}
 use Rattle.tables_sql.specs.Calls.{IsKeyed}
-use Rattle.tables_sql.proofs.Apart.{once, apart_put, apart_left}
+use Rattle.tables_sql.proofs.Distinct.{once, distinct_put, distinct_left}
 use Rattle.tables_sql.proofs.Truths.{not_so}
 use Rattle.tables_sql.proofs.Scans.{IsScan, scan_sound, scan_complete}
 use Rattle.tables_sql.proofs.Writes.{rowids_where}
@@ -33,7 +33,7 @@ pub kept_put : (new : Row) (rows : List Row) (x : Row) → is_taken rows new ≡
 kept_put new rows x free h = put_all_keeps (new ∷ []) rows x (rw free refl) h
 
 pub keyed_put : (new : Row) (rows : List Row) → is_taken rows new ≡ false → IsTrue (is_int (rowid new)) → IsKeyed rows → IsKeyed (put_row new rows)
-keyed_put new rows free int keyed = record { ints = ints; apart = apart_put new rows free keyed.apart }
+keyed_put new rows free int keyed = record { ints = ints; distinct_rowids = distinct_put new rows free keyed.distinct_rowids }
   where
     ints : (a : Row) → Has (put_row new rows) a → IsTrue (is_int (rowid a))
     ints a h = elim (from_put new rows a h) [ inl is ↦ subst (λ r. IsTrue (is_int (rowid r))) (sym is) int | inr present ↦ keyed.ints a present ]
@@ -57,7 +57,7 @@ left_has (i ∷ ids) rows x h spares =
     left_has ids (without_rowid i rows) x (has_kept (λ r. not (has_rowid i r)) rows x h (ap not (spares i (inl refl)))) (λ id present. spares id (inr present))
 
 pub keyed_left : (ids : List ℤ) (rows : List Row) → IsKeyed rows → IsKeyed (without_all rows ids)
-keyed_left ids rows keyed = record { ints = λ a h. keyed.ints a (left_from ids rows a h).0; apart = apart_left ids rows keyed.apart }
+keyed_left ids rows keyed = record { ints = λ a h. keyed.ints a (left_from ids rows a h).0; distinct_rowids = distinct_left ids rows keyed.distinct_rowids }
 
 has_own : (x : Row) → IsTrue (is_int (rowid x)) → has_rowid (id_in (rowid x)) x ≡ true
 has_own x int = rw (← int_is (rowid x) int) (ap is_eq (tied_itself value_cmp_total (rowid x)))
@@ -96,7 +96,7 @@ module _ (tree : ℕ) (terms : List Term) (db : Trees) (params : Row) (rows : Li
           go r here so is false e = e
           go r here so is true e =
               let own : rowid r ≡ Int id = int_is (rowid r) (keyed.ints r here) ∙ ap Int (sym is) in
-              let same : x ≡ r = once (db tree) keyed.apart x r h here (rw own e) in
+              let same : x ≡ r = once (db tree) keyed.distinct_rowids x r h here (rw own e) in
               absurd (let f = sym so ∙ ap passes (sym same) ∙ fails in cc)
 
 -- ---- a map without the keys that fail a test
@@ -109,14 +109,14 @@ module _ {K X : Type 0} {R : K → K → Ordering} (o : IsTotalOrder R) (same : 
 -- ---- one more entry, under a new key
 module _ {K X : Type 0} {R : K → K → Ordering} (o : IsTotalOrder R) (same : finite.IsAntisymmetric R) (kind : Row → Bool) (entry : Row → K × X) (new : Row) where
   swapped : (q a b : K) (v w : X) (rest : Option X) → (R b a ≡ Equal → ⊥) → cond (eq_by_cmp R q a) (Some v) (cond (eq_by_cmp R q b) (Some w) rest) ≡ cond (eq_by_cmp R q b) (Some w) (cond (eq_by_cmp R q a) (Some v) rest)
-  swapped q a b v w rest apart = go (R q a) refl (R q b) refl
+  swapped q a b v w rest distinct_rowids = go (R q a) refl (R q b) refl
     where
       go : (r : Ordering) → R q a ≡ r → (s : Ordering) → R q b ≡ s → cond (is_eq r) (Some v) (cond (is_eq s) (Some w) rest) ≡ cond (is_eq s) (Some w) (cond (is_eq r) (Some v) rest)
       go Less e s f = refl
       go Greater e s f = refl
       go Equal e Less f = refl
       go Equal e Greater f = refl
-      go Equal e Equal f = absurd (apart (sym (o.congr q b a f) ∙ e))
+      go Equal e Equal f = absurd (distinct_rowids (sym (o.congr q b a f) ∙ e))
 
   none_first : (q k : K) (v : X) (rest : Option X) → cond (eq_by_cmp R q k) (Some v) rest ≡ None → (R q k ≡ Equal → ⊥) × (rest ≡ None)
   none_first q k v rest h = go (R q k) refl h

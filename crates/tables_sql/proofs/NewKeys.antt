@@ -46,9 +46,9 @@ module _ (s : Schema) (db : Trees) (tree : ℕ) (key : List ℕ) (unguarded : is
       let parts = and_parts (bytes_eq i.columns key) (i.order.digits == 0) (rw on at guarded) in
       (ap (λ n. record { digits = n }) (eqb-true i.order.digits 0 parts.1), (bytes_eq-Decides i.columns key).0 parts.0)
 
-  apart : ((x : Row) → Has (db tree) x → IsFree s tree (db tree) x) → (i : Index) → Has s.indexes i → (i.is_unique && (i.table == tree)) ≡ true → (x : Row) → Has rows x → clashes i.order i.columns rows x ≡ true → ⊥
+  distinct_rowids : ((x : Row) → Has (db tree) x → IsFree s tree (db tree) x) → (i : Index) → Has s.indexes i → (i.is_unique && (i.table == tree)) ≡ true → (x : Row) → Has rows x → clashes i.order i.columns rows x ≡ true → ⊥
   unfolding rows
-  apart were i known on x present clash =
+  distinct_rowids were i known on x present clash =
       let is = of_key i known on in
       let other = some_has (λ y. agree i.order i.columns y i.columns x && differ (rowid y) (rowid x)) rows clash in
       let parts = and_parts (agree i.order i.columns other.0 i.columns x) (differ (rowid other.0) (rowid x)) other.2 in
@@ -71,7 +71,7 @@ module _ (s : Schema) (db : Trees) (tree : ℕ) (key : List ℕ) (unguarded : is
     | inl same ↦
         let were : (y : Row) → Has (db tree) y → IsFree s tree (db tree) y = subst (λ n. (y : Row) → Has (db n) y → IsFree s n (db n) y) same (λ y here. keeps_at Unique s db t y keeps listed here) in
         let here = set_here db tree rows t.tree same in
-        let free : IsFree s tree rows x = test_from _ s.indexes (λ i known. not_from_false _ (false_from_ne_true _ (λ both. let parts = and_parts _ _ both in apart were i known parts.0 x (subst (λ l. Has l x) here present) parts.1))) in
+        let free : IsFree s tree rows x = test_from _ s.indexes (λ i known. not_from_false _ (false_from_ne_true _ (λ both. let parts = and_parts _ _ both in distinct_rowids were i known parts.0 x (subst (λ l. Has l x) here present) parts.1))) in
         subst (λ l. IsFree s t.tree l x) (sym here) (subst (λ n. IsFree s n rows x) (sym same) free)
     | inr other ↦
         let here = set_other db tree rows t.tree other in

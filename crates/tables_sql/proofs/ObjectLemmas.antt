@@ -30,7 +30,7 @@ use Rattle.tables_sql.proofs.Parts.{added, selected, removed, said_one}
 use Rattle.tables_sql.proofs.KeyOrders.{by_text}
 use Rattle.tables_sql.proofs.Legible.{object_row}
 use Rattle.tables_sql.proofs.FreeKeys.{agreed_one}
-use Rattle.tables_sql.proofs.Kept.{object_kept}
+use Rattle.tables_sql.proofs.RowKinds.{object_kept}
 use Rattle.tables_sql.proofs.OneOfNine.{one_of_nine}
 use Rattle.tables_sql.proofs.Description.{Description, Inserts, Addition, Removal, Reading, Selection}
 use Rattle.tables_sql.specs.Texts.{IsReadable}

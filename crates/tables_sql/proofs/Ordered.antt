@@ -119,18 +119,18 @@ IsOfOne name select source =
     × ((out-Select select).with ≡ []) × ((out-Select select).others ≡ []) × ((out-Select select).limit ≡ None) × ((out-Select select).offset ≡ None) × ((out-Core (out-Select select).first).group ≡ []) × ((out-Core (out-Select select).first).having ≡ None) × ((out-Core (out-Select select).first).distinct ≡ false)
     × ((s : Schema) → sources (query_to 15) s (out-Core (out-Select select).first).from [] ≡ Ok (s, []))
 
-alone_is : alone (record { collation = Some Binary; is_written = false }) ≡ Binary
+idle_is : alone (record { collation = Some Binary; is_written = false }) ≡ Binary
 unfolding alone
-alone_is = refl
+idle_is = refl
 
 paging_is : (s : Schema) (select : Written) → (out-Select select).limit ≡ None → (out-Select select).offset ≡ None → paging s select ≡ Ok (lit (Int (negsuc 0)), lit (Int (pos 0)))
 unfolding paging constant_or
 paging_is s select limit offset = rw (limit, offset)
 
-pub fronts : {X : Type 0} (P : X → Type 0) (n : ℕ) (xs : List X) → AllByRecursion P xs → AllByRecursion P (take n xs)
-fronts P zero xs h = tt
-fronts P (suc n) [] h = tt
-fronts P (suc n) (x ∷ xs) h = (h.0, fronts P n xs h.1)
+pub prefixes : {X : Type 0} (P : X → Type 0) (n : ℕ) (xs : List X) → AllByRecursion P xs → AllByRecursion P (take n xs)
+prefixes P zero xs h = tt
+prefixes P (suc n) [] h = tt
+prefixes P (suc n) (x ∷ xs) h = (h.0, prefixes P n xs h.1)
 
 -- FROM names one table
 bounds_are : (schema : Schema) (sources : List Source) {source : Source} → sources ≡ source ∷ [] → (name : Name) (at : ℕ) → (out-Source source).origin ≡ origin.Table name → (out-Source source).alias ≡ None → (out-Source source).using ≡ []
@@ -185,7 +185,7 @@ module _ (name : Name) (columns : List Column) (key : List ℕ) where
         let e = each.0 in
         let cx = context s at results false in
         let lowered = lower_column cx _ c.0 at c.1 (col 1 (c.1 + 1)) (Some Binary) last budget e.1 (found results false c are.0) (column c are.0) enough.0 in
-        rw (sort_is cx results done x (col 1 (c.1 + 1)) (plain_state budget last) (plain_state (budget - 1) (Some Binary)) Binary e.0.0 e.0.1 e.0.2 e.0.3 refl lowered alone_is, e.2, sorts_all results (done ++ key_of c ∷ []) xs cs each.1 are.1 (Some Binary) (budget - 1) enough.1, append_assoc done (key_of c ∷ []) (map key_of cs)) refl
+        rw (sort_is cx results done x (col 1 (c.1 + 1)) (plain_state budget last) (plain_state (budget - 1) (Some Binary)) Binary e.0.0 e.0.1 e.0.2 e.0.3 refl lowered idle_is, e.2, sorts_all results (done ++ key_of c ∷ []) xs cs each.1 are.1 (Some Binary) (budget - 1) enough.1, append_assoc done (key_of c ∷ []) (map key_of cs)) refl
 
   ordered : (s : Schema) (at tree : ℕ) (present : slice_get s.tables at ≡ Some (record (strict name columns key) { tree = tree })) (outs : List Output) (xs : List Sort) (by : List Place) → AreSorts outs xs by → AllByRecursion IsColumn by → (last : Option Collation) (budget : ℕ) → AreAbove (length by) budget
       → sorts lower (context s at outs false) outs xs (plain_state budget last) ≡ Ok (map key_of by, plain_state (spent (length by) budget) (last_of by last))
@@ -231,6 +231,6 @@ module _ (name : Name) (columns : List Column) (key : List ℕ) where
       → Compiles name columns key text count (λ at tree. Select (whole (query_on cs n filter) tree) (names_on cs))
   unfolding outputs
   selects text cs n are reads one displayed sorted filter last budget enough more tested typed ends given =
-      selects_by text (outputs_of cs) (take n cs) (fronts IsColumn n cs are) reads one sorted (last_of cs None) last (spent (length cs) max_budget) budget
+      selects_by text (outputs_of cs) (take n cs) (prefixes IsColumn n cs are) reads one sorted (last_of cs None) last (spent (length cs) max_budget) budget
       (λ s at tree known. shows_all s at tree known.named.1 [] true (record { name = name; table = at; slot = 1; shared = [] } ∷ []) [] (out-Core (out-Select reads.4).first).shown cs displayed are None max_budget enough)
       filter more tested typed ends given

@@ -14,7 +14,7 @@ use Rattle.std.proofs.lemmas.List.{length-map}
 use Rattle.std.specs.List.Sorted.{IsStrictlySortedBy}
 use Rattle.sqlite_rules.specs.Lists.{Has}
 use lib.Dec.{T}
-use Rattle.tables_sql.specs.Contents.{Triple, Numbered, Kept, texts_cmp, pair_cmp, triple_cmp, numbered_cmp, kept_cmp}
+use Rattle.tables_sql.specs.Contents.{Triple, Numbered, SessionPath, texts_cmp, pair_cmp, triple_cmp, numbered_cmp, session_path_cmp}
 
 both_true : (a b : Bool) → T a → T b → T (a && b)
 both_true true b h g = g
@@ -144,8 +144,8 @@ numbered_antisymmetric = two_antisymmetric texts_antisymmetric finite.int_cmp-Is
 
 -- ---- the order of temporary roots
 
-pub kept_total : IsTotalOrder kept_cmp
-kept_total = then_total (on_texts (λ k. k.0)) (then_total (on_total (λ (k : Kept). k.1) int_cmp_total) (on_texts (λ k. k.2)))
+pub session_path_total : IsTotalOrder session_path_cmp
+session_path_total = then_total (on_texts (λ k. k.0)) (then_total (on_total (λ (k : SessionPath). k.1) int_cmp_total) (on_texts (λ k. k.2)))
 
-pub kept_antisymmetric : finite.IsAntisymmetric kept_cmp
-kept_antisymmetric = three_antisymmetric texts_antisymmetric finite.int_cmp-IsAntisymmetric texts_antisymmetric
+pub session_path_antisymmetric : finite.IsAntisymmetric session_path_cmp
+session_path_antisymmetric = three_antisymmetric texts_antisymmetric finite.int_cmp-IsAntisymmetric texts_antisymmetric

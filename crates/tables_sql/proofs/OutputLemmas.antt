@@ -18,7 +18,7 @@ use Rattle.tables_sql.proofs.Parts.{IsAsked, added, selected, removed, said_one}
 use Rattle.tables_sql.proofs.KeyOrders.{by_pair}
 use Rattle.tables_sql.proofs.Legible.{triple_row}
 use Rattle.tables_sql.proofs.FreeKeys.{agreed_two}
-use Rattle.tables_sql.proofs.Kept.{outs_kept}
+use Rattle.tables_sql.proofs.RowKinds.{outs_kept}
 use Rattle.tables_sql.proofs.OneOfNine.{one_of_nine}
 use Rattle.tables_sql.proofs.Description.{Description, Addition, Removal, Reading, Selection}
 

@@ -225,14 +225,14 @@ selected d q are firm text params asked said = record {
 }
 
 -- what is computed of the text of such a DELETE
-abbrev pub IsTaken : {K X : Type 0} → Description K X → List Place → List ℕ → Row → Type 0
-IsTaken d cs text params =
+abbrev pub IsUsed : {K X : Type 0} → Description K X → List Place → List ℕ → Row → Type 0
+IsUsed d cs text params =
     IsDeleteOf d.name cs (length params) text × (suffices_for (first_of_them cs (length params)) max_budget ≡ true)
     × ((s : Schema) (at tree : ℕ) → IsKnown s d.name at (record (form d) { tree = tree })
     → (let query = rowids_where tree (of_first cs (length params)) in (program s [] (simple (Inner tree ∷ []) (of_first cs (length params)) (col 1 0 ∷ [])) ≡ Ok (record { lets = []; body = query })) × (accepts_program s [] query params ≡ true)))
 
 abbrev pub removed : {K X : Type 0} (d : Description K X) (cs : List Place) → AllByRecursion (IsColumn d.name d.columns d.key) cs → are_firm d.columns ≡ true
-    → (text : List ℕ) (params : Row) {test : K → Bool} → IsTaken d cs text params → Says d d.kind cs params test → Removal d text params test
+    → (text : List ℕ) (params : Row) {test : K → Bool} → IsUsed d cs text params → Says d d.kind cs params test → Removal d text params test
 removed d cs are firm text params loaded said = record {
   filter = of_first cs (length params);
   is = deletes_first d.name d.columns d.key cs are firm (length params) text loaded.0 loaded.1 (λ s at tree known. (loaded.2 s at tree known).0);

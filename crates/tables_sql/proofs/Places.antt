@@ -12,11 +12,11 @@ use Rattle.sqlite_schema.specs.declared.schema.Column.{Column}
 use Rattle.sqlite_schema.specs.Names.{same_name, table_named}
 use Rattle.sqlite_rules.specs.Lists.{Has}
 use Rattle.sqlite.specs.State.{State}
-use Rattle.tables_schema.specs.Forms.{our_tables, piece, temp_root, is_our_name}
+use Rattle.tables_schema.specs.Forms.{store_tables, piece, temp_root, is_our_name}
 use Rattle.tables_schema.specs.Intact.{IsIntact, HasTables, tree_named}
 use Rattle.tables_sql.specs.Contents.{Contents, contents_of, rows_named, rows_if_any}
 use Rattle.tables_sql.specs.Texts.{IsReadable, AreReadableRows, HasReadableRows}
-use Rattle.tables_sql.specs.Calls.{IsKeyed, IsStoreDatabase, HasFurther, KeepsFurther, KeepsTheirs, Changes}
+use Rattle.tables_sql.specs.Calls.{IsKeyed, IsStoreDatabase, HasFurther, KeepsFurther, KeepsForeignRows, Changes}
 use Rattle.tables_sql.proofs.Writes.{SetsRows}
 use Rattle.tables_sql.proofs.Truths.{and_so}
 
@@ -49,18 +49,18 @@ module _ (s : Schema) (a : Table) (exists : IsIntact s a) where
   tree = tree_named s a.name
 
   -- two of the store's tables have two trees
-  pub apart : (b : Table) → IsIntact s b → bytes_eq b.name a.name ≡ false → tree_named s b.name ≢ tree
-  apart b other names e =
-      let alone = list_all_at _ s.tables other.at _ other.known.named.1 exists.alone in
-      absurd (let f = rw (eq-eqb _ _ e, names) at alone in cc)
+  pub distinct_rowids : (b : Table) → IsIntact s b → bytes_eq b.name a.name ≡ false → tree_named s b.name ≢ tree
+  distinct_rowids b other names e =
+      let idle = list_all_at _ s.tables other.at _ other.known.named.1 exists.idle in
+      absurd (let f = rw (eq-eqb _ _ e, names) at idle in cc)
 
   kept : (p : Table → Type 0) (ts : List Table) → list_all (λ t. not (t.tree == tree) || bytes_eq t.name a.name) ts ≡ true → AllByRecursion (λ t. t.tree ≢ tree → p t) ts → is_our_name a.name ≡ true → AllByRecursion (λ t. is_our_name t.name ≡ false → p t) ts
-  kept p [] alone h of_store = tt
-  kept p (t ∷ ts) alone h of_store = (λ other. h.0 (λ e. differs e other (and_so _ _ alone).0), kept p ts (and_so _ _ alone).1 h.1 of_store)
+  kept p [] idle h of_store = tt
+  kept p (t ∷ ts) idle h of_store = (λ other. h.0 (λ e. differs e other (and_so _ _ idle).0), kept p ts (and_so _ _ idle).1 h.1 of_store)
     where
       differs : t.tree ≡ tree → is_our_name t.name ≡ false → (not (t.tree == tree) || bytes_eq t.name a.name) ≡ true → ⊥
-      differs e other alone =
-          let named : bytes_eq t.name a.name ≡ true = let f = alone in rw (eq-eqb _ _ e) at f in
+      differs e other idle =
+          let named : bytes_eq t.name a.name ≡ true = let f = idle in rw (eq-eqb _ _ e) at f in
           let is : t.name ≡ a.name = bytes_same _ _ named in
           absurd (let f = sym of_store ∙ ap is_our_name (sym is) ∙ other in cc)
 
@@ -76,34 +76,34 @@ module _ (a : Table) (old new : State) (rows : List Row) (exists : IsIntact old.
   pub others_kept : (b : Table) → IsIntact old.now.schema b → bytes_eq b.name a.name ≡ false → rows_named new.now b.name ≡ rows_named old.now b.name
   others_kept b other names =
       ap (λ s. new.now.trees (tree_named s b.name)) sets.schema
-      ∙ at_tree old.now.schema a exists (λ tree. new.now.trees tree ≡ old.now.trees tree) b other sets.others (apart old.now.schema a exists b other names)
+      ∙ at_tree old.now.schema a exists (λ tree. new.now.trees tree ≡ old.now.trees tree) b other sets.others (distinct_rowids old.now.schema a exists b other names)
 
   -- and so has one of another name, if there is one
   pub if_any_kept : (name : List ℕ) → same_name a.name name ≡ false → rows_if_any new.now name ≡ rows_if_any old.now name
   unfolding rows_if_any
   if_any_kept name names =
       ap (λ (s : Schema). unwrap_or (option_map (λ (t : Table). new.now.trees t.tree) (find (λ (t : Table). same_name t.name name) s.tables)) []) sets.schema
-      ∙ walk old.now.schema.tables exists.alone sets.others
+      ∙ walk old.now.schema.tables exists.idle sets.others
     where
       other : (t : Table) → (not (t.tree == tree_named old.now.schema a.name) || bytes_eq t.name a.name) ≡ true → same_name t.name name ≡ true → t.tree ≢ tree_named old.now.schema a.name
-      other t alone is e =
-          let named : bytes_eq t.name a.name ≡ true = let f = alone in rw (eq-eqb _ _ e) at f in
+      other t idle is e =
+          let named : bytes_eq t.name a.name ≡ true = let f = idle in rw (eq-eqb _ _ e) at f in
           absurd (let f = sym is ∙ ap (λ n. same_name n name) (bytes_same _ _ named) ∙ names in cc)
 
       walk : (ts : List Table) → list_all (λ t. not (t.tree == tree_named old.now.schema a.name) || bytes_eq t.name a.name) ts ≡ true → AllByRecursion (λ t. t.tree ≢ tree_named old.now.schema a.name → new.now.trees t.tree ≡ old.now.trees t.tree) ts
           → unwrap_or (option_map (λ (t : Table). new.now.trees t.tree) (find (λ (t : Table). same_name t.name name) ts)) [] ≡ unwrap_or (option_map (λ (t : Table). old.now.trees t.tree) (find (λ (t : Table). same_name t.name name) ts)) []
-      walk [] alone others = refl
-      walk (t ∷ ts) alone others = go (same_name t.name name) refl (walk ts (and_so _ _ alone).1 others.1)
+      walk [] idle others = refl
+      walk (t ∷ ts) idle others = go (same_name t.name name) refl (walk ts (and_so _ _ idle).1 others.1)
         where
           go : (b : Bool) → same_name t.name name ≡ b
               → unwrap_or (option_map (λ (t : Table). new.now.trees t.tree) (find (λ (t : Table). same_name t.name name) ts)) [] ≡ unwrap_or (option_map (λ (t : Table). old.now.trees t.tree) (find (λ (t : Table). same_name t.name name) ts)) []
               → unwrap_or (option_map (λ (t : Table). new.now.trees t.tree) (cond b (Some t) (find (λ (t : Table). same_name t.name name) ts))) [] ≡ unwrap_or (option_map (λ (t : Table). old.now.trees t.tree) (cond b (Some t) (find (λ (t : Table). same_name t.name name) ts))) []
-          go true is later = others.0 (other t (and_so _ _ alone).0 is)
+          go true is later = others.0 (other t (and_so _ _ idle).0 is)
           go false is later = later
 
   -- and so has each of theirs
-  pub theirs_kept : is_our_name a.name ≡ true → KeepsTheirs old.now new.now
-  theirs_kept = kept old.now.schema a exists (λ t. new.now.trees t.tree ≡ old.now.trees t.tree) old.now.schema.tables exists.alone sets.others
+  pub theirs_kept : is_our_name a.name ≡ true → KeepsForeignRows old.now new.now
+  theirs_kept = kept old.now.schema a exists (λ t. new.now.trees t.tree ≡ old.now.trees t.tree) old.now.schema.tables exists.idle sets.others
 
   -- what holds of the columns and the rows of each table of the store holds after the write, where the write keeps it of its own
   after : (P : List Column → List Row → Type 0) → (P a.columns (rows_named old.now a.name) → P a.columns rows) → (ts : List Table) → AllByRecursion (IsIntact old.now.schema) ts → AllByRecursion (λ t. P t.columns (rows_named old.now t.name)) ts → AllByRecursion (λ t. P t.columns (rows_named new.now t.name)) ts
@@ -122,8 +122,8 @@ module _ (a : Table) (old new : State) (rows : List Row) (exists : IsIntact old.
   ours_kept of_store keyed readable = record {
     sound = sets.sound;
     has = subst HasTables (sym sets.schema) of_store.has;
-    keyed = after (λ columns rs. IsKeyed rs) keyed our_tables of_store.has of_store.keyed;
-    readable = after (λ columns rs. (row : Row) (at : ℕ) → Has rs row → at < length columns → IsReadable (column row (at + 1))) readable our_tables of_store.has of_store.readable;
+    keyed = after (λ columns rs. IsKeyed rs) keyed store_tables of_store.has of_store.keyed;
+    readable = after (λ columns rs. (row : Row) (at : ℕ) → Has rs row → at < length columns → IsReadable (column row (at + 1))) readable store_tables of_store.has of_store.readable;
   }
 
   -- a further table that stood stands still
@@ -142,7 +142,7 @@ module _ (a : Table) (old new : State) (rows : List Row) (exists : IsIntact old.
     is_open = sets.is_open;
     schema = sets.schema;
     contents = contents;
-    theirs = theirs_kept named;
+    foreign_rows = theirs_kept named;
     unshown = sets.unshown;
     of_store = ours_kept of_store keyed readable;
     further = (further_kept keyed readable piece, (further_kept keyed readable temp_root, tt));

@@ -132,11 +132,11 @@ sums_nothing q tree scan params db (inl h) = subst (λ g. Overflows g (matches d
 sums_nothing q tree scan params db (inr h) = (subst (λ j. FoldOverflows db j (params ∷ [])) scan.from h).4
 
 -- an error of a query over one table, if it stands in an open connection
-pub standing_read_fails : (name : List ℕ) (columns : List Column) (key : List ℕ) (old new : State) → (IsTrue old.is_open → IsIntact old.now.schema (strict name columns key)) → (text : List ℕ) (params : Row) (names : List (List ℕ)) (query : ℕ → Query) → ((tree : ℕ) → IsScan (query tree) tree)
+pub open_read_fails : (name : List ℕ) (columns : List Column) (key : List ℕ) (old new : State) → (IsTrue old.is_open → IsIntact old.now.schema (strict name columns key)) → (text : List ℕ) (params : Row) (names : List (List ℕ)) (query : ℕ → Query) → ((tree : ℕ) → IsScan (query tree) tree)
     → Compiles name columns key text (length params) (λ at tree. Select (record { lets = []; body = query tree }) names) → IsSelect text
     → ((s : Schema) (at tree : ℕ) → IsKnown s name at (record (strict name columns key) { tree = tree }) → accepts_program s [] (query tree) params ≡ true)
     → (e : Error) → FailsToQuery text params old new e → FailsWith old new ⊥ (IsSome old.step_limit) (failure_of e)
-standing_read_fails name columns key old new at text params names query scan is reads typed =
+open_read_fails name columns key old new at text params names query scan is reads typed =
     query_fails old new text params names (query tree) (λ same. is old.now.schema (exists same).at tree (exists same).known) reads (λ same. typed old.now.schema (exists same).at tree (exists same).known) (sums_nothing (query tree) tree (scan tree) params)
   where
     tree : ℕ

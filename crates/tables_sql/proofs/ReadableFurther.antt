@@ -9,10 +9,10 @@ use Rattle.sqlite.specs.Effect.{Database, IsDatabase}
 use Rattle.tables_schema.specs.Forms.{piece, temp_root}
 use Rattle.tables_schema.specs.Intact.{IsIntact}
 use Rattle.tables_schema.specs.Finding.{IsFree}
-use Rattle.tables_sql.specs.Contents.{Bytes, contents_of, numbered_cmp, kept_cmp, is_text, is_piece, piece_of, is_kept, kept_of, map_of, rows_named}
+use Rattle.tables_sql.specs.Contents.{Bytes, contents_of, numbered_cmp, session_path_cmp, is_text, is_piece, piece_of, is_session_path, session_path_of, map_of, rows_named}
 use Rattle.tables_sql.specs.Texts.{IsReadable, AreReadable, AreReadableRows}
 use Rattle.tables_sql.specs.Calls.{IsKeyed, IsWhole}
-use Rattle.tables_sql.proofs.Orders.{numbered_total, numbered_antisymmetric, kept_total, kept_antisymmetric}
+use Rattle.tables_sql.proofs.Orders.{numbered_total, numbered_antisymmetric, session_path_total, session_path_antisymmetric}
 use Rattle.tables_sql.proofs.Truths.{and_so}
 use Rattle.tables_sql.proofs.FurtherTables.{pieces_once, temp_roots_once, pieces_held, temp_roots_held, if_any_free}
 use Rattle.tables_sql.proofs.MappedRows.{row_of, HasOneRowEach, entry_of}
@@ -35,16 +35,16 @@ module _ (rows : List Row) (typed : (row : Row) → Has rows row → is_piece ro
       columns row present one (suc (suc zero)) low = blob_readable (column row 3) (and_so _ _ (typed row present)).1
       columns row present one (suc (suc (suc at))) low = absurd (omega (arith, low))
 
-module _ (rows : List Row) (typed : (row : Row) → Has rows row → is_kept row ≡ true) where
-  temp_roots_readable : HasOneRowEach kept_total kept_antisymmetric is_kept kept_of rows → Rows 3 rows ↔ OfTempRoots (map_of kept_cmp is_kept kept_of rows)
+module _ (rows : List Row) (typed : (row : Row) → Has rows row → is_session_path row ≡ true) where
+  temp_roots_readable : HasOneRowEach session_path_total session_path_antisymmetric is_session_path session_path_of rows → Rows 3 rows ↔ OfTempRoots (map_of session_path_cmp is_session_path session_path_of rows)
   temp_roots_readable once = (
     λ h owner n target got.
-        let r = row_of kept_total kept_antisymmetric is_kept kept_of rows (owner, n, target) tt got in
+        let r = row_of session_path_total session_path_antisymmetric is_session_path session_path_of rows (owner, n, target) tt got in
         let whole = and_so _ _ r.2 in (
           subst IsUtf8 (ap (λ e. e.0.0) r.3) (utf8_of (column r.0 1) (and_so _ _ whole.0).0 (h r.0 0 r.1 (omega arith))),
           subst IsUtf8 (ap (λ e. e.0.2) r.3) (utf8_of (column r.0 3) whole.1 (h r.0 2 r.1 (omega arith))),
         ),
-    λ h row at present low. let both = h _ _ _ (entry_of kept_total kept_antisymmetric is_kept kept_of rows once row present (typed row present)) in columns row present both.0 both.1 at low,
+    λ h row at present low. let both = h _ _ _ (entry_of session_path_total session_path_antisymmetric is_session_path session_path_of rows once row present (typed row present)) in columns row present both.0 both.1 at low,
   )
     where
       columns : (row : Row) → Has rows row → IsUtf8 (bytes (column row 1)) → IsUtf8 (bytes (column row 3)) → (at : ℕ) → at < 3 → IsReadable (column row (at + 1))
@@ -60,7 +60,7 @@ module _ (db : Database) (sound : IsDatabase db) where
 
   pub temp_roots_by_maps : IsIntact db.schema temp_root → IsKeyed (rows_named db temp_root.name) → AreReadableRows temp_root (rows_named db temp_root.name) ↔ OfTempRoots (contents_of db).temp_roots
   temp_roots_by_maps exists keyed =
-      subst (λ (m : finite.FinMap kept_cmp (Unit {0})). AreReadableRows temp_root (rows_named db temp_root.name) ↔ OfTempRoots m) (sym (temp_roots_held db exists)) (temp_roots_readable (rows_named db temp_root.name) (temp_roots_typed db sound exists) (temp_roots_once db sound exists keyed))
+      subst (λ (m : finite.FinMap session_path_cmp (Unit {0})). AreReadableRows temp_root (rows_named db temp_root.name) ↔ OfTempRoots m) (sym (temp_roots_held db exists)) (temp_roots_readable (rows_named db temp_root.name) (temp_roots_typed db sound exists) (temp_roots_once db sound exists keyed))
 
 -- where they don't, there are no texts
 module _ (db : Database) where
@@ -76,7 +76,7 @@ module _ (db : Database) where
   unfolding map_of
   no_temp_roots free = (
     λ _ owner n target got.
-        absurd (let e = sym (ap (λ rows. finite.get (map_of kept_cmp is_kept kept_of rows) (owner, n, target)) (if_any_free db temp_root.name free) ∙ finite.get-from_entries kept_total [] (owner, n, target)) ∙ got in cc),
+        absurd (let e = sym (ap (λ rows. finite.get (map_of session_path_cmp is_session_path session_path_of rows) (owner, n, target)) (if_any_free db temp_root.name free) ∙ finite.get-from_entries session_path_total [] (owner, n, target)) ∙ got in cc),
     λ _. tt,
   )
 

@@ -9,9 +9,9 @@ use Rattle.sqlite_rules.specs.Lists.{Has}
 use Rattle.sqlite_value.specs.Keys.{plain}
 use Rattle.sqlite_schema.specs.Rules.{agree}
 use Rattle.sqlite.specs.Effect.{Database, IsDatabase}
-use Rattle.tables_schema.specs.Forms.{meta, object, refs, outs, permanent, user_root, profile, generation, runtime, our_tables}
+use Rattle.tables_schema.specs.Forms.{meta, object, refs, outs, permanent, user_root, profile, generation, runtime, store_tables}
 use Rattle.tables_schema.specs.Intact.{HasTables}
-use Rattle.tables_sql.specs.Contents.{Bytes, Stored, contents_of, texts_cmp, pair_cmp, triple_cmp, numbered_cmp, kept_cmp, is_text, text_if_any, is_pair, pair_of, member_of, is_triple, target_of, is_profile, profile_of, is_generation, generation_of, is_object, object_of, map_of, rows_named}
+use Rattle.tables_sql.specs.Contents.{Bytes, Stored, contents_of, texts_cmp, pair_cmp, triple_cmp, numbered_cmp, session_path_cmp, is_text, text_if_any, is_pair, pair_of, member_of, is_triple, target_of, is_profile, profile_of, is_generation, generation_of, is_object, object_of, map_of, rows_named}
 use Rattle.tables_sql.specs.Texts.{IsReadable, AreReadable, HasReadableRows}
 use Rattle.tables_sql.specs.Calls.{IsKeyed}
 use Rattle.tables_sql.proofs.Orders.{texts_total, texts_antisymmetric, pair_total, pair_antisymmetric, triple_total, triple_antisymmetric}
@@ -25,7 +25,7 @@ use Rattle.tables_sql.proofs.ReadableValues.{utf8_of, readable_of, readable_int,
 abbrev pub OfPieces : finite.FinMap numbered_cmp Bytes → Type 0
 OfPieces m = (base : Bytes) (n : ℤ) (bytes : Bytes) → finite.get m (base, n) ≡ Some bytes → IsUtf8 base
 
-abbrev pub OfTempRoots : finite.FinMap kept_cmp (Unit {0}) → Type 0
+abbrev pub OfTempRoots : finite.FinMap session_path_cmp (Unit {0}) → Type 0
 OfTempRoots m = (owner : Bytes) (n : ℤ) (target : Bytes) → finite.get m (owner, n, target) ≡ Some tt → IsUtf8 owner × IsUtf8 target
 
 -- each text in the first so many columns of each row
@@ -145,7 +145,7 @@ module _ (rows : List Row) (typed : (row : Row) → Has rows row → is_object r
 
 -- ---- all nine
 
-module _ (db : Database) (sound : IsDatabase db) (has : HasTables db.schema) (keyed : AllByRecursion (λ t. IsKeyed (rows_named db t.name)) our_tables) where
+module _ (db : Database) (sound : IsDatabase db) (has : HasTables db.schema) (keyed : AllByRecursion (λ t. IsKeyed (rows_named db t.name)) store_tables) where
   pub meta_typed : (row : Row) → Has (rows_named db meta.name) row → is_pair row ≡ true
   meta_typed = pairs_typed db sound meta.name (codes "word") (codes "val") meta.primary has.0
 

@@ -34,7 +34,7 @@ use Rattle.tables_sql.specs.Queries.{HasBegunWith}
 use Rattle.tables_sql.specs.Calls.{IsStoreDatabase, IsReady}
 use Rattle.tables_sql.specs.Failures.{failure_of, IsQueryFailure, FailsWith, FailsFor}
 use Rattle.tables_sql.specs.Reading.{IsAmiss}
-use Rattle.tables_sql.proofs.Apart.{tie, AreApart}
+use Rattle.tables_sql.proofs.Distinct.{tie, AreDistinct}
 use Rattle.tables_sql.proofs.Scans.{IsScan, shows, kept, listed, scan_sound, has_matched, has_permuted}
 use Rattle.tables_sql.proofs.Statements.{answer_of, Compiles}
 use Rattle.tables_sql.proofs.RowByRow.{whole}
@@ -50,8 +50,8 @@ above Greater Equal e h k = absurd (let no = e in cc)
 above Greater Greater e h k = absurd (let no = e in cc)
 
 pub rising : {X : Type 0} {c : X → X → Ordering} (o : IsTotalOrder c) (xs : List X) → IsSorted c xs → IsDistinct (eq_by_cmp c) xs → AllAdjacentBelow (λ x y. c x y ≡ Less) xs (length xs)
-rising {c = c} o xs up apart k d low =
-    above _ _ (o.antisymm (get_or xs k d) (get_or xs (k + 1) d)) (apart_from_distinct (eq_by_cmp c) xs k (k + 1) d apart (omega arith) low) (up k d (omega arith) low)
+rising {c = c} o xs up distinct_rowids k d low =
+    above _ _ (o.antisymm (get_or xs k d) (get_or xs (k + 1) d)) (apart_from_distinct (eq_by_cmp c) xs k (k + 1) d distinct_rowids (omega arith) low) (up k d (omega arith) low)
 
 -- ---- two lists, one beside the other
 
@@ -77,7 +77,7 @@ zip_at P (x ∷ xs) (y ∷ ys) z (suc k) d e low = zip_at P xs ys z.1 k d e (ome
 pub record AreKept {K : Type 0} (kind : Row → Bool) (key : Row → K) (width : ℕ) (rows : List Row) : Type 0 where
   pub typed : (r : Row) → Has rows r → kind r ≡ true
   pub once : (a b : Row) → Has rows a → Has rows b → kind a ≡ true → kind b ≡ true → key a ≡ key b → a ≡ b
-  pub apart : AreApart rows
+  pub distinct_rowids : AreDistinct rows
   pub readable : (row : Row) (at : ℕ) → Has rows row → at < width → IsReadable (column row (at + 1))
 
 -- what is made of those that pass a test differs, where what is made of two rows does
@@ -95,20 +95,20 @@ module _ {X E : Type 0} (c : X → X → Ordering) (test : Row → Bool) (env : 
       go false e later = later
 
   not_tied : (r : Row) (rows : List Row) → AllByRecursion (λ v. tie (rowid r) v ≡ false) (map rowid rows) → ((s : Row) → Has rows s → c (out (env r)) (out (env s)) ≡ Equal → r ≡ s) → (s : Row) → Has rows s → eq_by_cmp c (out (env r)) (out (env s)) ≡ false
-  not_tied r rows apart once s present = go (eq_by_cmp c (out (env r)) (out (env s))) refl
+  not_tied r rows distinct_rowids once s present = go (eq_by_cmp c (out (env r)) (out (env s))) refl
     where
       go : (b : Bool) → eq_by_cmp c (out (env r)) (out (env s)) ≡ b → eq_by_cmp c (out (env r)) (out (env s)) ≡ false
       go false e = e
       go true e =
           let same : r ≡ s = once s present ((Equal-is _).0 e) in
-          let other : tie (rowid r) (rowid s) ≡ false = all_has (λ v. tie (rowid r) v ≡ false) (map rowid rows) (rowid s) apart (mapped_has rowid rows s present) in
+          let other : tie (rowid r) (rowid s) ≡ false = all_has (λ v. tie (rowid r) v ≡ false) (map rowid rows) (rowid s) distinct_rowids (mapped_has rowid rows s present) in
           absurd (let no = sym (ap is_eq (tied_itself value_cmp_total (rowid r))) ∙ ap (λ x. tie (rowid r) (rowid x)) same ∙ other in cc)
 
-  pub passed_apart : (rows : List Row) → AreApart rows → ((a b : Row) → Has rows a → Has rows b → c (out (env a)) (out (env b)) ≡ Equal → a ≡ b) → IsDistinct (eq_by_cmp c) (passed rows)
+  pub passed_apart : (rows : List Row) → AreDistinct rows → ((a b : Row) → Has rows a → Has rows b → c (out (env a)) (out (env b)) ≡ Equal → a ≡ b) → IsDistinct (eq_by_cmp c) (passed rows)
   unfolding IsDistinct
-  passed_apart [] apart once = tt
-  passed_apart (r ∷ rows) apart once =
-      go (test r) (others r rows (not_tied r rows apart.0 (λ s present. once r s (inl refl) (inr present)))) (passed_apart rows apart.1 (λ a b here present. once a b (inr here) (inr present)))
+  passed_apart [] distinct_rowids once = tt
+  passed_apart (r ∷ rows) distinct_rowids once =
+      go (test r) (others r rows (not_tied r rows distinct_rowids.0 (λ s present. once r s (inl refl) (inr present)))) (passed_apart rows distinct_rowids.1 (λ a b here present. once a b (inr here) (inr present)))
     where
       go : (b : Bool) → AllByRecursion (λ x. eq_by_cmp c (out (env r)) x ≡ false) (passed rows) → IsDistinct (eq_by_cmp c) (passed rows)
           → IsDistinct (eq_by_cmp c) (map out (cond b (env r ∷ []) [] ++ flat_map (λ r. cond (test r) (env r ∷ []) []) rows))
@@ -135,9 +135,9 @@ module _ (q : Query) (tree : ℕ) (scan : IsScan q tree) (db : Trees) (params : 
       (r.0, r.1, e.2 ∙ ap (output q) r.3)
 
   -- and rises
-  ordered_rises : AreApart (db tree) → ((a b : Row) → Has (db tree) a → Has (db tree) b → output_cmp q (made a) (made b) ≡ Equal → a ≡ b) → AllAdjacentBelow (λ x y. output_cmp q x y ≡ Less) answer.ordered (length answer.ordered)
-  ordered_rises apart once =
-      let each : IsDistinct (eq_by_cmp (output_cmp q)) answer.kept = subst (IsDistinct (eq_by_cmp (output_cmp q))) (sym (kept q tree scan db params (rows ++ tail) answer)) (passed_apart (output_cmp q) test env (output q) (db tree) apart once) in
+  ordered_rises : AreDistinct (db tree) → ((a b : Row) → Has (db tree) a → Has (db tree) b → output_cmp q (made a) (made b) ≡ Equal → a ≡ b) → AllAdjacentBelow (λ x y. output_cmp q x y ≡ Less) answer.ordered (length answer.ordered)
+  ordered_rises distinct_rowids once =
+      let each : IsDistinct (eq_by_cmp (output_cmp q)) answer.kept = subst (IsDistinct (eq_by_cmp (output_cmp q))) (sym (kept q tree scan db params (rows ++ tail) answer)) (passed_apart (output_cmp q) test env (output q) (db tree) distinct_rowids once) in
       rising (output_cmp_total q) answer.ordered answer.sorted (IsDistinct-IsPermutation (eq_by_cmp (output_cmp q)) (λ x y. (eq_by_cmp_equiv (output_cmp_total q)).symm x y) answer.kept answer.ordered answer.same each)
 
   module _ {K : Type 0} {R : K → K → Ordering} (same : finite.IsAntisymmetric R) (kind : Row → Bool) (key : Row → K) (width : ℕ) (own : AreKept kind key width (db tree))
@@ -165,7 +165,7 @@ module _ (q : Query) (tree : ℕ) (scan : IsScan q tree) (db : Trees) (params : 
         let x = zip_at Fits front all fit k nothing d (omega (arith, low)) in
         let y = zip_at Fits front all fit (k + 1) nothing d low in
         let within : k + 1 < length (front ++ part.1) = omega (arith, length-append front part.1, long, low) in
-        let rises : output_cmp q (get_or (front ++ part.1) k nothing) (get_or (front ++ part.1) (k + 1) nothing) ≡ Less = subst (λ l. k + 1 < length l → output_cmp q (get_or l k nothing) (get_or l (k + 1) nothing) ≡ Less) part.2 (ordered_rises own.apart once k nothing) within in
+        let rises : output_cmp q (get_or (front ++ part.1) k nothing) (get_or (front ++ part.1) (k + 1) nothing) ≡ Less = subst (λ l. k + 1 < length l → output_cmp q (get_or l k nothing) (get_or l (k + 1) nothing) ≡ Less) part.2 (ordered_rises own.distinct_rowids once k nothing) within in
         let up : output_cmp q (get_or front k nothing) (get_or front (k + 1) nothing) ≡ Less = subst₂ (λ u v. output_cmp q u v ≡ Less) (get_or-append front part.1 nothing k (omega (arith, long, low))) (get_or-append front part.1 nothing (k + 1) (omega (arith, long, low))) rises in
         let below : R (key x.0) (key y.0) ≡ Less = sym (orders x.0 y.0 x.1 y.1) ∙ subst₂ (λ u v. output_cmp q u v ≡ Less) x.2 y.2 up in
         subst₂ (λ u v. true ≡ is_lt (R u v)) x.3 y.3 (sym (ap is_lt below))

@@ -12,11 +12,11 @@ use Rattle.sqlite.proofs.StateLemmas.{survives_then, survives_weaker}
 use Rattle.tables_schema.specs.Forms.{is_our_name}
 use Rattle.tables_sql.specs.Contents.{Contents, contents_of}
 use Rattle.tables_sql.specs.Frozen.{IsUnshown}
-use Rattle.tables_sql.specs.Calls.{IsStoreDatabase, IsReady, IsUnderWay, KeepsTheirs, Leaves, LeavesRows, Changes, KeepsShown, KeepsFurther}
+use Rattle.tables_sql.specs.Calls.{IsStoreDatabase, IsReady, IsUnderWay, KeepsForeignRows, Leaves, LeavesRows, Changes, KeepsShown, KeepsFurther}
 use Rattle.tables_sql.proofs.Frozen.{frozen_next, frozen_of, listed_of}
 
-pub theirs_then : (a b c : Database) → b.schema ≡ a.schema → KeepsTheirs a b → KeepsTheirs b c → KeepsTheirs a c
-theirs_then a b c is h k =
+pub foreign_then : (a b c : Database) → b.schema ≡ a.schema → KeepsForeignRows a b → KeepsForeignRows b c → KeepsForeignRows a c
+foreign_then a b c is h k =
     let foreign = λ (x y : Database) (t : Table). is_our_name t.name ≡ false → y.trees t.tree ≡ x.trees t.tree in
     all_both (foreign a b) (foreign b c) (foreign a c) (λ t p q other. q other ∙ p other) a.schema.tables h (subst (λ (s : Schema). AllByRecursion (foreign b c) s.tables) is k)
 
@@ -28,7 +28,7 @@ changes_then a b c f g h k = record {
   is_open = k.is_open;
   schema = k.schema ∙ h.schema;
   contents = k.contents ∙ ap g h.contents;
-  theirs = theirs_then a.now b.now c.now h.schema h.theirs k.theirs;
+  foreign_rows = foreign_then a.now b.now c.now h.schema h.foreign_rows k.foreign_rows;
   unshown = λ tree hidden. k.unshown tree (subst (λ (s : Schema). IsUnshown s tree) (sym h.schema) hidden) ∙ h.unshown tree hidden;
   of_store = k.of_store;
   further = (λ present. k.further.0 (h.further.0 present), (λ present. k.further.1.0 (h.further.1.0 present), tt));
@@ -44,7 +44,7 @@ changes_to a b f g same h = record {
   is_open = h.is_open;
   schema = h.schema;
   contents = same;
-  theirs = h.theirs;
+  foreign_rows = h.foreign_rows;
   unshown = h.unshown;
   of_store = h.of_store;
   further = h.further;
@@ -64,7 +64,7 @@ changes_none s under is_open = record {
   is_open = is_open;
   schema = refl;
   contents = refl;
-  theirs = all_of (λ (t : Table). is_our_name t.name ≡ false → s.now.trees t.tree ≡ s.now.trees t.tree) (λ t other. refl) s.now.schema.tables;
+  foreign_rows = all_of (λ (t : Table). is_our_name t.name ≡ false → s.now.trees t.tree ≡ s.now.trees t.tree) (λ t other. refl) s.now.schema.tables;
   unshown = λ tree hidden. refl;
   of_store = under.of_store is_open;
   further = (λ present. present, (λ present. present, tt));
@@ -98,7 +98,7 @@ shown_then a b c h k = record {
 -- ---- what a crash leaves of a commit
 
 leaves_now : (d : Database) (db : Trees) → db ≡ d.trees → Leaves d db (contents_of d)
-leaves_now d db is = subst (λ (trees : Trees). Leaves d trees (contents_of d)) (sym is) (record { of_store = refl; theirs = all_of (λ (t : Table). is_our_name t.name ≡ false → d.trees t.tree ≡ d.trees t.tree) (λ t other. refl) d.schema.tables; frozen = record { rows = λ tree is. refl; texts = λ row present foreign. present; version = refl } })
+leaves_now d db is = subst (λ (trees : Trees). Leaves d trees (contents_of d)) (sym is) (record { of_store = refl; foreign_rows = all_of (λ (t : Table). is_our_name t.name ≡ false → d.trees t.tree ≡ d.trees t.tree) (λ t other. refl) d.schema.tables; frozen = record { rows = λ tree is. refl; texts = λ row present foreign. present; version = refl } })
 
 pub leaves_by : (old new : State) → Survives old new (λ db. db ≡ old.now.trees) → Survives old new (λ db. Leaves old.now db (contents_of old.now))
 leaves_by old new h = survives_weaker old new _ _ (λ clean db is. leaves_now old.now db is) h
@@ -109,7 +109,7 @@ leaves_by old new h = survives_weaker old new _ _ (λ clean db is. leaves_now ol
 pub leaves_from : (a b : State) (f : Contents → Contents) (db : Trees) → IsDatabase a.now → Changes a b f → Leaves b.now db (contents_of b.now) → Leaves a.now db (f (contents_of a.now))
 leaves_from a b f db sound h l = record {
   of_store = subst (λ (s : Schema). contents_of (record a.now { schema = s; trees = db }) ≡ f (contents_of a.now)) h.schema (l.of_store ∙ h.contents);
-  theirs = theirs_then a.now b.now (record a.now { trees = db }) h.schema h.theirs l.theirs;
+  foreign_rows = foreign_then a.now b.now (record a.now { trees = db }) h.schema h.foreign_rows l.foreign_rows;
   frozen = frozen_next a.now b.now db h.schema (frozen_of a.now b.now.trees sound h.unshown) l.frozen;
 }
 

@@ -10,11 +10,11 @@ use Rattle.sqlite_rules.specs.Edit.{id_in}
 use Rattle.sqlite_tied.specs.Compute.{everything}
 use Rattle.tables_schema.specs.Forms.{temp_root}
 use Rattle.tables_schema.specs.Intact.{IsIntact}
-use Rattle.tables_sql.specs.Contents.{Kept, texts_cmp, kept_cmp, is_text, is_kept, kept_of}
+use Rattle.tables_sql.specs.Contents.{SessionPath, texts_cmp, session_path_cmp, is_text, is_session_path, session_path_of}
 use Rattle.tables_sql.specs.Calls.{HasFurther}
 use Rattle.tables_sql.specs.Queries.{IsSelect}
 use Rattle.tables_sql.specs.Entries.{temp_root_of, ShowsTempRoot, IsTempRootRow}
-use Rattle.tables_sql.proofs.Orders.{kept_total, kept_antisymmetric}
+use Rattle.tables_sql.proofs.Orders.{session_path_total, session_path_antisymmetric}
 use Rattle.tables_sql.proofs.Truths.{cast_null, cast_int, and_so}
 use Rattle.tables_sql.proofs.Means.{insert_means}
 use Rattle.tables_sql.proofs.Ordered.{Place, IsColumn}
@@ -28,16 +28,16 @@ use Rattle.tables_sql.proofs.Description.{Description, Addition, Removal, Readin
 
 -- ---- the table
 
-abbrev pub table : Description Kept (Unit {0})
+abbrev pub table : Description SessionPath (Unit {0})
 table = record {
   name = temp_root.name;
   columns = temp_root.columns;
   key = temp_root.primary;
-  order = kept_cmp;
-  total = kept_total;
-  same = kept_antisymmetric;
-  kind = is_kept;
-  entry = kept_of;
+  order = session_path_cmp;
+  total = session_path_total;
+  same = session_path_antisymmetric;
+  kind = is_session_path;
+  entry = session_path_of;
   IsIn = λ s. IsIntact s temp_root;
   IsOwn = λ db. HasFurther db temp_root;
   within = λ db of_store mine. mine.exists;
@@ -53,7 +53,7 @@ table = record {
 }
 
 -- its key is a text, a number and a text
-key_is : (r : Row) → is_kept r ≡ true → (is_text (column r 1) ≡ true) × (is_int (column r 2) ≡ true) × (is_text (column r 3) ≡ true)
+key_is : (r : Row) → is_session_path r ≡ true → (is_text (column r 1) ≡ true) × (is_int (column r 2) ≡ true) × (is_text (column r 3) ≡ true)
 key_is r kind = let whole = and_so _ _ kind in let front = and_so _ _ whole.0 in (front.0, front.1, whole.1)
 
 -- ---- one more

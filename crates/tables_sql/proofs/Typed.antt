@@ -19,7 +19,7 @@ use Rattle.sqlite_schema.specs.Rules.{is_of, has_affinity, are_typed, are_presen
 use Rattle.sqlite.specs.Effect.{Database, IsDatabase}
 use Rattle.tables_schema.specs.Forms.{object, piece, temp_root, strict, col}
 use Rattle.tables_schema.specs.Intact.{IsIntact, tree_named}
-use Rattle.tables_sql.specs.Contents.{is_text, is_blob, is_text_or_null, is_object, is_pair, is_triple, is_profile, is_generation, is_piece, is_kept, rows_named}
+use Rattle.tables_sql.specs.Contents.{is_text, is_blob, is_text_or_null, is_object, is_pair, is_triple, is_profile, is_generation, is_piece, is_session_path, rows_named}
 use Rattle.tables_sql.proofs.Truths.{and_so}
 
 -- a value of a type that is there
@@ -126,7 +126,7 @@ module _ (db : Database) (sound : IsDatabase db) where
   pub pieces_typed : IsIntact db.schema piece → (row : Row) → Has (rows_named db piece.name) row → is_piece row ≡ true
   pieces_typed exists row present = let k = typed db sound piece.name piece.columns piece.primary refl exists row present in rw (k.0, k.1.0, k.1.1.0) refl
 
-  pub temp_roots_typed : IsIntact db.schema temp_root → (row : Row) → Has (rows_named db temp_root.name) row → is_kept row ≡ true
+  pub temp_roots_typed : IsIntact db.schema temp_root → (row : Row) → Has (rows_named db temp_root.name) row → is_session_path row ≡ true
   temp_roots_typed exists row present = let k = typed db sound temp_root.name temp_root.columns temp_root.primary refl exists row present in rw (k.0, k.1.0, k.1.1.0) refl
 
 module _ (db : Database) (sound : IsDatabase db) (name a b : List ℕ) where

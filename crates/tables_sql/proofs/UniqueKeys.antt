@@ -30,7 +30,7 @@ use Rattle.tables_schema.specs.Intact.{IsIntact, tree_named}
 use Rattle.tables_sql.specs.Contents.{texts_cmp, is_text, rows_named}
 use Rattle.tables_sql.specs.Calls.{IsKeyed}
 use Rattle.tables_sql.proofs.Orders.{texts_total}
-use Rattle.tables_sql.proofs.Apart.{once}
+use Rattle.tables_sql.proofs.Distinct.{once}
 use Rattle.tables_sql.proofs.Truths.{text_test, int_test, reported}
 
 -- ---- values that are the same are equal to SQL too, and integers that don't differ are tied
@@ -42,10 +42,10 @@ texts_equal v (Real x) h k e = absurd (let no = k in cc)
 texts_equal v (Text t) h k e = text_test v t h ∙ ap (λ b. eq_by_cmp texts_cmp b t) e ∙ ap is_eq (tied_itself texts_total t)
 texts_equal v (Blob b) h k e = absurd (let no = k in cc)
 
-not_apart : (c : Ordering) → is_ne c ≡ false → is_eq c ≡ true
-not_apart Less h = cc
-not_apart Equal h = refl
-not_apart Greater h = cc
+not_distinct : (c : Ordering) → is_ne c ≡ false → is_eq c ≡ true
+not_distinct Less h = cc
+not_distinct Equal h = refl
+not_distinct Greater h = cc
 
 pub ints_equal : (v w : Value) → IsTrue (is_int v) → IsTrue (is_int w) → id_in v ≡ id_in w → equal Binary v w ≡ true
 ints_equal v Null h k e = absurd (let no = k in cc)
@@ -58,7 +58,7 @@ ints_tied : (v w : Value) → IsTrue (is_int v) → IsTrue (is_int w) → differ
 unfolding binary
 ints_tied Null w h k e = absurd (let no = h in cc)
 ints_tied (Int m) Null h k e = absurd (let no = k in cc)
-ints_tied (Int m) (Int n) h k e = not_apart (value_cmp (Int m) (Int n)) (sym (reported _) ∙ e)
+ints_tied (Int m) (Int n) h k e = not_distinct (value_cmp (Int m) (Int n)) (sym (reported _) ∙ e)
 ints_tied (Int m) (Real x) h k e = absurd (let no = k in cc)
 ints_tied (Int m) (Text t) h k e = absurd (let no = k in cc)
 ints_tied (Int m) (Blob b) h k e = absurd (let no = k in cc)
@@ -101,17 +101,17 @@ module _ (db : Database) (sound : IsDatabase db) (name : List ℕ) (columns : Li
       let index : Index = automatic own 0 key its_index.0 in
       let free : not (guards index own && clashes index.order index.columns (db.trees own.tree) b) ≡ true = test_has (λ i. not (guards i own && clashes i.order i.columns (db.trees own.tree) b)) db.schema.indexes index (no_clash b present) its_index.1 in
       let guarded : guards index own ≡ true = grind (arith, nat_tests) in
-      let alone : clashes plain key (db.trees own.tree) b ≡ false = apart _ _ guarded free in
-      let tied : differ (rowid a) (rowid b) ≡ false = none a here same alone in
-      once (rows_named db name) keyed.apart a b here present (ints_tied (rowid a) (rowid b) (keyed.ints a here) (keyed.ints b present) tied)
+      let idle : clashes plain key (db.trees own.tree) b ≡ false = distinct_rowids _ _ guarded free in
+      let tied : differ (rowid a) (rowid b) ≡ false = none a here same idle in
+      once (rows_named db name) keyed.distinct_rowids a b here present (ints_tied (rowid a) (rowid b) (keyed.ints a here) (keyed.ints b present) tied)
     where
-      apart : (g c : Bool) → g ≡ true → not (g && c) ≡ true → c ≡ false
-      apart g true h k = absurd (let no = rw h at k in cc)
-      apart g false h k = refl
+      distinct_rowids : (g c : Bool) → g ≡ true → not (g && c) ≡ true → c ≡ false
+      distinct_rowids g true h k = absurd (let no = rw h at k in cc)
+      distinct_rowids g false h k = refl
 
       none : (x : Row) → Has (db.trees own.tree) x → agree plain key x key b ≡ true → clashes plain key (db.trees own.tree) b ≡ false → differ (rowid x) (rowid b) ≡ false
-      none x h agrees alone = go (differ (rowid x) (rowid b)) refl
+      none x h agrees idle = go (differ (rowid x) (rowid b)) refl
         where
           go : (d : Bool) → differ (rowid x) (rowid b) ≡ d → differ (rowid x) (rowid b) ≡ false
           go false is = is
-          go true is = absurd (let some = some_from (λ other. agree plain key other key b && differ (rowid other) (rowid b)) (db.trees own.tree) x h (rw (agrees, is) refl) in let no = sym some ∙ alone in cc)
+          go true is = absurd (let some = some_from (λ other. agree plain key other key b && differ (rowid other) (rowid b)) (db.trees own.tree) x h (rw (agrees, is) refl) in let no = sym some ∙ idle in cc)

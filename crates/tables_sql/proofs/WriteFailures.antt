@@ -115,10 +115,10 @@ module _ (old new : State) (text : List ℕ) (params : Row) (command : Command) 
       go true live big = inl (does_as live c it None big)
       go false shut big = inr shut
 
-  alone : (e : Error) (c : Compiled) (it : IsStatement old text params c) (b : Bool) → shows_rows false c ≡ b
+  idle : (e : Error) (c : Compiled) (it : IsStatement old text params c) (b : Bool) → shows_rows false c ≡ b
       → MatchBool b (◌≡◌ {A = Result ℕ Error} (Err e) (Err ExecuteReturnedResults) × IsUnchanged old new) (RunsCommand old new text c (timed params c.formats it.now) (Err e)) → FailsWith old new (OrShut old large) refused (failure_of e)
-  alone e c it false shows h = runs e c it h
-  alone e c it true shows h =
+  idle e c it false shows h = runs e c it h
+  idle e c it true shows h =
       let live = h.1.0.was_open in
       let quiet : shows_rows false c ≡ false = subst (λ (k : Compiled). shows_rows false k ≡ false) (same_compiled live c it.is) (shows_none (known live).compiled (ap changes (known live).command_is ∙ writes) (known live).silent) in
       absurd (let e = sym shows ∙ quiet in cc)
@@ -128,7 +128,7 @@ module _ (old new : State) (text : List ℕ) (params : Row) (command : Command) 
   unfolding ExecutesIn IsNotRun EndsScope
   write_fails e (inl (inl (inl h), k)) = absurd (a_statement e h.1.0.was_open h.0)
   write_fails e (inl (inl (inr h), k)) = store_failed old new (OrShut old large) refused ⊥ (λ no. absurd no) e h
-  write_fails e (inl (inr h, k)) = alone e h.0 h.1 (shows_rows false h.0) refl h.2
+  write_fails e (inl (inr h, k)) = idle e h.0 h.1 (shows_rows false h.0) refl h.2
   write_fails e (inr h) =
       let live = h.2.0.was_open in
       let it = h.0 in

@@ -10,7 +10,7 @@ use Rattle.sqlite_trees.specs.Objects.{catalog_tree}
 use Rattle.sqlite.specs.Effect.{Database, IsDatabase}
 use Rattle.sqlite.specs.State.{State}
 use Rattle.sqlite_schema.specs.declared.schema.Table.{Table}
-use Rattle.tables_schema.specs.Forms.{piece, temp_root, our_tables, further_tables, is_our_name}
+use Rattle.tables_schema.specs.Forms.{piece, temp_root, store_tables, further_tables, is_our_name}
 use Rattle.tables_schema.specs.Intact.{HasTables, IsIntact}
 use Rattle.tables_sql.specs.Contents.{Contents, contents_of, rows_named}
 use Rattle.tables_sql.specs.Frozen.{SparesUnshown, SparesFrozen}
@@ -27,13 +27,13 @@ after_crash old left = record old { trees = left }
 -- each row has a rowid of its own, an integer: the list of rowids has no value twice, so no row is there twice
 pub record IsKeyed (rows : List Row) : Type 0 where
   pub ints : (a : Row) → Has rows a → IsTrue (is_int (rowid a))
-  pub apart : IsDistinct (eq_by_cmp value_cmp) (map rowid rows)
+  pub distinct_rowids : IsDistinct (eq_by_cmp value_cmp) (map rowid rows)
 
 -- all nine tables are in the schema, each row obeys it, rowids are apart, and each text is UTF-8
 pub record IsStoreDatabase (db : Database) : Type 0 where
   pub sound : IsDatabase db
   pub has : HasTables db.schema
-  pub keyed : AllByRecursion (λ t. IsKeyed (rows_named db t.name)) our_tables
+  pub keyed : AllByRecursion (λ t. IsKeyed (rows_named db t.name)) store_tables
   pub readable : HasReadableRows db
 
 -- a further table is there too, with the same of its rows
@@ -63,15 +63,15 @@ pub record IsUnderWay (s : State) : Type 0 where
   pub mode : s.in_transaction ≡ true
 
 -- each table with a name that is none of the store's has the rows that it had
-abbrev pub KeepsTheirs : Database → Database → Type 0
-KeepsTheirs old new =
+abbrev pub KeepsForeignRows : Database → Database → Type 0
+KeepsForeignRows old new =
     AllByRecursion (λ t. is_our_name t.name ≡ false → new.trees t.tree ≡ old.trees t.tree) old.schema.tables
 
 -- what a crash may leave, or a commit: the store's tables hold this, each other table has the rows that it had, and
 -- what the schema doesn't show is kept
 pub record Leaves (old : Database) (left : Remains) (contents : Contents) : Type 0 where
   pub of_store : contents_of (after_crash old left) ≡ contents
-  pub theirs : KeepsTheirs old (after_crash old left)
+  pub foreign_rows : KeepsForeignRows old (after_crash old left)
   pub frozen : SparesFrozen old (after_crash old left)
 
 -- what a crash may leave of a write of rows: the same, and the list of objects is as it was, so that no table, index,
@@ -87,7 +87,7 @@ pub record Changes (old new : State) (change : Contents → Contents) : Type 0 w
   pub is_open : IsTrue new.is_open
   pub schema : new.now.schema ≡ old.now.schema
   pub contents : contents_of new.now ≡ change (contents_of old.now)
-  pub theirs : KeepsTheirs old.now new.now
+  pub foreign_rows : KeepsForeignRows old.now new.now
   pub unshown : SparesUnshown old.now new.now
   pub of_store : IsStoreDatabase new.now
   pub further : KeepsFurther old.now new.now

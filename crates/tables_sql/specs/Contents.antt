@@ -30,8 +30,8 @@ abbrev pub Numbered : Type 0
 Numbered = Bytes × ℤ
 
 -- the owner and the number of a session, and a path that it keeps
-abbrev pub Kept : Type 0
-Kept = Bytes × ℤ × Bytes
+abbrev pub SessionPath : Type 0
+SessionPath = Bytes × ℤ × Bytes
 
 abbrev pub texts_cmp : Bytes → Bytes → Ordering
 texts_cmp = slice_cmp nat_cmp
@@ -46,8 +46,8 @@ triple_cmp = then_cmp (on (λ t. t.0) texts_cmp) (then_cmp (on (λ t. t.1) texts
 abbrev pub numbered_cmp : Numbered → Numbered → Ordering
 numbered_cmp = then_cmp (on (λ n. n.0) texts_cmp) (on (λ n. n.1) int_cmp)
 
-abbrev pub kept_cmp : Kept → Kept → Ordering
-kept_cmp = then_cmp (on (λ k. k.0) texts_cmp) (then_cmp (on (λ k. k.1) int_cmp) (on (λ k. k.2) texts_cmp))
+abbrev pub session_path_cmp : SessionPath → SessionPath → Ordering
+session_path_cmp = then_cmp (on (λ k. k.0) texts_cmp) (then_cmp (on (λ k. k.1) int_cmp) (on (λ k. k.2) texts_cmp))
 
 abbrev pub PairSet : Type 0
 PairSet = finite.FinMap pair_cmp (Unit {0})
@@ -93,7 +93,7 @@ pub record Contents : Type 0 where
   -- an object's path and a number, and the bytes of that piece of its archive; none, where there is no such table
   pub pieces : finite.FinMap numbered_cmp Bytes
   -- a user, the number of a session and a target; none, where there is no such table
-  pub temp_roots : finite.FinMap kept_cmp (Unit {0})
+  pub temp_roots : finite.FinMap session_path_cmp (Unit {0})
 
 -- ---- how they are read off the rows, whose first column is the rowid; a row of another kind, which STRICT keeps out,
 -- says nothing
@@ -168,11 +168,11 @@ is_piece row = is_text (column row 1) && is_int (column row 2) && is_blob (colum
 abbrev pub piece_of : Row → Numbered × Bytes
 piece_of row = ((bytes (column row 1), id_in (column row 2)), bytes (column row 3))
 
-abbrev pub is_kept : Row → Bool
-is_kept row = is_text (column row 1) && is_int (column row 2) && is_text (column row 3)
+abbrev pub is_session_path : Row → Bool
+is_session_path row = is_text (column row 1) && is_int (column row 2) && is_text (column row 3)
 
-abbrev pub kept_of : Row → Kept × Unit {0}
-kept_of row = ((bytes (column row 1), id_in (column row 2), bytes (column row 3)), tt)
+abbrev pub session_path_of : Row → SessionPath × Unit {0}
+session_path_of row = ((bytes (column row 1), id_in (column row 2), bytes (column row 3)), tt)
 
 -- the map that the rows of one kind make
 unfoldable pub map_of : {K X : Type 0} (R : K → K → Ordering) → (Row → Bool) → (Row → K × X) → List Row
@@ -201,7 +201,7 @@ contents_with rows pieces temp_roots = record {
   generations = map_of triple_cmp is_generation generation_of (rows (codes "generation"));
   runtime = map_of pair_cmp is_pair member_of (rows (codes "runtime"));
   pieces = map_of numbered_cmp is_piece piece_of pieces;
-  temp_roots = map_of kept_cmp is_kept kept_of temp_roots;
+  temp_roots = map_of session_path_cmp is_session_path session_path_of temp_roots;
 }
 
 -- what the store's tables hold in this database

@@ -6,7 +6,7 @@ use Rattle.sqlite_value.specs.declared.value.Value.TheVariants.{Null, Int, Text,
 use Rattle.sqlite_value.specs.Order.{Row, column}
 use Rattle.std.specs.FinMap as finite
 use Rattle.sqlite.specs.Values.{IsInt, or_null}
-use Rattle.tables_sql.specs.Contents.{Bytes, Pair, Triple, Numbered, Kept, Stored, Described, texts_cmp}
+use Rattle.tables_sql.specs.Contents.{Bytes, Pair, Triple, Numbered, SessionPath, Stored, Described, texts_cmp}
 use Rattle.tables_sql.specs.declared.meta.Setting.{Setting}
 use Rattle.tables_sql.specs.declared.objects.Object.{Object}
 use Rattle.tables_sql.specs.declared.objects.Listed.{Listed}
@@ -133,7 +133,7 @@ numbered_in e = (string_bytes e.base, e.number)
 abbrev pub ShowsPieceKey : Row → PieceKey → Type 0
 ShowsPieceKey row e = (column row 0 ≡ Text (string_bytes e.base)) × (column row 1 ≡ Int e.number)
 
-abbrev pub temp_root_of : TempRoot → Kept × Unit {0}
+abbrev pub temp_root_of : TempRoot → SessionPath × Unit {0}
 temp_root_of e = ((string_bytes e.owner, e.session, string_bytes e.target), tt)
 
 abbrev pub ShowsTempRoot : Row → TempRoot → Type 0

@@ -1,5 +1,5 @@
--- That the texts in the store's tables can be read: another program may store one that isn't UTF-8, in a STRICT table
--- too.
+-- Whether the texts in the store's tables can be read. Another program may store a text that isn't UTF-8, in a STRICT
+-- table too.
 use Rattle.std.specs.Prelude.{◌≡◌, ℕ, ℤ, ◌+◌, ◌<◌, List, length, IsUtf8, IfSome, Some, ⊤}
 use Rattle.std.specs.List.{AllByRecursion}
 use Rattle.std.specs.FinMap as finite
@@ -9,7 +9,7 @@ use Rattle.sqlite_value.specs.Order.{Row, column}
 use Rattle.sqlite_schema.specs.declared.schema.Table.{Table}
 use Rattle.sqlite_rules.specs.Lists.{Has}
 use Rattle.sqlite.specs.Effect.{Database}
-use Rattle.tables_schema.specs.Forms.{our_tables}
+use Rattle.tables_schema.specs.Forms.{store_tables}
 use Rattle.tables_sql.specs.Contents.{Bytes, Stored, Contents, rows_named}
 
 -- each text in the store's tables is UTF-8
@@ -32,9 +32,9 @@ pub record AreReadable (c : Contents) : Type 0 where
   pub temp_roots : (owner : Bytes) (n : ℤ) (target : Bytes) → finite.get c.temp_roots (owner, n, target) ≡ Some tt
       → IsUtf8 owner × IsUtf8 target
 
--- ---- the same by the rows, as it is tested
+-- ---- readable texts of rows, as the program tests them
 
--- a text is UTF-8
+-- a value is no text, or a text that is UTF-8
 abbrev pub IsReadable : Value → Type 0
 IsReadable Null = ⊤
 IsReadable (Int n) = ⊤
@@ -42,14 +42,14 @@ IsReadable (Real x) = ⊤
 IsReadable (Text t) = IsUtf8 t
 IsReadable (Blob b) = ⊤
 
--- each text in this row is
+-- each text in this row is UTF-8
 abbrev pub IsReadableRow : Row → Type 0
 IsReadableRow row = (at : ℕ) → at < length row → IsReadable (column row at)
 
--- each text in these rows of a table is, in whichever of its columns; the first value of a row is the rowid
+-- each text in these rows is UTF-8, in each column of the table; the first value of a row is the rowid
 abbrev pub AreReadableRows : Table → List Row → Type 0
 AreReadableRows t rows = (row : Row) (at : ℕ) → Has rows row → at < length t.columns → IsReadable (column row (at + 1))
 
--- each text in these rows of the store's tables is
+-- each text in the rows of the store's tables is UTF-8
 unfoldable pub HasReadableRows : Database → Type 0
-HasReadableRows db = AllByRecursion (λ t. AreReadableRows t (rows_named db t.name)) our_tables
+HasReadableRows db = AllByRecursion (λ t. AreReadableRows t (rows_named db t.name)) store_tables

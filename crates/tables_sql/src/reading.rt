@@ -44,7 +44,7 @@ pub fn read_into<S: Alter, T: Sink>(
 ) -> Result<T, Failure>
     requires reads { IsSelect text.now }
     requires empty { T.is_of [] sink }
-    ensures alone { conn.old.in_transaction ≡ false → conn.new.in_transaction ≡ false }
+    ensures idle { conn.old.in_transaction ≡ false → conn.new.in_transaction ≡ false }
     ensures shown { HasCleanDisk (state S.Store conn.new)
         → IfOk result
         (λ it. (rows : List Values)
@@ -77,7 +77,7 @@ pub fn select<S: Alter, T: Entry>(
     params: &[ValueRef<'_>],
 ) -> Result<Vec<T>, Failure>
     requires { IsSelect text.now }
-    ensures alone { conn.old.in_transaction ≡ false → conn.new.in_transaction ≡ false }
+    ensures idle { conn.old.in_transaction ≡ false → conn.new.in_transaction ≡ false }
     ensures shown { HasCleanDisk (state S.Store conn.new)
         → IfOk result
         (λ all. (rows : List Values)

@@ -91,7 +91,7 @@ fn ask<S: Alter>(tx: &mut Transaction<'_, S>) -> Result<(), Failure>
         → OnOk result (IsUnchanged (state S.Store tx.old.conn.now) (state S.Store tx.new.conn.now)) }
     ensures cause { HasCleanDisk (state S.Store tx.new.conn.now)
         → IfErr result (FailsWith (state S.Store tx.old.conn.now) (state S.Store tx.new.conn.now) ⊥ ⊥) }
-    ensures kept { HasCleanDisk (state S.Store tx.new.conn.now)
+    ensures clean_disk { HasCleanDisk (state S.Store tx.new.conn.now)
         → KeepsCommit (state S.Store tx.old.conn.now) (state S.Store tx.new.conn.now) }
     ensures survives { Survives (state S.Store tx.old.conn.now) (state S.Store tx.new.conn.now) (λ _. ⊥) }
 {

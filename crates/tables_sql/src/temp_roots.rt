@@ -2,7 +2,7 @@
 
 ghost use Rattle.std.specs.Prelude.{false};
 ghost use Rattle.std.specs.Ordering.{is_lt};
-ghost use Rattle.tables_sql.specs.Contents.{kept_cmp};
+ghost use Rattle.tables_sql.specs.Contents.{session_path_cmp};
 ghost use Rattle.tables_sql.specs.Entries.{temp_root_of, ShowsTempRoot, IsTempRootRow};
 
 use crate::entry::Entry;
@@ -23,7 +23,7 @@ impl Entry for TempRoot {
 
     ghost is_legible = { IsTempRootRow };
 
-    ghost is_below = { λ a b. is_lt (kept_cmp (temp_root_of a).0 (temp_root_of b).0) };
+    ghost is_below = { λ a b. is_lt (session_path_cmp (temp_root_of a).0 (temp_root_of b).0) };
 
     fn read(row: &Row) -> Result<TempRoot, Failure> {
         Ok(TempRoot {

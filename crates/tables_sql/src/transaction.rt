@@ -12,7 +12,7 @@ use sqlite::{Alter, Connection, Transaction};
 
 /// Begins a transaction. Dropped before `commit`, it rolls back.
 pub fn begin<S: Alter>(conn: &mut Connection<S>) -> Transaction<'_, S>
-    requires alone { conn.old.in_transaction ≡ false }
+    requires idle { conn.old.in_transaction ≡ false }
     requires ready { HasCleanDisk (state S.Store conn.old) → IsTrue (state S.Store conn.old).is_open
         → IsReady (state S.Store conn.old) }
     ensures same_reference { result.conn.ghost_name ≡ conn.entry.ghost_name }

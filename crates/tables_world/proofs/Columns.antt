@@ -16,7 +16,7 @@ use Rattle.paths.specs.ContentAddress.{ContentAddress, IsAddressText}
 use Rattle.paths.proofs.Addresses.{address-is, address-back}
 use Rattle.tables_sql.specs.Contents.{triple_cmp}
 use Rattle.model.specs.World.{Path, Pair, pair_cmp, Profile, Temporary, temporary_cmp}
-use Rattle.tables_world.specs.Rows.{piece_cmp, Kept, kept_cmp, Rows, references_in, outputs_in, pieces_in, address_in, object_in, number_in, generations_in, profile_in, temporary_in, world_of, IsSoundRows}
+use Rattle.tables_world.specs.Rows.{piece_cmp, SessionPath, session_path_cmp, Rows, references_in, outputs_in, pieces_in, address_in, object_in, number_in, generations_in, profile_in, temporary_in, world_of, IsSoundRows}
 use Rattle.tables_schema.specs.declared.schema.Schema.{Schema}
 use Rattle.tables_world.specs.Laws.{DescribesProfile, DescribesWorld}
 
@@ -137,8 +137,8 @@ module _ (c : Rows) where
   triple_total : IsTotalOrder triple_cmp
   triple_total = then_total (on_texts (λ (t : List ℕ × List ℕ × ℤ). t.0)) (then_total (on_texts (λ (t : List ℕ × List ℕ × ℤ). t.1)) (on_total (λ (t : List ℕ × List ℕ × ℤ). t.2) int_cmp_total))
 
-  kept_total : IsTotalOrder kept_cmp
-  kept_total = then_total (on_texts (λ (t : Kept). t.0)) (then_total (on_total (λ (t : Kept). t.1) int_cmp_total) (on_texts (λ (t : Kept). t.2)))
+  kept_total : IsTotalOrder session_path_cmp
+  kept_total = then_total (on_texts (λ (t : SessionPath). t.0)) (then_total (on_total (λ (t : SessionPath). t.1) int_cmp_total) (on_texts (λ (t : SessionPath). t.2)))
 
   -- where no number is negative
   pub generation_at : ((owner name : List ℕ) (n : ℤ) → IsTrue (finite.contains_key c.generations (owner, name, n)) → (m : ℕ) × (n ≡ pos m))
@@ -158,23 +158,23 @@ module _ (c : Rows) where
           ∙ ap (λ b. eq_by_cmp bytes_cmp owner e.0.0 && eq_by_cmp bytes_cmp name e.0.1 && b) (numbers_tie n m.0)
           ∙ sym (ap (λ (z : ℤ). eq_by_cmp bytes_cmp owner e.0.0 && eq_by_cmp bytes_cmp name e.0.1 && eq_by_cmp nat_cmp n (number_in z)) m.1)
 
-  any_kept : ((k : Kept) → IsTrue (finite.contains_key c.temp_roots k) → (m : ℕ) × (k.1 ≡ pos m))
-      → (t : Temporary) (es : List (Kept × Unit {0})) → ((e : Kept × Unit {0}) → In e es → IsTrue (finite.contains_key c.temp_roots e.0))
-      → is_some (find_entry temporary_cmp t (map with_unit (map temporary_in (map (λ (e : Kept × Unit {0}). e.0) es)))) ≡ is_some (find_entry kept_cmp (t.owner, pos t.session, t.path) es)
+  any_kept : ((k : SessionPath) → IsTrue (finite.contains_key c.temp_roots k) → (m : ℕ) × (k.1 ≡ pos m))
+      → (t : Temporary) (es : List (SessionPath × Unit {0})) → ((e : SessionPath × Unit {0}) → In e es → IsTrue (finite.contains_key c.temp_roots e.0))
+      → is_some (find_entry temporary_cmp t (map with_unit (map temporary_in (map (λ (e : SessionPath × Unit {0}). e.0) es)))) ≡ is_some (find_entry session_path_cmp (t.owner, pos t.session, t.path) es)
   any_kept sessions t [] h = refl
   any_kept sessions t (e ∷ es) h =
       let m = sessions e.0 (h e (inl refl)) in
-      let same : eq_by_cmp temporary_cmp t (temporary_in e.0) ≡ eq_by_cmp kept_cmp (t.owner, pos t.session, t.path) e.0 =
+      let same : eq_by_cmp temporary_cmp t (temporary_in e.0) ≡ eq_by_cmp session_path_cmp (t.owner, pos t.session, t.path) e.0 =
       ap (λ (z : ℤ). eq_by_cmp temporary_cmp t (temporary_in (e.0.0, z, e.0.2))) m.1
       ∙ tied_three (bytes_cmp t.owner e.0.0) (nat_cmp t.session m.0) (bytes_cmp t.path e.0.2)
       ∙ ap (λ b. eq_by_cmp bytes_cmp t.owner e.0.0 && b && eq_by_cmp bytes_cmp t.path e.0.2) (sym (numbers_tie t.session m.0))
       ∙ sym (tied_three (bytes_cmp t.owner e.0.0) (int_cmp (pos t.session) (pos m.0)) (bytes_cmp t.path e.0.2))
-      ∙ sym (ap (λ (z : ℤ). eq_by_cmp kept_cmp (t.owner, pos t.session, t.path) (e.0.0, z, e.0.2)) m.1) in
-      by (eq_by_cmp kept_cmp (t.owner, pos t.session, t.path) e.0) (eq_by_cmp temporary_cmp t (temporary_in e.0)) same (any_kept sessions t es (λ d k. h d (inr k)))
+      ∙ sym (ap (λ (z : ℤ). eq_by_cmp session_path_cmp (t.owner, pos t.session, t.path) (e.0.0, z, e.0.2)) m.1) in
+      by (eq_by_cmp session_path_cmp (t.owner, pos t.session, t.path) e.0) (eq_by_cmp temporary_cmp t (temporary_in e.0)) same (any_kept sessions t es (λ d k. h d (inr k)))
     where
       by : (a b : Bool) → b ≡ a
-          → is_some (find_entry temporary_cmp t (map with_unit (map temporary_in (map (λ (d : Kept × Unit {0}). d.0) es)))) ≡ is_some (find_entry kept_cmp (t.owner, pos t.session, t.path) es)
-          → is_some (cond b (Some tt) (find_entry temporary_cmp t (map with_unit (map temporary_in (map (λ (d : Kept × Unit {0}). d.0) es))))) ≡ is_some (cond a (Some e.1) (find_entry kept_cmp (t.owner, pos t.session, t.path) es))
+          → is_some (find_entry temporary_cmp t (map with_unit (map temporary_in (map (λ (d : SessionPath × Unit {0}). d.0) es)))) ≡ is_some (find_entry session_path_cmp (t.owner, pos t.session, t.path) es)
+          → is_some (cond b (Some tt) (find_entry temporary_cmp t (map with_unit (map temporary_in (map (λ (d : SessionPath × Unit {0}). d.0) es))))) ≡ is_some (cond a (Some e.1) (find_entry session_path_cmp (t.owner, pos t.session, t.path) es))
       by true true is later = refl
       by false false is later = later
       by true false is later = absurd (false≢true is)
@@ -183,7 +183,7 @@ module _ (c : Rows) where
   temporary_total : IsTotalOrder temporary_cmp
   temporary_total = then_total (on_texts (λ (t : Temporary). t.owner)) (then_total (on_total (λ (t : Temporary). t.session) nat_cmp_total) (on_texts (λ (t : Temporary). t.path)))
 
-  pub temporary_at : ((k : Kept) → IsTrue (finite.contains_key c.temp_roots k) → (m : ℕ) × (k.1 ≡ pos m))
+  pub temporary_at : ((k : SessionPath) → IsTrue (finite.contains_key c.temp_roots k) → (m : ℕ) × (k.1 ≡ pos m))
       → (t : Temporary) → finite.contains_key (world_of c).temporary t ≡ finite.contains_key c.temp_roots (t.owner, pos t.session, t.path)
   temporary_at sessions t =
       ap is_some (finite.get-from_entries temporary_total (map with_unit (map temporary_in (finite.keys c.temp_roots))) t)
@@ -214,8 +214,8 @@ module _ (schema : Schema) (dir : List ℕ) (c : Rows) (sound : IsSoundRows sche
         record { generation = generation_at c sound.numbers owner name; current = e ∙ ap Some (m.1 ∙ ap (λ (z : ℤ). pos (number_in z)) (sym m.1)) },
       )
 
-  pub tells_world : DescribesWorld c (world_of c)
-  tells_world = record {
+  pub reports_world : DescribesWorld c (world_of c)
+  reports_world = record {
     no_object = λ p e. object_at c p ∙ ap (option_map (object_in c p)) e;
     object = λ p o e. (
       object_in c p o,

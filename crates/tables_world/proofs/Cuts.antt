@@ -41,14 +41,14 @@ cut_whole nar = ap (λ l. take piece_size nar ++ l) (all_joined 1 nar (drop piec
 
 -- ---- there is no other cutting
 
-fronts : (a b c d : List ℕ) → length a ≡ length b → a ++ c ≡ b ++ d → (a ≡ b) × (c ≡ d)
-fronts [] [] c d same e = (refl, e)
-fronts [] (y ∷ ys) c d same e = absurd (omega arith)
-fronts (x ∷ xs) [] c d same e = absurd (omega arith)
-fronts (x ∷ xs) (y ∷ ys) c d same e =
+prefixes : (a b c d : List ℕ) → length a ≡ length b → a ++ c ≡ b ++ d → (a ≡ b) × (c ≡ d)
+prefixes [] [] c d same e = (refl, e)
+prefixes [] (y ∷ ys) c d same e = absurd (omega arith)
+prefixes (x ∷ xs) [] c d same e = absurd (omega arith)
+prefixes (x ∷ xs) (y ∷ ys) c d same e =
     let first : x ≡ y = cc in
     let rest : xs ++ c ≡ ys ++ d = cc in
-    let both = fronts xs ys c d (omega arith) rest in
+    let both = prefixes xs ys c d (omega arith) rest in
     (λ i. first i ∷ both.0 i, both.1)
 
 lengths : (a b c d : List ℕ) → a ++ b ≡ c ++ d → length a + length b ≡ length c + length d
@@ -63,7 +63,7 @@ one_cut row other n (p ∷ ps) [] g h e =
     let total = lengths row (p.1 ++ joined ps) other [] e in
     absurd (omega (arith, h, g.0, g.2, total, length-append p.1 (joined ps)))
 one_cut row other n (p ∷ ps) (q ∷ qs) g h e =
-    let both = fronts row other (p.1 ++ joined ps) (q.1 ++ joined qs) (g.0 ∙ sym h.0) e in
+    let both = prefixes row other (p.1 ++ joined ps) (q.1 ++ joined qs) (g.0 ∙ sym h.0) e in
     let rest = one_cut p.1 q.1 (n + 1) ps qs g.3 h.3 both.1 in
     let number : p.0 ≡ q.0 = g.1 ∙ sym h.1 in
     (both.0, λ i. (number i, rest.0 i) ∷ rest.1 i)

@@ -79,16 +79,16 @@ block k p n (x ∷ xs) rest false e =
     ap (λ b. cond b (Some x.1) (find_entry piece_cmp (p, n) (map (λ (y : ℤ × List ℕ). ((k, y.0), y.1)) xs ++ rest))) (tied_both (bytes_cmp p k) (int_cmp n x.0) ∙ ap (λ b. b && eq_by_cmp int_cmp n x.0) e)
     ∙ block k p n xs rest false e
 
-less_is_apart : (r : Ordering) → T (is_lt r) → is_eq r ≡ false
-less_is_apart Less h = refl
-less_is_apart Equal h = absurd h
-less_is_apart Greater h = absurd h
+less_is_distinct : (r : Ordering) → T (is_lt r) → is_eq r ≡ false
+less_is_distinct Less h = refl
+less_is_distinct Equal h = absurd h
+less_is_distinct Greater h = absurd h
 
 none_below : (k : Path) (es : List (Path × Stored)) → T (below_all bytes_cmp k es) → find_entry bytes_cmp k es ≡ None
 none_below k [] h = refl
 none_below k (e ∷ es) h =
     let parts = both_T (is_lt (bytes_cmp k e.0)) (below_all bytes_cmp k es) h in
-    ap (λ b. cond b (Some e.1) (find_entry bytes_cmp k es)) (less_is_apart (bytes_cmp k e.0) parts.0) ∙ none_below k es parts.1
+    ap (λ b. cond b (Some e.1) (find_entry bytes_cmp k es)) (less_is_distinct (bytes_cmp k e.0) parts.0) ∙ none_below k es parts.1
 
 pub or_none : {X : Type 0} (o : Option X) → option_or o None ≡ o
 or_none None = refl

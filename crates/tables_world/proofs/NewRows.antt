@@ -8,7 +8,7 @@ use Rattle.paths.specs.Root.{bytes_cmp}
 use Rattle.tables_sql.specs.Contents.{triple_cmp}
 use Rattle.model.specs.World.{Path, pair_cmp, temporary_cmp, Temporary, no_world}
 use Rattle.model.specs.Sound.{IsSound}
-use Rattle.tables_world.specs.Rows.{piece_cmp, Kept, kept_cmp, new_rows, object_in, profile_in, temporary_in, world_of, IsSoundRows}
+use Rattle.tables_world.specs.Rows.{piece_cmp, SessionPath, session_path_cmp, new_rows, object_in, profile_in, temporary_in, world_of, IsSoundRows}
 use Rattle.tables_schema.specs.declared.schema.Schema.{Schema}
 use Rattle.model.proofs.Empty.{no_entry, no_key, no_entries}
 use Rattle.tables_world.proofs.NewWorld.{new_world_sound}
@@ -21,11 +21,11 @@ none_left {K} {X} R S f = ap (λ es. finite.from_entries {R = S} (map f es)) (no
 nothing : Unit {0}
 nothing = tt
 
-none_kept : finite.from_entries {R = temporary_cmp} (map (λ (x : Temporary). (x, nothing)) (map temporary_in (map (λ (e : Kept × Unit {0}). e.0) (finite.entries (finite.empty {X = Unit {0}} {R = kept_cmp}))))) ≡ finite.empty {X = Unit {0}} {R = temporary_cmp}
-none_kept = ap (λ (es : List (Kept × Unit {0})). finite.from_entries {R = temporary_cmp} (map (λ (x : Temporary). (x, nothing)) (map temporary_in (map (λ (e : Kept × Unit {0}). e.0) es)))) (no_entries (Unit {0}) kept_cmp)
+none_kept : finite.from_entries {R = temporary_cmp} (map (λ (x : Temporary). (x, nothing)) (map temporary_in (map (λ (e : SessionPath × Unit {0}). e.0) (finite.entries (finite.empty {X = Unit {0}} {R = session_path_cmp}))))) ≡ finite.empty {X = Unit {0}} {R = temporary_cmp}
+none_kept = ap (λ (es : List (SessionPath × Unit {0})). finite.from_entries {R = temporary_cmp} (map (λ (x : Temporary). (x, nothing)) (map temporary_in (map (λ (e : SessionPath × Unit {0}). e.0) es)))) (no_entries (Unit {0}) session_path_cmp)
 
-pub tells_nothing : (schema : Schema) (dir : List ℕ) → world_of (new_rows schema dir) ≡ no_world
-tells_nothing schema dir = λ i. record {
+pub reports_nothing : (schema : Schema) (dir : List ℕ) → world_of (new_rows schema dir) ≡ no_world
+reports_nothing schema dir = λ i. record {
   objects = none_left bytes_cmp bytes_cmp (λ e. (e.0, object_in (new_rows schema dir) e.0 e.1)) i;
   permanent = finite.empty;
   user_roots = finite.empty;
@@ -49,6 +49,6 @@ new_rows_sound schema dir h = record {
   generations = λ owner name n e. absurd (no_key Path triple_cmp (owner, name, n) e);
   numbers = λ owner name n e. absurd (no_key Path triple_cmp (owner, name, n) e);
   current = λ owned n e. absurd (no_entry pair_cmp owned n e);
-  sessions = λ k e. absurd (no_key (Unit {0}) kept_cmp k e);
-  world = subst (IsSound dir) (sym (tells_nothing schema dir)) (new_world_sound dir);
+  sessions = λ k e. absurd (no_key (Unit {0}) session_path_cmp k e);
+  world = subst (IsSound dir) (sym (reports_nothing schema dir)) (new_world_sound dir);
 }

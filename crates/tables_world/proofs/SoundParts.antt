@@ -8,7 +8,7 @@ use Rattle.paths.specs.Root.{is_session}
 use Rattle.tables_sql.specs.Contents.{Stored}
 use Rattle.model.specs.World.{Path, Pair, Object, Profile, Temporary, has}
 use Rattle.model.specs.Sound.{IsSoundObject, IsSoundProfile}
-use Rattle.tables_world.specs.Rows.{Rows, Kept, object_in, profile_in, generations_in, number_in, world_of, IsSoundRows}
+use Rattle.tables_world.specs.Rows.{Rows, SessionPath, object_in, profile_in, generations_in, number_in, world_of, IsSoundRows}
 use Rattle.tables_schema.specs.declared.schema.Schema.{Schema}
 use Rattle.tables_world.specs.Parts.{IsSoundGeneration, IsSoundSession, AreSoundParts, AreSoundByParts}
 use Rattle.tables_world.proofs.Columns.{reference_at, generation_at, temporary_at, object_at, profile_at}
@@ -58,7 +58,7 @@ module _ (schema : Schema) (dir : List ℕ) (c : Rows) where
         let row = h.roots.generations owner name n t.0 t.1 in
         (row.number, row.is_number)
 
-    sessions : (k : Kept) → IsTrue (finite.contains_key c.temp_roots k) → (m : ℕ) × (k.1 ≡ pos m)
+    sessions : (k : SessionPath) → IsTrue (finite.contains_key c.temp_roots k) → (m : ℕ) × (k.1 ≡ pos m)
     sessions k present = let s = h.sessions k present in (s.number, s.is_number)
 
     same_number : (m k : ℕ) → pos m ≡ pos k → k ≡ m
@@ -148,7 +148,7 @@ module _ (schema : Schema) (dir : List ℕ) (c : Rows) where
           target = is_object t (q.targets m.0 t found);
         }
 
-    session_sound : (k : Kept) → IsTrue (finite.contains_key c.temp_roots k) → IsSoundSession c k
+    session_sound : (k : SessionPath) → IsTrue (finite.contains_key c.temp_roots k) → IsSoundSession c k
     session_sound k present =
         let m = h.sessions k present in
         let t : Temporary = record { owner = k.0; session = m.0; path = k.2 } in

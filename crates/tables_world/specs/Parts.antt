@@ -13,7 +13,7 @@ use Rattle.model.specs.World.{Path, Pair}
 use Rattle.model.specs.Objects.{most_references, outputs_at}
 use Rattle.model.specs.Sound.{IsDerivation}
 use Rattle.tables_world.specs.Pieces.{IsCut}
-use Rattle.tables_world.specs.Rows.{Rows, Kept, settings, pieces_in, archive_in, references_in, outputs_in, address_in, IsSoundRows}
+use Rattle.tables_world.specs.Rows.{Rows, SessionPath, settings, pieces_in, archive_in, references_in, outputs_in, address_in, IsSoundRows}
 use Rattle.tables_schema.specs.declared.schema.Schema.{Schema}
 use Rattle.tables_schema.specs.Schemas.{has_pieces, has_temporary}
 
@@ -68,7 +68,7 @@ pub record AreSoundRoots (c : Rows) : Type 0 where
       → IsSoundGeneration c owner name n t
 
 -- what a session of an owner keeps: its number is 1 to 4,194,304, and the path an object
-pub record IsSoundSession (c : Rows) (k : Kept) : Type 0 where
+pub record IsSoundSession (c : Rows) (k : SessionPath) : Type 0 where
   pub owner : IsTrue (is_plain_name k.0)
   pub number : ℕ
   pub is_number : k.1 ≡ pos number
@@ -84,7 +84,7 @@ pub record AreSoundParts (schema : Schema) (dir : List ℕ) (c : Rows) : Type 0 
       → IsCut o.nar (finite.entries (pieces_in c p))
   pub pieces : (p : Path) (n : ℤ) → IsTrue (finite.contains_key c.pieces (p, n))
       → IsTrue (finite.contains_key c.objects p)
-  pub sessions : (k : Kept) → IsTrue (finite.contains_key c.temp_roots k) → IsSoundSession c k
+  pub sessions : (k : SessionPath) → IsTrue (finite.contains_key c.temp_roots k) → IsSoundSession c k
   pub objects : AreSoundObjects dir c
   pub roots : AreSoundRoots c
 

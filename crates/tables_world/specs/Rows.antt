@@ -26,11 +26,11 @@ abbrev pub piece_cmp : Piece → Piece → Ordering
 piece_cmp = then_cmp (on (λ p. p.0) bytes_cmp) (on (λ p. p.1) int_cmp)
 
 -- the owner and the number of a session, and a path that it keeps
-abbrev pub Kept : Type 0
-Kept = List ℕ × ℤ × Path
+abbrev pub SessionPath : Type 0
+SessionPath = List ℕ × ℤ × Path
 
-abbrev pub kept_cmp : Kept → Kept → Ordering
-kept_cmp = then_cmp (on (λ k. k.0) bytes_cmp) (then_cmp (on (λ k. k.1) int_cmp) (on (λ k. k.2) bytes_cmp))
+abbrev pub session_path_cmp : SessionPath → SessionPath → Ordering
+session_path_cmp = then_cmp (on (λ k. k.0) bytes_cmp) (then_cmp (on (λ k. k.1) int_cmp) (on (λ k. k.2) bytes_cmp))
 
 -- what the eleven tables hold; a table that a schema doesn't have holds nothing
 pub record Rows : Type 0 where
@@ -45,7 +45,7 @@ pub record Rows : Type 0 where
   pub runtime : Set pair_cmp
   -- a path and a number, and the bytes of that piece of its archive
   pub pieces : finite.FinMap piece_cmp (List ℕ)
-  pub temp_roots : Set kept_cmp
+  pub temp_roots : Set session_path_cmp
 
 -- the two settings of a database of a store directory
 abbrev pub settings : Schema → List ℕ → finite.FinMap bytes_cmp (List ℕ)
@@ -121,7 +121,7 @@ abbrev pub profile_in : Rows → Pair → ℤ → Profile
 profile_in c owned current = record { generations = generations_in c owned; current = number_in current }
 
 -- what a session keeps
-abbrev pub temporary_in : Kept → Temporary
+abbrev pub temporary_in : SessionPath → Temporary
 temporary_in k = record { owner = k.0; session = number_in k.1; path = k.2 }
 
 -- the world of the rows: each row of an object with its pieces, references and outputs, each row of a profile with its
@@ -164,7 +164,7 @@ pub record IsSoundRows (schema : Schema) (dir : List ℕ) (c : Rows) : Type 0 wh
   pub numbers : (owner name : List ℕ) (n : ℤ) → IsTrue (finite.contains_key c.generations (owner, name, n))
       → (m : ℕ) × (n ≡ pos m)
   pub current : (owned : Pair) (n : ℤ) → finite.get c.profiles owned ≡ Some n → (m : ℕ) × (n ≡ pos m)
-  pub sessions : (k : Kept) → IsTrue (finite.contains_key c.temp_roots k) → (m : ℕ) × (k.1 ≡ pos m)
+  pub sessions : (k : SessionPath) → IsTrue (finite.contains_key c.temp_roots k) → (m : ℕ) × (k.1 ≡ pos m)
   -- the world that they have is sound
   pub world : IsSound dir (world_of c)
 

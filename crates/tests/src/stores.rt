@@ -36,10 +36,8 @@ fn push(
     caller: Caller,
     request: Request,
 ) -> Result<(), AllocError> {
-    match calls.push((caller, request)) {
-        Ok(()) => Ok(()),
-        Err(_) => Err(AllocError),
-    }
+    calls.push((caller, request))?;
+    Ok(())
 }
 
 pub fn push_text(alloc: Global, calls: &mut Vec<(Caller, Request)>) -> Result<(), Fail> {

@@ -37,33 +37,33 @@ use Rattle.tool.specs.Works.{Doing}
 use Rattle.tool.specs.Answer.{AnswersLs, AnswersTextPath, AnswersSourcePath, AnswersUnder, Explains, ExplainsUsage, RunsLine, Stops}
 
 -- standard error was given something, and standard output nothing
-abbrev pub errors_alone : Option (List ℕ) → Printed → Written
-errors_alone out p = record { output = record { old = out; new = out }; errors = p.writer; status = p.status }
+abbrev pub errors_only : Option (List ℕ) → Printed → Written
+errors_only out p = record { output = record { old = out; new = out }; errors = p.writer; status = p.status }
 
 -- why there is no answer was said on standard error
-pub said_alone : (stop : Stop) (out : Option (List ℕ)) (p : Printed) → Says stop p → Answers (Err stop) (errors_alone out p)
-said_alone stop out p said = (Keeps-refl out, said)
+pub said_only : (stop : Stop) (out : Option (List ℕ)) (p : Printed) → Says stop p → Answers (Err stop) (errors_only out p)
+said_only stop out p said = (Keeps-refl out, said)
 
-said_as : (stop found : Stop) (out : Option (List ℕ)) (p : Printed) → stop ≡ found → Says stop p → Answers (Err found) (errors_alone out p)
+said_as : (stop found : Stop) (out : Option (List ℕ)) (p : Printed) → stop ≡ found → Says stop p → Answers (Err found) (errors_only out p)
 said_as stop found out p is said = (Keeps-refl out, subst (λ x. Says x p) is said)
 
 -- the stop of a configuration was said: the first writer got nothing
 pub stopped_under : (outcome : Result Settings KeyWord) (answered : Settings → Type 0) (stop : Stop) (out : Option (List ℕ)) (p : Printed)
-    → StopsFor outcome stop → Says stop p → ((s : Settings) → Answers (Err (Failed NoMemory)) (errors_alone out p) → answered s)
-    → AnswersUnder outcome answered (errors_alone out p)
+    → StopsFor outcome stop → Says stop p → ((s : Settings) → Answers (Err (Failed NoMemory)) (errors_only out p) → answered s)
+    → AnswersUnder outcome answered (errors_only out p)
 stopped_under (Ok s) answered stop out p (inl memory) said end = end s (said_as stop (Failed NoMemory) out p memory said)
 stopped_under (Err word) answered stop out p (inl memory) said end = inr (said_as stop (Failed NoMemory) out p memory said)
 stopped_under outcome answered stop out p (inr why) said end = rw why.1 (inl (Keeps-refl out, subst (λ x. Says x p) why.2 said))
 
 -- so what reads the input answers a refused configuration
 module _ (config : List ℕ) (input : Stream) (out : Option (List ℕ)) (p : Printed) (stop : Stop) (why : StopsFor (config_of config) stop) (said : Says stop p) where
-  pub ls_stopped : AnswersLs config (record { input = input; written = errors_alone out p })
+  pub ls_stopped : AnswersLs config (record { input = input; written = errors_only out p })
   ls_stopped = stopped_under (config_of config) _ stop out p why said (λ s memory. inl (inl memory))
 
-  pub text_stopped : (o : Text × List Text) → AnswersTextPath config o (record { input = input; written = errors_alone out p })
+  pub text_stopped : (o : Text × List Text) → AnswersTextPath config o (record { input = input; written = errors_only out p })
   text_stopped o = stopped_under (config_of config) _ stop out p why said (λ s memory. inl (inl memory))
 
-  pub source_stopped : (o : Text × List Text) → AnswersSourcePath config o (record { input = input; written = errors_alone out p })
+  pub source_stopped : (o : Text × List Text) → AnswersSourcePath config o (record { input = input; written = errors_only out p })
   source_stopped o = stopped_under (config_of config) _ stop out p why said (λ s memory. inl (inl memory))
 
 -- ---- words

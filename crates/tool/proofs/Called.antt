@@ -5,7 +5,7 @@ use Rattle.sqlite_trees.specs.declared.store.Store.{Ghosts}
 use Rattle.sqlite.specs.State.{HasCleanDisk}
 use Rattle.sqlite.specs.Held.{Held, state}
 use Rattle.model.specs.World.{World}
-use Rattle.tables.specs.Kept.{Kept, HasWorld}
+use Rattle.tables.specs.TablesValue.{TablesValue, HasWorld}
 use Rattle.clap.specs.Walk.{Text}
 use Rattle.paths.specs.StorePath.{base_of}
 use Rattle.policy.specs.Settings.{Settings}
@@ -35,18 +35,18 @@ use Rattle.tool.specs.Requests.{Ask, IsAsked, IsAskedBy, IsAskedOver, LosesInput
 use Rattle.tool_pure.specs.Who.{caller_by}
 use Rattle.tool_pure.specs.Stream.{AnswersTo, GivesUp, Says}
 use Rattle.tool_pure.specs.Object.{object_fault}
-use Rattle.tool.proofs.Answered.{errors_alone, said_alone}
+use Rattle.tool.proofs.Answered.{errors_only, said_only}
 
 module _ {S : Type 0} (g : Ghosts S) (c : Caller) (w : Written) where
   -- what was served over a store that was made of the tables
-  pub served : (s : Settings) (t : Kept S) (made q : Request) (old new : StoreView S) → old ≡ record { tables = t; settings = s } → StepsAs made q
+  pub served : (s : Settings) (t : TablesValue S) (made q : Request) (old new : StoreView S) → old ≡ record { tables = t; settings = s } → StepsAs made q
       → (reply : Reply) × Calls g c made reply old new × IsPrinted old.settings.store_dir reply w → Serves g s t c w q
   served s t made q old new is same calls =
       let over : Serves g old.settings old.tables c w q = record { made = made; same = same; reply = calls.0; new = new; calls = calls.1; reported = calls.2 } in
       subst (λ (st : StoreView S). Serves g st.settings st.tables c w q) is over
 
   -- it is a step of each world that they told, where the disk is clean
-  stepped : ((h : Held S) → HasCleanDisk (state g h)) → (s : Settings) (t : Kept S) (world : World) → HasWorld g t world → (q : Request) → Serves g s t c w q
+  stepped : ((h : Held S) → HasCleanDisk (state g h)) → (s : Settings) (t : TablesValue S) (world : World) → HasWorld g t world → (q : Request) → Serves g s t c w q
       → AnswersStep s world c w q
   stepped clean s t world reported q x =
       let step = x.calls.step world reported in
@@ -66,9 +66,9 @@ module _ (answered : Request → Type 0) (fails : Type 0) (ask : List ℕ → Re
 
   -- a refusal of the arguments was said
   refused_over : (known : Option (List ℕ)) (refusal : Refusal) (out : Option (List ℕ)) (p : Printed) → IsAskedOver fails ask known (Err (Refused refusal))
-      → Says (Refused refusal) p → AnswersOver answered ask known (errors_alone out p)
-  refused_over None refusal out p is said = (is.0, (Err refusal, is.1, said_alone (Refused refusal) out p said))
-  refused_over (Some bytes) refusal out p is said = (Err refusal, is, said_alone (Refused refusal) out p said)
+      → Says (Refused refusal) p → AnswersOver answered ask known (errors_only out p)
+  refused_over None refusal out p is said = (is.0, (Err refusal, is.1, said_only (Refused refusal) out p said))
+  refused_over (Some bytes) refusal out p is said = (Err refusal, is, said_only (Refused refusal) out p said)
 
   was_lost : (known : Option (List ℕ)) → IsAskedOver fails ask known (Err (Failed Input)) → fails
   was_lost None is = is.1
@@ -82,10 +82,10 @@ module _ (answered : Request → Type 0) (fails : Type 0) (ask : List ℕ → Re
 
   -- why there is no request was said
   stopped : (known : Option (List ℕ)) (stop : Stop) (out : Option (List ℕ)) (p : Printed) → IsAskedOver fails ask known (Err stop) → Says stop p
-      → GivesUp fails (errors_alone out p) ⊎ AnswersOver answered ask known (errors_alone out p)
+      → GivesUp fails (errors_only out p) ⊎ AnswersOver answered ask known (errors_only out p)
   stopped known (Refused refusal) out p is said = inr (refused_over known refusal out p is said)
-  stopped known (Failed Memory) out p is said = inl (inl (said_alone (Failed Memory) out p said))
-  stopped known (Failed Input) out p is said = inl (inr (was_lost known is, said_alone (Failed Input) out p said))
+  stopped known (Failed Memory) out p is said = inl (inl (said_only (Failed Memory) out p said))
+  stopped known (Failed Input) out p is said = inl (inr (was_lost known is, said_only (Failed Input) out p said))
   stopped known (Failed File) out p is said = absurd (no_other File known (λ bytes h. h) is)
   stopped known (Failed Output) out p is said = absurd (no_other Output known (λ bytes h. h) is)
   stopped known (Failed Size) out p is said = absurd (no_other Size known (λ bytes h. h) is)
@@ -99,7 +99,7 @@ module _ (answered : Request → Type 0) (ask : Ask) (dir : List ℕ) (c : Calle
 
   -- why there is none was said
   pub stopped_over : (stop : Stop) (out : Option (List ℕ)) (p : Printed) → IsAskedBy ask dir c input (Err stop) → Says stop p
-      → AnswersIn answered ask dir c input (errors_alone out p)
+      → AnswersIn answered ask dir c input (errors_only out p)
   stopped_over stop out p is said = stopped answered (LosesInput ask dir c input) (Demands ask dir c) input.old stop out p is said
 
 -- each request that is answered so, is answered so too
@@ -117,7 +117,7 @@ module _ (answered also : Request → Type 0) (each : (q : Request) → answered
   of_each ask dir c input (inr reported) = inr (of_over (Demands ask dir c) input.old reported)
 
 -- what is asked over the tables of a clean disk is asked in each of their worlds
-pub asked_in : {S : Type 0} (g : Ghosts S) → ((h : Held S) → HasCleanDisk (state g h)) → (s : Settings) (t : Kept S) (world : World) → HasWorld g t world
+pub asked_in : {S : Type 0} (g : Ghosts S) → ((h : Held S) → HasCleanDisk (state g h)) → (s : Settings) (t : TablesValue S) (world : World) → HasWorld g t world
     → (ask : Ask) (c : Caller) (input : Stream) (w : Written) → AnswersIn (Serves g s t c w) ask s.store_dir c input w
     → AnswersIn (AnswersStep s world c w) ask s.store_dir c input w
 asked_in g clean s t world reported ask c input w =
@@ -131,10 +131,10 @@ module _ (answered : Caller → Type 0) (line : Line) where
   -- why there is no caller was said
   pub unnamed : (stop : Stop) (out : Option (List ℕ)) (p : Printed)
       → (stop ≡ Failed Memory) ⊎ ((stop ≡ Refused BadCaller) × (caller_by line.user line.group ≡ None)) → Says stop p
-      → AnswersNamed answered line (errors_alone out p)
-  unnamed stop out p (inl memory) said = inl (said_alone (Failed Memory) out p (subst (λ x. Says x p) memory said))
+      → AnswersNamed answered line (errors_only out p)
+  unnamed stop out p (inl memory) said = inl (said_only (Failed Memory) out p (subst (λ x. Says x p) memory said))
   unnamed stop out p (inr why) said =
-      inr (subst (λ o. AnswersCalled answered o (errors_alone out p)) (sym why.1) (said_alone (Refused BadCaller) out p (subst (λ x. Says x p) why.0 said)))
+      inr (subst (λ o. AnswersCalled answered o (errors_only out p)) (sym why.1) (said_only (Refused BadCaller) out p (subst (λ x. Says x p) why.0 said)))
 
 -- the settings of the configuration are these
 pub under : (outcome : Result Settings KeyWord) (s : Settings) (answered : Settings → Type 0) (w : Written)

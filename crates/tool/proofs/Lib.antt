@@ -1,6 +1,6 @@
 pub mod Answered
 pub mod Called
 pub mod Done
-pub mod Fronted
+pub mod RefusedPrefixes
 pub mod Requested
 pub mod Whole

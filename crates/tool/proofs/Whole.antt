@@ -12,7 +12,8 @@ use Rattle.model.specs.declared.refusal.Refusal.{Refusal}
 use Rattle.report.specs.declared.failures.Failure.TheVariants.{Memory, Input}
 use Rattle.tool_pure.specs.declared.stops.Stop.{Stop}
 use Rattle.tool_pure.specs.declared.stops.Stop.TheVariants.{Failed}
-use Rattle.tool.specs.Bodies.{ReadAs, body_stop}
+use Rattle.tool_pure.specs.Faults.{body_stop}
+use Rattle.tool.specs.Bodies.{ReadAs}
 use Rattle.report.specs.Outputs.{Stream}
 use Rattle.streams.specs.Reads.{TakesFewer}
 use Rattle.tool_pure.specs.Stream.{InputFails}
@@ -28,9 +29,9 @@ whole_is (Some all) bytes short is =
     is ∙ take_all 18446744073709551615 all (omega (arith, cut, short, length-take 18446744073709551615 all))
 
 -- what came behind nothing is all of the input
-pub behind_nothing : (known : Option (List ℕ)) (held taken : List ℕ) → held ≡ [] → IfSome known (λ all. taken ≡ held ++ all) → IfSome known (λ all. taken ≡ all)
-behind_nothing None held taken none is = tt
-behind_nothing (Some all) held taken none is = is ∙ ap (λ h. h ++ all) none
+pub after_nothing : (known : Option (List ℕ)) (held taken : List ℕ) → held ≡ [] → IfSome known (λ all. taken ≡ held ++ all) → IfSome known (λ all. taken ≡ all)
+after_nothing None held taken none is = tt
+after_nothing (Some all) held taken none is = is ∙ ap (λ h. h ++ all) none
 
 module _ (fails : Type 0) (ask : List ℕ → Result Request Refusal → Type 0) where
   -- what the whole input asks

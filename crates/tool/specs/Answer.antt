@@ -67,20 +67,20 @@ AnswersServing of_file config db a console = AnswersUnder (config_of config)
 
 -- What a subcommand that makes no request of its own answers by the text of the configuration: `who`, all on standard
 -- output, `ls`, the two paths, and `serve`. All others make one, and aren't answered so.
-abbrev pub AnswersAlone : Doing → List ℕ → Line → Asked → Console → Type 0
-AnswersAlone of_file config line who console =
+abbrev pub AnswersWithoutRequest : Doing → List ℕ → Line → Asked → Console → Type 0
+AnswersWithoutRequest of_file config line who console =
     AnswersWho (verdict_of config line.user line.group) (on_output console.written)
     × Keeps console.written.errors.old console.written.errors.new
-AnswersAlone of_file config line ls console = AnswersLs config console
-AnswersAlone of_file config line (text_path o) console = AnswersTextPath config o console
-AnswersAlone of_file config line (source_path o) console = AnswersSourcePath config o console
-AnswersAlone of_file config line (serve a) console = AnswersServing of_file config line.db a console
-AnswersAlone of_file config line _ console = ⊥
+AnswersWithoutRequest of_file config line ls console = AnswersLs config console
+AnswersWithoutRequest of_file config line (text_path o) console = AnswersTextPath config o console
+AnswersWithoutRequest of_file config line (source_path o) console = AnswersSourcePath config o console
+AnswersWithoutRequest of_file config line (serve a) console = AnswersServing of_file config line.db a console
+AnswersWithoutRequest of_file config line _ console = ⊥
 
 -- what a command line answers by the text of its configuration: what its subcommand asks of a store, or its own answer
 abbrev pub AnswersLine : Doing → List ℕ → Line → Console → Type 0
 AnswersLine of_file config line console =
-    MatchOption (asks line.asked) (AnswersAlone of_file config line line.asked console)
+    MatchOption (asks line.asked) (AnswersWithoutRequest of_file config line line.asked console)
     (λ ask. AnswersAsking of_file config line ask console)
 
 -- a stop while the configuration is read is printed by `who` on standard output, and else on standard error

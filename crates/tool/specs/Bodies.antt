@@ -4,15 +4,10 @@ use Rattle.model.specs.World.{Pair}
 use Rattle.model.specs.Request as request
 use Rattle.model.specs.Request.{Request}
 use Rattle.wire_bodies.specs.Bodies.{IsImportBody, IsRuntime, Says}
-use Rattle.wire_bodies.specs.declared.error.BodyError.{BodyError}
-use Rattle.wire_bodies.specs.declared.error.BodyError.TheVariants as body_error
 use Rattle.wire_bodies.specs.declared.import.ImportHead.{ImportHead}
 use Rattle.wire_requests.specs.View.{imported}
 use Rattle.model.specs.declared.refusal.Refusal.{Refusal}
 use Rattle.model.specs.declared.refusal.Refusal.TheVariants.{BadBodyHead}
-use Rattle.report.specs.declared.failures.Failure.TheVariants.{Memory}
-use Rattle.tool_pure.specs.declared.stops.Stop.{Stop}
-use Rattle.tool_pure.specs.declared.stops.Stop.TheVariants.{Refused, Failed}
 
 -- a body passes this object
 abbrev pub IsImported : List ℕ → List ℕ → Request → Type 0
@@ -34,8 +29,3 @@ Imports dir body wanted = ReadAs (IsImported dir body) wanted
 
 abbrev pub Replaces : List ℕ → List ℕ → Result Request Refusal → Type 0
 Replaces dir body wanted = ReadAs (IsReplaced dir body) wanted
-
--- the stop for the error of a body
-abbrev pub body_stop : BodyError → Stop
-body_stop body_error.BadBodyHead = Refused BadBodyHead
-body_stop body_error.Memory = Failed Memory

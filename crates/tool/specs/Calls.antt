@@ -2,7 +2,7 @@
 use Rattle.std.specs.Prelude.{◌⊎◌, ℕ, List, Option, Some, None, Result, Ok, Err}
 use Rattle.sqlite_trees.specs.declared.store.Store.{Ghosts}
 use Rattle.model.specs.World.{World}
-use Rattle.tables.specs.Kept.{Kept}
+use Rattle.tables.specs.TablesValue.{TablesValue}
 use Rattle.policy.specs.Settings.{Settings}
 use Rattle.policy.specs.Caller.{Caller}
 use Rattle.model.specs.Request.{Request}
@@ -49,7 +49,7 @@ AnswersStep s world c w q =
 
 -- A request is served over tables, and the reply is written: of each world of the tables before, a step to one of the
 -- tables then. What is served may be another request whose every step is one of this request.
-pub record Serves {S : Type 0} (g : Ghosts S) (s : Settings) (t : Kept S) (c : Caller) (w : Written)
+pub record Serves {S : Type 0} (g : Ghosts S) (s : Settings) (t : TablesValue S) (c : Caller) (w : Written)
     (q : Request) : Type 0 where
   pub made : Request
   pub same : StepsAs made q

@@ -8,7 +8,7 @@ use Rattle.sqlite_std_file.specs.declared.host.Host.{Host}
 use Rattle.sqlite_wal.specs.Files.{image_at}
 use Rattle.sqlite_store.specs.declared.store.FileStore.{FileStore}
 use Rattle.sqlite.specs.Files.{over_files}
-use Rattle.tables.specs.Kept.{Kept}
+use Rattle.tables.specs.TablesValue.{TablesValue}
 use Rattle.model.specs.Reply.{failed}
 use Rattle.store_types.specs.View.{failure_view}
 use Rattle.tables.specs.declared.refusing.Cause.{Cause}
@@ -33,7 +33,8 @@ AnswersCause dir (Lacks f) w = IsPrinted dir (failed (failure_view f)) w
 module _ {S : Type 0} {host : calls.Ghosts Host} (start : Ghosts S) (g : disk.Ghosts (Modelled Host S host start)) where
   -- the file was opened as the store of the directory, and the work is done over its tables
   abbrev pub DoesOpened : Doing
-  DoesOpened s d console = (t : Kept (FileStore (Modelled Host S host start) g)) × Opens (image_at start) s.store_dir t
+  DoesOpened s d console = (t : TablesValue (FileStore (Modelled Host S host start) g))
+      × Opens (image_at start) s.store_dir t
       × DoesOver over_files s t d console
 
   -- the file isn't opened, and the cause is reported

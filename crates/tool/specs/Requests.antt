@@ -17,8 +17,8 @@ use Rattle.tool_words.specs.Asked as asked
 use Rattle.tool_words.specs.Asked.{Asked, OnProfile, OnSession, add_source, add_text, cat_nar, delete, gc, import_object, info, list_dead, list_live, list_paths, optional_text, profile, report, root, roots, runtime, temp, unroot_permanent, unroot_user, why, serve}
 use Rattle.tool_words.specs.declared.line.Unrooted.{Unrooted}
 use Rattle.tool_words.specs.declared.line.Unrooted.TheVariants as unrooted
-use Rattle.tool_words.specs.declared.line.RootKind.{RootKind}
-use Rattle.tool_words.specs.declared.line.RootKind.TheVariants.{Permanent, User}
+use Rattle.tool_words.specs.declared.line.NamedRootKind.{NamedRootKind}
+use Rattle.tool_words.specs.declared.line.NamedRootKind.TheVariants.{Permanent, User}
 use Rattle.store_types.specs.declared.requests.Request.{Request as Made}
 use Rattle.store_types.specs.View.{request_view}
 use Rattle.report.specs.declared.failures.Failure.TheVariants.{Memory, Input}
@@ -50,7 +50,7 @@ owner_of c None = c.name
 owner_of c (Some owner) = owner
 
 -- the request that sets a root: a permanent one, or that of the caller
-abbrev pub set_root : RootKind → Caller → Text → Path → Request
+abbrev pub set_root : NamedRootKind → Caller → Text → Path → Request
 set_root Permanent c name p = request.set_permanent name p
 set_root User c name p = request.set_user_root c.name name p
 
@@ -142,7 +142,7 @@ StepsAs made wanted =
     (s : Settings) (w : World) (c : Caller) (reply : Reply) (next : World) → Step s w c made reply next
     → Step s w c wanted reply next
 
--- this is asked, and nothing else
+-- exactly this request, or this refusal, is what is asked
 abbrev pub Gives : Result Request Refusal → Result Request Refusal → Type 0
 Gives said wanted = said ≡ wanted
 

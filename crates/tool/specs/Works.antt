@@ -8,7 +8,7 @@ use Rattle.model.specs.World.{World, no_world}
 use Rattle.model.specs.Reply.{failed, memory}
 use Rattle.policy.specs.Settings.{Settings}
 use Rattle.policy.specs.Caller.{Caller}
-use Rattle.tables.specs.Kept.{Kept, HasWorld}
+use Rattle.tables.specs.TablesValue.{TablesValue, HasWorld}
 use Rattle.report.specs.Outputs.{Console}
 use Rattle.wire.specs.Answers as message
 use Rattle.wire.specs.Worlds.{AnswersFrom}
@@ -39,7 +39,7 @@ reads_whole (work.Call c t) = reads_all (asked_view t.now)
 reads_whole (work.Serve a) = true
 
 -- work that is done over tables
-abbrev pub DoesOver : {S : Type 0} → Ghosts S → Settings → Kept S → OnStore → Console → Type 0
+abbrev pub DoesOver : {S : Type 0} → Ghosts S → Settings → TablesValue S → OnStore → Console → Type 0
 DoesOver g s t (calls c ask) console =
     AnswersIn (Serves g s t c console.written) ask s.store_dir c console.input console.written
 DoesOver g s t (serves a) console = ServesBy (message.Answers g) a console (record { tables = t; settings = s })
@@ -58,7 +58,7 @@ Doing = Settings → OnStore → Console → Type 0
 abbrev pub DoesNew : Doing
 DoesNew s d console =
     (DoesIn s no_world d console
-    × ((t : Kept MemStore) × HasWorld over_memory t no_world × DoesOver over_memory s t d console))
+    × ((t : TablesValue MemStore) × HasWorld over_memory t no_world × DoesOver over_memory s t d console))
     ⊎ IsPrinted s.store_dir (failed memory) console.written
 
 -- work that is done with the store of the file, if one is named, and else with one in memory

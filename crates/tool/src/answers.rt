@@ -1,7 +1,7 @@
 //! Answering a command line by the text of its configuration.
 ghost use Rattle.std.specs.Prelude.{◌≡◌, None, false};
 ghost use Rattle.report.specs.Outputs.{change_of};
-ghost use Rattle.tool.specs.Answer.{AnswersAlone, AnswersLine, AnswersLs, AnswersSourcePath, AnswersTextPath};
+ghost use Rattle.tool.specs.Answer.{AnswersWithoutRequest, AnswersLine, AnswersLs, AnswersSourcePath, AnswersTextPath};
 ghost use Rattle.tool.specs.Files.{DoesFile};
 ghost use Rattle.tool_pure.specs.Archive.{max_prefix};
 ghost use Rattle.tool_words.specs.Asked as asked;
@@ -105,7 +105,7 @@ fn source_path_under<R: Read, W: Write, E: Write>(
 }
 
 /// Answers a command line whose subcommand makes no request to a store itself.
-fn answer_alone<F: Start, R: Read, W: Write, E: Write>(
+fn answer_without_request<F: Start, R: Read, W: Write, E: Write>(
     rt: &HostRuntime,
     start: F,
     config: &[u8],
@@ -115,7 +115,7 @@ fn answer_alone<F: Start, R: Read, W: Write, E: Write>(
     errors: &mut E,
 ) -> u8
     requires { asks (asked.asked_view line.now.task) ≡ None }
-    ensures answer { AnswersAlone (DoesFile F.Start ⟦<FileFrom<F> as Disk>⟧) config.now (line_view line.now)
+    ensures answer { AnswersWithoutRequest (DoesFile F.Start ⟦<FileFrom<F> as Disk>⟧) config.now (line_view line.now)
         (asked.asked_view line.now.task)
         (record {
           input = change_of R.remaining input.old input.new;
@@ -183,5 +183,5 @@ pub fn answer<F: Start, R: Read, W: Write, E: Write>(
     if is_asked(&line.task) {
         return call(rt, start, config, line, input, output, errors);
     }
-    answer_alone(rt, start, config, line, input, output, errors)
+    answer_without_request(rt, start, config, line, input, output, errors)
 }

@@ -10,7 +10,7 @@ use policy::Caller;
 use std::alloc::{AllocError, Global};
 use store_types::Request;
 use tool_pure::{Stop, parse_reference};
-use tool_words::{RootArguments, RootKind, UnrootArguments, Unrooted};
+use tool_words::{NamedRootKind, RootArguments, UnrootArguments, Unrooted};
 
 /// The name of the owner: `named`, or that of the caller if `named` is `None`.
 pub(crate) fn owner(
@@ -37,8 +37,8 @@ fn root_at(
 {
     let name = String::from_str(alloc, root.name)?;
     match root.kind {
-        RootKind::Permanent => Ok(Request::SetPermanent { name, path }),
-        RootKind::User => {
+        NamedRootKind::Permanent => Ok(Request::SetPermanent { name, path }),
+        NamedRootKind::User => {
             let owner = String::from_str(alloc, caller.name())?;
             Ok(Request::SetUserRoot {
                 user: owner,

@@ -4,7 +4,7 @@ ghost use Rattle.sqlite.specs.State.{HasCleanDisk};
 ghost use Rattle.sqlite.specs.Held.{Held, state};
 ghost use Rattle.tool_words.specs.Asked.{optional_text};
 ghost use Rattle.model.specs.World.{World};
-ghost use Rattle.tables.specs.Kept.{HasWorld};
+ghost use Rattle.tables.specs.TablesValue.{HasWorld};
 ghost use Rattle.wire.specs.Answers as message;
 ghost use Rattle.wire.specs.Worlds.{AnswersFrom};
 ghost use Rattle.report.specs.Outputs.{change_of};

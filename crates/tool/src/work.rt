@@ -3,7 +3,7 @@ ghost use Rattle.std.specs.Prelude.{◌≡◌, IsSome, Some, false};
 ghost use Rattle.sqlite.specs.State.{HasCleanDisk};
 ghost use Rattle.sqlite.specs.Held.{Held, state};
 ghost use Rattle.model.specs.World.{World};
-ghost use Rattle.tables.specs.Kept.{HasWorld};
+ghost use Rattle.tables.specs.TablesValue.{HasWorld};
 ghost use Rattle.streams.specs.Reads.{ConsumesAtMost};
 ghost use Rattle.report.specs.Outputs.{change_of};
 ghost use Rattle.tool_pure.specs.Archive.{max_prefix};

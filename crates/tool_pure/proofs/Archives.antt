@@ -5,15 +5,16 @@ use Rattle.nar.specs.declared.error.NarError.{NarError}
 use Rattle.nar.specs.Tree.{Tree}
 use Rattle.nar.specs.Outcome.{outcome_of}
 use Rattle.nar.specs.Listing.{listing}
-use Rattle.nar.proofs.Fronts.{outcome_front}
+use Rattle.nar.proofs.Prefixes.{outcome_prefix}
 use Rattle.tool_pure.specs.declared.stops.Stop.{Stop}
 use Rattle.tool_pure.specs.Archive.{by_outcome, ls_answer}
-use Rattle.tool_pure.specs.Object.{path_line, source_path_answer}
+use Rattle.report.specs.Replies.{path_line}
+use Rattle.tool_pure.specs.Object.{source_path_answer}
 use Rattle.paths.specs.Path.{source_path}
 
 -- the listing is that of the front
-pub ls_front : (all : List ℕ) → ls_answer (take 16777224 all) ≡ ls_answer all
-ls_front all = ap (λ r. by_outcome r (listing (codes "."))) (outcome_front all)
+pub ls_prefix : (all : List ℕ) → ls_answer (take 16777224 all) ≡ ls_answer all
+ls_prefix all = ap (λ r. by_outcome r (listing (codes "."))) (outcome_prefix all)
 
 module _ (dir name : List ℕ) (refs : List (List ℕ)) (all front : List ℕ) (e : front ≡ take 16777224 all) where
   refused_so : (stop : Stop) (r : Result Tree NarError) → outcome_of front ≡ r → Err stop ≡ source_path_answer dir name refs front
@@ -23,13 +24,13 @@ module _ (dir name : List ℕ) (refs : List (List ℕ)) (all front : List ℕ) (
       is ∙ ap (λ r. by_outcome r (λ tree. path_line dir (source_path dir name refs front))) h in cc
   refused_so stop (Err f) h is =
       is ∙ ap (λ r. by_outcome r (λ tree. path_line dir (source_path dir name refs front))) h
-      ∙ sym (ap (λ r. by_outcome r (λ tree. path_line dir (source_path dir name refs all))) (sym (ap outcome_of e ∙ outcome_front all) ∙ h))
+      ∙ sym (ap (λ r. by_outcome r (λ tree. path_line dir (source_path dir name refs all))) (sym (ap outcome_of e ∙ outcome_prefix all) ∙ h))
 
   -- a result by a front that is within the limit where it is an archive
-  pub source_front : (r : Result (List ℕ) Stop) → IfOk r (λ line. length front ≤ 16777216) → r ≡ source_path_answer dir name refs front
+  pub source_prefix : (r : Result (List ℕ) Stop) → IfOk r (λ line. length front ≤ 16777216) → r ≡ source_path_answer dir name refs front
       → r ≡ source_path_answer dir name refs all
-  source_front (Ok line) fits is =
+  source_prefix (Ok line) fits is =
       let cut : length front ≡ length (take 16777224 all) = ap length e in
       let whole : front ≡ all = e ∙ take_all 16777224 all (omega (arith, length-take 16777224 all)) in
       is ∙ ap (source_path_answer dir name refs) whole
-  source_front (Err stop) fits is = refused_so stop (outcome_of front) refl is
+  source_prefix (Err stop) fits is = refused_so stop (outcome_of front) refl is

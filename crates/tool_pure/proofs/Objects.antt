@@ -43,9 +43,9 @@ named_stop dir name refs stop (inl memory) = inl memory
 named_stop dir name refs stop (inr is) = inr (first_of_two (named_fault dir name refs) (count_fault refs) stop is)
 
 -- contents that are read to one byte above the limit answer as all of them
-pub text_front : (dir name : List ℕ) (refs : List (List ℕ)) (all : List ℕ)
+pub text_prefix : (dir name : List ℕ) (refs : List (List ℕ)) (all : List ℕ)
     → text_path_answer dir name refs (take 16777105 all) ≡ text_path_answer dir name refs all
-text_front dir name refs all =
+text_prefix dir name refs all =
     elim (cases_lt max_contents (length all)) [
       | inl long ↦
           let cut : max_contents < length (take 16777105 all) = omega (arith, length-take 16777105 all) in

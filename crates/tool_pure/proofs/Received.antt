@@ -6,11 +6,11 @@ use Rattle.std.proofs.lemmas.Bool.{cases_lt}
 use Rattle.std.proofs.lemmas.List.{take-append-le}
 
 -- it is a front of the input, up to the bound
-pub front_received : (most : ℕ) (old new : Option (List ℕ)) (bs taken : List ℕ) (n : ℕ) → Consumes old new bs → length bs ≤ most → n ≡ length bs → taken ≡ bs
+pub prefix_received : (most : ℕ) (old new : Option (List ℕ)) (bs taken : List ℕ) (n : ℕ) → Consumes old new bs → length bs ≤ most → n ≡ length bs → taken ≡ bs
     → (n < most → IsAtEnd new) → IfSome old (λ all. taken ≡ take most all)
-front_received most None new bs taken n read short count is end = tt
-front_received most (Some all) None bs taken n read short count is end = absurd read
-front_received most (Some all) (Some rest) bs taken n read short count is end =
+prefix_received most None new bs taken n read short count is end = tt
+prefix_received most (Some all) None bs taken n read short count is end = absurd read
+prefix_received most (Some all) (Some rest) bs taken n read short count is end =
     elim (cases_lt n most) [
       | inl less ↦
           let whole : all ≡ bs = read ∙ ap (λ t. bs ++ t) (end less) ∙ append-nil bs in

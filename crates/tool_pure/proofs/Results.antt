@@ -48,9 +48,9 @@ lost reads most input stop read (inl memory) fewer = rw memory tt
 lost reads most input stop read (inr is) fewer = subst (λ e. IsFailure (InputFails reads most input) (Err e)) (sym is) (read, fewer is)
 
 -- there is no fault, and memory or the input gave out
-pub gone_at : (fault : Option Refusal) (most : ℕ) (input : Stream) (stop : Stop) → fault ≡ None → (stop ≡ Failed Memory) ⊎ (stop ≡ Failed Input)
+pub deleted_at : (fault : Option Refusal) (most : ℕ) (input : Stream) (stop : Stop) → fault ≡ None → (stop ≡ Failed Memory) ⊎ (stop ≡ Failed Input)
     → (stop ≡ Failed Input → TakesFewer most input.old input.new) → IsStopAt fault most input stop
-gone_at fault most input stop none why fewer = inl (lost (is_none fault) most input stop (ap is_none none) why fewer)
+deleted_at fault most input stop none why fewer = inl (lost (is_none fault) most input stop (ap is_none none) why fewer)
 
 -- a line that was found, as a result
 pub by_line : (fails : Type 0) (r : Result (String Global) Stop) (a : Result (List ℕ) Stop) → IfOk r (λ line. a ≡ Ok (string_bytes line)) → IfErr r (λ e. (e ≡ Failed Memory) ⊎ (a ≡ Err e))
@@ -60,11 +60,11 @@ by_line fails (Err e) a ok (inl memory) = rw memory (inl tt)
 by_line fails (Err e) a ok (inr is) = inr (sym is)
 
 -- a result by a front of the input that answers as all of it
-pub of_front : (fails : Type 0) (fault : Option Refusal) (answer : List ℕ → Result (List ℕ) Stop) (known : Option (List ℕ)) (result : Result (List ℕ) Stop) (most : ℕ) (bytes : List ℕ)
+pub of_prefix : (fails : Type 0) (fault : Option Refusal) (answer : List ℕ → Result (List ℕ) Stop) (known : Option (List ℕ)) (result : Result (List ℕ) Stop) (most : ℕ) (bytes : List ℕ)
     → fault ≡ None → IfSome known (λ all. bytes ≡ take most all) → ((all : List ℕ) → bytes ≡ take most all → result ≡ answer bytes → result ≡ answer all)
     → IsFailure fails result ⊎ (result ≡ answer bytes) → IsFailure fails result ⊎ IsResultOf fault answer known result
-of_front fails fault answer known result most bytes none front same (inl is) = inl is
-of_front fails fault answer known result most bytes none front same (inr is) = inr (subst (λ f. IsResultOf f answer known result) (sym none) (by_known known front))
+of_prefix fails fault answer known result most bytes none front same (inl is) = inl is
+of_prefix fails fault answer known result most bytes none front same (inr is) = inr (subst (λ f. IsResultOf f answer known result) (sym none) (by_known known front))
   where
     by_known : (known : Option (List ℕ)) → IfSome known (λ all. bytes ≡ take most all) → IsResultOf None answer known result
     by_known None front = (bytes, is)

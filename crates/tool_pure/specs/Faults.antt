@@ -7,8 +7,10 @@ use Rattle.policy.specs.declared.error.CallerError.{CallerError}
 use Rattle.policy.specs.declared.error.CallerError.TheVariants as caller
 use Rattle.policy.specs.declared.error.ConfigError.{ConfigError}
 use Rattle.policy.specs.declared.error.ConfigError.TheVariants as config
+use Rattle.wire_bodies.specs.declared.error.BodyError.{BodyError}
+use Rattle.wire_bodies.specs.declared.error.BodyError.TheVariants as body
 use Rattle.report.specs.declared.failures.Failure.TheVariants.{Memory}
-use Rattle.model.specs.declared.refusal.Refusal.TheVariants.{BadStoreName, BadStorePath, BadConfig, BadCaller}
+use Rattle.model.specs.declared.refusal.Refusal.TheVariants.{BadStoreName, BadStorePath, BadConfig, BadCaller, BadBodyHead}
 use Rattle.tool_pure.specs.declared.stops.Stop.{Stop}
 use Rattle.tool_pure.specs.declared.stops.Stop.TheVariants.{Refused, Failed}
 
@@ -27,3 +29,7 @@ caller_stop caller.Memory = Failed Memory
 abbrev pub config_stop : ConfigError → Stop
 config_stop (config.Bad word) = Refused (BadConfig word)
 config_stop config.Memory = Failed Memory
+
+abbrev pub body_stop : BodyError → Stop
+body_stop body.BadBodyHead = Refused BadBodyHead
+body_stop body.Memory = Failed Memory

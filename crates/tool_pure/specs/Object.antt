@@ -1,9 +1,9 @@
 -- The answers of `text-path` and `source-path`: the store paths of objects.
-use Rattle.std.specs.Prelude.{ℕ, ◌++◌, Bool, not, if◌then◌else◌, nat_lt, List, length, codes, Option, Some, None, Result, Ok, Err}
+use Rattle.std.specs.Prelude.{ℕ, Bool, not, if◌then◌else◌, nat_lt, List, length, Option, Some, None, Result, Ok, Err}
 use Rattle.std.specs.List.{list_all}
 use Rattle.std.specs.Option.{option_map_or}
 use Rattle.paths.specs.Names.{is_store_name}
-use Rattle.paths.specs.StorePath.{is_base_name, base_of, full_path}
+use Rattle.paths.specs.StorePath.{is_base_name, base_of}
 use Rattle.paths.specs.Path.{text_path, source_path}
 use Rattle.nar.specs.Outcome.{outcome_of}
 use Rattle.model.specs.declared.refusal.Refusal.{Refusal}
@@ -11,6 +11,7 @@ use Rattle.model.specs.declared.refusal.Refusal.TheVariants.{TooLarge, BadStoreN
 use Rattle.tool_pure.specs.declared.stops.Stop.{Stop}
 use Rattle.tool_pure.specs.declared.stops.Stop.TheVariants.{Refused}
 use Rattle.tool_pure.specs.Archive.{by_outcome}
+use Rattle.report.specs.Replies.{path_line}
 
 -- whether a text is a path text: a full path in the store directory, or a base name
 abbrev pub is_path_text : List ℕ → List ℕ → Bool
@@ -42,10 +43,6 @@ count_fault refs = if nat_lt max_references (length refs) then Some TooManyRefer
 -- why an object of this name with these references is refused, before its contents are looked at
 abbrev pub object_fault : List ℕ → List ℕ → List (List ℕ) → Option Refusal
 object_fault dir name refs = option_map_or Some (named_fault dir name refs) (count_fault refs)
-
--- the line of a store path
-abbrev pub path_line : List ℕ → List ℕ → List ℕ
-path_line dir base = full_path dir base ++ codes "\n"
 
 -- what `text-path` answers to contents: the path of the text object, unless its archive would be too large
 abbrev pub text_path_answer : List ℕ → List ℕ → List (List ℕ) → List ℕ → Result (List ℕ) Stop

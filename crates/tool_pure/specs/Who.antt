@@ -6,7 +6,7 @@ use Rattle.policy.specs.Caller.{Caller, caller_of, is_caller}
 use Rattle.policy.specs.Class.{class_of}
 use Rattle.policy.specs.Rules.{first_broken}
 use Rattle.policy.specs.Toml.{config_of}
-use Rattle.policy.specs.Words.{class_word, rule_word}
+use Rattle.policy.specs.Words.{class_word}
 use Rattle.policy.specs.declared.error.KeyWord.{KeyWord}
 use Rattle.policy.specs.Operation.{plain}
 use Rattle.policy.specs.declared.kinds.Rule.{Rule}
@@ -17,6 +17,7 @@ use Rattle.tool_pure.specs.declared.stops.Stop.TheVariants.{Refused, Failed}
 use Rattle.tool_pure.specs.declared.verdicts.Verdict.{Verdict}
 use Rattle.tool_pure.specs.Stop.{stop_text, stop_status}
 use Rattle.report.specs.Outputs.{Printed, Prints}
+use Rattle.report.specs.Stops.{plain_denial}
 use Rattle.tool_pure.specs.Stream.{Says}
 
 -- the class of a caller, with the first rule that a plain request of theirs breaks
@@ -37,10 +38,10 @@ verdict_by (Ok s) user group = option_map_or (λ c. Ok (verdict_on s c)) (caller
 abbrev pub verdict_of : List ℕ → Option (List ℕ) → Option (List ℕ) → Result Verdict Stop
 verdict_of config user group = verdict_by (config_of config) user group
 
--- whether the caller may connect: yes, or the rule that denies it
-abbrev pub denial_text : Option Rule → List ℕ
-denial_text None = codes "connect: yes\n"
-denial_text (Some rule) = codes "denied: " ++ rule_word rule ++ codes "\n"
+-- whether the caller may connect: yes, or the denial by a rule
+abbrev pub connect_text : Option Rule → List ℕ
+connect_text None = codes "connect: yes\n"
+connect_text (Some rule) = plain_denial rule
 
 -- the exit status of a verdict
 abbrev pub denial_status : Option Rule → ℕ
@@ -49,14 +50,14 @@ denial_status (Some rule) = 4
 
 -- the two lines of a verdict
 abbrev pub verdict_text : Verdict → List ℕ
-verdict_text v = codes "class: " ++ class_word v.class ++ codes "\n" ++ denial_text v.denial
+verdict_text v = codes "class: " ++ class_word v.class ++ codes "\n" ++ connect_text v.denial
 
 -- what `who` prints
 abbrev pub who_text : Result Verdict Stop → List ℕ
 who_text (Ok verdict) = verdict_text verdict
 who_text (Err stop) = stop_text stop
 
--- its exit status
+-- the exit status of `who`
 abbrev pub who_status : Result Verdict Stop → ℕ
 who_status (Ok verdict) = denial_status verdict.denial
 who_status (Err stop) = stop_status stop

@@ -9,9 +9,10 @@ use crate::stops::Stop;
 use nar::Node;
 use report::Failure;
 use std::alloc::Global;
+use streams::MAX_ARCHIVE;
 
 /// How many bytes of an input decide whether it is an archive: 8 more than an archive has at most.
-pub const MOST_OF_ARCHIVE: usize = 16_777_224;
+pub const MOST_OF_ARCHIVE: usize = MAX_ARCHIVE + 8;
 
 /// The tree of an archive.
 pub(crate) fn read_archive(alloc: Global, bytes: &[u8]) -> Result<Node<'_>, Stop>

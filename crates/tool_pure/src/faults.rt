@@ -2,7 +2,7 @@
 ghost use Rattle.std.specs.Prelude.{◌≡◌};
 ghost use Rattle.report.specs.declared.failures.Failure.TheVariants.{Memory};
 ghost use Rattle.tool_pure.specs.Archive.{archive_stop};
-ghost use Rattle.tool_pure.specs.Faults.{name_stop, path_stop, caller_stop, config_stop};
+ghost use Rattle.tool_pure.specs.Faults.{name_stop, path_stop, caller_stop, config_stop, body_stop};
 ghost use Rattle.tool_pure.specs.declared.stops.Stop.TheVariants.{Failed};
 
 use crate::stops::Stop;
@@ -11,6 +11,7 @@ use paths::{NameError, StorePathError};
 use policy::{CallerError, ConfigError};
 use report::{Failure, Refusal};
 use std::alloc::{AllocError, AllocFailed};
+use wire_bodies::BodyError;
 
 impl From<AllocError> for Stop {
     ghost from_gives = { λ _ stop. stop ≡ Failed Memory };
@@ -79,6 +80,17 @@ impl From<ConfigError> for Stop {
         match fault {
             ConfigError::Bad(word) => Stop::Refused(Refusal::BadConfig(word)),
             ConfigError::Memory => Stop::Failed(Failure::Memory),
+        }
+    }
+}
+
+impl From<BodyError> for Stop {
+    ghost from_gives = { λ fault stop. stop ≡ body_stop fault };
+
+    fn from(fault: BodyError) -> Stop {
+        match fault {
+            BodyError::BadBodyHead => Stop::Refused(Refusal::BadBodyHead),
+            BodyError::Memory => Stop::Failed(Failure::Memory),
         }
     }
 }

@@ -15,9 +15,7 @@ use report::{Failure, Refusal};
 use std::alloc::{AllocError, Global};
 use std::convert::AsStr;
 use std::io::Read;
-
-/// The most references of an object to add.
-const MAX_REFERENCES: usize = 4_096;
+use streams::MAX_REFERENCES;
 
 /// The name of a store object.
 fn parse_name(alloc: Global, text: &str) -> Result<Name, Stop>
@@ -135,19 +133,4 @@ pub(crate) fn read_object<S: AsStr, R: Read>(
     let object = parse_small(alloc, dir, name, references)?;
     let bytes = read_input(alloc, input, most)?;
     Ok((object, bytes))
-}
-
-/// The line of a store path.
-pub(crate) fn path_line(
-    alloc: Global,
-    dir: &StoreDir,
-    path: &StorePath,
-) -> Result<String, AllocError>
-    ensures { IfOk result (λ line. string_bytes line ≡ spec.path_line dir.now path.now) }
-{
-    let mut line = String::from_str(alloc, dir.as_str())?;
-    line.push_str("/")?;
-    line.push_str(path.as_str())?;
-    line.push_str("\n")?;
-    Ok(line)
 }

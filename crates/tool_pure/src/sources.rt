@@ -7,11 +7,11 @@ ghost use Rattle.tool_pure.specs.Object.{object_fault, source_path_answer};
 ghost use Rattle.tool_pure.specs.Stream.{AnswersTo, InputFails, ReadsFor, IsFailure, IsResultOf, result_text};
 
 use crate::archive::{MOST_OF_ARCHIVE, read_archive};
-use crate::object::{Object, path_line, read_object};
+use crate::object::{Object, read_object};
 use crate::stops::Stop;
 use crate::stream::give;
 use paths::StoreDir;
-use report::Failure;
+use report::{Failure, path_line};
 use std::alloc::Global;
 use std::convert::AsStr;
 use std::io::{Read, Write};

@@ -5,20 +5,21 @@ ghost use Rattle.report.specs.Outputs.{change_of};
 ghost use Rattle.tool_pure.specs.Object.{most_of_contents, object_fault, text_path_answer};
 ghost use Rattle.tool_pure.specs.Stream.{AnswersTo, InputFails, ReadsFor, IsFailure, IsResultOf, result_text};
 
-use crate::object::{Object, path_line, read_object};
+use crate::object::{Object, read_object};
 use crate::stops::Stop;
 use crate::stream::give;
 use paths::StoreDir;
-use report::{Failure, Refusal};
+use report::{Failure, Refusal, path_line};
 use std::alloc::Global;
 use std::convert::AsStr;
 use std::io::{Read, Write};
+use streams::MAX_ARCHIVE;
 
 /// The longest contents whose archive isn't too large.
-const MAX_CONTENTS: usize = 16_777_104;
+const MAX_CONTENTS: usize = MAX_ARCHIVE - 112;
 
 /// How many bytes of contents are read at most: one more than a text may have.
-pub const MOST_OF_CONTENTS: usize = 16_777_105;
+pub const MOST_OF_CONTENTS: usize = MAX_CONTENTS + 1;
 
 fn text_line(
     alloc: Global,

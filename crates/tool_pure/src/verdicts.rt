@@ -1,14 +1,14 @@
 //! `who`: from a configuration and a caller to a verdict.
 ghost use Rattle.std.specs.Prelude.{◌≡◌, ◌++◌, OnOk, IfOk, IfErr, Ok, option_map, string_bytes};
 ghost use Rattle.report.specs.Outputs.{change_of};
-ghost use Rattle.tool_pure.specs.Who.{AnswersWho, StopsWho, verdict_of, verdict_text, denial_text, denial_status};
+ghost use Rattle.tool_pure.specs.Who.{AnswersWho, StopsWho, verdict_of, verdict_text, connect_text, denial_status};
 
 use crate::callers::parse_caller;
 use crate::configuration::settings;
 use crate::stops::Stop;
 use crate::stream::say;
 use policy::{Class, Op, Rule, class, decide};
-use report::{Failure, print};
+use report::{Failure, print, push_denial};
 use std::alloc::{AllocError, Global};
 use std::io::Write;
 
@@ -39,22 +39,18 @@ impl Verdict {
         let mut text = String::from_str(alloc, "class: ")?;
         text.push_str(self.class.as_str())?;
         text.push_str("\n")?;
-        push_denial(self.denial, &mut text)?;
+        push_connect(self.denial, &mut text)?;
         Ok(text)
     }
 }
 
 /// Appends the line that says whether a caller may connect.
-fn push_denial(denial: Option<Rule>, text: &mut String) -> Result<(), AllocError>
-    ensures { OnOk result (string_bytes text.new ≡ string_bytes text.old ++ denial_text denial) }
+fn push_connect(denial: Option<Rule>, text: &mut String) -> Result<(), AllocError>
+    ensures { OnOk result (string_bytes text.new ≡ string_bytes text.old ++ connect_text denial) }
 {
     match denial {
         None => text.push_str("connect: yes\n"),
-        Some(rule) => {
-            text.push_str("denied: ")?;
-            text.push_str(rule.as_str())?;
-            text.push_str("\n")
-        }
+        Some(rule) => push_denial(text, rule),
     }
 }
 

@@ -6,8 +6,8 @@ use Rattle.clap.specs.Walk.{Row, Text}
 use Rattle.paths.specs.Decimal.{decimal_of, number_up_to}
 use Rattle.tool_words.specs.declared.error.UsageFault.{UsageFault}
 use Rattle.tool_words.specs.declared.error.UsageFault.TheVariants.{UnknownAction, MissingValue, ExtraValue, OwnerOfPermanent, BadLimit, ConnectionsWithoutPort}
-use Rattle.tool_words.specs.declared.line.RootKind.{RootKind}
-use Rattle.tool_words.specs.declared.line.RootKind.TheVariants.{Permanent, User}
+use Rattle.tool_words.specs.declared.line.NamedRootKind.{NamedRootKind}
+use Rattle.tool_words.specs.declared.line.NamedRootKind.TheVariants.{Permanent, User}
 use Rattle.tool_words.specs.declared.line.ServeArguments.{ServeArguments}
 use Rattle.tool_words.specs.declared.line.ServeArguments.TheVariants.{Streams, Port}
 use Rattle.tool_words.specs.Asked.{Asked, OnProfile, OnSession, set, rollback, switch, delete_generation, add_temp, end_session, unroot_permanent, unroot_user}
@@ -48,7 +48,7 @@ on_session action path =
     else Err UnknownAction
 
 -- the kind of a root that is set
-abbrev pub root_kind : List Row → RootKind
+abbrev pub root_kind : List Row → NamedRootKind
 root_kind rs = if is_given (codes "permanent") rs then Permanent else User
 
 -- the root that is dropped

@@ -3,7 +3,7 @@ use Rattle.std.specs.Prelude.{ℕ, Bool, List, Option, option_map}
 use Rattle.std.specs.Borrow.{Bor}
 use Rattle.clap.specs.Walk.{Text, texts}
 use Rattle.tool_words.specs.declared.line.ObjectArguments.{ObjectArguments}
-use Rattle.tool_words.specs.declared.line.RootKind.{RootKind}
+use Rattle.tool_words.specs.declared.line.NamedRootKind.{NamedRootKind}
 use Rattle.tool_words.specs.declared.line.Unrooted.{Unrooted}
 use Rattle.tool_words.specs.declared.line.Unrooted.TheVariants as unrooted
 use Rattle.tool_words.specs.declared.line.ProfileAction.{ProfileAction}
@@ -48,7 +48,7 @@ pub data Asked : Type 0 where
   list_dead : Asked
   report : Asked
   -- a kind, a name and a path
-  root : RootKind → Text → Text → Asked
+  root : NamedRootKind → Text → Text → Asked
   unroot_permanent : Text → Asked
   -- an owner, if one is named, and a name
   unroot_user : Option Text → Text → Asked

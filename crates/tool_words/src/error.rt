@@ -1,6 +1,8 @@
 //! Why words are no command line.
 ghost use Rattle.std.specs.Prelude.{◌≡◌, IfOk};
+ghost use Rattle.clap.specs.Kinds.{Kinds, HasKind};
 ghost use Rattle.clap.specs.Values.{kind_of};
+ghost use Rattle.tool_words.specs.Line.{IsRefusal};
 ghost use Rattle.tool_words.specs.Usage.{usage_kind};
 ghost use Rattle.tool_words.specs.declared.error.CommandError.TheVariants.{Misuse, Memory};
 
@@ -85,6 +87,17 @@ pub enum CommandError {
     Misuse(UsageFault),
     /// Memory was refused.
     Memory,
+}
+
+impl From<clap::Error> for CommandError {
+    ghost from_gives = { λ fault e. (kinds : Kinds) → HasKind kinds fault → IsRefusal kinds e };
+
+    fn from(fault: clap::Error) -> CommandError {
+        match fault.kind() {
+            ErrorKind::OutOfMemory => CommandError::Memory,
+            _ => CommandError::Usage(fault),
+        }
+    }
 }
 
 impl From<UsageFault> for CommandError {

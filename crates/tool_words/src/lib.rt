@@ -14,8 +14,8 @@ mod verb;
 
 pub use error::{CommandError, UsageFault};
 pub use line::{
-    CommandLine, DeleteArguments, GcArguments, ObjectArguments, ProfileAction, ProfileArguments,
-    RootArguments, RootKind, ServeArguments, Task, TempAction, TempArguments, UnrootArguments,
-    Unrooted,
+    CommandLine, DeleteArguments, GcArguments, NamedRootKind, ObjectArguments, ProfileAction,
+    ProfileArguments, RootArguments, ServeArguments, Task, TempAction, TempArguments,
+    UnrootArguments, Unrooted,
 };
 pub use parse::command;

@@ -75,9 +75,9 @@ pub struct ObjectArguments<'a> {
     pub references: Vec<&'a str>,
 }
 
-/// A root that has a name.
+/// The kind of a root that is set by its name.
 #[derive(Clone, Copy, PartialEq, Eq, Debug)]
-pub enum RootKind {
+pub enum NamedRootKind {
     /// A permanent root.
     Permanent,
     /// A root of the caller.
@@ -88,7 +88,7 @@ pub enum RootKind {
 #[derive(Debug, Drop)]
 pub struct RootArguments<'a> {
     /// The kind of the root.
-    pub kind: RootKind,
+    pub kind: NamedRootKind,
     /// The name of the root.
     pub name: &'a str,
     /// The path that it keeps alive.

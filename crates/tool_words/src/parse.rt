@@ -1,10 +1,9 @@
 //! The words of a command line, read by `clap`.
 ghost use Rattle.std.specs.Prelude.{◌≡◌, IfOk, IfErr, Ok, Err, map};
 ghost use Rattle.std.specs.Option.{option_map_or};
-ghost use Rattle.clap.specs.Kinds.{Kinds, HasKind};
 ghost use Rattle.clap.specs.Simple.{subcommand_rows_of};
 ghost use Rattle.tool_words.specs.Asked.{asked_view};
-ghost use Rattle.tool_words.specs.Line.{line_view, line_from, asked_by, Misses, IsRefusal, IsLine, IsUsageFault};
+ghost use Rattle.tool_words.specs.Line.{line_view, line_from, asked_by, Misses, IsLine, IsUsageFault};
 ghost use Rattle.tool_words.specs.Values.{rows};
 
 use crate::error::{CommandError, UsageFault};
@@ -14,7 +13,6 @@ use crate::tasks::task;
 use crate::values::optional;
 use crate::verb::verb_of;
 use clap::ArgMatches;
-use clap::error::ErrorKind;
 use std::alloc::Global;
 use std::convert::AsStr;
 
@@ -58,16 +56,6 @@ fn read<'a>(alloc: Global, matches: &ArgMatches<'a>) -> Result<CommandLine<'a>, 
     })
 }
 
-/// Why `clap` gave no matches.
-fn refusal(fault: clap::Error) -> CommandError
-    ensures { (kinds : Kinds) → HasKind kinds fault → IsRefusal kinds result }
-{
-    match fault.kind() {
-        ErrorKind::OutOfMemory => CommandError::Memory,
-        _ => CommandError::Usage(fault),
-    }
-}
-
 /// Reads the words of a command line, of which the first is the program's name.
 ///
 /// ```rust
@@ -88,8 +76,6 @@ pub fn command<'a, S: AsStr>(alloc: Global, words: &'a [S]) -> Result<CommandLin
     ensures err { IfErr result (IsUsageFault (map S.text words.entry.now)) }
 {
     let nixkeep = nixkeep(alloc)?;
-    match nixkeep.try_get_matches_from(words) {
-        Ok(matches) => read(alloc, &matches),
-        Err(fault) => Err(refusal(fault)),
-    }
+    let matches = nixkeep.try_get_matches_from(words)?;
+    read(alloc, &matches)
 }

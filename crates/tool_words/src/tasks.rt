@@ -10,8 +10,8 @@ ghost use Rattle.tool_words.specs.Values.{rows};
 use crate::actions::{limit, profile_action, served, temp_action, unrooted};
 use crate::error::{CommandError, UsageFault};
 use crate::line::{
-    DeleteArguments, GcArguments, ObjectArguments, ProfileArguments, RootArguments, RootKind, Task,
-    TempArguments,
+    DeleteArguments, GcArguments, NamedRootKind, ObjectArguments, ProfileArguments, RootArguments,
+    Task, TempArguments,
 };
 use crate::values::{connections, is_given, optional, port, required, values};
 use crate::verb::Verb;
@@ -33,9 +33,9 @@ fn root<'a>(matches: &ArgMatches<'a>) -> RootArguments<'a>
     ensures path { result.path.now ≡ value.required (codes "path") (rows matches.now) }
 {
     let kind = if is_given(matches, "permanent") {
-        RootKind::Permanent
+        NamedRootKind::Permanent
     } else {
-        RootKind::User
+        NamedRootKind::User
     };
     let name = required(matches, "name");
     let path = required(matches, "path");

@@ -1,5 +1,5 @@
 -- How a command ends that serves a store.
-use Rattle.std.specs.Prelude.{◌≡◌, ◌⊎◌, ℕ, min, List, codes, Option, None, Result, Ok, Err, IsErrAnd}
+use Rattle.std.specs.Prelude.{◌≡◌, ◌⊎◌, ℕ, min, List, Option, None, Result, Ok, Err, IsErrAnd}
 use Rattle.std.specs.Io.KnownBytes.{Keeps}
 use Rattle.std.specs.declared.io.Error.{Error}
 use Rattle.std.specs.IoError.{error_kind}
@@ -7,7 +7,8 @@ use Rattle.std.specs.declared.io.ErrorKind.TheVariants.{OutOfMemory}
 use Rattle.sqlite_trees.specs.declared.store.Store.{Ghosts}
 use Rattle.httparse.specs.Grammar.{RequestHead}
 use Rattle.wire_server.specs.Responses.{Replied}
-use Rattle.report.specs.Outputs.{LacksMemory, Prints}
+use Rattle.report.specs.declared.failures.Failure.TheVariants.{Input, Memory}
+use Rattle.report.specs.Outputs.{LacksMemory, PrintsFailure}
 use Rattle.wire_server.specs.Serves.{Served}
 use Rattle.wire_server.specs.Sessions.{Says, failure, result_of}
 use Rattle.wire_server.specs.ServesAll.{ServesOn}
@@ -21,7 +22,7 @@ use Rattle.wire.specs.Worlds.{AnswersFrom, LeadsWorlds}
 abbrev pub EndsOn : Result ℕ Error → Option (List ℕ) → Option (List ℕ) → ℕ → Type 0
 EndsOn (Ok failed) err err' status = Keeps err err' × (status ≡ min failed 1)
 EndsOn (Err fault) err err' status =
-    Prints (codes "failed: input\n") 1 (record { writer = record { old = err; new = err' }; status = status })
+    PrintsFailure Input (record { writer = record { old = err; new = err' }; status = status })
 
 module _ {S : Type 0} where
   -- one connection is served like this, and the status is 1 where it failed, which is said; or there was no memory to
@@ -38,8 +39,8 @@ module _ {S : Type 0} where
   abbrev pub EndsPort : (Option (List ℕ) → S → S → Result ℕ Error → Type 0) → Option (List ℕ) → Option (List ℕ) → S → ℕ
       → Type 0
   EndsPort serving err err' old status =
-      Prints (codes "failed: memory\n") 1 (record { writer = record { old = err; new = err' }; status = status })
-      ⊎ (Prints (codes "failed: input\n") 1 (record { writer = record { old = err; new = err' }; status = status })
+      PrintsFailure Memory (record { writer = record { old = err; new = err' }; status = status })
+      ⊎ (PrintsFailure Input (record { writer = record { old = err; new = err' }; status = status })
       ⊎ ((new : S) × (result : Result ℕ Error) × (said : Option (List ℕ)) × serving said old new result
       × EndsOn result said err' status))
 

@@ -7,6 +7,7 @@ mod arriving;
 mod failures;
 mod listening;
 mod lost;
+mod opening;
 mod parts;
 mod port;
 mod replies;

@@ -31,14 +31,14 @@ pub(crate) fn operation_at<'t>(kind: Kind, target: &'t str) -> Op<'t>
         Kind::Rollback => Op::Rollback(part(target, 2)),
         Kind::Switch => Op::Switch(part(target, 2)),
         Kind::DeleteGeneration => Op::DeleteGeneration(part(target, 2)),
-        Kind::AddTemp => Op::AddTemporary(part(target, 2)),
+        Kind::AddTemp => Op::AddTemp(part(target, 2)),
         Kind::EndSession => Op::EndSession(part(target, 2)),
         Kind::ReplaceRuntime => Op::ReplaceRuntime,
         Kind::Collect => Op::Collect {
-            ignores_liveness: false,
+            ignore_liveness: false,
         },
         Kind::Delete => Op::Delete {
-            ignores_liveness: false,
+            ignore_liveness: false,
         },
         Kind::AddText | Kind::AddSource | Kind::Info | Kind::Nar | Kind::Ls => Op::Plain,
         Kind::RootsOf | Kind::List | Kind::ListRoots | Kind::Live => Op::Plain,

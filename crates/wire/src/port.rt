@@ -1,23 +1,24 @@
 //! A store, served on a port of this machine.
-ghost use Rattle.std.specs.Prelude.{◌≡◌, ◌⊎◌, None, codes};
+ghost use Rattle.std.specs.Prelude.{◌≡◌, ◌⊎◌, None};
 ghost use Rattle.sqlite.specs.State.{HasCleanDisk};
 ghost use Rattle.sqlite.specs.Held.{Held, state};
 ghost use Rattle.model.specs.World.{World};
-ghost use Rattle.tables.specs.Kept.{HasWorld};
+ghost use Rattle.tables.specs.TablesValue.{HasWorld};
 ghost use Rattle.wire.specs.Answers.{Answers};
-ghost use Rattle.report.specs.Outputs.{Prints, change_of};
+ghost use Rattle.report.specs.Outputs.{PrintsFailure, change_of};
+ghost use Rattle.report.specs.declared.failures.Failure.TheVariants.{Input};
 ghost use Rattle.wire.specs.Worlds.{AnswersFrom, AnswersSome};
 ghost use Rattle.wire.specs.Ends.{EndsPort, ServesByWorlds, ServesListener, ServesPort};
 
-use crate::failures::{FAILED, NO_INPUT, NO_MEMORY, say};
-use crate::server::Server;
+use crate::failures::{FAILED, NO_INPUT};
+use crate::opening::{close, open};
 use policy::Config;
+use report::{Failure, print_failure};
 use sqlite::Alter;
 use std::alloc::Global;
 use std::io::Write;
 use std::net::{Ipv4Addr, Net, TcpListener, TcpStream};
 use std::rt::Clock;
-use store::Store;
 use tables::Tables;
 use wire_server::{Listener, Port, Responder};
 
@@ -37,7 +38,7 @@ fn serve_listener<L: Listener, E: Write, T, A: Responder<T>>(
     match wire_server::serve_on(alloc, listener, connections, errors, responder, state) {
         Ok(0) => 0,
         Ok(_) => FAILED,
-        Err(_) => say(NO_INPUT, errors),
+        Err(_) => print_failure(NO_INPUT, errors),
     }
 }
 
@@ -51,7 +52,7 @@ fn listen<N: Net<Listener = TcpListener, Stream = TcpStream> + Clock, E: Write, 
     responder: &A,
     state: &mut T,
 ) -> u8
-    ensures { Prints (codes "failed: input\n") 1
+    ensures { PrintsFailure Input
         (record { writer = change_of E.contents errors.old errors.new; status = result })
         ⊎ ServesListener A.answers connections None None None None (E.contents errors.old) (E.contents errors.new)
         state.old state.new result }
@@ -61,7 +62,7 @@ fn listen<N: Net<Listener = TcpListener, Stream = TcpStream> + Clock, E: Write, 
             let mut peers = Port::new(net, &listener);
             serve_listener(alloc, &mut peers, connections, errors, responder, state)
         }
-        Err(_) => say(NO_INPUT, errors),
+        Err(_) => print_failure(NO_INPUT, errors),
     }
 }
 
@@ -79,17 +80,13 @@ fn serve<N: Net<Listener = TcpListener, Stream = TcpStream> + Clock, S: Alter + 
     ensures { ServesPort (Answers S.Store) connections (E.contents errors.old) (E.contents errors.new)
         (record { tables = tables; settings = config }) result }
 {
-    match Server::new(alloc) {
-        Ok(server) => {
-            let mut store = Store::new(alloc, config, tables);
+    match open(alloc, config, tables) {
+        Ok((server, mut store)) => {
             let status = listen(net, alloc, port, connections, errors, &server, &mut store);
-            drop(store.release().release());
+            close(store);
             status
         }
-        Err(_) => {
-            drop(tables.release());
-            say(NO_MEMORY, errors)
-        }
+        Err(_) => print_failure(Failure::Memory, errors),
     }
 }
 

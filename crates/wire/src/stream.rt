@@ -4,19 +4,19 @@ ghost use Rattle.policy.specs.Settings.{Settings};
 ghost use Rattle.sqlite.specs.State.{HasCleanDisk};
 ghost use Rattle.sqlite.specs.Held.{Held, state};
 ghost use Rattle.model.specs.World.{World};
-ghost use Rattle.tables.specs.Kept.{HasWorld};
+ghost use Rattle.tables.specs.TablesValue.{HasWorld};
 ghost use Rattle.wire.specs.Answers.{Answers};
 ghost use Rattle.wire_server.specs.Sessions.{failure};
 ghost use Rattle.wire.specs.Worlds.{AnswersFrom, AnswersSome};
 ghost use Rattle.wire.specs.Ends.{EndsStreams, ServedByWorlds, ServesStreams};
 
-use crate::failures::{FAILED, NO_MEMORY, say};
-use crate::server::Server;
+use crate::failures::FAILED;
+use crate::opening::{close, open};
 use policy::Config;
+use report::{Failure, print_failure};
 use sqlite::Alter;
 use std::alloc::Global;
 use std::io::{Read, Write};
-use store::Store;
 use tables::Tables;
 use wire_server::{End, serve_connection};
 
@@ -43,17 +43,13 @@ fn serve<S: Alter + Drop, R: Read, W: Write, E: Write>(
     ensures { ServesStreams (Answers S.Store) (R.remaining input.old) (W.contents output.old) (W.contents output.new)
         (E.contents errors.old) (E.contents errors.new) (record { tables = tables; settings = config }) result }
 {
-    match Server::new(alloc) {
-        Ok(server) => {
-            let mut store = Store::new(alloc, config, tables);
+    match open(alloc, config, tables) {
+        Ok((server, mut store)) => {
             let end = serve_connection(alloc, input, output, errors, &server, &mut store);
-            drop(store.release().release());
+            close(store);
             status_of(end)
         }
-        Err(_) => {
-            drop(tables.release());
-            say(NO_MEMORY, errors)
-        }
+        Err(_) => print_failure(Failure::Memory, errors),
     }
 }
 

@@ -1,5 +1,5 @@
-pub mod Alone
-pub mod Fronts
+pub mod WholeBodies
+pub mod Prefixes
 pub mod Passed
 pub mod Passing
 pub mod Reading

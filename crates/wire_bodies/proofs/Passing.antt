@@ -5,45 +5,45 @@ use Rattle.std.specs.List.{list_all, position_or_len, before_first, after_first}
 use Rattle.std.specs.Str.{bytes_eq}
 use Rattle.std.proofs.Math.Seq.{take-append_seam, drop-append-add}
 use Rattle.std.proofs.lemmas.Bool.{ne_eqb}
-use Rattle.wire_bodies.specs.Lines.{Lacks, Entry, entry_text, print_entries, AreEntries, AreLines, Reads, is_colon, entry_in, entries_from, entries_in}
+use Rattle.wire_bodies.specs.Lines.{IsWithout, Entry, entry_text, print_entries, AreEntries, AreLines, Reads, is_colon, entry_in, entries_from, entries_in}
 use Rattle.wire_bodies.specs.Values.{values, each}
 use Rattle.wire_bodies.proofs.Reading.{divides, same_entry, Read}
 use Rattle.wire_bodies.proofs.ValueLemmas.{values-append, all_here, each_none}
 
 -- ---- what a line stands for
 
-place_of_colon : (k r : List ℕ) → Lacks 58 k → position_or_len is_colon (k ++ 58 ∷ r) ≡ length k
+place_of_colon : (k r : List ℕ) → IsWithout 58 k → position_or_len is_colon (k ++ 58 ∷ r) ≡ length k
 place_of_colon [] r lacks = refl
 place_of_colon (b ∷ k) r lacks =
     let rest = place_of_colon k r (λ i h. lacks (suc i) (omega arith)) in
     let more : 1 + position_or_len is_colon (k ++ 58 ∷ r) ≡ suc (length k) = omega (arith, rest) in
     ap (λ c. cond (not c) (1 + position_or_len is_colon (k ++ 58 ∷ r)) 0) (ne_eqb b 58 (lacks 0 (omega arith))) ∙ more
 
-before_colon : (k r : List ℕ) → Lacks 58 k → before_first is_colon (k ++ 58 ∷ r) ≡ k
+before_colon : (k r : List ℕ) → IsWithout 58 k → before_first is_colon (k ++ 58 ∷ r) ≡ k
 before_colon k r lacks = ap (λ n. take n (k ++ 58 ∷ r)) (place_of_colon k r lacks) ∙ take-append_seam k (58 ∷ r)
 
-after_colon : (k r : List ℕ) → Lacks 58 k → after_first is_colon (k ++ 58 ∷ r) ≡ r
+after_colon : (k r : List ℕ) → IsWithout 58 k → after_first is_colon (k ++ 58 ∷ r) ≡ r
 after_colon k r lacks = ap (λ n. drop (n + 1) (k ++ 58 ∷ r)) (place_of_colon k r lacks) ∙ drop-append-add k (58 ∷ r) 1
 
-entry_is : (e : Entry) → Lacks 58 e.0 → entry_in (entry_text e) ≡ e
+entry_is : (e : Entry) → IsWithout 58 e.0 → entry_in (entry_text e) ≡ e
 entry_is e lacks =
     let key = before_colon e.0 (32 ∷ e.1) lacks in
     let value = ap (λ t. drop 1 t) (after_colon e.0 (32 ∷ e.1) lacks) in
     λ i. (key i, value i)
 
 -- a line and those behind it
-pub line_goes_on : (front x text : List ℕ) → Lacks 10 x → entries_from front (x ++ 10 ∷ text) ≡ entry_in (front ++ x) ∷ entries_from [] text
-line_goes_on front [] text lacks = ap (λ t. entry_in t ∷ entries_from [] text) (sym (append-nil front))
-line_goes_on front (b ∷ x) text lacks =
+pub line_continues : (front x text : List ℕ) → IsWithout 10 x → entries_from front (x ++ 10 ∷ text) ≡ entry_in (front ++ x) ∷ entries_from [] text
+line_continues front [] text lacks = ap (λ t. entry_in t ∷ entries_from [] text) (sym (append-nil front))
+line_continues front (b ∷ x) text lacks =
     ap (λ c. cond c (entry_in front ∷ entries_from [] (x ++ 10 ∷ text)) (entries_from (front ++ b ∷ []) (x ++ 10 ∷ text))) (ne_eqb b 10 (lacks 0 (omega arith)))
-    ∙ line_goes_on (front ++ b ∷ []) x text (λ i h. lacks (suc i) (omega arith))
+    ∙ line_continues (front ++ b ∷ []) x text (λ i h. lacks (suc i) (omega arith))
     ∙ ap (λ t. entry_in t ∷ entries_from [] text) (append_assoc front (b ∷ []) x)
 
 -- entries that are printed are read again
 pub printed : (es : List Entry) → AreEntries es → entries_in (print_entries es) ≡ es
 printed [] are = refl
 printed (e ∷ es) are =
-    line_goes_on [] (entry_text e) (print_entries es) are.0.line
+    line_continues [] (entry_text e) (print_entries es) are.0.line
     ∙ ap (λ x. x ∷ entries_in (print_entries es)) (entry_is e are.0.key)
     ∙ ap (λ xs. e ∷ xs) (printed es are.1)
 
@@ -54,8 +54,8 @@ lines_are text es are is =
     (same, subst (AreLines text) (sym same) (are, is))
 
 -- the lines in front of the rest of a text that was read
-pub front_is : (text : List ℕ) (es : List Entry) (rest : List ℕ) → Read text es rest → take (length text - length rest) text ≡ print_entries es
-front_is text es rest read =
+pub prefix_is : (text : List ℕ) (es : List Entry) (rest : List ℕ) → Read text es rest → take (length text - length rest) text ≡ print_entries es
+prefix_is text es rest read =
     let size : length text ≡ length (print_entries es) + length rest = ap length read.whole ∙ length-append (print_entries es) rest in
     let count : length text - length rest ≡ length (print_entries es) = omega arith in
     ap (λ t. take (length text - length rest) t) read.whole ∙ ap (λ n. take n (print_entries es ++ rest)) count ∙ take-append_seam (print_entries es) rest
@@ -73,21 +73,21 @@ read_whole text es rest line payload lines read is none front =
 
 -- ---- one line that is passed
 
-has_feed : (x rest : List ℕ) → Lacks 10 (x ++ 10 ∷ rest) → ⊥
+has_feed : (x rest : List ℕ) → IsWithout 10 (x ++ 10 ∷ rest) → ⊥
 has_feed [] rest lacks = lacks 0 (omega arith) refl
 has_feed (b ∷ x) rest lacks = has_feed x rest (λ i h. lacks (suc i) (omega arith))
 
-pub none_left : (text : List ℕ) (es : List Entry) → AreLines text es → Lacks 10 text → es ≡ []
+pub none_left : (text : List ℕ) (es : List Entry) → AreLines text es → IsWithout 10 text → es ≡ []
 none_left text [] are lacks = refl
-none_left text (e ∷ es) are lacks = absurd (has_feed (entry_text e) (print_entries es) (subst (Lacks 10) are.1 lacks))
+none_left text (e ∷ es) are lacks = absurd (has_feed (entry_text e) (print_entries es) (subst (IsWithout 10) are.1 lacks))
 
-pub no_line : (text : List ℕ) (es : List Entry) (rest : List ℕ) → Read text es rest → Lacks 10 rest → (fs : List Entry) (payload : List ℕ) → Reads text fs payload → ⊥
+pub no_line : (text : List ℕ) (es : List Entry) (rest : List ℕ) → Read text es rest → IsWithout 10 rest → (fs : List Entry) (payload : List ℕ) → Reads text fs payload → ⊥
 no_line text es rest read lacks fs payload reads =
     let more = read.all fs payload reads in
-    has_feed (print_entries more.0) payload (subst (Lacks 10) more.2.whole lacks)
+    has_feed (print_entries more.0) payload (subst (IsWithout 10) more.2.whole lacks)
 
-module _ (text line after : List ℕ) (is : text ≡ line ++ 10 ∷ after) (lacks : Lacks 10 line) where
-  pub is_entry : (es : List Entry) → AreLines text es → ((k v : List ℕ) → line ≡ entry_text (k, v) → Lacks 58 k → IsUtf8 line → ⊥) → ⊥
+module _ (text line after : List ℕ) (is : text ≡ line ++ 10 ∷ after) (lacks : IsWithout 10 line) where
+  pub is_entry : (es : List Entry) → AreLines text es → ((k v : List ℕ) → line ≡ entry_text (k, v) → IsWithout 58 k → IsUtf8 line → ⊥) → ⊥
   is_entry [] are none =
       let size : length (line ++ 10 ∷ after) ≡ 0 = ap length (sym is ∙ are.1) in
       omega (arith, length-append line (10 ∷ after))
@@ -95,7 +95,7 @@ module _ (text line after : List ℕ) (is : text ≡ line ++ 10 ∷ after) (lack
       let parts = divides 10 line (entry_text e) after (print_entries es) lacks are.0.0.line (sym is ∙ are.1) in
       none e.0 e.1 parts.0 are.0.0.key (subst IsUtf8 (sym parts.0) are.0.0.text)
 
-  pub passed : (k v : List ℕ) → line ≡ entry_text (k, v) → Lacks 58 k → (es : List Entry) → AreLines text es
+  pub passed : (k v : List ℕ) → line ≡ entry_text (k, v) → IsWithout 58 k → (es : List Entry) → AreLines text es
       → (es ≡ (k, v) ∷ entries_in after) × AreLines after (entries_in after)
   passed k v same colon [] are =
       let size : length (line ++ 10 ∷ after) ≡ 0 = ap length (sym is ∙ are.1) in

@@ -4,10 +4,10 @@ use Rattle.std.specs.Prelude.{IsUtf8, Option, Some, None, Bool, true, false, ◌
 use Rattle.std.specs.Borrow.{Bor}
 use Rattle.std.proofs.lemmas.Bool.{ne_eqb}
 use Rattle.std.proofs.lemmas.Str.Pattern.{IsSplitOnceResult, split_after}
-use Rattle.wire_bodies.specs.Lines.{Lacks, Entry, entry_text, IsEntry, print_entries, AreEntries, Reads}
+use Rattle.wire_bodies.specs.Lines.{IsWithout, Entry, entry_text, IsEntry, print_entries, AreEntries, Reads}
 
 -- a byte that a text lacks divides what it stands in once
-pub divides : (byte : ℕ) (x y a b : List ℕ) → Lacks byte x → Lacks byte y → x ++ byte ∷ a ≡ y ++ byte ∷ b → (x ≡ y) × (a ≡ b)
+pub divides : (byte : ℕ) (x y a b : List ℕ) → IsWithout byte x → IsWithout byte y → x ++ byte ∷ a ≡ y ++ byte ∷ b → (x ≡ y) × (a ≡ b)
 divides byte [] [] a b lx ly e = (refl, ap (λ t. drop 1 t) e)
 divides byte [] (d ∷ y) a b lx ly e = absurd (ly 0 (omega arith) (sym (ap (λ t. get_or t 0 0) e)))
 divides byte (c ∷ x) [] a b lx ly e = absurd (lx 0 (omega arith) (ap (λ t. get_or t 0 0) e))
@@ -17,7 +17,7 @@ divides byte (c ∷ x) (d ∷ y) a b lx ly e =
     (ap (λ t. t ∷ x) head ∙ ap (λ t. d ∷ t) rest.0, rest.1)
 
 -- an entry has its text alone
-pub same_entry : (e : Entry) (k v : List ℕ) → Lacks 58 e.0 → Lacks 58 k → entry_text e ≡ entry_text (k, v) → e ≡ (k, v)
+pub same_entry : (e : Entry) (k v : List ℕ) → IsWithout 58 e.0 → IsWithout 58 k → entry_text e ≡ entry_text (k, v) → e ≡ (k, v)
 same_entry e k v le lk same =
     let parts = divides 58 e.0 k (32 ∷ e.1) (32 ∷ v) le lk same in
     λ i. (parts.0 i, drop 1 (parts.1 i))
@@ -40,7 +40,7 @@ pub nothing_read : (text : List ℕ) → Read text [] text
 nothing_read text = record { entries = tt; whole = refl; all = λ fs payload reads. (fs, refl, reads) }
 
 -- a reading of what begins with a line: the line is empty, or that of its first entry
-first_entry : (line after : List ℕ) (e : Entry) (es : List Entry) (payload : List ℕ) → Lacks 10 line → Reads (line ++ 10 ∷ after) (e ∷ es) payload
+first_entry : (line after : List ℕ) (e : Entry) (es : List Entry) (payload : List ℕ) → IsWithout 10 line → Reads (line ++ 10 ∷ after) (e ∷ es) payload
     → (line ≡ entry_text e) × IsEntry e × Reads after es payload
 first_entry line after e es payload lacks reads =
     let is = reads.entries.0 in
@@ -49,11 +49,11 @@ first_entry line after e es payload lacks reads =
     (parts.0, is, record { entries = reads.entries.1; whole = parts.1 })
 
 -- one more line
-pub one_line : (text : List ℕ) (es : List Entry) (rest line after k v : List ℕ) → Read text es rest → rest ≡ line ++ 10 ∷ after → Lacks 10 line → 0 < length line
-    → line ≡ entry_text (k, v) → Lacks 58 k → IsUtf8 line → Read text (es ++ (k, v) ∷ []) after
+pub one_line : (text : List ℕ) (es : List Entry) (rest line after k v : List ℕ) → Read text es rest → rest ≡ line ++ 10 ∷ after → IsWithout 10 line → 0 < length line
+    → line ≡ entry_text (k, v) → IsWithout 58 k → IsUtf8 line → Read text (es ++ (k, v) ∷ []) after
 one_line text es rest line after k v read is lacks some parts colon utf8 = record {
   entries = entries_append es ((k, v) ∷ []) read.entries
-      (record { key = colon; line = subst (Lacks 10) parts lacks; text = subst IsUtf8 parts utf8 }, tt);
+      (record { key = colon; line = subst (IsWithout 10) parts lacks; text = subst IsUtf8 parts utf8 }, tt);
   whole = read.whole ∙ ap (λ t. print_entries es ++ t) (is ∙ ap (λ t. t ++ 10 ∷ after) parts)
       ∙ ap (λ t. print_entries es ++ t) (sym (append_assoc (entry_text (k, v)) (10 ∷ []) after))
       ∙ sym (append_assoc (print_entries es) (entry_text (k, v) ++ 10 ∷ []) after)
@@ -75,12 +75,12 @@ one_line text es rest line after k v read is lacks some parts colon utf8 = recor
 
 -- no split, no entry
 pub no_colon : (line text : List ℕ) (r : Option (Bor (List ℕ) × Bor (List ℕ))) → text ≡ line → IsSplitOnceResult 58 text r → r ≡ None
-    → (k v : List ℕ) → line ≡ entry_text (k, v) → Lacks 58 k → ⊥
+    → (k v : List ℕ) → line ≡ entry_text (k, v) → IsWithout 58 k → ⊥
 no_colon line text r same split none k v is lacks = rw none at (split_after 58 text k (32 ∷ v) r split (omega arith) (same ∙ is) lacks)
 
 -- a split with no space behind it, no entry
 pub no_space : (line text : List ℕ) (key rest : Bor (List ℕ)) → text ≡ line → IsSplitOnceResult 58 text (Some (key, rest))
-    → ((t : List ℕ) → rest.now ≡ 32 ∷ t → ⊥) → (k v : List ℕ) → line ≡ entry_text (k, v) → Lacks 58 k → ⊥
+    → ((t : List ℕ) → rest.now ≡ 32 ∷ t → ⊥) → (k v : List ℕ) → line ≡ entry_text (k, v) → IsWithout 58 k → ⊥
 no_space line text key rest same split none k v is lacks =
     let parts = split_after 58 text k (32 ∷ v) (Some (key, rest)) split (omega arith) (same ∙ is) lacks in none v parts.1
 
@@ -95,8 +95,8 @@ nothing_in [] b is reported = refl
 nothing_in (x ∷ line) b is reported =
     let h : false ≡ true = sym (ne_eqb (length (x ∷ line)) 0 (λ (e : length (x ∷ line) ≡ 0). omega (arith, e))) ∙ sym is ∙ reported in cc
 
-pub no_entry : (text : List ℕ) (es : List Entry) (rest line after : List ℕ) → Read text es rest → rest ≡ line ++ 10 ∷ after → Lacks 10 line → 0 < length line
-    → ((k v : List ℕ) → line ≡ entry_text (k, v) → Lacks 58 k → IsUtf8 line → ⊥) → (fs : List Entry) (payload : List ℕ) → Reads text fs payload → ⊥
+pub no_entry : (text : List ℕ) (es : List Entry) (rest line after : List ℕ) → Read text es rest → rest ≡ line ++ 10 ∷ after → IsWithout 10 line → 0 < length line
+    → ((k v : List ℕ) → line ≡ entry_text (k, v) → IsWithout 58 k → IsUtf8 line → ⊥) → (fs : List Entry) (payload : List ℕ) → Reads text fs payload → ⊥
 no_entry text es rest line after read is lacks some none fs payload reads =
     let old = read.all fs payload reads in by old.0 (subst (λ t. Reads t old.0 payload) is old.2)
   where

@@ -4,8 +4,8 @@ use Rattle.std.specs.Borrow.{Bor}
 use Rattle.std.specs.List.{before_first, after_first}
 
 -- the byte isn't in the text
-abbrev pub Lacks : ℕ → List ℕ → Type 0
-Lacks byte text = (i : ℕ) → i < length text → slice_index text i ≢ byte
+abbrev pub IsWithout : ℕ → List ℕ → Type 0
+IsWithout byte text = (i : ℕ) → i < length text → slice_index text i ≢ byte
 
 -- a key and a value
 abbrev pub Entry : Type 0
@@ -17,8 +17,8 @@ entry_text e = e.0 ++ 58 ∷ 32 ∷ e.1
 
 -- the key has no colon, and the line is a text of one line
 pub record IsEntry (e : Entry) : Type 0 where
-  pub key : Lacks 58 e.0
-  pub line : Lacks 10 (entry_text e)
+  pub key : IsWithout 58 e.0
+  pub line : IsWithout 10 (entry_text e)
   pub text : IsUtf8 (entry_text e)
 
 -- a line for each entry
@@ -68,13 +68,13 @@ spelled (b ∷ body) = b ∷ body
 
 -- the first line and what follows it, or that there is no whole line
 abbrev pub FirstLine : List ℕ → Option (Bor (List ℕ) × Bor (List ℕ)) → Type 0
-FirstLine text None = Lacks 10 text
-FirstLine text (Some parts) = (text ≡ parts.0.now ++ 10 ∷ parts.1.now) × Lacks 10 parts.0.now
+FirstLine text None = IsWithout 10 text
+FirstLine text (Some parts) = (text ≡ parts.0.now ++ 10 ∷ parts.1.now) × IsWithout 10 parts.0.now
 
 -- the parts of a line, or that it has none
 abbrev pub EntryOf : List ℕ → Option (Bor (List ℕ) × Bor (List ℕ)) → Type 0
-EntryOf line None = (k v : List ℕ) → line ≡ entry_text (k, v) → Lacks 58 k → IsUtf8 line → ⊥
-EntryOf line (Some parts) = (line ≡ entry_text (parts.0.now, parts.1.now)) × Lacks 58 parts.0.now × IsUtf8 line
+EntryOf line None = (k v : List ℕ) → line ≡ entry_text (k, v) → IsWithout 58 k → IsUtf8 line → ⊥
+EntryOf line (Some parts) = (line ≡ entry_text (parts.0.now, parts.1.now)) × IsWithout 58 parts.0.now × IsUtf8 line
 
 -- the first entry is returned, and the lines begin after it; or there is none
 abbrev pub Passes : List Entry → List Entry → Option (Bor (List ℕ) × Bor (List ℕ)) → Type 0

@@ -39,4 +39,4 @@ rest_of text = rest_from BeginsLine text
 -- bytes that are such a beginning, at whose end this is the place
 pub record IsPrefix (bytes : List ℕ) (place : Place) : Type 0 where
   pub whole : prefix_of bytes ≡ bytes
-  pub behind : place_after BeginsLine bytes ≡ place
+  pub next_place : place_after BeginsLine bytes ≡ place

@@ -15,7 +15,7 @@ pub enum Found<'b> {
 }
 
 /// Some values and another one after them.
-fn with_another<'b>(found: Found<'b>, value: &'b str) -> Found<'b>
+fn with_one_more<'b>(found: Found<'b>, value: &'b str) -> Found<'b>
     ensures { (vs : List (List ℕ)) → Are vs found.entry → Are (vs ++ value.now ∷ []) result }
 {
     match found {
@@ -35,7 +35,7 @@ pub fn find_value<'b>(entries: &Lines<'b>, key: &str) -> Found<'b>
             return found;
         };
         if name == key {
-            found = with_another(found, value);
+            found = with_one_more(found, value);
         }
     }
 }

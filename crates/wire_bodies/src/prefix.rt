@@ -64,16 +64,16 @@ fn prefix_in(place: Place, piece: &[u8]) -> (usize, Place)
     ensures within { result.0 ≤ length piece.now }
     ensures prefix { take result.0 piece.now ≡ prefix_from place piece.now }
     ensures rest { drop result.0 piece.now ≡ rest_from place piece.now }
-    ensures behind { result.1 ≡ place_after place piece.now }
+    ensures next_place { result.1 ≡ place_after place piece.now }
 {
-    let mut behind = place;
+    let mut next_place = place;
     for (i, byte) in piece.iter().enumerate() {
-        if let Place::AfterPrefix = behind {
-            return (i, behind);
+        if let Place::AfterPrefix = next_place {
+            return (i, next_place);
         }
-        behind = place_after(behind, *byte);
+        next_place = place_after(next_place, *byte);
     }
-    (piece.len(), behind)
+    (piece.len(), next_place)
 }
 
 /// The lines of a body up to and with the first empty one, lent. It looks at no byte after them.

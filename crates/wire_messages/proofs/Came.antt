@@ -53,9 +53,9 @@ module _ (old new : Option (List ℕ)) (held : List ℕ) (len size left : ℕ) (
   }
 
   -- what took the part that is held and then the rest has taken the body
-  pub body_taken : (n : ℕ) (consumed mid consumed' : List ℕ) → result ≡ Ok true → n ≡ min size (length (drop len held)) → mid ≡ consumed ++ take n (drop len held) → consumed' ≡ mid ++ read
+  pub body_stored : (n : ℕ) (consumed mid consumed' : List ℕ) → result ≡ Ok true → n ≡ min size (length (drop len held)) → mid ≡ consumed ++ take n (drop len held) → consumed' ≡ mid ++ read
       → consumed' ≡ consumed ++ take size (drop len (held ++ read))
-  body_taken n consumed mid consumed' e at first last =
+  body_stored n consumed mid consumed' e at first last =
       let count : length read ≡ size - n = omega (arith, rest.whole e, is, at, length-drop len held) in
       last ∙ ap (λ t. t ++ read) first ∙ append_assoc consumed (take n (drop len held)) read
       ∙ ap (λ t. consumed ++ t) (whole_body (drop len held) read size n at count)
@@ -69,10 +69,10 @@ module _ (old new : Option (List ℕ)) (held : List ℕ) (len size left : ℕ) (
   -- the rest was kept as it came, or memory was refused for it
   pub body_kept : KeepsRest old new left mid kept' may_be result → KeepsBody old new held len size kept kept' may_be result
   body_kept rest =
-      let all = body_taken old new held len size left rest.read (has_come result) fits is rest.came n kept mid in
+      let all = body_stored old new held len size left rest.read (has_come result) fits is rest.came n kept mid in
       record {
         came = body_came old new held len size left rest.read (has_come result) fits is rest.came;
-        kept_all = λ e. all kept' (ap has_come e) at first (rest.kept_all e);
+        store_all = λ e. all kept' (ap has_come e) at first (rest.store_all e);
         lost = λ e. subst may_be (all (mid ++ rest.read) (ap has_come e) at first refl) (rest.lost e);
       }
 
@@ -80,10 +80,10 @@ module _ (old new : Option (List ℕ)) (held : List ℕ) (len size left : ℕ) (
   pub body_lost : (rest : (read : List ℕ) × ReadsRest old new left read (has_come result)) → (result ≡ Ok Kept → ⊥) → ((more : List ℕ) → may_be (mid ++ more))
       → KeepsBody old new held len size kept kept' may_be result
   body_lost rest none reported =
-      let all = body_taken old new held len size left rest.0 (has_come result) fits is rest.1 n kept mid in
+      let all = body_stored old new held len size left rest.0 (has_come result) fits is rest.1 n kept mid in
       record {
         came = body_came old new held len size left rest.0 (has_come result) fits is rest.1;
-        kept_all = λ e. absurd (none e);
+        store_all = λ e. absurd (none e);
         lost = λ e. subst may_be (all (mid ++ rest.0) (ap has_come e) at first refl) (reported rest.0);
       }
 
@@ -100,6 +100,6 @@ lost_rest old mid new end size left n bs read more kept now kept' may_be result 
         whole = λ e. omega (arith, rest.whole e, all, sum, fits);
         short = λ e. ((rest.short e).0, omega (arith, (rest.short e).1, all, sum, fits));
       };
-      kept_all = λ e. absurd (none e);
+      store_all = λ e. absurd (none e);
       lost = λ e. subst may_be (append_assoc now read more ∙ ap (λ t. t ++ (read ++ more)) is ∙ append_assoc kept bs (read ++ more)) (reported more);
     }

@@ -33,9 +33,9 @@ ends_in_line_feed h =
     (ends_after 32 _ (ends_behind (print_version h.minor) _ (ends_behind (print_end h.line_end) _ section)))))))
 
 -- a front of the bytes that holds the whole head has it too
-pub head_in_front : (buf : List ℕ) (h : RequestHead) (rest : List ℕ) (n : ℕ) → ReadsRequest buf h rest → length (print_request h) ≤ n
+pub head_in_prefix : (buf : List ℕ) (h : RequestHead) (rest : List ℕ) (n : ℕ) → ReadsRequest buf h rest → length (print_request h) ≤ n
     → ReadsRequest (take n buf) h (take (n - length (print_request h)) rest)
-head_in_front buf h rest n reads fits =
+head_in_prefix buf h rest n reads fits =
     let k = n - length (print_request h) in
     let same : n ≡ length (print_request h) + k = omega arith in
     (reads.0, ap (take n) reads.1 ∙ ap (λ m. take m (print_request h ++ rest)) same ∙ take-append-add (print_request h) rest k)
@@ -64,13 +64,13 @@ none_without_line_feed buf seen within none new is lacks h rest reads =
           let not : (get_or new k 0 == 10) ≡ false = lacks k 0 (omega arith) (omega (arith, length-drop seen buf, ap length is)) in
           let yes : (get_or new k 0 == 10) ≡ true = ap (λ b. b == 10) found in
           cc
-      | inr before ↦ none h _ (head_in_front buf h rest seen reads before)
+      | inr before ↦ none h _ (head_in_prefix buf h rest seen reads before)
     ]
 
 -- bytes that have no head and are no fewer than a head may have begin no input that has one
 pub too_long : (buf : List ℕ) → HasNoRequest buf → max_head ≤ length buf → (more : List ℕ) → HasNoHead (buf ++ more)
 too_long buf none long more h rest is =
-    let front = head_in_front (buf ++ more) h rest (length buf) is.reads (omega (arith, is.short)) in
+    let front = head_in_prefix (buf ++ more) h rest (length buf) is.reads (omega (arith, is.short)) in
     none h _ (subst (λ t. ReadsRequest t h (take (length buf - length (print_request h)) rest)) (take-append_seam buf more) front)
 
 -- a head at the front that is too long is the only one

@@ -18,12 +18,12 @@ states_once : (input : List ℕ) (h k : RequestHead) (r q : List ℕ) (x y : Res
     → body_length (fields_of h) ≡ x → body_length (fields_of k) ≡ y → x ≡ y
 states_once input h k r q x y a b e f = sym e ∙ ap (λ g. body_length (fields_of g)) (head_once input h k r q a b).0 ∙ f
 
-front_once : (a b x y : List ℕ) → a ++ x ≡ b ++ y → length a ≡ length b → (a ≡ b) × (x ≡ y)
-front_once [] [] x y e n = (refl, e)
-front_once [] (d ∷ b) x y e n = absurd (omega arith)
-front_once (c ∷ a) [] x y e n = absurd (omega arith)
-front_once (c ∷ a) (d ∷ b) x y e n =
-    let rest = front_once a b x y (ap (λ t. drop 1 t) e) (omega arith) in
+prefix_once : (a b x y : List ℕ) → a ++ x ≡ b ++ y → length a ≡ length b → (a ≡ b) × (x ≡ y)
+prefix_once [] [] x y e n = (refl, e)
+prefix_once [] (d ∷ b) x y e n = absurd (omega arith)
+prefix_once (c ∷ a) [] x y e n = absurd (omega arith)
+prefix_once (c ∷ a) (d ∷ b) x y e n =
+    let rest = prefix_once a b x y (ap (λ t. drop 1 t) e) (omega arith) in
     let head : c ≡ d = ap (λ t. get_or t 0 0) e in
     (ap (λ t. t ∷ a) head ∙ ap (λ t. d ∷ t) rest.0, rest.1)
 
@@ -39,7 +39,7 @@ message_once : (input : List ℕ) (h k : RequestHead) (a b x y : List ℕ) → I
 message_once input h k a b x y p q =
     let same = head_once input h k (a ++ x) (b ++ y) p.head q.head in
     let size = states_once input h k (a ++ x) (b ++ y) (Ok (length a)) (Ok (length b)) p.head q.head p.size q.size in
-    let parts = front_once a b x y same.1 (ap size_or size) in
+    let parts = prefix_once a b x y same.1 (ap size_or size) in
     (same.0, parts.0, parts.1)
 
 ok_is_no_error : (n : ℕ) (f : Fault) → Ok n ≡ Err f → ⊥

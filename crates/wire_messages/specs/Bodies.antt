@@ -37,7 +37,7 @@ has_come (Err e) = Err e
 pub record KeepsBody (old new : Option (List ℕ)) (held : List ℕ) (len size : ℕ) (kept kept' : List ℕ)
     (may_be : List ℕ → Type 0) (result : Result Fate ReceiveError) : Type 0 where
   pub came : ReadsBody old new held len size (has_come result)
-  pub kept_all : result ≡ Ok Kept → kept' ≡ kept ++ take size (drop len (held ++ came.read))
+  pub store_all : result ≡ Ok Kept → kept' ≡ kept ++ take size (drop len (held ++ came.read))
   pub lost : result ≡ Ok Lost → may_be (kept ++ take size (drop len (held ++ came.read)))
 
 -- ---- inside the crate
@@ -47,7 +47,7 @@ pub record KeepsRest (old new : Option (List ℕ)) (left : ℕ) (kept kept' : Li
     (result : Result Fate ReceiveError) : Type 0 where
   pub read : List ℕ
   pub came : ReadsRest old new left read (has_come result)
-  pub kept_all : result ≡ Ok Kept → kept' ≡ kept ++ read
+  pub store_all : result ≡ Ok Kept → kept' ≡ kept ++ read
   pub lost : result ≡ Ok Lost → may_be (kept ++ read)
 
 -- some of the bytes were read, no more than there was room for

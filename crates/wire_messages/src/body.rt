@@ -5,19 +5,17 @@ ghost use Rattle.wire_messages.specs.Bodies.{ReadsBody, ReadsRest};
 use crate::error::ReceiveError;
 use crate::head::Head;
 use std::io::Read;
-
-/// How many bytes of a body one read asks for at most.
-pub(crate) const PIECE: usize = 65_536;
+use streams::PIECE_SIZE;
 
 /// Reads a number of bytes and keeps none of them: whether all came.
 fn read_out<R: Read>(input: &mut R, size: usize) -> Result<bool, ReceiveError>
     ensures came { (read : List ℕ) × ReadsRest (R.remaining input.old) (R.remaining input.new) size read result }
     ensures fault { IfErr result (λ e. e ≡ ReceiveError.Read) }
 {
-    let mut window = [0; PIECE];
+    let mut window = [0; PIECE_SIZE];
     let mut left = size;
     'reads: while left > 0 {
-        let room = left.min(PIECE);
+        let room = left.min(PIECE_SIZE);
         match input.read(&mut window[..room]) {
             Ok(count) => {
                 if count == 0 {

@@ -9,7 +9,7 @@ use crate::error::Fault;
 use crate::head::Head;
 
 /// How many bytes a body has at most.
-const MAX_BODY: usize = 20_971_520;
+pub const MAX_BODY: usize = 20_971_520;
 
 /// The values of the fields of a name.
 #[derive(Clone, Copy)]

@@ -2,11 +2,12 @@
 ghost use Rattle.std.specs.Prelude.{◌≡◌, ◌≤◌, ◌<◌, ◌++◌, ℕ, List, Ok, IfErr, length};
 ghost use Rattle.wire_messages.specs.Bodies.{KeepsBody, KeepsOn, KeepsRest, ReadsRest, has_come};
 
-use crate::body::{PIECE, pass_rest};
+use crate::body::pass_rest;
 use crate::error::ReceiveError;
 use crate::head::Head;
 use crate::keeper::Keeper;
 use std::io::Read;
+use streams::PIECE_SIZE;
 
 /// What became of a body.
 #[derive(Clone, Copy, Debug, PartialEq, Eq)]
@@ -75,10 +76,10 @@ fn keep_out<R: Read, K: Keeper>(
         (K.may_be body.new) result }
     ensures fault { IfErr result (λ e. e ≡ ReceiveError.Read) }
 {
-    let mut window = [0; PIECE];
+    let mut window = [0; PIECE_SIZE];
     let mut left = size;
     'reads: while left > 0 {
-        let room = left.min(PIECE);
+        let room = left.min(PIECE_SIZE);
         match keep_next(input, &mut window[..room], body) {
             Piece::Kept(count) => left -= count,
             Piece::Lost(count) => return pass_lost(input, left - count),

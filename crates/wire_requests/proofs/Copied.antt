@@ -16,10 +16,10 @@ use Rattle.wire_requests.specs.Rows.{Has, rows}
 use Rattle.wire_requests.specs.Table.{routes}
 use Rattle.wire_requests.specs.declared.parameters.Parameters.{Parameters}
 use Rattle.wire_requests.specs.declared.requests.Requests.{Requests}
-use Rattle.wire_requests.proofs.Fronts.{part_utf8}
-use Rattle.wire_requests.proofs.Placed.{begins_parts, places, taken_parts}
+use Rattle.wire_requests.proofs.Prefixes.{part_utf8}
+use Rattle.wire_requests.proofs.Placed.{begins_parts, places, used_parts}
 use Rattle.wire_requests.proofs.Texts.{and_first, and_last}
-use Rattle.wire_requests.proofs.Walking.{pairs, parameters_of, walk_taken}
+use Rattle.wire_requests.proofs.Walking.{pairs, parameters_of, walk_used}
 
 -- the names of a route's parameters
 abbrev names_of : RouteOf Requests → List (List ℕ)
@@ -61,8 +61,8 @@ module _ (r : RouteOf Requests) (target : List ℕ) (good : is_good r ≡ true) 
       let count = and_last _ (length r.names == parameters_of r.pattern) three in
       let two = and_first _ (length r.names == parameters_of r.pattern) three in
       let same : length r.names ≡ parameters_of r.pattern = grind (arith, nat_tests) in
-      walk_taken r.pattern r.text target short r.names same (and_first (is_plain r.pattern) (begins_parts false r.pattern) two) f
-      ∙ ap (pairs r.pattern r.text target short r.names) (taken_parts target r.pattern (and_last (is_plain r.pattern) (begins_parts false r.pattern) two) f)
+      walk_used r.pattern r.text target short r.names same (and_first (is_plain r.pattern) (begins_parts false r.pattern) two) f
+      ∙ ap (pairs r.pattern r.text target short r.names) (used_parts target r.pattern (and_last (is_plain r.pattern) (begins_parts false r.pattern) two) f)
       ∙ pairs_zipped r.pattern r.text target short r.names (places 0 r.pattern)
 
   pub walk_text : IsUtf8 target → AllText (walk r.pattern r.text target r.names 0 0)

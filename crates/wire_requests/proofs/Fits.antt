@@ -15,28 +15,28 @@ use Rattle.wire_requests.proofs.Texts.{AllBytes, and_first, and_last, not_true}
 use Rattle.wire_requests.proofs.Seeking.{AllPlain, found_fits, missing_fits_none}
 
 -- at the first token that differs, two bytes stand, or a parameter and a slash, or the end of one
-abbrev are_apart : List ℕ → List ℕ → Bool
-are_apart [] [] = false
-are_apart [] (y ∷ b) = true
-are_apart (x ∷ a) [] = true
-are_apart (x ∷ a) (y ∷ b) =
-    cond (x == 256) (cond (y == 256) (are_apart a b) (y == 47)) (cond (y == 256) (x == 47) (not (x == y) || are_apart a b))
+abbrev are_distinct : List ℕ → List ℕ → Bool
+are_distinct [] [] = false
+are_distinct [] (y ∷ b) = true
+are_distinct (x ∷ a) [] = true
+are_distinct (x ∷ a) (y ∷ b) =
+    cond (x == 256) (cond (y == 256) (are_distinct a b) (y == 47)) (cond (y == 256) (x == 47) (not (x == y) || are_distinct a b))
 
 -- no text fits both
-apart_fits : (a b text : List ℕ) → are_apart a b ≡ true → fits a text ≡ true → fits b text ≡ true → ⊥
-apart_fits [] [] text e f g = let h : false ≡ true = e in cc
-apart_fits [] (y ∷ b) [] e f g = let h : false ≡ true = g in cc
-apart_fits [] (y ∷ b) (c ∷ text) e f g = let h : false ≡ true = f in cc
-apart_fits (x ∷ a) [] [] e f g = let h : false ≡ true = f in cc
-apart_fits (x ∷ a) [] (c ∷ text) e f g = let h : false ≡ true = g in cc
-apart_fits (x ∷ a) (y ∷ b) [] e f g = let h : false ≡ true = f in cc
-apart_fits (x ∷ a) (y ∷ b) (c ∷ text) e f g = by (x == 256) refl (y == 256) refl e f g (apart_fits a b)
+distinct_fits : (a b text : List ℕ) → are_distinct a b ≡ true → fits a text ≡ true → fits b text ≡ true → ⊥
+distinct_fits [] [] text e f g = let h : false ≡ true = e in cc
+distinct_fits [] (y ∷ b) [] e f g = let h : false ≡ true = g in cc
+distinct_fits [] (y ∷ b) (c ∷ text) e f g = let h : false ≡ true = f in cc
+distinct_fits (x ∷ a) [] [] e f g = let h : false ≡ true = f in cc
+distinct_fits (x ∷ a) [] (c ∷ text) e f g = let h : false ≡ true = g in cc
+distinct_fits (x ∷ a) (y ∷ b) [] e f g = let h : false ≡ true = f in cc
+distinct_fits (x ∷ a) (y ∷ b) (c ∷ text) e f g = by (x == 256) refl (y == 256) refl e f g (distinct_fits a b)
   where
     by : (v : Bool) → (x == 256) ≡ v → (w : Bool) → (y == 256) ≡ w
-        → cond v (cond w (are_apart a b) (y == 47)) (cond w (x == 47) (not (x == y) || are_apart a b)) ≡ true
+        → cond v (cond w (are_distinct a b) (y == 47)) (cond w (x == 47) (not (x == y) || are_distinct a b)) ≡ true
         → cond v (not (c == 47) && fits a (suffix text)) (x == c && fits a text) ≡ true
         → cond w (not (c == 47) && fits b (suffix text)) (y == c && fits b text) ≡ true
-        → ((t : List ℕ) → are_apart a b ≡ true → fits a t ≡ true → fits b t ≡ true → ⊥) → ⊥
+        → ((t : List ℕ) → are_distinct a b ≡ true → fits a t ≡ true → fits b t ≡ true → ⊥) → ⊥
     by true xv true yw e f g ih = ih (suffix text) e (and_last (not (c == 47)) (fits a (suffix text)) f) (and_last (not (c == 47)) (fits b (suffix text)) g)
     by true xv false yw e f g ih =
         let no_slash = not_true (c == 47) (and_first (not (c == 47)) (fits a (suffix text)) f) in
@@ -48,7 +48,7 @@ apart_fits (x ∷ a) (y ∷ b) (c ∷ text) e f g = by (x == 256) refl (y == 256
         grind (arith, nat_tests)
     by false xv false yw e f g ih = differ (x == y) refl e
       where
-        differ : (d : Bool) → (x == y) ≡ d → (not d || are_apart a b) ≡ true → ⊥
+        differ : (d : Bool) → (x == y) ≡ d → (not d || are_distinct a b) ≡ true → ⊥
         differ true is e = ih text e (and_last (x == c) (fits a text) f) (and_last (y == c) (fits b text) g)
         differ false is e =
             let one = and_first (x == c) (fits a text) f in
@@ -61,22 +61,22 @@ all_has p x (y ∷ ys) e (inl is) = ap p (sym is) ∙ and_first (p y) (list_all 
 all_has p x (y ∷ ys) e (inr has) = all_has p x ys (and_last (p y) (list_all p ys) e) has
 
 -- each pattern is apart from those after it
-abbrev all_apart : List (List ℕ × Requests) → Bool
-all_apart [] = true
-all_apart (row ∷ rows) = list_all (λ other. are_apart row.0 other.0) rows && all_apart rows
+abbrev all_distinct : List (List ℕ × Requests) → Bool
+all_distinct [] = true
+all_distinct (row ∷ rows) = list_all (λ other. are_distinct row.0 other.0) rows && all_distinct rows
 
 -- the row that fits is the first that does
-first_is : (text : List ℕ) (rows : List (List ℕ × Requests)) (t : List ℕ) (requests : Requests) → all_apart rows ≡ true → Has (t, requests) rows → fits t text ≡ true
+first_is : (text : List ℕ) (rows : List (List ℕ × Requests)) (t : List ℕ) (requests : Requests) → all_distinct rows ≡ true → Has (t, requests) rows → fits t text ≡ true
     → first_fit text rows ≡ Some requests
 first_is text [] t requests e has f = absurd has
 first_is text (row ∷ rows) t requests e (inl is) f =
     ap (λ v. cond v (Some row.1) (first_fit text rows)) (ap (λ r. fits r.0 text) is ∙ f) ∙ ap (λ r. Some r.1) is
-first_is text (row ∷ rows) t requests e (inr has) f = by (fits row.0 text) refl (first_is text rows t requests (and_last _ (all_apart rows) e) has f)
+first_is text (row ∷ rows) t requests e (inr has) f = by (fits row.0 text) refl (first_is text rows t requests (and_last _ (all_distinct rows) e) has f)
   where
     by : (v : Bool) → fits row.0 text ≡ v → first_fit text rows ≡ Some requests → cond v (Some row.1) (first_fit text rows) ≡ Some requests
     by true is ih =
-        let other = all_has (λ o. are_apart row.0 o.0) (t, requests) rows (and_first (list_all (λ o. are_apart row.0 o.0) rows) (all_apart rows) e) has in
-        absurd (apart_fits row.0 t text other is f)
+        let other = all_has (λ o. are_distinct row.0 o.0) (t, requests) rows (and_first (list_all (λ o. are_distinct row.0 o.0) rows) (all_distinct rows) e) has in
+        absurd (distinct_fits row.0 t text other is f)
     by false is ih = ih
 
 none_first : (text : List ℕ) (rows : List (List ℕ × Requests)) → ((t : List ℕ) (requests : Requests) → Has (t, requests) rows → fits t text ≡ true → ⊥) → first_fit text rows ≡ None
@@ -87,9 +87,9 @@ none_first text (row ∷ rows) none = by (fits row.0 text) refl (none_first text
     by true is ih = absurd (none row.0 row.1 (inl refl) is)
     by false is ih = ih
 
-table_apart : all_apart table ≡ true
+table_distinct : all_distinct table ≡ true
 unfolding routes table
-table_apart = refl
+table_distinct = refl
 
 -- ---- the rows of a router
 
@@ -127,7 +127,7 @@ module _ (rs : RowsOf (RouteOf Requests)) (are : AreRows rs rows) (text : List �
   found_requests bytes r e =
       let found = found_row bytes r e in
       let present = subst (λ rows. Has (found.0, r.value) rows) rows_table (has_map requests_in (found.0, r) rows found.1) in
-      first_is text table found.0 r.value table_apart present found.2
+      first_is text table found.0 r.value table_distinct present found.2
 
   pub missing_requests : first rs text ≡ None → requests_of text ≡ None
   missing_requests e = none_first text table (λ t requests has f.

@@ -2,7 +2,7 @@ pub mod Bare
 pub mod Conflicts
 pub mod Copied
 pub mod Fits
-pub mod Fronts
+pub mod Prefixes
 pub mod Inserted
 pub mod Nothing
 pub mod Parting

@@ -10,7 +10,7 @@ use Rattle.wire_bodies.specs.Prefix.{place_after, prefix_from, rest_from, prefix
 use Rattle.wire_bodies.specs.declared.prefix.Place.{Place}
 use Rattle.wire_bodies.specs.declared.prefix.Place.TheVariants.{BeginsLine, WithinLine, AfterPrefix}
 use Rattle.wire_requests.specs.Left.{IsLeftOf}
-use Rattle.wire_bodies.proofs.Fronts.{front_append, rest_append, front_again, rest_front, both, of_front, from_front}
+use Rattle.wire_bodies.proofs.Prefixes.{prefix_append, rest_append, prefix_again, rest_prefix, both, of_prefix, from_prefix}
 
 -- a place from which nothing more belongs to the front
 closed_at : (p : Place) (b : ℕ) (text : List ℕ) → prefix_from p (b ∷ text) ≡ [] → p ≡ AfterPrefix
@@ -18,33 +18,33 @@ closed_at AfterPrefix b text none = refl
 closed_at BeginsLine b text none = absurd (let size : length (prefix_from BeginsLine (b ∷ text)) ≡ 0 = ap length none in omega arith)
 closed_at WithinLine b text none = absurd (let size : length (prefix_from WithinLine (b ∷ text)) ≡ 0 = ap length none in omega arith)
 
-front_whole : (front archive : List ℕ) → prefix_of (front ++ archive) ≡ front → prefix_of front ≡ front
-front_whole front archive is = ap prefix_of (sym is) ∙ front_again BeginsLine (front ++ archive) ∙ is
+prefix_whole : (front archive : List ℕ) → prefix_of (front ++ archive) ≡ front → prefix_of front ≡ front
+prefix_whole front archive is = ap prefix_of (sym is) ∙ prefix_again BeginsLine (front ++ archive) ∙ is
 
 -- a front that something follows is at its end
 closed : (front : List ℕ) (b : ℕ) (archive : List ℕ) → prefix_of (front ++ b ∷ archive) ≡ front → place_after BeginsLine front ≡ AfterPrefix
 closed front b archive is =
     let place = place_after BeginsLine front in
     let more : front ++ prefix_from place (b ∷ archive) ≡ front ++ [] =
-    ap (λ t. t ++ prefix_from place (b ∷ archive)) (sym (front_whole front (b ∷ archive) is)) ∙ sym (front_append BeginsLine front (b ∷ archive)) ∙ is ∙ sym (append-nil front) in
+    ap (λ t. t ++ prefix_from place (b ∷ archive)) (sym (prefix_whole front (b ∷ archive) is)) ∙ sym (prefix_append BeginsLine front (b ∷ archive)) ∙ is ∙ sym (append-nil front) in
     closed_at place b archive (append_cancel_left front (prefix_from place (b ∷ archive)) [] more)
 
-closed_front : (front piece : List ℕ) → prefix_of front ≡ front → place_after BeginsLine front ≡ AfterPrefix → prefix_of (front ++ piece) ≡ front
-closed_front front piece whole closed =
-    front_append BeginsLine front piece ∙ ap (λ p. prefix_of front ++ prefix_from p piece) closed ∙ append-nil (prefix_of front) ∙ whole
+closed_prefix : (front piece : List ℕ) → prefix_of front ≡ front → place_after BeginsLine front ≡ AfterPrefix → prefix_of (front ++ piece) ≡ front
+closed_prefix front piece whole closed =
+    prefix_append BeginsLine front piece ∙ ap (λ p. prefix_of front ++ prefix_from p piece) closed ∙ append-nil (prefix_of front) ∙ whole
 
 closed_rest : (front piece : List ℕ) → prefix_of front ≡ front → place_after BeginsLine front ≡ AfterPrefix → rest_of (front ++ piece) ≡ piece
 closed_rest front piece whole closed =
-    rest_append BeginsLine front piece ∙ ap (λ p. rest_of front ++ rest_from p piece) closed ∙ ap (λ t. t ++ piece) (ap rest_of (sym whole) ∙ rest_front BeginsLine front)
+    rest_append BeginsLine front piece ∙ ap (λ p. rest_of front ++ rest_from p piece) closed ∙ ap (λ t. t ++ piece) (ap rest_of (sym whole) ∙ rest_prefix BeginsLine front)
 
 -- one piece more, divided at the end of the front
 pub all_more : (front archive piece : List ℕ) → prefix_of (front ++ archive) ≡ front
     → prefix_of (front ++ piece) ++ (archive ++ rest_of (front ++ piece)) ≡ (front ++ archive) ++ piece
 all_more front [] piece is = both BeginsLine (front ++ piece) ∙ ap (λ t. t ++ piece) (sym (append-nil front))
 all_more front (b ∷ archive) piece is =
-    let whole = front_whole front (b ∷ archive) is in
+    let whole = prefix_whole front (b ∷ archive) is in
     let end = closed front b archive is in
-    ap (λ t. t ++ (b ∷ archive ++ rest_of (front ++ piece))) (closed_front front piece whole end)
+    ap (λ t. t ++ (b ∷ archive ++ rest_of (front ++ piece))) (closed_prefix front piece whole end)
     ∙ ap (λ t. front ++ (b ∷ archive ++ t)) (closed_rest front piece whole end)
     ∙ sym (append_assoc front (b ∷ archive) piece)
 
@@ -52,10 +52,10 @@ pub still_parted : (front archive piece : List ℕ) → prefix_of (front ++ arch
     → prefix_of (prefix_of (front ++ piece) ++ (archive ++ rest_of (front ++ piece))) ≡ prefix_of (front ++ piece)
 still_parted front [] piece is = ap prefix_of (both BeginsLine (front ++ piece))
 still_parted front (b ∷ archive) piece is =
-    let whole = front_whole front (b ∷ archive) is in
+    let whole = prefix_whole front (b ∷ archive) is in
     let end = closed front b archive is in
     ap prefix_of (all_more front (b ∷ archive) piece is ∙ append_assoc front (b ∷ archive) piece)
-    ∙ closed_front front (b ∷ archive ++ piece) whole end ∙ sym (closed_front front piece whole end)
+    ∙ closed_prefix front (b ∷ archive ++ piece) whole end ∙ sym (closed_prefix front piece whole end)
 
 -- what follows a front is the rest
 pub archive_is : (front archive : List ℕ) → prefix_of (front ++ archive) ≡ front → archive ≡ rest_of (front ++ archive)
@@ -105,7 +105,7 @@ lines_bytes front piece next rest archive whole is rest_is none =
 -- the front has taken its part, and the archive is spent
 pub spent_parted : (text next : List ℕ) (after : Option (List ℕ)) → next ≡ prefix_of text → after ≡ None → prefix_of (next ++ bytes_in after) ≡ next
 spent_parted text next after is spent =
-    ap (λ t. prefix_of (next ++ bytes_in t)) spent ∙ ap prefix_of (append-nil next ∙ is) ∙ front_again BeginsLine text ∙ sym is
+    ap (λ t. prefix_of (next ++ bytes_in t)) spent ∙ ap prefix_of (append-nil next ∙ is) ∙ prefix_again BeginsLine text ∙ sym is
 
 -- ---- what is left where memory was refused
 
@@ -114,7 +114,7 @@ closed_lines : (front archive more : List ℕ) → 0 < length archive → prefix
 closed_lines front [] more some is = absurd (omega (arith, some))
 closed_lines front (b ∷ archive) more some is =
     ap prefix_of (append_assoc front (b ∷ archive) more)
-    ∙ closed_front front (b ∷ archive ++ more) (front_whole front (b ∷ archive) is) (closed front b archive is)
+    ∙ closed_prefix front (b ∷ archive ++ more) (prefix_whole front (b ∷ archive) is) (closed front b archive is)
 
 -- the lines of a body of which a piece behind them was refused
 pub left_lines : (front archive piece more : List ℕ) → prefix_of (front ++ archive) ≡ front → 0 < length (rest_of (front ++ piece))
@@ -146,7 +146,7 @@ pub lines_stay : (all front piece next : List ℕ) (archive after : Option (List
 lines_stay all front piece next archive after view whole is spent some =
     let end = ended front (bytes_in archive) whole (subst (λ t. rest_of t ≡ [] → ⊥) (sym view) some) in
     ap (λ t. next ++ bytes_in t) spent ∙ append-nil next ∙ is
-    ∙ closed_front front piece (front_whole front (bytes_in archive) whole) end ∙ sym whole ∙ ap prefix_of view
+    ∙ closed_prefix front piece (prefix_whole front (bytes_in archive) whole) end ∙ sym whole ∙ ap prefix_of view
 
 -- what is true is true where there is an error
 pub on_err : {A E : Type 0} (P : Type 0) (r : Result A E) → P → OnErr r P
@@ -157,7 +157,7 @@ on_err P (Err e) p = p
 pub read_of_left : (lines left body : List ℕ) → lines ≡ prefix_of left → 0 < length lines → IsLeftOf left body → lines ≡ prefix_of body
 read_of_left lines left body read some (inl none) =
     absurd (let h : 0 < length {A = ℕ} [] = subst (λ t. 0 < length t) (read ∙ ap prefix_of none) some in omega (arith, h))
-read_of_left lines left body read some (inr is) = read ∙ ap prefix_of (sym is) ∙ front_again BeginsLine body
+read_of_left lines left body read some (inr is) = read ∙ ap prefix_of (sym is) ∙ prefix_again BeginsLine body
 
 -- a text without lines is empty
 pub none_left : (left : List ℕ) → length (prefix_of left) ≡ 0 → left ≡ []
@@ -167,13 +167,13 @@ none_left (b ∷ left) none = absurd (omega (arith, none))
 -- ---- what a front says
 
 pub named_all : (dir body : List ℕ) (head : NamedHead) (p : List ℕ) → IsNamedBody dir (prefix_of body) head p → IsNamedBody dir body head (rest_of body)
-named_all dir body head p is = (is.0, (from_front body is.0 p is.1).0, is.2)
+named_all dir body head p is = (is.0, (from_prefix body is.0 p is.1).0, is.2)
 
 pub named_prefix : (dir body : List ℕ) (head : NamedHead) (p : List ℕ) → IsNamedBody dir body head p → IsNamedBody dir (prefix_of body) head []
-named_prefix dir body head p is = (is.0, (of_front body is.0 p is.1).0, is.2)
+named_prefix dir body head p is = (is.0, (of_prefix body is.0 p is.1).0, is.2)
 
 pub import_all : (dir body : List ℕ) (head : ImportHead) (p : List ℕ) → IsImportBody dir (prefix_of body) head p → IsImportBody dir body head (rest_of body)
-import_all dir body head p is = (is.0, (from_front body is.0 p is.1).0, is.2)
+import_all dir body head p is = (is.0, (from_prefix body is.0 p is.1).0, is.2)
 
 pub import_prefix : (dir body : List ℕ) (head : ImportHead) (p : List ℕ) → IsImportBody dir body head p → IsImportBody dir (prefix_of body) head []
-import_prefix dir body head p is = (is.0, (of_front body is.0 p is.1).0, is.2)
+import_prefix dir body head p is = (is.0, (of_prefix body is.0 p is.1).0, is.2)

@@ -5,7 +5,7 @@ use Rattle.std.specs.Prelude.{map}
 use Rattle.wire_requests.specs.Parts.{part, after_slashes}
 use Rattle.wire_requests.specs.Patterns.{fits, matched, prefix, suffix}
 use Rattle.wire_requests.proofs.Texts.{and_first, and_last, not_true}
-use Rattle.wire_requests.proofs.Fronts.{before_is_front, after_is_behind, behind_behind}
+use Rattle.wire_requests.proofs.Prefixes.{before_is_prefix, after_is_last, after_after}
 
 -- each parameter begins where a part does
 abbrev pub begins_parts : Bool → List ℕ → Bool
@@ -34,7 +34,7 @@ module _ (path : List ℕ) where
           let left : b ∷ p ≡ suffix (after_slashes n path) = ap (λ v. cond v (b ∷ p) (suffix p)) (sym slash) ∙ rest in
           let next : p ≡ after_slashes (n + 1) path =
           let more : suc n ≡ n + 1 = omega arith in
-          ap (drop 1) left ∙ after_is_behind (after_slashes n path) ∙ ap (λ k. after_slashes k path) more in
+          ap (drop 1) left ∙ after_is_last (after_slashes n path) ∙ ap (λ k. after_slashes k path) more in
           ih p true (n + 1) starts f (λ e. next) (ap suffix next)
       by_byte ih same f false e starts =
           let no_slash : (b == 47) ≡ false = grind (arith, nat_tests) in
@@ -47,11 +47,11 @@ module _ (path : List ℕ) where
       by ih true e starts f =
           let no_slash = not_true (b == 47) (and_first (not (b == 47)) (fits pattern (suffix p)) f) in
           let is = here (and_first begin (begins_parts false pattern) starts) in
-          let one : b ∷ prefix p ≡ part n path = ap (λ v. cond v [] (b ∷ prefix p)) (sym no_slash) ∙ ap prefix is ∙ before_is_front (after_slashes n path) in
-          let left : suffix (suffix p) ≡ suffix (after_slashes n path) = behind_behind p ∙ ap (λ v. cond v (b ∷ p) (suffix p)) (sym no_slash) ∙ rest in
+          let one : b ∷ prefix p ≡ part n path = ap (λ v. cond v [] (b ∷ prefix p)) (sym no_slash) ∙ ap prefix is ∙ before_is_prefix (after_slashes n path) in
+          let left : suffix (suffix p) ≡ suffix (after_slashes n path) = after_after p ∙ ap (λ v. cond v (b ∷ p) (suffix p)) (sym no_slash) ∙ rest in
           ap (λ t. t ∷ matched pattern (suffix p)) one
           ∙ ap (λ ts. part n path ∷ ts) (ih (suffix p) false n (and_last begin (begins_parts false pattern) starts) (and_last (not (b == 47)) (fits pattern (suffix p)) f) (λ e. let h : false ≡ true = e in cc) left)
       by ih false e starts f = by_byte ih (and_first (x == b) (fits pattern p) f) (and_last (x == b) (fits pattern p) f) (x == 47) refl starts
 
-  pub taken_parts : (pattern : List ℕ) → begins_parts false pattern ≡ true → fits pattern path ≡ true → matched pattern path ≡ map (λ i. part i path) (places 0 pattern)
-  taken_parts pattern starts f = placed pattern path false 0 starts f (λ e. refl) refl
+  pub used_parts : (pattern : List ℕ) → begins_parts false pattern ≡ true → fits pattern path ≡ true → matched pattern path ≡ map (λ i. part i path) (places 0 pattern)
+  used_parts pattern starts f = placed pattern path false 0 starts f (λ e. refl) refl

@@ -7,7 +7,7 @@ use Rattle.matchit.specs.Rows.{RowsOf}
 use Rattle.matchit.specs.Seek.{segment, has_slash, own, step, or_else, longest_from, with_suffix, param_step, seek, first}
 use Rattle.wire_requests.specs.Rows.{Has}
 use Rattle.wire_requests.specs.Patterns.{fits, suffix, is_at_end, is_plain}
-use Rattle.wire_requests.proofs.Texts.{no_slash, with_slash, behind_segment, cuts_slash, cuts_at_slash, and_first, and_last, not_true, AllBytes, bytes_behind, short_behind, fits_parameter, fits_byte}
+use Rattle.wire_requests.proofs.Texts.{no_slash, with_slash, after_segment, cuts_slash, cuts_at_slash, and_first, and_last, not_true, AllBytes, bytes_after, short_after, fits_parameter, fits_byte}
 use Rattle.wire_requests.proofs.Suffixes.{slash_ahead, AtEnds, none_longest, found_longest, either_longest}
 use Rattle.wire_requests.proofs.Steps.{has_step, step_has, own_has, has_own, suffix_has, has_suffix}
 
@@ -77,7 +77,7 @@ module _ {K : Type 0} where
       let same : length (segment (b ∷ path)) - 1 - 1 ≡ length (segment path) - 1 = omega arith in
       by_step rs b path (length (segment (b ∷ path)) - 1, with_suffix (47 ∷ []) rs) (param_some rs (b ∷ path) l)
       ∙ ap (λ n. seek 0 (with_suffix (47 ∷ []) rs) (drop n path)) same
-      ∙ ap (λ t. seek 0 (with_suffix (47 ∷ []) rs) t) (behind_segment path f)
+      ∙ ap (λ t. seek 0 (with_suffix (47 ∷ []) rs) t) (after_segment path f)
 
   -- ---- what is found
 
@@ -189,7 +189,7 @@ module _ {K : Type 0} where
   sound (suc n) rs (b ∷ path) short plain bytes k e =
       sound_step rs b path plain k (bytes 0)
       (sound n (step b rs) path (omega arith) (plain_step b rs plain) (λ i. bytes (suc i)) k)
-      (sound n (with_suffix (47 ∷ []) (step 256 rs)) (suffix path) (omega (arith, short_behind path)) (plain_suffix rs plain) (bytes_behind path (λ i. bytes (suc i))) k)
+      (sound n (with_suffix (47 ∷ []) (step 256 rs)) (suffix path) (omega (arith, short_after path)) (plain_suffix rs plain) (bytes_after path (λ i. bytes (suc i))) k)
       e
 
   complete : (n : ℕ) (rs : RowsOf K) (path : List ℕ) → length path ≤ n → AllPlain rs → (t : List ℕ) (k : K) → Has (t, k) rs → fits t path ≡ true → seek 0 rs path ≡ None → ⊥
@@ -200,7 +200,7 @@ module _ {K : Type 0} where
   complete (suc n) rs (b ∷ path) short plain t k has f e =
       complete_step rs b path plain t k has f
       (λ u h g. complete n (step b rs) path (omega arith) (plain_step b rs plain) u k h g)
-      (λ u h g. complete n (with_suffix (47 ∷ []) (step 256 rs)) (suffix path) (omega (arith, short_behind path)) (plain_suffix rs plain) u k h g)
+      (λ u h g. complete n (with_suffix (47 ∷ []) (step 256 rs)) (suffix path) (omega (arith, short_after path)) (plain_suffix rs plain) u k h g)
       e
 
   -- The walk finds the key of a row that fits the path, and none only where no row does.

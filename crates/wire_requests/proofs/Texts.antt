@@ -39,9 +39,9 @@ slash_some [] e = let h : false ≡ true = e in cc
 slash_some (b ∷ text) e = segment_some b text
 
 -- what is behind the front is what is left behind the segment, but for its slash
-pub behind_segment : (text : List ℕ) → has_slash text ≡ true → drop (length (segment text) - 1) text ≡ suffix text
-behind_segment [] e = refl
-behind_segment (b ∷ text) e = by (b == 47) e (behind_segment text)
+pub after_segment : (text : List ℕ) → has_slash text ≡ true → drop (length (segment text) - 1) text ≡ suffix text
+after_segment [] e = refl
+after_segment (b ∷ text) e = by (b == 47) e (after_segment text)
   where
     by : (v : Bool) → cond v true (has_slash text) ≡ true → (has_slash text ≡ true → drop (length (segment text) - 1) text ≡ suffix text)
         → drop (length (cond v (b ∷ []) (b ∷ segment text)) - 1) (b ∷ text) ≡ cond v (b ∷ text) (suffix text)
@@ -94,17 +94,17 @@ not_true false e = refl
 abbrev pub AllBytes : List ℕ → Type 0
 AllBytes text = (i : ℕ) → get_or text i 0 < 256
 
-pub bytes_behind : (text : List ℕ) → AllBytes text → AllBytes (suffix text)
-bytes_behind [] bytes i = bytes i
-bytes_behind (b ∷ text) bytes i = by (b == 47) (bytes_behind text (λ j. bytes (suc j)))
+pub bytes_after : (text : List ℕ) → AllBytes text → AllBytes (suffix text)
+bytes_after [] bytes i = bytes i
+bytes_after (b ∷ text) bytes i = by (b == 47) (bytes_after text (λ j. bytes (suc j)))
   where
     by : (v : Bool) → AllBytes (suffix text) → get_or (cond v (b ∷ text) (suffix text)) i 0 < 256
     by true ih = bytes i
     by false ih = ih i
 
-pub short_behind : (text : List ℕ) → length (suffix text) ≤ length text
-short_behind [] = omega arith
-short_behind (b ∷ text) = by (b == 47) (short_behind text)
+pub short_after : (text : List ℕ) → length (suffix text) ≤ length text
+short_after [] = omega arith
+short_after (b ∷ text) = by (b == 47) (short_after text)
   where
     by : (v : Bool) → length (suffix text) ≤ length text → length (cond v (b ∷ text) (suffix text)) ≤ length (b ∷ text)
     by true ih = omega arith

@@ -9,7 +9,7 @@ use Rattle.matchit.specs.Params.{walk, wild_from, wild_stop, part_of, next_at, a
 use Rattle.matchit.specs.Seek.{segment}
 use Rattle.wire_requests.specs.Patterns.{fits, matched, prefix, suffix, is_at_end, is_plain}
 use Rattle.wire_requests.proofs.Texts.{and_first, and_last, not_true}
-use Rattle.wire_requests.proofs.Fronts.{front_behind, take_front, drop_front, segment_front, some_slash, nothing_left}
+use Rattle.wire_requests.proofs.Prefixes.{prefix_after, take_prefix, drop_prefix, segment_prefix, some_slash, nothing_left}
 
 -- how many parameters a pattern has
 abbrev pub parameters_of : List ℕ → ℕ
@@ -91,7 +91,7 @@ module _ (pattern text path : List ℕ) (short : length pattern < 1000) where
   module _ (token at b y : ℕ) (p rest : List ℕ) (is : drop token pattern ≡ 256 ∷ y ∷ rest) (here : drop at path ≡ b ∷ p) (size : at + length (b ∷ p) ≡ length path)
       (slash : y ≡ 47) (apart : (b == 47) ≡ false) (f : fits (y ∷ rest) (suffix p) ≡ true) where
     whole : length (prefix p) + length (suffix p) ≡ length p
-    whole = sym (length-append (prefix p) (suffix p)) ∙ ap length (front_behind p)
+    whole = sym (length-append (prefix p) (suffix p)) ∙ ap length (prefix_after p)
 
     stop : wild_stop pattern token path at ≡ at + (length (prefix p) + 1)
     stop =
@@ -99,7 +99,7 @@ module _ (pattern text path : List ℕ) (short : length pattern < 1000) where
         let one : length (segment (drop (token + 1) pattern)) ≡ 1 =
         ap (λ l. length (segment l)) (dropped token 256 (y ∷ rest) is) ∙ ap (λ z. length (segment (z ∷ rest))) slash in
         let long : length (segment (drop at path)) ≡ length (prefix p) + 1 + 1 =
-        ap (λ l. length (segment l)) here ∙ ap (λ v. length (cond v (b ∷ []) (b ∷ segment p))) apart ∙ ap suc (segment_front p (some_slash y rest p f)) ∙ omega arith in
+        ap (λ l. length (segment l)) here ∙ ap (λ v. length (cond v (b ∷ []) (b ∷ segment p))) apart ∙ ap suc (segment_prefix p (some_slash y rest p f)) ∙ omega arith in
         more ∙ omega (arith, one, long)
 
     part : part_of path at (at + (length (prefix p) + 1)) ≡ b ∷ prefix p
@@ -107,7 +107,7 @@ module _ (pattern text path : List ℕ) (short : length pattern < 1000) where
         let long : at + (length (prefix p) + 1) - at ≡ suc (length (prefix p)) = omega arith in
         ap (λ v. cond (v && leb (at + (length (prefix p) + 1)) (length path)) (take (at + (length (prefix p) + 1) - at) (drop at path)) []) (le-leb at (at + (length (prefix p) + 1)) (omega arith))
         ∙ ap (λ v. cond v (take (at + (length (prefix p) + 1) - at) (drop at path)) []) (le-leb (at + (length (prefix p) + 1)) (length path) (omega (arith, size, whole)))
-        ∙ ap (take (at + (length (prefix p) + 1) - at)) here ∙ ap (λ k. take k (b ∷ p)) long ∙ ap (λ t. b ∷ t) (take_front p)
+        ∙ ap (take (at + (length (prefix p) + 1) - at)) here ∙ ap (λ k. take k (b ∷ p)) long ∙ ap (λ t. b ∷ t) (take_prefix p)
 
     next : after_token token ≡ token + 1
     next = min-eq_left (omega (arith, short, left token 256 (y ∷ rest) is))
@@ -115,7 +115,7 @@ module _ (pattern text path : List ℕ) (short : length pattern < 1000) where
     behind_there : drop (at + (length (prefix p) + 1)) path ≡ suffix p
     behind_there =
         let long : length (prefix p) + 1 ≡ suc (length (prefix p)) = omega arith in
-        sym (drop-drop (length (prefix p) + 1) at path) ∙ ap (drop (length (prefix p) + 1)) here ∙ ap (λ k. drop k (b ∷ p)) long ∙ drop_front p
+        sym (drop-drop (length (prefix p) + 1) at path) ∙ ap (drop (length (prefix p) + 1)) here ∙ ap (λ k. drop k (b ∷ p)) long ∙ drop_prefix p
 
     behind_size : at + (length (prefix p) + 1) + length (suffix p) ≡ length path
     behind_size = omega (arith, size, whole)
@@ -167,6 +167,6 @@ module _ (pattern text path : List ℕ) (short : length pattern < 1000) where
           (and_last _ (is_plain pat) plain) (and_last (x == b) (fits pat p) f)
 
   -- the whole walk
-  pub walk_taken : (names : List (ℕ × ℕ)) → length names ≡ parameters_of pattern → is_plain pattern ≡ true → fits pattern path ≡ true
+  pub walk_used : (names : List (ℕ × ℕ)) → length names ≡ parameters_of pattern → is_plain pattern ≡ true → fits pattern path ≡ true
       → walk pattern text path names 0 0 ≡ pairs names (matched pattern path)
-  walk_taken names count plain f = walked pattern path names 0 0 refl refl (omega arith) count plain f
+  walk_used names count plain f = walked pattern path names 0 0 refl refl (omega arith) count plain f

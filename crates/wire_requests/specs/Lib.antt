@@ -1,6 +1,6 @@
 pub mod Asks
 pub mod Faults
-pub mod Kept
+pub mod Storage
 pub mod Left
 pub mod Methods
 pub mod Parameters

@@ -14,7 +14,7 @@ use wire_bodies::lines_of;
 
 /// The form in which a body is held.
 #[derive(Drop)]
-enum Kept {
+enum Storage {
     /// In one buffer.
     Whole(Held),
     /// The payload apart, in an intake.
@@ -24,7 +24,7 @@ enum Kept {
 /// The body of a message, which arrives in pieces of any size. Contracts see all bytes that have arrived.
 #[derive(Drop)]
 pub struct Body {
-    kept: Kept,
+    kept: Storage,
 }
 
 impl Model for Body {
@@ -32,7 +32,7 @@ impl Model for Body {
 
     ghost Value = { List ℕ };
 
-    ghost use Rattle.wire_requests.specs.Kept.{bytes_of};
+    ghost use Rattle.wire_requests.specs.Storage.{bytes_of};
 
     ghost view = { λ body. bytes_of body.kept };
 }
@@ -53,7 +53,7 @@ impl Body {
         ensures { result ≡ [] }
     {
         Body {
-            kept: Kept::Whole(Held::new(alloc, size)),
+            kept: Storage::Whole(Held::new(alloc, size)),
         }
     }
 
@@ -62,7 +62,7 @@ impl Body {
         ensures { result ≡ [] }
     {
         Body {
-            kept: Kept::Parted(Parted::new(alloc)),
+            kept: Storage::Parted(Parted::new(alloc)),
         }
     }
 
@@ -77,8 +77,8 @@ impl Body {
         ensures err { OnErr result ((more : List ℕ) → IsLeftOf self.new ((self.old ++ piece.now) ++ more)) }
     {
         match &mut self.kept {
-            Kept::Whole(held) => held.push(piece),
-            Kept::Parted(parted) => parted.push(piece),
+            Storage::Whole(held) => held.push(piece),
+            Storage::Parted(parted) => parted.push(piece),
         }
     }
 
@@ -87,8 +87,8 @@ impl Body {
         ensures { result.now ≡ prefix_of self.now }
     {
         match &self.kept {
-            Kept::Whole(held) => lines_of(held.bytes()),
-            Kept::Parted(parted) => parted.first_lines(),
+            Storage::Whole(held) => lines_of(held.bytes()),
+            Storage::Parted(parted) => parted.first_lines(),
         }
     }
 
@@ -97,8 +97,8 @@ impl Body {
         ensures { IfOk result (λ bytes. bytes.items ≡ self) }
     {
         match self.kept {
-            Kept::Whole(held) => Ok(held.into_bytes()),
-            Kept::Parted(parted) => parted.joined(alloc),
+            Storage::Whole(held) => Ok(held.into_bytes()),
+            Storage::Parted(parted) => parted.joined(alloc),
         }
     }
 
@@ -107,12 +107,12 @@ impl Body {
         ensures { IfOk result (λ parted. parted ≡ self) }
     {
         match self.kept {
-            Kept::Whole(held) => {
+            Storage::Whole(held) => {
                 let mut parted = Parted::new(alloc);
                 parted.push(held.bytes())?;
                 Ok(parted)
             }
-            Kept::Parted(parted) => Ok(parted),
+            Storage::Parted(parted) => Ok(parted),
         }
     }
 }

@@ -11,7 +11,11 @@ use store_types::Request;
 use wire_bodies::is_blank;
 
 /// The path of the base name in the target. The body has to be blank.
-fn path_alone(alloc: Global, parameters: &Parameters, body: &[u8]) -> Result<StorePath, AskError>
+fn path_with_blank_body(
+    alloc: Global,
+    parameters: &Parameters,
+    body: &[u8],
+) -> Result<StorePath, AskError>
     ensures { ReadsPath (string_bytes parameters.now.path) body.now result }
 {
     let path = StorePath::from_base(alloc, parameters.path.as_str())?;
@@ -26,7 +30,7 @@ fn path_alone(alloc: Global, parameters: &Parameters, body: &[u8]) -> Result<Sto
 pub(crate) fn info(alloc: Global, parameters: &Parameters, body: &[u8]) -> Result<Request, AskError>
     ensures { (dir : List ℕ) → ReadsBy dir kinds.Info parameters.now body.now result }
 {
-    Ok(Request::Info(path_alone(alloc, parameters, body)?))
+    Ok(Request::Info(path_with_blank_body(alloc, parameters, body)?))
 }
 
 /// The request for the archive of a path.
@@ -37,7 +41,7 @@ pub(crate) fn archive(
 ) -> Result<Request, AskError>
     ensures { (dir : List ℕ) → ReadsBy dir kinds.Nar parameters.now body.now result }
 {
-    Ok(Request::Nar(path_alone(alloc, parameters, body)?))
+    Ok(Request::Nar(path_with_blank_body(alloc, parameters, body)?))
 }
 
 /// The request for the listing of a path.
@@ -48,7 +52,7 @@ pub(crate) fn listing(
 ) -> Result<Request, AskError>
     ensures { (dir : List ℕ) → ReadsBy dir kinds.Ls parameters.now body.now result }
 {
-    Ok(Request::Ls(path_alone(alloc, parameters, body)?))
+    Ok(Request::Ls(path_with_blank_body(alloc, parameters, body)?))
 }
 
 /// The request for the roots that reach the path.
@@ -59,5 +63,5 @@ pub(crate) fn roots_of(
 ) -> Result<Request, AskError>
     ensures { (dir : List ℕ) → ReadsBy dir kinds.RootsOf parameters.now body.now result }
 {
-    Ok(Request::RootsOf(path_alone(alloc, parameters, body)?))
+    Ok(Request::RootsOf(path_with_blank_body(alloc, parameters, body)?))
 }

@@ -1,5 +1,5 @@
 -- What one turn of the loop comes to.
-use Rattle.std.proofs.Common.{◌≡◌, ℕ, ◌+◌, ◌<◌, ◌-◌, ◌^◌, List, [], ◌∷◌, ◌++◌, length, take, drop, Option, true, false, refl, sym, ap, ◌∙◌, arith, subst, inl, inr}
+use Rattle.std.proofs.Common.{◌≡◌, ℕ, ◌+◌, ◌<◌, ◌-◌, ◌^◌, List, [], ◌∷◌, ◌++◌, length, take, drop, Option, Err, true, false, refl, sym, ap, ◌∙◌, arith, subst, inl, inr}
 use Rattle.std.specs.Prelude.{IfSome}
 use Rattle.std.specs.Io.KnownBytes.{Consumes, IsAtEnd, Appends, Keeps}
 use Rattle.std.proofs.KnownBytes.{Appends-trans, Appends-nil, Appends-kept}
@@ -11,6 +11,9 @@ use Rattle.wire_messages.specs.Messages.{IsFault, HoldsMessage}
 use Rattle.wire_messages.specs.Division.{message, faulty, closes}
 use Rattle.wire_server.specs.Responses.{Replied, reply_bytes}
 use Rattle.wire_server.specs.Answers.{body_in}
+use Rattle.wire_server.specs.Courses.{Ran, fault_of}
+use Rattle.wire_server.specs.declared.serving.Stop.{Stop}
+use Rattle.wire_server.specs.declared.serving.Stop.TheVariants.{Failed, Silent}
 use Rattle.wire_server.specs.Serves.{fault_reply, joined, reported, IsWritten, Serves, Stops, Rests}
 use Rattle.wire_server.specs.declared.error.WireError.{WireError}
 use Rattle.wire_server.specs.declared.error.WireError.TheVariants.{Read, Write, Memory}
@@ -24,12 +27,12 @@ sent_more : (a b c : Option (List ℕ)) (replies : List (List ℕ)) (last : List
 sent_more a b c replies last first second = subst (Appends a c) (sym (joined_more replies last)) (Appends-trans a b c (joined replies) last first second)
 
 module _ {S : Type 0} (answers : S → RequestHead → List ℕ → Replied → S → Type 0) (input output : Option (List ℕ)) (s : S) where
-  pub told_start : Reported answers input input output output [] s s 0
-  told_start = record { done = []; replies = []; counted = refl; follows = follows_start input; answered = refl; written = Appends-nil output }
+  pub reported_start : Reported answers input input output output [] s s 0
+  reported_start = record { done = []; replies = []; counted = refl; follows = follows_start input; answered = refl; written = Appends-nil output }
 
-  pub told_read : (mid rest out : Option (List ℕ)) (held held' bs : List ℕ) (t : S) (n : ℕ) → Reported answers input mid output out held s t n
+  pub reported_read : (mid rest out : Option (List ℕ)) (held held' bs : List ℕ) (t : S) (n : ℕ) → Reported answers input mid output out held s t n
       → Consumes mid rest bs → held' ≡ held ++ bs → Reported answers input rest output out held' s t n
-  told_read mid rest out held held' bs t n report read kept = record {
+  reported_read mid rest out held held' bs t n report read kept = record {
     done = report.done;
     replies = report.replies;
     counted = report.counted;
@@ -58,7 +61,7 @@ module _ {S : Type 0} (answers : S → RequestHead → List ℕ → Replied → 
 
   -- nothing was read, answered or written
   pub unserved : Stops answers input output output s s Memory
-  unserved = stopped input output [] s 0 told_start Memory (λ is. cc)
+  unserved = stopped input output [] s 0 reported_start Memory (λ is. cc)
 
   -- a connection to whose writer nothing was given
   pub still : (rest out out' : Option (List ℕ)) (held : List ℕ) (t : S) (n : ℕ) → Reported answers input rest output out held s t n → Keeps out out'
@@ -84,7 +87,7 @@ module _ {S : Type 0} (answers : S → RequestHead → List ℕ → Replied → 
   }
 
   -- which is to be broken off there
-  pub rests_stop : (out : Option (List ℕ)) (t : S) (n : ℕ) → Rests answers input output out s t n → Stops answers input output out s t Read
+  rests_stop : (out : Option (List ℕ)) (t : S) (n : ℕ) → Rests answers input output out s t n → Stops answers input output out s t Read
   rests_stop out t n rests = record {
     items = rests.items;
     replies = rests.replies;
@@ -94,6 +97,11 @@ module _ {S : Type 0} (answers : S → RequestHead → List ℕ → Replied → 
     written = refl;
     appended = rests.written;
   }
+
+  -- which is an error of a connection of two streams, as any other end before the input's
+  pub broken_off : (out : Option (List ℕ)) (t : S) (stop : Stop) → Ran answers input output out s t (Err stop) → Stops answers input output out s t (fault_of stop)
+  broken_off out t (Failed e) stops = stops
+  broken_off out t (Silent n) rests = rests_stop out t n rests
 
   -- as many as are counted
   pub counted_out : (rest out : Option (List ℕ)) (held : List ℕ) (t : S) (n : ℕ) → Reported answers input rest output out held s t n

@@ -23,8 +23,8 @@ use Rattle.wire_server.specs.Arrivals.{Whole, Brings, halt_of}
 use Rattle.wire_server.specs.Exchanges.{IsAnswered, IsLost}
 
 -- what was kept where nothing had been
-pub kept_all : (before after body : List ℕ) → before ≡ [] → after ≡ before ++ body → after ≡ body
-kept_all before after body none all = all ∙ ap (λ t. t ++ body) none
+pub store_all : (before after body : List ℕ) → before ≡ [] → after ≡ before ++ body → after ≡ body
+store_all before after body none all = all ∙ ap (λ t. t ++ body) none
 
 -- what is known of a body of which nothing had been kept
 pub of_nothing : (may_be : List ℕ → Type 0) (before body : List ℕ) → before ≡ [] → may_be (before ++ body) → may_be body

@@ -28,9 +28,9 @@ says_kept (ends.Served count) a b c p q = Keeps-trans a b c p q
 says_kept (ends.Reported fault) a b c p q = appends_kept a b c _ p q
 says_kept (ends.Unreported fault) a b c p (n, below, q) = (n, below, appends_kept a b c _ p q)
 
-tells_kept : (close : Close) (a b c : Option (List ℕ)) → Keeps a b → Reports close b c → Reports close a c
-tells_kept (Ended end) a b c p q = says_kept end a b c p q
-tells_kept (Idle count) a b c p q = Keeps-trans a b c p q
+reports_kept : (close : Close) (a b c : Option (List ℕ)) → Keeps a b → Reports close b c → Reports close a c
+reports_kept (Ended end) a b c p q = says_kept end a b c p q
+reports_kept (Idle count) a b c p q = Keeps-trans a b c p q
 
 -- ---- how many failed
 
@@ -56,7 +56,7 @@ module _ {S : Type 0} (answers : S → RequestHead → List ℕ → Replied → 
       → Follow answers old err sessions new err'
   follow_kept old new err said err' [] kept (same, more) = (same, Keeps-trans err said err' kept more)
   follow_kept old new err said err' (session ∷ sessions) kept (before, mid, line, fresh, served, says, rest) =
-      (before, mid, line, fresh, served, tells_kept session.close err said line kept says, rest)
+      (before, mid, line, fresh, served, reports_kept session.close err said line kept says, rest)
 
   follow_more : (old mid new : S) (err said err' : Option (List ℕ)) (sessions more : List Session) → Follow answers old err sessions mid said
       → Follow answers mid said more new err' → Follow answers old err (sessions ++ more) new err'

@@ -14,14 +14,14 @@ use Rattle.wire_server.specs.Sends.{SendsReply}
 use Rattle.wire_server.specs.Serves.{Serves, Stops, reported}
 use Rattle.wire_server.specs.Exchanges.{Exchanged}
 use Rattle.wire_server.proofs.Reported.{Reported}
-use Rattle.wire_server.proofs.Ends.{told_read, stopped, still, ended, refused, refused_in_part, answered_in_part, answered_lost, closed, goes_on}
+use Rattle.wire_server.proofs.Ends.{reported_read, stopped, still, ended, refused, refused_in_part, answered_in_part, answered_lost, closed, goes_on}
 
 module _ {S : Type 0} (answers : S → RequestHead → List ℕ → Replied → S → Type 0) (input output : Option (List ℕ)) (s : S)
     (mid rest out : Option (List ℕ)) (held held' : List ℕ) (t t' : S) (n : ℕ) (report : Reported answers input mid output out held s t n) where
   -- the input is at its end
   pub turn_end : Exchanged answers mid rest held held' t t' (Ok None) → Serves answers input output out s t' (reported n)
   turn_end (read, accepted, (none, end, same)) =
-      let read_told = told_read answers input output s mid rest out held (held ++ read) read t n report accepted refl in
+      let read_told = reported_read answers input output s mid rest out held (held ++ read) read t n report accepted refl in
       subst (λ u. Serves answers input output out s u (reported n)) (sym same) (ended answers input output s rest out (held ++ read) t n read_told none end)
 
   -- nothing came
@@ -39,7 +39,7 @@ module _ {S : Type 0} (answers : S → RequestHead → List ℕ → Replied → 
   turn_lost e (read, accepted, inl same) =
       subst (λ u. Stops answers input output out s u Memory) (sym same) (stopped answers input output s mid out held t n report Memory (λ is. cc))
   turn_lost e (read, accepted, inr (r, a)) =
-      let read_told = told_read answers input output s mid rest out held (held ++ read) read t n report accepted refl in
+      let read_told = reported_read answers input output s mid rest out held (held ++ read) read t n report accepted refl in
       answered_lost answers input output s rest out (held ++ read) t n a.head a.size a.h read_told a.holds out t' r a.answered (Keeps-refl out)
 
   -- ---- a response
@@ -53,14 +53,14 @@ module _ {S : Type 0} (answers : S → RequestHead → List ℕ → Replied → 
         → Stops answers input output out' s t' e
     turn_cut comes Read sent = absurd sent
     turn_cut (read, accepted, inl (a, close, kept)) Write sent =
-        let read_told = told_read answers input output s mid rest out held (held ++ read) read t n report accepted refl in
+        let read_told = reported_read answers input output s mid rest out held (held ++ read) read t n report accepted refl in
         answered_in_part answers input output s rest out (held ++ read) t n a.head a.size a.h read_told a.holds out' t' (replied x.response) a.answered
         (subst (λ v. SendsReply out out' (reply_bytes v (replied x.response)) (Err Write)) close sent)
     turn_cut (read, accepted, inl (a, close, kept)) Memory sent =
-        let read_told = told_read answers input output s mid rest out held (held ++ read) read t n report accepted refl in
+        let read_told = reported_read answers input output s mid rest out held (held ++ read) read t n report accepted refl in
         answered_lost answers input output s rest out (held ++ read) t n a.head a.size a.h read_told a.holds out' t' (replied x.response) a.answered sent
     turn_cut (read, accepted, inr ((fault, some, is, (said, close)), same)) Write sent =
-        let read_told = told_read answers input output s mid rest out held (held ++ read) read t n report accepted refl in
+        let read_told = reported_read answers input output s mid rest out held (held ++ read) read t n report accepted refl in
         subst (λ u. Stops answers input output out' s u Write) (sym same)
         (refused_in_part answers input output s rest out out' (held ++ read) t n fault read_told some is
         (subst (λ b. SendsReply out out' b (Err Write)) (as_refused _ said close) sent))
@@ -72,18 +72,18 @@ module _ {S : Type 0} (answers : S → RequestHead → List ℕ → Replied → 
       -- all of it was written, and the connection is closed
       pub turn_closed : Exchanged answers mid rest held held' t t' (Ok (Some x)) → x.close ≡ true → Serves answers input output out' s t' (reported (n + 1))
       turn_closed (read, accepted, inl (a, close, kept)) last =
-          let read_told = told_read answers input output s mid rest out held (held ++ read) read t n report accepted refl in
+          let read_told = reported_read answers input output s mid rest out held (held ++ read) read t n report accepted refl in
           closed answers input output s rest out (held ++ read) t n a.head a.size a.h read_told a.holds out' t' (replied x.response) a.answered (sym close ∙ last)
           (subst (λ v. Appends out out' (reply_bytes v (replied x.response))) close sent)
       turn_closed (read, accepted, inr ((fault, some, is, (said, close)), same)) last =
-          let read_told = told_read answers input output s mid rest out held (held ++ read) read t n report accepted refl in
+          let read_told = reported_read answers input output s mid rest out held (held ++ read) read t n report accepted refl in
           subst (λ u. Serves answers input output out' s u (reported (n + 1))) (sym same)
           (refused answers input output s rest out out' (held ++ read) t n fault read_told some is (subst (Appends out out') (as_refused _ said close) sent))
 
       -- all of it was written, and the next may come
       pub turn_on : Exchanged answers mid rest held held' t t' (Ok (Some x)) → x.close ≡ false → Reported answers input rest output out' held' s t' (n + 1)
       turn_on (read, accepted, inl (a, close, kept)) on =
-          let read_told = told_read answers input output s mid rest out held (held ++ read) read t n report accepted refl in
+          let read_told = reported_read answers input output s mid rest out held (held ++ read) read t n report accepted refl in
           subst (λ h. Reported answers input rest output out' h s t' (n + 1)) (sym kept)
           (goes_on answers input output s rest out (held ++ read) t n a.head a.size a.h read_told a.holds out' t' (replied x.response) a.answered (sym close ∙ on)
           (subst (λ v. Appends out out' (reply_bytes v (replied x.response))) close sent))

@@ -18,7 +18,7 @@ abbrev pub replied : Response → Replied
 replied r =
     record { status = r.status; kind = r.kind.now; allow = option_map (λ methods. methods.now) r.allow; text = r.text }
 
--- its bytes: a head, which says whether the connection is closed and how many bytes the text has, and the text
+-- the bytes of a reply: a head, with whether the connection is closed and how many bytes the text has; then the text
 abbrev pub reply_bytes : Bool → Replied → List ℕ
 reply_bytes close r = reply_head r.status r.kind r.allow close (length r.text) ++ r.text
 

@@ -2,18 +2,19 @@
 use Rattle.std.specs.Prelude.{◌≡◌, ℕ, List, Option, Result, Ok, Err}
 use Rattle.std.specs.Io.KnownBytes.{Appends, Keeps}
 use Rattle.streams.specs.Sends.{AppendsPrefix}
-use Rattle.report.specs.Failures as lines
-use Rattle.report.specs.declared.failures.Failure.TheVariants as gone
+use Rattle.report.specs.Failures.{failure_line}
+use Rattle.report.specs.declared.failures.Failure.{Failure}
+use Rattle.report.specs.declared.failures.Failure.TheVariants as failures
 use Rattle.wire_server.specs.declared.error.WireError.{WireError}
 use Rattle.wire_server.specs.declared.error.WireError.TheVariants.{Read, Write, Memory}
 use Rattle.wire_server.specs.declared.sessions.End.{End}
 use Rattle.wire_server.specs.declared.sessions.End.TheVariants.{Served, Reported, Unreported}
 
--- the line that says why a connection failed
-abbrev pub failure_line : WireError → List ℕ
-failure_line Read = lines.failure_line gone.Input
-failure_line Write = lines.failure_line gone.Output
-failure_line Memory = lines.failure_line gone.Memory
+-- the failure as which the error of a connection is reported
+abbrev pub failure_of : WireError → Failure
+failure_of Read = failures.Input
+failure_of Write = failures.Output
+failure_of Memory = failures.Memory
 
 -- what became of it
 abbrev pub result_of : End → Result ℕ WireError
@@ -25,8 +26,8 @@ result_of (Unreported fault) = Err fault
 -- the rest couldn't be written
 abbrev pub Says : End → Option (List ℕ) → Option (List ℕ) → Type 0
 Says (Served count) err err' = Keeps err err'
-Says (Reported fault) err err' = Appends err err' (failure_line fault)
-Says (Unreported fault) err err' = AppendsPrefix err err' (failure_line fault)
+Says (Reported fault) err err' = Appends err err' (failure_line (failure_of fault))
+Says (Unreported fault) err err' = AppendsPrefix err err' (failure_line (failure_of fault))
 
 -- the line of that fault, or a prefix of it
 abbrev pub SaysOf : WireError → End → Option (List ℕ) → Option (List ℕ) → Type 0

@@ -7,9 +7,11 @@ use std::io::Read;
 use std::net::TcpStream;
 use std::rt::Clock;
 use std::time::{Duration, Instant};
+use streams::PIECE_SIZE;
+use wire_messages::{MAX_BODY, MAX_HEAD};
 
 /// How many bytes are read at most: the largest body that is accepted, and a head.
-const MOST: usize = 20_971_520 + 16_384;
+const MOST: usize = MAX_BODY + MAX_HEAD;
 
 /// How many seconds a peer may be silent.
 const SILENCE: u64 = 1;
@@ -40,7 +42,7 @@ fn patience<C: Clock>(clock: &C, start: Instant) -> io::Result<Option<Duration>>
 /// The error of the first read that fails or waits too long, or of the clock.
 pub(crate) fn read_out<C: Clock>(clock: &C, input: &mut TcpStream) -> io::Result<()> {
     let start = Instant::now(clock)?;
-    let mut window = [0; 65_536];
+    let mut window = [0; PIECE_SIZE];
     let mut left = MOST;
     'reads: while left > 0 {
         let Some(patience) = patience(clock, start)? else {

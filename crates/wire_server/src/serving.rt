@@ -1,7 +1,7 @@
 //! The one loop of a connection.
 ghost use Rattle.std.specs.Prelude.{◌≡◌};
 ghost use Rattle.wire_server.specs.Serves.{Served, reported};
-ghost use Rattle.wire_server.specs.Courses.{Ran};
+ghost use Rattle.wire_server.specs.Courses.{Ran, fault_of};
 ghost use Rattle.wire_server.specs.declared.error.WireError.TheVariants.{Memory};
 ghost use Rattle.wire_server.specs.declared.serving.Stop.TheVariants.{Failed};
 
@@ -34,6 +34,18 @@ impl From<WireError> for Stop {
 
     fn from(fault: WireError) -> Stop {
         Stop::Failed(fault)
+    }
+}
+
+/// A peer that was silent is a reader that failed.
+impl From<Stop> for WireError {
+    ghost from_gives = { λ stop fault. fault ≡ fault_of stop };
+
+    fn from(stop: Stop) -> WireError {
+        match stop {
+            Stop::Failed(fault) => fault,
+            Stop::Silent(_) => WireError::Read,
+        }
     }
 }
 
@@ -95,9 +107,5 @@ pub fn serve<R: Read, W: Write, T, A: Responder<T>>(
     ensures { Served A.answers (R.remaining input.old) (W.contents output.old) (W.contents output.new) state.old
         state.new result }
 {
-    match run(alloc, input, output, responder, state) {
-        Ok(count) => Ok(count),
-        Err(Stop::Failed(fault)) => Err(fault),
-        Err(Stop::Silent(_)) => Err(WireError::Read),
-    }
+    Ok(run(alloc, input, output, responder, state)?)
 }

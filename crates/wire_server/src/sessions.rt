@@ -1,7 +1,7 @@
 //! One connection, and how it ended.
 ghost use Rattle.std.specs.Prelude.{◌≡◌};
 ghost use Rattle.wire_server.specs.Serves.{Served};
-ghost use Rattle.wire_server.specs.Sessions.{Says, SaysOf, failure, failure_line, result_of};
+ghost use Rattle.wire_server.specs.Sessions.{Says, SaysOf, failure, failure_of, result_of};
 ghost use Rattle.wire_server.specs.Closes.{Closes, Reports, failed};
 
 use crate::error::WireError;
@@ -44,14 +44,14 @@ impl Close {
     }
 }
 
-/// The line that says why a connection failed, with its line feed.
-fn line_of(fault: WireError) -> &'static str
-    ensures { result.now ≡ failure_line fault }
+/// The failure as which the error of a connection is reported.
+fn failure_of(fault: WireError) -> Failure
+    ensures { result ≡ failure_of fault }
 {
     match fault {
-        WireError::Read => Failure::Input.line(),
-        WireError::Write => Failure::Output.line(),
-        WireError::Memory => Failure::Memory.line(),
+        WireError::Read => Failure::Input,
+        WireError::Write => Failure::Output,
+        WireError::Memory => Failure::Memory,
     }
 }
 
@@ -59,7 +59,7 @@ fn line_of(fault: WireError) -> &'static str
 fn report_end<E: Write>(fault: WireError, errors: &mut E) -> End
     ensures { SaysOf fault result (E.contents errors.old) (E.contents errors.new) }
 {
-    match send_bytes(errors, line_of(fault).as_bytes()) {
+    match send_bytes(errors, failure_of(fault).line().as_bytes()) {
         Ok(()) => End::Reported(fault),
         Err(_) => End::Unreported(fault),
     }

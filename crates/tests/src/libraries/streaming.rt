@@ -59,17 +59,14 @@ fn gives_message(
 ) -> Result<Option<Fate>, ReceiveError> {
     let mut window = [0; 512];
     let mut buffer = Vec::new(alloc);
-    match receive_head(input, &mut window, &mut buffer) {
-        Ok(Received::Message(head, size)) => {
-            let mut body = Tight {
-                held: Vec::new(alloc),
-                room,
-            };
-            Ok(Some(receive_body(input, &buffer, &head, size, &mut body)?))
-        }
-        Ok(_) => Ok(None),
-        Err(fault) => Err(fault),
-    }
+    let Received::Message(head, size) = receive_head(input, &mut window, &mut buffer)? else {
+        return Ok(None);
+    };
+    let mut body = Tight {
+        held: Vec::new(alloc),
+        room,
+    };
+    Ok(Some(receive_body(input, &buffer, &head, size, &mut body)?))
 }
 
 #[test]

@@ -59,10 +59,8 @@ pub fn open(
         Ok(conn) => conn,
         Err((files, failure)) => return Err((files, Some(failure))),
     };
-    match take_up(alloc, conn, store_dir(&config)) {
-        Ok(tables) => Ok(Store::new(alloc, config, tables)),
-        Err(left) => Err(left),
-    }
+    let tables = take_up(alloc, conn, store_dir(&config))?;
+    Ok(Store::new(alloc, config, tables))
 }
 
 /// Makes calls up to the first that fails, and gives how many were made before it.

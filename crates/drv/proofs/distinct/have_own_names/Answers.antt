@@ -5,7 +5,7 @@ use Rattle.std.proofs.lemmas.List.{length-map}
 use Rattle.std.proofs.lemmas.List.Filters.{dedup_is}
 use Rattle.std.proofs.lemmas.List.Kept.{IsStrictlySortedBy-dedup}
 use Rattle.drv.specs.View.{view, views}
-use Rattle.drv.proofs.OwnNames.{Refer, read, same_text, names_of_views, count_tells}
+use Rattle.drv.proofs.OwnNames.{Refer, read, same_text, names_of_views, count_decides}
 use Rattle.drv.proofs.distinct.have_own_names.Goals as goal
 
 pub returns : goal.returns
@@ -19,5 +19,5 @@ returns c =
     let count : c.len.result ≡ length (dedup same_text sorted) = omega (arith, c.len.ensures, c.dedup.new.self.ok.0, ap length kept) in
     let many : length outputs ≡ length (views outputs) = sym (length-map outputs view) in
     ap (λ n. eqb n (length outputs)) count ∙ ap (λ n. eqb (length (dedup same_text sorted)) n) many
-    ∙ count_tells names sorted (views outputs) refer c.sort_unstable.ensures.permutation
+    ∙ count_decides names sorted (views outputs) refer c.sort_unstable.ensures.permutation
     (IsStrictlySortedBy-dedup (on_texts read) (λ x y. texts_ties x.now y.now) _ c.sort_unstable.ensures.sorted)

@@ -1,8 +1,8 @@
-use Rattle.laws.proofs.Tellings.{records_tell, archives_are_the_objects, text_recorded, source_recorded, import_recorded}
+use Rattle.laws.proofs.Tellings.{records_report, archives_are_the_objects, text_recorded, source_recorded, import_recorded}
 use Rattle.laws.proofs.adds.records_show_what_was_added.Goals as goal
 
 pub returns-clause-record : goal.returns-clause-record
-returns-clause-record c = records_tell
+returns-clause-record c = records_report
 
 pub returns-clause-archive : goal.returns-clause-archive
 returns-clause-archive c = archives_are_the_objects

@@ -1,4 +1,4 @@
-use Rattle.laws.proofs.Kept.{edges_as_set, living_keep}
+use Rattle.laws.proofs.KeepSettings.{edges_as_set, living_keep}
 use Rattle.laws.proofs.collection.settings_say_what_is_kept.Goals as goal
 
 pub returns-clause-edges : goal.returns-clause-edges

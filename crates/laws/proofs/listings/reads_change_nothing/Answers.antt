@@ -1,5 +1,5 @@
-use Rattle.laws.proofs.ObjectListings.{telling_changes_nothing}
+use Rattle.laws.proofs.ObjectListings.{reporting_changes_nothing}
 use Rattle.laws.proofs.listings.reads_change_nothing.Goals as goal
 
 pub returns : goal.returns
-returns c = telling_changes_nothing
+returns c = reporting_changes_nothing

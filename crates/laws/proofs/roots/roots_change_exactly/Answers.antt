@@ -1,4 +1,4 @@
-use Rattle.laws.proofs.RootChanges.{sets_permanent, drops_permanent, sets_user_roots, drops_user_roots, replaces, adds_for_sessions, ends_sessions}
+use Rattle.laws.proofs.RootChanges.{sets_permanent, drops_permanent, sets_user_roots, drops_user_roots, replaces}
 use Rattle.laws.proofs.roots.roots_change_exactly.Goals as goal
 
 pub returns-clause-set_permanent : goal.returns-clause-set_permanent
@@ -15,9 +15,3 @@ returns-clause-drop_user c = drops_user_roots
 
 pub returns-clause-runtime : goal.returns-clause-runtime
 returns-clause-runtime c = replaces
-
-pub returns-clause-add_temporary : goal.returns-clause-add_temporary
-returns-clause-add_temporary c = adds_for_sessions
-
-pub returns-clause-end_session : goal.returns-clause-end_session
-returns-clause-end_session c = ends_sessions

@@ -2,7 +2,7 @@ use Rattle.std.proofs.Common.{arith}
 use Rattle.std.specs.Prelude.{not}
 use Rattle.live.specs.Live.{is_live}
 use Rattle.live.specs.Numbering.{graph_of}
-use Rattle.live.proofs.Ends.{paths_went}
+use Rattle.live.proofs.Ends.{paths_deleted}
 use Rattle.live.proofs.Turns.{one_more, over, under_way}
 use Rattle.live.proofs.limiting.limited.Goals as goal
 
@@ -17,11 +17,11 @@ turns-preserved c =
 places : goal.returns-clause-places
 places c keep rows given size rise same exact sized =
     over c.args.graph.now c.args.marks.now c.args.sizes.now c.args.limit c.turns.turn c.turns.leaving c.turns.wanted
-    (let t = c.turns-test.false in let n = c.len-turn-end.ensures.value in omega arith) c.turns.invariant c.in_ok-gone.gone.items c.in_ok-gone.ensures keep rows given size rise same exact sized
+    (let t = c.turns-test.false in let n = c.len-turn-end.ensures.value in omega arith) c.turns.invariant c.in_ok-deleted_places.deleted_places.items c.in_ok-deleted_places.ensures keep rows given size rise same exact sized
 
 pub returns-clause-places : goal.returns-clause-places
 returns-clause-places c = places c
 
 pub returns-clause-paths : goal.returns-clause-paths
 returns-clause-paths c keep rows given size rise same exact sized =
-    paths_went rows rise (λ p. not (is_live keep (graph_of rows) given p)) size c.args.limit c.in_ok-gone.gone.items (places c keep rows given size rise same exact sized)
+    paths_deleted rows rise (λ p. not (is_live keep (graph_of rows) given p)) size c.args.limit c.in_ok-deleted_places.deleted_places.items (places c keep rows given size rise same exact sized)

@@ -1,6 +1,6 @@
 use Rattle.std.proofs.Common.{◌+◌, ap, arith}
 use Rattle.live.specs.Keeping.{keep_view}
-use Rattle.live.proofs.Walked.{start_at, begin_at, taken_at, smaller, placed, ended, finish_at}
+use Rattle.live.proofs.Walked.{start_at, begin_at, consumed_at, smaller, placed, ended, finish_at}
 use Rattle.live.specs.Marking.{Frontier}
 use Rattle.live.proofs.Firsts.{exact_at}
 use Rattle.live.proofs.marking.mark.Goals as goal
@@ -24,7 +24,7 @@ work-smaller c = smaller (keep_view c.args.keep) c.args.graph.now c.args.roots.n
     c.in-Some.ensures.first c.in-Some.ensures.some c.in_ok-take.ensures.reached
 
 pub work-preserved : goal.work-preserved
-work-preserved c = taken_at (keep_view c.args.keep) c.args.graph.now c.args.roots.now c.len.ensures.inside c.requires
+work-preserved c = consumed_at (keep_view c.args.keep) c.args.graph.now c.args.roots.now c.len.ensures.inside c.requires
     c.roots.root c.len-none.result c.in-Some.place c.work.walk c.next.new.self c.take.new.self c.work.walker c.roots-test.true c.len-none.ensures c.work.invariant
     c.in-Some.ensures.first c.in-Some.ensures.some c.in_ok-take.ensures.reached c.take.new.walker c.in_ok-take.ensures.counted
 

@@ -3,7 +3,7 @@ use Rattle.std.proofs.lemmas.Bool.{eqb-true, eqb-false}
 use Rattle.std.proofs.lemmas.List.{nil_from_length}
 use Rattle.nar.specs.Steps.{word, kind, start}
 use Rattle.nar.proofs.Taking.{fault_then, fault_more, passed_on}
-use Rattle.nar.proofs.Whole.{top_fault, top_reads, is_archive, trails_behind}
+use Rattle.nar.proofs.Whole.{top_fault, top_reads, is_archive, trails_after}
 use Rattle.nar.proofs.reading.read_whole.Goals as goal
 
 pub returns-in_err-after-clause-fault : goal.returns-in_err-after-clause-fault
@@ -18,7 +18,7 @@ returns-in_err-node-clause-fault c = passed_on _ _ _ c.from_residual-in_err-node
 pub returns-then-not-is_empty-clause-fault : goal.returns-then-not-is_empty-clause-fault
 returns-then-not-is_empty-clause-fault c =
     let some = eqb-false (length c.in_ok-node.end.rest.now) 0 (sym c.is_empty.ensures ∙ c.if-not-is_empty.true) in
-    λ _. trails_behind (λ i. omega (arith, c.type_inv.input i)) c.in_ok-node.ensures.ok (top_reads c.in_ok-after.ensures.ok c.in_ok-node.ensures.ok) (λ none. some (ap length none))
+    λ _. trails_after (λ i. omega (arith, c.type_inv.input i)) c.in_ok-node.ensures.ok (top_reads c.in_ok-after.ensures.ok c.in_ok-node.ensures.ok) (λ none. some (ap length none))
 
 pub returns-clause-found : goal.returns-clause-found
 returns-clause-found c =

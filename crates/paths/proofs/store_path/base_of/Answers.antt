@@ -10,8 +10,8 @@ cut : (dir text rest base : List ℕ) → text ≡ dir ++ rest → rest ≡ 47 �
 cut dir text rest base e f = sym (ap (base_of dir) (e ∙ ap (λ r. dir ++ r) f) ∙ base_of-below dir base)
 
 -- below the directory, and what is below begins with another byte
-beside : (dir text rest : List ℕ) → text ≡ dir ++ rest → ((base : List ℕ) → rest ≢ 47 ∷ base) → text ≡ base_of dir text
-beside dir text rest e other =
+without_slash : (dir text rest : List ℕ) → text ≡ dir ++ rest → ((base : List ℕ) → rest ≢ 47 ∷ base) → text ≡ base_of dir text
+without_slash dir text rest e other =
     sym (base_of-other dir text (λ base h. other base (sym (drop-append_seam dir rest) ∙ ap (drop (length dir)) (sym e ∙ h) ∙ drop-append_seam dir (47 ∷ base))))
 
 pub returns-in-Some-strip_prefix : goal.returns-in-Some-strip_prefix
@@ -28,7 +28,7 @@ returns-in-None c =
     let dir = c.as_str.ensures.value in
     let below : c.args.text.now ≡ c.args.dir.now ++ c.in-Some.rest.now = cases.1.1 ∙ ap (λ r. c.as_str.result.now ++ r) (sym cases.2) ∙ ap (λ d. d ++ c.in-Some.rest.now) dir in
     let slash = strip_prefix_char 47 c.in-Some.rest.now c.strip_prefix-2.result c.strip_prefix-2.ensures.cases (lit< tt) in
-    beside _ _ _ below (rw c.in-None.is at slash)
+    without_slash _ _ _ below (rw c.in-None.is at slash)
 
 pub returns-in_default : goal.returns-in_default
 returns-in_default c =

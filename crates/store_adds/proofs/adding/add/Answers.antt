@@ -3,12 +3,12 @@ use Rattle.std.proofs.lemmas.Result.{err_from_is_err_and}
 use Rattle.std.specs.FinMap as finite
 use Rattle.tables_outline.specs.Outline.{OutlineValue}
 use Rattle.tables.specs.RowsPut.{AddedRows}
-use Rattle.store_adds.proofs.AddedObjects.{added_there, sound_put, added_new, added_not}
+use Rattle.store_adds.proofs.AddedObjects.{added_present, sound_put, added_new, added_not}
 use Rattle.store_adds.proofs.adding.add.Goals as goal
 
 pub returns-then-has : goal.returns-then-has
 returns-then-has g c =
-    added_there g.S.Store c.args.added.path c.args.added.object c.args.tables.now c.args.added.nar
+    added_present g.S.Store c.args.added.path c.args.added.object c.args.tables.now c.args.added.nar
     (ap (λ (x : OutlineValue). finite.contains_key x.objects c.args.added.path) (sym c.outline.ensures) ∙ sym c.has.ensures ∙ c.if-has.true)
 
 pub insert_object-requires-clause-sound : goal.insert_object-requires-clause-sound

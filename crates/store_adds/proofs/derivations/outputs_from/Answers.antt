@@ -1,5 +1,5 @@
 use Rattle.nar.specs.Outcome.{outcome_of}
-use Rattle.store_adds.specs.Parts.{outputs_view}
+use Rattle.intake.specs.Recorded.{outputs_view}
 use Rattle.store_adds.proofs.ArchiveFaults.{with_text, no_text, given_as}
 use Rattle.store_adds.proofs.derivations.outputs_from.Goals as goal
 

@@ -2,7 +2,7 @@ use Rattle.std.proofs.Common.{◌≡◌, ℕ, List, ap, ◌∙◌}
 use Rattle.nar.specs.Outcome.{outcome_of}
 use Rattle.model.specs.Objects.{tree_outputs}
 use Rattle.model.specs.Tests.{tree_fault}
-use Rattle.store_adds.specs.Parts.{outputs_view}
+use Rattle.intake.specs.Recorded.{outputs_view}
 use Rattle.store_adds.proofs.ArchiveFaults.{given_as}
 use Rattle.store_adds.proofs.derivations.outputs_joined.Goals as goal
 

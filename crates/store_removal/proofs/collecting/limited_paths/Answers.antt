@@ -11,13 +11,13 @@ use Rattle.model.specs.World.{roots_of}
 use Rattle.tables_root_list.specs.Rooted.{rooted}
 use Rattle.store_removal.specs.Sizes.{size_in}
 use Rattle.paths.specs.RootView.{root_view}
-use Rattle.store_removal.proofs.Limited.{limited_told, sized}
-use Rattle.store_removal.proofs.Marked.{handed_rise, valid_rise, valid_targets}
+use Rattle.store_removal.proofs.Limited.{limited_reported, sized}
+use Rattle.store_removal.proofs.Marked.{passed_rise, valid_rise, valid_targets}
 use Rattle.store_removal.proofs.Valid.{aims_well}
 use Rattle.store_removal.proofs.collecting.limited_paths.Goals as goal
 
 pub places-requires-clause-rows : goal.places-requires-clause-rows
-places-requires-clause-rows c = handed_rise c.args.outline.now (rows_view c.deref-4.result.now) (ap rows_view c.deref-4.ensures.value ∙ c.in_ok-rows.ensures)
+places-requires-clause-rows c = passed_rise c.args.outline.now (rows_view c.deref-4.result.now) (ap rows_view c.deref-4.ensures.value ∙ c.in_ok-rows.ensures)
 
 pub places-requires-clause-roots : goal.places-requires-clause-roots
 places-requires-clause-roots c =
@@ -63,5 +63,5 @@ returns c =
     let again = c.deref-7.ensures.value ∙ sym c.deref-4.ensures.value in
     IfOk-weaker c.paths_at.result _ _
     (λ v e w reported. e ∙ (λ i. map (path_at (rows_view (again i))) (c.deref-8.ensures.value i)) ∙ c.in_ok-places.ensures.paths (size_in o) each
-    ∙ limited_told c.args.config.now o (keep_view c.keep_of.result) (rows_view c.deref-4.result.now) (roots_view c.deref-5.result.now) c.keep_of.ensures (ap rows_view c.deref-4.ensures.value ∙ c.in_ok-rows.ensures) same w reported c.args.limit)
+    ∙ limited_reported c.args.config.now o (keep_view c.keep_of.result) (rows_view c.deref-4.result.now) (roots_view c.deref-5.result.now) c.keep_of.ensures (ap rows_view c.deref-4.ensures.value ∙ c.in_ok-rows.ensures) same w reported c.args.limit)
     c.paths_at.ensures

@@ -1,5 +1,5 @@
 use Rattle.std.proofs.Common.{◌<◌, Some, length, arith, refl, sym}
-use Rattle.store_removal.proofs.Kept.{first_here, not_yet}
+use Rattle.store_removal.proofs.FirstLive.{first_here, not_yet}
 use Rattle.store_removal.proofs.keeping.first_mark.Goals as goal
 
 pub returns-in-Some-clause-root : goal.returns-in-Some-clause-root

@@ -7,12 +7,12 @@ use Rattle.live.specs.Keeping.{keep_view}
 use Rattle.model.specs.World.{roots_of}
 use Rattle.tables_root_list.specs.Rooted.{rooted}
 use Rattle.paths.specs.RootView.{root_view}
-use Rattle.store_removal.proofs.Marked.{handed_rise, lives_marked, valid_rise, valid_targets}
+use Rattle.store_removal.proofs.Marked.{passed_rise, lives_marked, valid_rise, valid_targets}
 use Rattle.store_removal.proofs.Valid.{aims_well}
 use Rattle.store_removal.proofs.living.lives.Goals as goal
 
 pub marks-requires-clause-rows : goal.marks-requires-clause-rows
-marks-requires-clause-rows c = handed_rise c.args.outline.now (rows_view c.args.rows.now) c.requires
+marks-requires-clause-rows c = passed_rise c.args.outline.now (rows_view c.args.rows.now) c.requires
 
 pub marks-requires-clause-roots : goal.marks-requires-clause-roots
 marks-requires-clause-roots c =

@@ -9,8 +9,8 @@ use Rattle.tables_outline.specs.Maps.{labelled_bytes}
 use Rattle.model.specs.Seen.{seen}
 use Rattle.tables_root_list.specs.Rooted.{rooted}
 use Rattle.paths.specs.RootView.{root_view}
-use Rattle.store_removal.proofs.Marked.{handed_rise, valid_targets}
-use Rattle.store_removal.proofs.Places.{keeping_told, none_keeps}
+use Rattle.store_removal.proofs.Marked.{passed_rise, valid_targets}
+use Rattle.store_removal.proofs.Places.{keeping_reported, none_keeps}
 use Rattle.store_removal.proofs.Valid.{aims_well}
 use Rattle.store_removal.proofs.reaching.seen_roots_of.Goals as goal
 
@@ -20,7 +20,7 @@ returns-in_default c w is =
     ∙ none_keeps c.args.config.now c.args.outline.now (rows_view c.deref.result.now) c.args.path.now (ap rows_view c.deref.ensures.value ∙ c.in_ok-rows.ensures) c.in_default.ensures.none c.args.class w is
 
 pub reaching-requires-clause-rows : goal.reaching-requires-clause-rows
-reaching-requires-clause-rows c = handed_rise c.args.outline.now (rows_view c.deref-4.result.now) (ap rows_view c.deref-4.ensures.value ∙ c.in_ok-rows.ensures)
+reaching-requires-clause-rows c = passed_rise c.args.outline.now (rows_view c.deref-4.result.now) (ap rows_view c.deref-4.ensures.value ∙ c.in_ok-rows.ensures)
 
 pub reaching-requires-clause-targets : goal.reaching-requires-clause-targets
 reaching-requires-clause-targets c =
@@ -44,5 +44,5 @@ returns c =
     ap (λ rs. path_at (rows_view rs) c.in-Some.place) (c.deref-4.ensures.value ∙ sym c.deref.ensures.value) ∙ c.in-Some.ensures.found.1 in
     IfOk-weaker c.seen.result _ _
     (λ v e w is. e ∙ ap (seen c.args.class) (ap roots_view c.deref-6.ensures.value ∙ c.in_ok-reaching.ensures
-    ∙ keeping_told c.args.config.now o (keep_view c.keep_of.result) (rows_view c.deref-4.result.now) (roots_view c.deref-5.result.now) c.args.path.now (path_at (rows_view c.deref-4.result.now) c.in-Some.place) c.keep_of.ensures rows valid at w is))
+    ∙ keeping_reported c.args.config.now o (keep_view c.keep_of.result) (rows_view c.deref-4.result.now) (roots_view c.deref-5.result.now) c.args.path.now (path_at (rows_view c.deref-4.result.now) c.in-Some.place) c.keep_of.ensures rows valid at w is))
     c.seen.ensures

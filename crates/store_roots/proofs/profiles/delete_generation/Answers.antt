@@ -13,13 +13,13 @@ use Rattle.store_steps.specs.Meets.{IsMet}
 use Rattle.tables.specs.Reasons.{NoRow}
 use Rattle.store_steps.proofs.Caused.{write_fails}
 use Rattle.store_steps.proofs.Written.{sound_as, met_by_stopping, met_by_writing}
-use Rattle.store_roots.proofs.ProfileChanges.{there_as, changed_as}
+use Rattle.store_roots.proofs.ProfileChanges.{present_as, changed_as}
 use Rattle.store_steps.proofs.Fits.{no_settings, deletion_fits}
 use Rattle.store_roots.proofs.profiles.delete_generation.Goals as goal
 
 pub drop_generation-requires-clause-present : goal.drop_generation-requires-clause-present
 drop_generation-requires-clause-present g c =
-    there_as (string_bytes c.args.owned.0) (string_bytes c.args.owned.1) c.as_str.result.now c.as_str-2.result.now c.as_str.ensures.value c.as_str-2.ensures.value
+    present_as (string_bytes c.args.owned.0) (string_bytes c.args.owned.1) c.as_str.result.now c.as_str-2.result.now c.as_str.ensures.value c.as_str-2.ensures.value
     c.outline.result.now c.args.tables.now.outline c.outline.ensures c.in_ok-may_delete.ensures.present
 
 pub drop_generation-requires-clause-sound : goal.drop_generation-requires-clause-sound

@@ -2,7 +2,7 @@ use Rattle.std.proofs.Common.{ℕ, List, Option, Result, Ok, Err, IsErrAnd, arit
 use Rattle.std.proofs.KnownBytes.{Appends-nil}
 use Rattle.std.specs.Io.KnownBytes.{Appends}
 use Rattle.std.specs.declared.io.Error.{Error}
-use Rattle.streams.proofs.InPieces.{next_sent, front_sent, all_taken}
+use Rattle.streams.proofs.InPieces.{next_sent, prefix_sent, take_all_pieces}
 use Rattle.streams.specs.Sends.{Sends, AppendsPrefix}
 use Rattle.streams.proofs.parts.send_pieces.Goals as goal
 
@@ -21,8 +21,8 @@ pieces-preserved g c = next_sent _ _ _ c.args.bytes.now c.pieces.i c.piece.resul
 pub returns-in_err-send_bytes : goal.returns-in_err-send_bytes
 returns-in_err-send_bytes g c =
     failed_sends _ _ c.args.bytes.now c.from_residual.result _ c.from_residual.ensures.1
-    (front_sent _ _ _ c.args.bytes.now c.pieces.i c.piece.result.now c.piece.ensures c.pieces.invariant c.in_err-send_bytes.ensures)
+    (prefix_sent _ _ _ c.args.bytes.now c.pieces.i c.piece.result.now c.piece.ensures c.pieces.invariant c.in_err-send_bytes.ensures)
 
 pub returns : goal.returns
 returns g c =
-    subst (Appends (g.W.Write.contents c.args.output.now) (g.W.Write.contents c.pieces.output)) (all_taken c.args.bytes.now c.pieces.i (omega arith)) c.pieces.invariant
+    subst (Appends (g.W.Write.contents c.args.output.now) (g.W.Write.contents c.pieces.output)) (take_all_pieces c.args.bytes.now c.pieces.i (omega arith)) c.pieces.invariant

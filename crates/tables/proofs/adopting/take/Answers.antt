@@ -8,7 +8,7 @@ use Rattle.tables_schema.specs.Finding.{HasNone}
 use Rattle.tables.proofs.FoundTables.{first_found, second_found, third_found, is_none, is_other}
 use Rattle.tables.proofs.InTheWay.{no_store_cause}
 use Rattle.tables.proofs.Passed.{wider, with_before, among}
-use Rattle.tables.proofs.Lasting.{both_durable}
+use Rattle.tables.proofs.AfterCrash.{both_durable}
 use Rattle.tables.proofs.adopting.take.Goals as goal
 
 pub open_earlier-requires-clause-found : goal.open_earlier-requires-clause-found

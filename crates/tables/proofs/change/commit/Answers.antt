@@ -9,7 +9,7 @@ use Rattle.tables_sql.proofs.Steps.{under_after}
 use Rattle.tables_sql.proofs.Transactions.{survives_all}
 use Rattle.tables_make.specs.Reasons.{HasReason}
 use Rattle.tables.specs.Frames.{CommitsRows}
-use Rattle.tables.specs.Kept.{IsWritten}
+use Rattle.tables.specs.TablesValue.{IsWritten}
 use Rattle.tables.proofs.Begun.{always_done, begun_has, undone}
 use Rattle.tables_make.proofs.Reasons.{as_reason, begun_reason, commit_reason}
 use Rattle.tables.proofs.Transactions.{others_kept, written}
@@ -38,7 +38,7 @@ returns-clause-frame g c =
     let all = survives_all g.S.Store before start wrote new f is c.begin-tx.ensures.under_way done c.write.ensures.frame.survives c.commit.ensures.survives in
     let whole : HasCleanDisk new → IsCommitted wrote new → IsWritten old new f = λ clean k. written g.S.Store before start wrote new f _ is done c.write.ensures.frame.survives c.commit.ensures.survives c.requires.frame.whole clean k in
     subst (λ h. CommitsRows g.S.Store before h c.commit.result f) same (record {
-      alone = c.commit.ensures.ended;
+      idle = c.commit.ensures.ended;
       done = λ clean. on_ok c.commit.result _ _ (whole clean) (c.commit.ensures.done clean);
       others = λ clean. on_ok c.commit.result _ _ (λ k. others_kept old new f _ all c.requires.frame.ready clean (whole clean k)) (c.commit.ensures.done clean);
       failed = λ clean. undone g.S.Store before start wrote new _ _ c.commit.result is done c.write.ensures.frame.survives c.commit.ensures.survives c.requires.frame.ready clean (c.commit.ensures.failed clean);

@@ -14,12 +14,12 @@ use Rattle.tables_make.specs.Migrating.{PieceRow}
 use Rattle.tables_sql.proofs.Going.{Goes, goes_first, goes_next, goes_done}
 use Rattle.tables_sql.proofs.Transactions.{survives_none}
 use Rattle.tables.proofs.Cuts.{left_from, all_left, next_left, past_end}
-use Rattle.tables.proofs.Kept.{clean_before}
+use Rattle.tables.proofs.AfterWrites.{clean_before}
 use Rattle.tables_sql.proofs.TestFailures.{passed_on, survives_both}
 use Rattle.tables_sql.proofs.Orders.{numbered_total}
 use Rattle.tables.proofs.Free.{free_next}
 use Rattle.tables_make.proofs.Reasons.{is_none, next_reason, put_reason}
-use Rattle.tables.proofs.Transactions.{pieces_stand}
+use Rattle.tables.proofs.Transactions.{pieces_exist}
 use Rattle.tables_make.proofs.Inside.{done_fails}
 use Rattle.tables.proofs.cutting.put_pieces.Goals as goal
 
@@ -64,7 +64,7 @@ pieces-preserved g c =
 
 pub insert-requires-clause-exists : goal.insert-requires-clause-exists
 insert-requires-clause-exists g c clean is_open =
-    pieces_stand (state g.S.Store c.args.tx.now.conn.now) (state g.S.Store c.pieces.tx.conn.now) _ (λ now. (c.pieces.invariant.goes now).changes) c.pieces.invariant.survives (λ early up. c.requires.exists early) clean
+    pieces_exist (state g.S.Store c.args.tx.now.conn.now) (state g.S.Store c.pieces.tx.conn.now) _ (λ now. (c.pieces.invariant.goes now).changes) c.pieces.invariant.survives (λ early up. c.requires.exists early) clean
 
 pub returns-then-place-count-clause-done : goal.returns-then-place-count-clause-done
 returns-then-place-count-clause-done g c clean =

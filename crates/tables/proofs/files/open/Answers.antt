@@ -11,4 +11,4 @@ pub returns-in-Err-take-clause-cause : goal.returns-in-Err-take-clause-cause
 returns-in-Err-take-clause-cause g c =
     let here = c.in-Ok.ensures in
     let now = c.in-Err-take.ensures in
-    record { was = here.opened.0; conn = c.in-Ok.opened.conn; opened = here.opened.1; found = λ clean. here.held (omega (arith, now.survives.clean)); because = now.cause; alone = now.alone; same = now.same; durable = now.durable; survives = now.survives }
+    record { was = here.opened.0; conn = c.in-Ok.opened.conn; opened = here.opened.1; found = λ clean. here.held (omega (arith, now.survives.clean)); because = now.cause; idle = now.idle; same = now.same; durable = now.durable; survives = now.survives }

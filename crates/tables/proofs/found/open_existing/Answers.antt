@@ -2,7 +2,7 @@ use Rattle.std.proofs.Common.{sym, subst}
 use Rattle.sqlite.specs.Held.{state}
 use Rattle.sqlite.specs.State.{HasCleanDisk}
 use Rattle.tables_sql.proofs.Steps.{clean_before}
-use Rattle.tables.specs.Kept.{Kept}
+use Rattle.tables.specs.TablesValue.{TablesValue}
 use Rattle.tables.specs.Opening.{OpensExisting}
 use Rattle.tables.proofs.Agreed.{agreed, took_over}
 use Rattle.tables.proofs.FoundTables.{whole_by}
@@ -13,12 +13,12 @@ over-requires g c =
     let a = state g.S.Store c.args.conn in
     let b = state g.S.Store c.read_as.new.conn in
     agreed g.S.Store c.read_as.new.conn a.now c.in-Ok.loaded.dir c.in-Ok.loaded.outline (λ clean. (c.in-Ok.ensures.unchanged clean).0.now_is) c.in-Ok.ensures.reported
-    (λ clean. let early = clean_before a b _ c.read_as.ensures.survives clean in whole_by a.now (c.requires.ready early).of_store (c.requires.found early).further) c.read_as.ensures.alone c.read_as.ensures.ready
+    (λ clean. let early = clean_before a b _ c.read_as.ensures.survives clean in whole_by a.now (c.requires.ready early).of_store (c.requires.found early).further) c.read_as.ensures.idle c.read_as.ensures.ready
 
 pub returns-in-Ok-clause-opens : goal.returns-in-Ok-clause-opens
 returns-in-Ok-clause-opens g c =
     let a = state g.S.Store c.args.conn in
     let b = state g.S.Store c.read_as.new.conn in
-    subst (λ (t : Kept _). HasCleanDisk (state g.S.Store t.connection) → OpensExisting g.S.Store c.args.dir.now a.now t) (sym c.over.ensures) (λ clean.
+    subst (λ (t : TablesValue _). HasCleanDisk (state g.S.Store t.connection) → OpensExisting g.S.Store c.args.dir.now a.now t) (sym c.over.ensures) (λ clean.
     took_over g.S.Store c.read_as.new.conn a.now c.in-Ok.loaded.dir c.in-Ok.loaded.outline (λ clean. (c.in-Ok.ensures.unchanged clean).0.now_is) c.in-Ok.ensures.reported
     c.args.dir.now c.in-Ok.ensures.dir (c.requires.found (clean_before a b _ c.read_as.ensures.survives clean)) (c.in-Ok.ensures.unchanged clean).0.is_open clean)

@@ -11,7 +11,7 @@ use Rattle.tables.specs.Rewritten.{AreFree, put_outputs}
 use Rattle.tables.specs.RowsPut.{OutputRow}
 use Rattle.tables_sql.proofs.Going.{goes_first, goes_next, goes_done}
 use Rattle.tables.proofs.Free.{free_next}
-use Rattle.tables.proofs.Kept.{clean_before}
+use Rattle.tables.proofs.AfterWrites.{clean_before}
 use Rattle.tables.proofs.Lists.{zip_at, no_pairs_left}
 use Rattle.tables_sql.proofs.Transactions.{survives_none}
 use Rattle.tables_sql.proofs.TestFailures.{passed_on, survives_both}

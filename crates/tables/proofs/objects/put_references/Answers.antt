@@ -9,7 +9,7 @@ use Rattle.tables.specs.Rewritten.{AreFree, put_references}
 use Rattle.tables.specs.RowsPut.{ReferenceRow}
 use Rattle.tables_sql.proofs.Going.{goes_first, goes_next}
 use Rattle.tables_sql.proofs.Transactions.{survives_none}
-use Rattle.tables.proofs.Kept.{clean_before}
+use Rattle.tables.proofs.AfterWrites.{clean_before}
 use Rattle.tables.proofs.Lists.{left_at}
 use Rattle.tables_sql.proofs.TestFailures.{passed_on, survives_both}
 use Rattle.tables_sql.proofs.Orders.{pair_total}

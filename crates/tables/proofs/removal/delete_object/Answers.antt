@@ -7,10 +7,10 @@ use Rattle.tables_sql.specs.Contents.{Contents, contents_of}
 use Rattle.tables_sql.proofs.Transactions.{done_both, failed_next, steps_both}
 use Rattle.tables_sql.proofs.Steps.{under_after}
 use Rattle.tables.specs.Rewritten.{without_object}
-use Rattle.tables.proofs.Covered.{references_told, outputs_told, pieces_told, alone_goes}
+use Rattle.tables.proofs.Covered.{references_reported, outputs_reported, pieces_reported, single_removed}
 use Rattle.tables.proofs.Failing.{err_kept}
 use Rattle.tables_sql.proofs.TestFailures.{passed_on, survives_both}
-use Rattle.tables.proofs.Transactions.{changes_at, pieces_stand}
+use Rattle.tables.proofs.Transactions.{changes_at, pieces_exist}
 use Rattle.tables_make.proofs.Reasons.{as_reason, next_reason, removal_reason}
 use Rattle.tables.proofs.removal.delete_object.Goals as goal
 
@@ -32,7 +32,7 @@ delete_references-requires-clause-reported g c clean =
     let b = state g.S.Store c.delete.new.tx.conn.now in
     let it = c.in_ok-delete.ensures.done clean in
     let early : HasCleanDisk a = omega (arith, c.delete.ensures.frame.survives.clean, clean) in
-    references_told c.args.outline.now (contents_of a.now) c.args.path.now c.as_str-base.result.now c.in-Some.object.now (c.requires.covers early it.was_open) c.in-Some.ensures c.as_str-base.ensures.value (contents_of b.now) (ap (λ (x : Contents). x.refs) it.contents)
+    references_reported c.args.outline.now (contents_of a.now) c.args.path.now c.as_str-base.result.now c.in-Some.object.now (c.requires.covers early it.was_open) c.in-Some.ensures c.as_str-base.ensures.value (contents_of b.now) (ap (λ (x : Contents). x.refs) it.contents)
 
 pub returns-in_err-delete_references-clause-frame : goal.returns-in_err-delete_references-clause-frame
 returns-in_err-delete_references-clause-frame g c =
@@ -53,7 +53,7 @@ returns-in_default-clause-done g c clean =
     let it = c.in_ok-delete.ensures.done clean in
     let early : HasCleanDisk a = omega (arith, c.delete.ensures.frame.survives.clean, clean) in
     let path = c.args.path.now in
-    changes_at a b _ (without_object path) (ap (λ p. record (contents_of a.now) { objects = finite.retain_keys (contents_of a.now).objects (λ k. not (same k p)) }) c.as_str-base.ensures.value ∙ alone_goes c.args.outline.now (contents_of a.now) path (c.requires.covers early it.was_open) (sym c.in_default.ensures)) it
+    changes_at a b _ (without_object path) (ap (λ p. record (contents_of a.now) { objects = finite.retain_keys (contents_of a.now).objects (λ k. not (same k p)) }) c.as_str-base.ensures.value ∙ single_removed c.args.outline.now (contents_of a.now) path (c.requires.covers early it.was_open) (sym c.in_default.ensures)) it
 
 pub delete_outputs-requires-clause-under_way : goal.delete_outputs-requires-clause-under_way
 delete_outputs-requires-clause-under_way g c clean =
@@ -76,7 +76,7 @@ delete_outputs-requires-clause-reported g c clean =
     let d = state g.S.Store c.delete_references.new.tx.conn.now in
     let it = (steps_both a b d _ _ c.in_ok-delete.ensures.done c.delete_references.ensures.frame.survives c.in_ok-delete_references.ensures.done) clean in
     let early : HasCleanDisk a = omega (arith, (survives_both a b d c.delete.ensures.frame.survives c.delete_references.ensures.frame.survives).clean, clean) in
-    outputs_told c.args.outline.now (contents_of a.now) c.args.path.now c.as_str-base.result.now c.in-Some.object.now (c.requires.covers early it.was_open) c.in-Some.ensures c.as_str-base.ensures.value (contents_of d.now) (ap (λ (x : Contents). x.outs) it.contents)
+    outputs_reported c.args.outline.now (contents_of a.now) c.args.path.now c.as_str-base.result.now c.in-Some.object.now (c.requires.covers early it.was_open) c.in-Some.ensures c.as_str-base.ensures.value (contents_of d.now) (ap (λ (x : Contents). x.outs) it.contents)
 
 pub returns-in_err-delete_outputs-clause-frame : goal.returns-in_err-delete_outputs-clause-frame
 returns-in_err-delete_outputs-clause-frame g c =
@@ -112,7 +112,7 @@ delete_pieces-requires-clause-exists g c clean =
     let b = state g.S.Store c.delete.new.tx.conn.now in
     let d = state g.S.Store c.delete_references.new.tx.conn.now in
     let e = state g.S.Store c.delete_outputs.new.tx.conn.now in
-    pieces_stand a e _ (steps_both a d e _ _ (steps_both a b d _ _ c.in_ok-delete.ensures.done c.delete_references.ensures.frame.survives c.in_ok-delete_references.ensures.done) c.delete_outputs.ensures.frame.survives c.in_ok-delete_outputs.ensures.done) (survives_both a d e (survives_both a b d c.delete.ensures.frame.survives c.delete_references.ensures.frame.survives) c.delete_outputs.ensures.frame.survives) c.requires.exists clean
+    pieces_exist a e _ (steps_both a d e _ _ (steps_both a b d _ _ c.in_ok-delete.ensures.done c.delete_references.ensures.frame.survives c.in_ok-delete_references.ensures.done) c.delete_outputs.ensures.frame.survives c.in_ok-delete_outputs.ensures.done) (survives_both a d e (survives_both a b d c.delete.ensures.frame.survives c.delete_references.ensures.frame.survives) c.delete_outputs.ensures.frame.survives) c.requires.exists clean
 
 pub delete_pieces-requires-clause-reported : goal.delete_pieces-requires-clause-reported
 delete_pieces-requires-clause-reported g c clean =
@@ -122,7 +122,7 @@ delete_pieces-requires-clause-reported g c clean =
     let e = state g.S.Store c.delete_outputs.new.tx.conn.now in
     let it = (steps_both a d e _ _ (steps_both a b d _ _ c.in_ok-delete.ensures.done c.delete_references.ensures.frame.survives c.in_ok-delete_references.ensures.done) c.delete_outputs.ensures.frame.survives c.in_ok-delete_outputs.ensures.done) clean in
     let early : HasCleanDisk a = omega (arith, (survives_both a d e (survives_both a b d c.delete.ensures.frame.survives c.delete_references.ensures.frame.survives) c.delete_outputs.ensures.frame.survives).clean, clean) in
-    pieces_told c.args.outline.now (contents_of a.now) c.args.path.now c.as_str-base.result.now c.in-Some.object.now (c.requires.covers early it.was_open) c.in-Some.ensures c.as_str-base.ensures.value (contents_of e.now) (ap (λ (x : Contents). x.pieces) it.contents)
+    pieces_reported c.args.outline.now (contents_of a.now) c.args.path.now c.as_str-base.result.now c.in-Some.object.now (c.requires.covers early it.was_open) c.in-Some.ensures c.as_str-base.ensures.value (contents_of e.now) (ap (λ (x : Contents). x.pieces) it.contents)
 
 pub returns-clause-frame : goal.returns-clause-frame
 returns-clause-frame g c =

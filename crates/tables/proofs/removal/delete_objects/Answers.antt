@@ -6,11 +6,11 @@ use Rattle.tables.specs.Rewritten.{Covers, without_object, without_objects}
 use Rattle.tables_sql.proofs.Going.{goes_first, goes_next, goes_done}
 use Rattle.tables_sql.proofs.Transactions.{survives_none}
 use Rattle.tables.proofs.Covered.{covers_less}
-use Rattle.tables.proofs.Kept.{clean_before}
+use Rattle.tables.proofs.AfterWrites.{clean_before}
 use Rattle.tables.proofs.Lists.{left_at, none_left}
 use Rattle.tables.proofs.Removed.{without_none, without_next}
 use Rattle.tables_sql.proofs.TestFailures.{passed_on, survives_both}
-use Rattle.tables.proofs.Transactions.{pieces_stand}
+use Rattle.tables.proofs.Transactions.{pieces_exist}
 use Rattle.tables_make.proofs.Reasons.{next_reason}
 use Rattle.tables_make.proofs.Inside.{done_fails}
 use Rattle.tables.proofs.removal.delete_objects.Goals as goal
@@ -48,7 +48,7 @@ pub delete_object-requires-clause-exists : goal.delete_object-requires-clause-ex
 delete_object-requires-clause-exists g c clean is_open =
     let first = state g.S.Store c.args.tx.now.conn.now in
     let now = state g.S.Store c.paths.tx.conn.now in
-    pieces_stand first now _ (λ clean. (c.paths.invariant.goes clean).changes) c.paths.invariant.survives (λ clean is_open. c.requires.exists clean) clean
+    pieces_exist first now _ (λ clean. (c.paths.invariant.goes clean).changes) c.paths.invariant.survives (λ clean is_open. c.requires.exists clean) clean
 
 pub returns-clause-done : goal.returns-clause-done
 returns-clause-done g c = λ clean.

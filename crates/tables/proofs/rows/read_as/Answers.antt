@@ -4,14 +4,14 @@ use Rattle.tables_sql.proofs.Steps.{clean_before}
 use Rattle.tables.proofs.Causes.{read_cause}
 use Rattle.tables.proofs.FoundTables.{unsound}
 use Rattle.tables.proofs.InTheWay.{no_store_cause}
-use Rattle.tables.proofs.Joined.{none_told}
+use Rattle.tables.proofs.Joined.{none_reported}
 use Rattle.tables.proofs.rows.read_as.Goals as goal
 
 pub returns-in_default-clause-cause : goal.returns-in_default-clause-cause
 returns-in_default-clause-cause g c clean =
     let a = state g.S.Store c.args.conn.now in
     let b = state g.S.Store c.read.new.conn in
-    no_store_cause c.args.dir.now a.now (unsound c.args.schema a.now (c.requires.found (clean_before a b _ c.read.ensures.survives clean)) (none_told _ _ c.in_ok-loaded.field-0 c.in_default.is (c.in_ok-loaded.ensures.reported clean)))
+    no_store_cause c.args.dir.now a.now (unsound c.args.schema a.now (c.requires.found (clean_before a b _ c.read.ensures.survives clean)) (none_reported _ _ c.in_ok-loaded.field-0 c.in_default.is (c.in_ok-loaded.ensures.reported clean)))
 
 pub returns-in_err-loaded-clause-cause : goal.returns-in_err-loaded-clause-cause
 returns-in_err-loaded-clause-cause g c clean =

@@ -11,7 +11,7 @@ use Rattle.tables_make.specs.Reasons.{RowsOf}
 use Rattle.tables.specs.RowsPut.{RuntimeRow}
 use Rattle.tables_sql.proofs.Going.{goes_first, goes_next}
 use Rattle.tables_sql.proofs.Transactions.{survives_none}
-use Rattle.tables.proofs.Kept.{clean_before}
+use Rattle.tables.proofs.AfterWrites.{clean_before}
 use Rattle.tables_sql.proofs.TestFailures.{passed_on, survives_both}
 use Rattle.tables_sql.proofs.Orders.{pair_total}
 use Rattle.tables.proofs.Free.{free_next, runtime_free}

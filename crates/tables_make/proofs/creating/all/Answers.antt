@@ -4,7 +4,7 @@ use Rattle.tables_sql.proofs.Steps.{clean_before}
 use Rattle.tables_sql.proofs.TestFailures.{passed_on, survives_both}
 use Rattle.tables_sql.proofs.Transactions.{survives_none}
 use Rattle.tables_make.proofs.InTurn.{none_made, next_making, next_made, next_fails, all_in_turn}
-use Rattle.tables_make.proofs.Kept.{both_keep_commit}
+use Rattle.tables_make.proofs.CallsInTurn.{both_keep_commit}
 use Rattle.tables_make.proofs.Inside.{both_keep}
 use Rattle.tables_make.specs.Frames.{KeepsInside}
 use Rattle.tables_make.proofs.creating.all.Goals as goal

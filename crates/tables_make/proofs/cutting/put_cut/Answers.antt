@@ -16,7 +16,7 @@ use Rattle.tables_make.specs.Reasons.{RowsOf}
 use Rattle.tables_make.proofs.Cuts.{further, size}
 use Rattle.tables_make.proofs.Reasons.{as_reason, is_none, more_reason, next_reason, put_reason, removal_reason}
 use Rattle.tables_make.proofs.Steps.{written}
-use Rattle.tables_make.proofs.Uncut.{gone, row_is}
+use Rattle.tables_make.proofs.Uncut.{deleted, row_is}
 use Rattle.tables_make.proofs.Inside.{done_fails, done_stays}
 use Rattle.tables_make.proofs.cutting.put_cut.Goals as goal
 
@@ -71,7 +71,7 @@ returns-in_err-insert-clause-cause g c clean =
     (next_reason _ a b d _ done c.delete.ensures.frame.survives _
     (put_reason (CutRows (stored_of object).0 (stored_of object).1) b d _ _ _
     (inl (refl, row_is c.as_str-base.ensures.value first c.deref-2.ensures.value object.deriver object.ca))
-    (is_none _ (ap (λ (x : Contents). finite.get x.objects c.as_str-base.result.now) done.contents ∙ gone texts_total texts_antisymmetric _ c.as_str-base.result.now)) _ (c.in_err-insert.ensures.cause clean)))
+    (is_none _ (ap (λ (x : Contents). finite.get x.objects c.as_str-base.result.now) done.contents ∙ deleted texts_total texts_antisymmetric _ c.as_str-base.result.now)) _ (c.in_err-insert.ensures.cause clean)))
 
 pub returns-clause-cause : goal.returns-clause-cause
 returns-clause-cause g c clean =

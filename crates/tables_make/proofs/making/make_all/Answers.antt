@@ -9,7 +9,7 @@ use Rattle.tables_sql.proofs.Steps.{clean_before}
 use Rattle.tables_sql.proofs.Scans.{on_ok, err_with}
 use Rattle.tables_sql.proofs.TestFailures.{survives_both}
 use Rattle.tables_make.proofs.Creates.{making_after}
-use Rattle.tables_make.proofs.Kept.{both_keep_commit}
+use Rattle.tables_make.proofs.CallsInTurn.{both_keep_commit}
 use Rattle.tables_make.proofs.MakingTogether.{part, fails_after}
 use Rattle.tables_make.proofs.Settles.{all_made}
 use Rattle.tables_make.proofs.making.make_all.Goals as goal
@@ -43,8 +43,8 @@ returns-clause-cause g c clean =
 pub returns-clause-same_reference : goal.returns-clause-same_reference
 returns-clause-same_reference g c = c.all.ensures.frame.same_reference ∙ c.settle.ensures.frame.same_reference
 
-pub returns-clause-kept : goal.returns-clause-kept
-returns-clause-kept g c = both_keep_commit _ _ _ c.settle.ensures.frame.kept c.all.ensures.frame.kept c.all.ensures.frame.survives
+pub returns-clause-clean_disk : goal.returns-clause-clean_disk
+returns-clause-clean_disk g c = both_keep_commit _ _ _ c.settle.ensures.frame.kept c.all.ensures.frame.kept c.all.ensures.frame.survives
 
 pub returns-clause-survives : goal.returns-clause-survives
 returns-clause-survives g c = survives_both _ _ _ c.settle.ensures.frame.survives c.all.ensures.frame.survives

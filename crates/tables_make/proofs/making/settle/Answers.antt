@@ -16,7 +16,7 @@ pub put-requires-2 : goal.put-requires-2
 put-requires-2 g c clean =
     let second = clean_before _ _ _ c.put.ensures.frame.survives clean in
     let made = c.in_ok-one.ensures.makes second in
-    has_still _ _ _ _ (has_meta _ _ ((c.requires (clean_before _ _ _ c.one.ensures.frame.survives second)).free made.was_open).0 made) (c.in_ok-put.ensures.puts clean)
+    has_still _ _ _ _ (has_meta _ _ ((c.requires (clean_before _ _ _ c.one.ensures.frame.survives second)).free made.was_open).0 made) (rw c.text.ensures at c.in_ok-put.ensures.puts clean)
 
 pub returns-clause-makes : goal.returns-clause-makes
 returns-clause-makes g c clean =
@@ -24,7 +24,7 @@ returns-clause-makes g c clean =
     let second = clean_before _ _ _ c.put.ensures.frame.survives third in
     let made = c.in_ok-one.ensures.makes second in
     let free = ((c.requires (clean_before _ _ _ c.one.ensures.frame.survives second)).free made.was_open).0 in
-    on_ok c.put-2.result _ _ (λ last. meta_made c.args.store_dir.now _ _ _ _ free made (c.in_ok-put.ensures.puts third) last) (c.put-2.ensures.puts clean)
+    on_ok c.put-2.result _ _ (λ last. meta_made c.args.store_dir.now _ _ _ _ free made (rw c.text.ensures at c.in_ok-put.ensures.puts third) last) (c.put-2.ensures.puts clean)
 
 pub returns-in_err-put-clause-cause : goal.returns-in_err-put-clause-cause
 returns-in_err-put-clause-cause g c clean =
@@ -33,7 +33,7 @@ returns-in_err-put-clause-cause g c clean =
     let under = c.requires (clean_before _ _ _ c.one.ensures.frame.survives second) in
     passed_on c.from_residual-in_err-put.result _ _ c.from_residual-in_err-put.ensures.1
     (first_fails _ (under.free made.was_open).0 (under.sound made.was_open) _ made c.one.ensures.frame.survives.counts c.one.ensures.frame.survives.limit c.args.store_dir.now
-    (state g.S.Store c.put.new.tx.conn.now) _ (c.in_err-put.ensures.cause clean))
+    (state g.S.Store c.put.new.tx.conn.now) _ (rw c.text.ensures at c.in_err-put.ensures.cause clean))
 
 pub returns-clause-cause : goal.returns-clause-cause
 returns-clause-cause g c clean =
@@ -43,7 +43,7 @@ returns-clause-cause g c clean =
     let under = c.requires (clean_before _ _ _ c.one.ensures.frame.survives second) in
     err_with c.put-2.result _ _
     (second_fails _ (under.free made.was_open).0 (under.sound made.was_open) _ made c.one.ensures.frame.survives.counts c.one.ensures.frame.survives.limit c.args.store_dir.now _ (state g.S.Store c.put-2.new.tx.conn.now)
-    (c.in_ok-put.ensures.puts third) c.put.ensures.frame.survives.counts c.put.ensures.frame.survives.limit) (c.put-2.ensures.cause clean)
+    (rw c.text.ensures at c.in_ok-put.ensures.puts third) c.put.ensures.frame.survives.counts c.put.ensures.frame.survives.limit) (c.put-2.ensures.cause clean)
 
 pub returns-in_err-put-clause-frame : goal.returns-in_err-put-clause-frame
 returns-in_err-put-clause-frame g c = both_keep g.S.Store c.args.tx.now.conn c.one.new.tx.conn c.put.new.tx.conn c.one.ensures.frame c.put.ensures.frame

@@ -11,7 +11,7 @@ use Rattle.tables_sql.proofs.TestFailures.{passed_on}
 use Rattle.tables_make.specs.Further.{grown}
 use Rattle.tables_schema.specs.declared.schema.Schema.TheVariants.{V1}
 use Rattle.tables_make.specs.Cutting.{cut_objects, renumbered}
-use Rattle.tables_make.specs.Migrated.{lacking, IsGrown}
+use Rattle.tables_make.specs.Migrated.{missing_tables, IsGrown}
 use Rattle.tables_make.specs.Migrating.{FailsToMigrate}
 use Rattle.tables_make.proofs.MigratingFailures.{migrating_begun, migrating_commit, migrating_later}
 use Rattle.tables_make.proofs.Reasons.{as_reason}
@@ -31,9 +31,9 @@ returns-clause-done g c =
     let mid = state g.S.Store c.write_first.new.tx.conn.now in
     let f : Contents → Contents = λ x. renumbered (cut_objects (map string_bytes c.args.bases.now) x) in
     let same : c.commit.new.tx.0 ≡ c.conn-2-1.given.0 = search rules in
-    subst (λ h. HasCleanDisk (state g.S.Store h) → OnOk c.commit.result (IsGrown (lacking V1) (f (contents_of old.now)) old (state g.S.Store h))) same (λ clean.
+    subst (λ h. HasCleanDisk (state g.S.Store h) → OnOk c.commit.result (IsGrown (missing_tables V1) (f (contents_of old.now)) old (state g.S.Store h))) same (λ clean.
     on_done c.commit.result _ _ (λ committed.
-    grown_whole g.S.Store c.args.conn.now c.begin-tx.result.conn.now (lacking V1) f mid (state g.S.Store c.commit.new.tx.0) c.begin-tx.ensures.begun (c.in_ok-write_first.ensures.done (clean_before mid (state g.S.Store c.commit.new.tx.0) _ c.commit.ensures.survives clean)) committed)
+    grown_whole g.S.Store c.args.conn.now c.begin-tx.result.conn.now (missing_tables V1) f mid (state g.S.Store c.commit.new.tx.0) c.begin-tx.ensures.begun (c.in_ok-write_first.ensures.done (clean_before mid (state g.S.Store c.commit.new.tx.0) _ c.commit.ensures.survives clean)) committed)
     (c.commit.ensures.done clean))
 
 pub returns-clause-survives : goal.returns-clause-survives
@@ -41,8 +41,8 @@ returns-clause-survives g c =
     let old = state g.S.Store c.args.conn.now in
     let f : Contents → Contents = λ x. renumbered (cut_objects (map string_bytes c.args.bases.now) x) in
     let same : c.commit.new.tx.0 ≡ c.conn-2-1.given.0 = search rules in
-    subst (λ h. Survives old (state g.S.Store h) (λ db. Leaves (grown (lacking V1) old.now) db (f (contents_of old.now)))) same
-    (survives_whole g.S.Store c.args.conn.now c.begin-tx.result.conn.now (lacking V1) both_named f (state g.S.Store c.write_first.new.tx.conn.now) (state g.S.Store c.commit.new.tx.0)
+    subst (λ h. Survives old (state g.S.Store h) (λ db. Leaves (grown (missing_tables V1) old.now) db (f (contents_of old.now)))) same
+    (survives_whole g.S.Store c.args.conn.now c.begin-tx.result.conn.now (missing_tables V1) both_named f (state g.S.Store c.write_first.new.tx.conn.now) (state g.S.Store c.commit.new.tx.0)
     c.begin-tx.ensures.begun c.in_ok-write_first.ensures.done c.write_first.ensures.survives c.commit.ensures.leaves)
 
 pub returns-clause-failed : goal.returns-clause-failed

@@ -16,7 +16,7 @@ use Rattle.tables_schema.specs.declared.schema.Schema.TheVariants.{V1}
 use Rattle.tables_world.specs.Worlds.{IsSoundBy}
 use Rattle.model.specs.World.{Path}
 use Rattle.tables_make.specs.Cutting.{cut_objects, renumbered}
-use Rattle.tables_make.specs.Migrated.{lacking, migrated_contents, LeavesMigrated}
+use Rattle.tables_make.specs.Migrated.{missing_tables, migrated_contents, LeavesMigrated}
 use Rattle.tables_make.proofs.Grown.{grown_as, grown_from, on_done, shown_err}
 use Rattle.tables_make.proofs.Rewritten.{first_written}
 use Rattle.tables_make.proofs.migrating.from_first.Goals as goal
@@ -40,7 +40,7 @@ returns-clause-done g c clean =
     let d = state g.S.Store c.commit_first.new.conn in
     let reads = c.in_ok-bases.ensures.reads (clean_before b d _ c.commit_first.ensures.survives clean) in
     let names = ap (map string_bytes) c.deref.ensures.value ∙ reads.1 in
-    on_done c.commit_first.result _ _ (λ done dir sound. grown_as (lacking V1) _ _ a d (written a.now b.now (map string_bytes c.deref.result.now) dir reads.0.0.now_is names sound) (grown_from (lacking V1) _ a b d reads.0 done)) (c.commit_first.ensures.done clean)
+    on_done c.commit_first.result _ _ (λ done dir sound. grown_as (missing_tables V1) _ _ a d (written a.now b.now (map string_bytes c.deref.result.now) dir reads.0.0.now_is names sound) (grown_from (missing_tables V1) _ a b d reads.0 done)) (c.commit_first.ensures.done clean)
 
 pub returns-clause-failed : goal.returns-clause-failed
 returns-clause-failed g c clean =
@@ -54,13 +54,13 @@ returns-clause-survives g c =
     let a = state g.S.Store c.args.conn.now in
     let b = state g.S.Store c.keys.new.conn in
     let d = state g.S.Store c.commit_first.new.conn in
-    let was : Trees → Type 0 = λ db. Leaves (grown (lacking V1) b.now) db (renumbered (cut_objects (map string_bytes c.deref.result.now) (contents_of b.now))) in
+    let was : Trees → Type 0 = λ db. Leaves (grown (missing_tables V1) b.now) db (renumbered (cut_objects (map string_bytes c.deref.result.now) (contents_of b.now))) in
     let after : Trees → Type 0 = λ db. (dir : List ℕ) → IsSoundBy V1 dir (contents_of a.now) → LeavesMigrated V1 dir a.now db in
     survives_then a b d (λ _. ⊥) was after (λ clean db none. absurd none) (λ clean db l dir sound.
     let reads = c.in_ok-bases.ensures.reads (clean_before b d _ c.commit_first.ensures.survives clean) in
     let names = ap (map string_bytes) c.deref.ensures.value ∙ reads.1 in
-    subst (λ (x : Contents). Leaves (grown (lacking V1) a.now) db x) (written a.now b.now (map string_bytes c.deref.result.now) dir reads.0.0.now_is names sound)
-    (subst (λ (x : Database). Leaves (grown (lacking V1) x) db (renumbered (cut_objects (map string_bytes c.deref.result.now) (contents_of b.now)))) reads.0.0.now_is l))
+    subst (λ (x : Contents). Leaves (grown (missing_tables V1) a.now) db x) (written a.now b.now (map string_bytes c.deref.result.now) dir reads.0.0.now_is names sound)
+    (subst (λ (x : Database). Leaves (grown (missing_tables V1) x) db (renumbered (cut_objects (map string_bytes c.deref.result.now) (contents_of b.now)))) reads.0.0.now_is l))
     c.keys.ensures.frame.survives c.commit_first.ensures.survives
 
 pub returns-in_err-bases-clause-cause : goal.returns-in_err-bases-clause-cause

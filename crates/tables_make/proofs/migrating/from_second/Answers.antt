@@ -14,7 +14,7 @@ use Rattle.tables_make.specs.Further.{grown}
 use Rattle.tables_schema.specs.declared.schema.Schema.TheVariants.{V2}
 use Rattle.tables_world.specs.Worlds.{IsSoundBy}
 use Rattle.tables_make.specs.Cutting.{renumbered}
-use Rattle.tables_make.specs.Migrated.{lacking, IsMigrated, LeavesMigrated}
+use Rattle.tables_make.specs.Migrated.{missing_tables, IsMigrated, LeavesMigrated}
 use Rattle.tables_make.specs.Migrating.{FailsToMigrate}
 use Rattle.tables_make.proofs.MigratingFailures.{migrating_begun, migrating_commit}
 use Rattle.tables_make.proofs.Reasons.{as_reason}
@@ -40,8 +40,8 @@ returns-clause-done g c =
     let same : c.commit.new.tx.0 ≡ c.conn-2-1.given.0 = search rules in
     subst (λ h. HasCleanDisk (state g.S.Store h) → OnOk c.commit.result ((dir : List ℕ) → IsSoundBy V2 dir (contents_of old.now) → IsMigrated V2 dir old (state g.S.Store h))) same (λ clean.
     on_done c.commit.result _ _ (λ committed dir sound.
-    grown_as (lacking V2) _ _ old new (second_written dir (contents_of old.now) sound)
-    (grown_whole g.S.Store c.args.conn.now c.begin-tx.result.conn.now (lacking V2) renumbered mid new c.begin-tx.ensures.begun (c.in_ok-write_second.ensures.done (clean_before mid new _ c.commit.ensures.survives clean)) committed))
+    grown_as (missing_tables V2) _ _ old new (second_written dir (contents_of old.now) sound)
+    (grown_whole g.S.Store c.args.conn.now c.begin-tx.result.conn.now (missing_tables V2) renumbered mid new c.begin-tx.ensures.begun (c.in_ok-write_second.ensures.done (clean_before mid new _ c.commit.ensures.survives clean)) committed))
     (c.commit.ensures.done clean))
 
 pub returns-clause-survives : goal.returns-clause-survives
@@ -51,8 +51,8 @@ returns-clause-survives g c =
     let same : c.commit.new.tx.0 ≡ c.conn-2-1.given.0 = search rules in
     let After : Trees → Type 0 = λ db. (dir : List ℕ) → IsSoundBy V2 dir (contents_of old.now) → LeavesMigrated V2 dir old.now db in
     subst (λ h. Survives old (state g.S.Store h) After) same
-    (survives_weaker old new (λ db. Leaves (grown (lacking V2) old.now) db (renumbered (contents_of old.now))) After (λ clean db l dir sound. subst (λ (x : Contents). Leaves (grown (lacking V2) old.now) db x) (second_written dir (contents_of old.now) sound) l)
-    (survives_whole g.S.Store c.args.conn.now c.begin-tx.result.conn.now (lacking V2) last_named renumbered (state g.S.Store c.write_second.new.tx.conn.now) new
+    (survives_weaker old new (λ db. Leaves (grown (missing_tables V2) old.now) db (renumbered (contents_of old.now))) After (λ clean db l dir sound. subst (λ (x : Contents). Leaves (grown (missing_tables V2) old.now) db x) (second_written dir (contents_of old.now) sound) l)
+    (survives_whole g.S.Store c.args.conn.now c.begin-tx.result.conn.now (missing_tables V2) last_named renumbered (state g.S.Store c.write_second.new.tx.conn.now) new
     c.begin-tx.ensures.begun c.in_ok-write_second.ensures.done c.write_second.ensures.survives c.commit.ensures.leaves))
 
 pub returns-clause-failed : goal.returns-clause-failed

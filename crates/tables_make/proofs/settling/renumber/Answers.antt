@@ -1,6 +1,8 @@
 use Rattle.std.proofs.Common.{ap, codes, refl, ◌∙◌}
 use Rattle.std.specs.FinMap as finite
 use Rattle.sqlite.specs.Held.{state}
+use Rattle.tables_schema.specs.declared.schema.Schema.TheVariants.{V3}
+use Rattle.tables_schema.specs.Schemas.{schema_text}
 use Rattle.tables_sql.specs.Contents.{Contents}
 use Rattle.tables_sql.proofs.Orders.{texts_total, texts_antisymmetric}
 use Rattle.tables_sql.proofs.Steps.{clean_before}
@@ -8,14 +10,14 @@ use Rattle.tables_sql.proofs.TestFailures.{passed_on}
 use Rattle.tables_sql.proofs.Transactions.{done_both}
 use Rattle.tables_make.proofs.Reasons.{as_reason, is_none, next_reason, put_reason, removal_reason}
 use Rattle.tables_make.proofs.Steps.{put_over}
-use Rattle.tables_make.proofs.Uncut.{gone}
+use Rattle.tables_make.proofs.Uncut.{deleted}
 use Rattle.tables_make.proofs.Inside.{done_stays}
 use Rattle.tables_make.proofs.settling.renumber.Goals as goal
 
 pub returns-clause-done : goal.returns-clause-done
 returns-clause-done g c =
     done_both (state g.S.Store c.args.tx.now.conn.now) (state g.S.Store c.delete.new.tx.conn.now) (state g.S.Store c.insert.new.tx.conn.now) _ _ c.in_ok-delete.ensures.done c.insert.ensures.frame.survives
-    c.insert.result _ (λ (x : Contents). ap (λ m. record x { meta = m }) (put_over texts_total texts_antisymmetric x.meta (codes "schema") (codes "3"))) c.insert.ensures.done
+    c.insert.result _ (λ (x : Contents). ap (λ m. record x { meta = m }) (put_over texts_total texts_antisymmetric x.meta (codes "schema") (schema_text V3))) (rw c.text.ensures at c.insert.ensures.done)
 
 pub returns-in_err-delete-clause-cause : goal.returns-in_err-delete-clause-cause
 returns-in_err-delete-clause-cause g c clean =
@@ -29,7 +31,7 @@ returns-clause-cause g c clean =
     let d = state g.S.Store c.insert.new.tx.conn.now in
     let done = c.in_ok-delete.ensures.done (clean_before b d _ c.insert.ensures.frame.survives clean) in
     as_reason _ _ (λ e h. next_reason _ a b d _ done c.delete.ensures.frame.survives e
-    (put_reason _ b d _ _ _ (refl, refl) (is_none _ (ap (λ (x : Contents). finite.get x.meta (codes "schema")) done.contents ∙ gone texts_total texts_antisymmetric _ (codes "schema"))) e h)) c.insert.result (c.insert.ensures.cause clean)
+    (put_reason _ b d _ _ _ (refl, refl) (is_none _ (ap (λ (x : Contents). finite.get x.meta (codes "schema")) done.contents ∙ deleted texts_total texts_antisymmetric _ (codes "schema"))) e h)) c.insert.result (rw c.text.ensures at c.insert.ensures.cause clean)
 
 pub returns-clause-frame : goal.returns-clause-frame
 returns-clause-frame g c =

@@ -1,10 +1,10 @@
 use Rattle.std.specs.Prelude.{◌≡◌, ◌+◌, drop, length}
-use Rattle.tables_objects.specs.Cut.{goes_on, parts_of}
+use Rattle.tables_objects.specs.Cut.{continues, parts_of}
 use Rattle.tables_objects.proofs.cutting.go_on.Given as goal
 
 -- what is left decides
 abbrev pub invariant-pieces : goal.invariant-pieces
 invariant-pieces l = record {
   number : l.number ≡ l.piece-index + 1;
-  decides : goes_on l.size l.number (parts_of (drop l.piece-index l.pieces)) ≡ goes_on (length l.row) 1 (parts_of l.pieces);
+  decides : continues l.size l.number (parts_of (drop l.piece-index l.pieces)) ≡ continues (length l.row) 1 (parts_of l.pieces);
 }

@@ -17,7 +17,7 @@ use Rattle.tables_objects.proofs.AllTests.{rows_of_all, cut_of_all, all_of_rows,
 use Rattle.tables_objects.proofs.loading.load_objects.Goals as goal
 
 pub load_all-requires-clause-frame : goal.load_all-requires-clause-frame
-load_all-requires-clause-frame g c = record { alone = c.read_joined.ensures.frame.alone; ready = c.read_joined.ensures.frame.ready }
+load_all-requires-clause-frame g c = record { idle = c.read_joined.ensures.frame.idle; ready = c.read_joined.ensures.frame.ready }
 
 pub load_all-requires-clause-joined : goal.load_all-requires-clause-joined
 load_all-requires-clause-joined g c clean =

@@ -17,7 +17,7 @@ load_each-requires g c =
     let s0 = state g.S.Store c.args.conn.now in
     let s1 = state g.S.Store c.keys.new.conn in
     record {
-      frame = record { alone = c.keys.ensures.frame.alone; ready = c.keys.ensures.frame.ready };
+      frame = record { idle = c.keys.ensures.frame.idle; ready = c.keys.ensures.frame.ready };
       opened = λ clean. (c.in_ok-bases.ensures.reads clean).0.0.is_open;
       pieces = pieces_after c.args.schema c.args.conn.now c.keys.new.conn c.keys.ensures.frame (λ late. (c.in_ok-bases.ensures.reads late).0) c.requires.pieces;
       joined = λ clean. joined_still s0 s1 c.args.joined.now (c.in_ok-bases.ensures.reads clean).0.0.now_is (c.requires.joined (clean_before s0 s1 (λ _. ⊥) c.keys.ensures.frame.survives clean));

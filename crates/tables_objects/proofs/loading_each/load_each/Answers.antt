@@ -85,7 +85,7 @@ returns-clause-loaded g c clean ok =
     makes_all (contents_of first.now) c.args.outline.now (map string_bytes c.args.bases.now) (drop c.bases.base-index c.args.bases.now) c.bases.outline (drop_of_length-le c.args.bases.now c.bases-test.false) (c.bases.invariant.makes clean)
 
 pub load_object-requires-clause-frame : goal.load_object-requires-clause-frame
-load_object-requires-clause-frame g c = record { alone = c.bases.invariant.frame.alone; ready = c.bases.invariant.frame.ready }
+load_object-requires-clause-frame g c = record { idle = c.bases.invariant.frame.idle; ready = c.bases.invariant.frame.ready }
 
 pub load_object-requires-clause-pieces : goal.load_object-requires-clause-pieces
 load_object-requires-clause-pieces g c = pieces_after c.args.schema c.args.conn.now c.bases.conn c.bases.invariant.frame c.bases.invariant.unchanged c.requires.pieces

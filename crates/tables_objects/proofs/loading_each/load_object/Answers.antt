@@ -12,9 +12,9 @@ use Rattle.tables_rows.proofs.Several.{memory_failed, several_failed, finds_alon
 use Rattle.tables_objects.specs.Rising.{Rises}
 use Rattle.tables_objects.specs.Rows.{AreRowsOf, AreRowsAt}
 use Rattle.tables_objects.specs.Loaded.{Objects}
-use Rattle.tables_objects.proofs.Columns.{targets_taken, named_taken}
+use Rattle.tables_objects.proofs.Columns.{targets_used, named_used}
 use Rattle.tables_objects.proofs.ReadRows.{clean_before}
-use Rattle.tables_objects.proofs.Takes.{told_one, put_is}
+use Rattle.tables_objects.proofs.Takes.{reported_one, put_is}
 use Rattle.tables_objects.proofs.loading_each.load_object.Goals as goal
 
 pub rows_at-requires-clause-listed : goal.rows_at-requires-clause-listed
@@ -30,11 +30,11 @@ returns-clause-reported g c clean =
     let all = c.requires.joined (clean_before s0 s1 (λ _. ⊥) c.rows_at.ensures.frame.survives clean) in
     let refs = c.group-references.result.now in
     let outs = c.group-outputs.result.now in
-    let refs_are = targets_taken x p c.args.joined.now.references.items refs all.references
+    let refs_are = targets_used x p c.args.joined.now.references.items refs all.references
     (subst (λ (l : List Reference). Rises (map (λ (r : Reference). string_bytes r.base) l) → refs ≡ filter (λ (r : Reference). eq_by_cmp bytes_cmp p (string_bytes r.base)) l) c.deref-2.ensures.value c.group-references.ensures) in
-    let outs_are = named_taken x p c.args.joined.now.outputs.items outs all.outputs
+    let outs_are = named_used x p c.args.joined.now.outputs.items outs all.outputs
     (subst (λ (l : List Output). Rises (map (λ (r : Output). string_bytes r.base) l) → outs ≡ filter (λ (r : Output). eq_by_cmp bytes_cmp p (string_bytes r.base)) l) c.deref-3.ensures.value c.group-outputs.ensures) in
-    told_one c.args.schema c.args.dir.now x p c.in-Some.rows rows refs outs refs_are outs_are c.in_ok-load_rows.field-0 c.in_ok-load_rows.ensures.reported
+    reported_one c.args.schema c.args.dir.now x p c.in-Some.rows rows refs outs refs_are outs_are c.in_ok-load_rows.field-0 c.in_ok-load_rows.ensures.reported
 
 pub returns-clause-loaded : goal.returns-clause-loaded
 returns-clause-loaded g c clean ok =
@@ -46,9 +46,9 @@ returns-clause-loaded g c clean ok =
     let all = c.requires.joined (clean_before s0 s1 (λ _. ⊥) c.rows_at.ensures.frame.survives clean) in
     let refs = c.group-references.result.now in
     let outs = c.group-outputs.result.now in
-    let refs_are = targets_taken x p c.args.joined.now.references.items refs all.references
+    let refs_are = targets_used x p c.args.joined.now.references.items refs all.references
     (subst (λ (l : List Reference). Rises (map (λ (r : Reference). string_bytes r.base) l) → refs ≡ filter (λ (r : Reference). eq_by_cmp bytes_cmp p (string_bytes r.base)) l) c.deref-2.ensures.value c.group-references.ensures) in
-    let outs_are = named_taken x p c.args.joined.now.outputs.items outs all.outputs
+    let outs_are = named_used x p c.args.joined.now.outputs.items outs all.outputs
     (subst (λ (l : List Output). Rises (map (λ (r : Output). string_bytes r.base) l) → outs ≡ filter (λ (r : Output). eq_by_cmp bytes_cmp p (string_bytes r.base)) l) c.deref-3.ensures.value c.group-outputs.ensures) in
     let old : OutlineValue = c.args.outline.now in
     c.in_ok-load_rows.ensures.loaded ok ∙ ap (λ (m : Objects). record old { objects = m }) (put_is c.args.schema c.args.dir.now x p c.in-Some.rows rows refs outs refs_are outs_are old.objects (c.in_ok-load_rows.ensures.reported.0 ok))

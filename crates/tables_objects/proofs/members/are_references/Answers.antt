@@ -3,13 +3,13 @@ use Rattle.std.specs.List.{list_all}
 use Rattle.std.proofs.lemmas.Option.{same_Some}
 use Rattle.tables_sql.proofs.Truths.{and_so}
 use Rattle.tables_sql.specs.Entries.{reference_of}
-use Rattle.tables_objects.specs.Known.{is_known, is_known_reference, lent}
+use Rattle.tables_objects.specs.Known.{is_known, is_known_reference, borrowed}
 use Rattle.tables_objects.proofs.Each.{left_at}
 use Rattle.tables_objects.proofs.members.are_references.Goals as goal
 
 pub rows-preserved : goal.rows-preserved
 rows-preserved c =
-    let paths = lent c.args.paths.now in
+    let paths = borrowed c.args.paths.now in
     let row = c.row-item.result in
     let rest = drop (c.rows.row-index + 1) c.args.rows.now in
     let split = left_at c.args.rows.now c.rows.row-index row c.rows-test.true c.row-item.is in

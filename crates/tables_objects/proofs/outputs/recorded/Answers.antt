@@ -18,5 +18,5 @@ returns c = λ tree is.
     let it = found_some c.args.dir.now c.args.path.now tree c.in_ok-found.field-0 c.in-Some.found c.in-Some.is (c.in_ok-found.ensures tree is) in (
       it.0,
       rows_are (named_of c.args.rows.now) c.in-Some.found.entries m c.len-count.ensures.ordered it.1 (sym c.are_recorded.ensures ∙ c.if-not-are_recorded.false),
-      subst (IsListed (map string_bytes c.in_ok-apart.field-0.names.items) c.in_ok-apart.field-0.paths.items) it.1 c.in_ok-apart.ensures,
+      subst (IsListed (map string_bytes c.in_ok-unzipped.field-0.names.items) c.in_ok-unzipped.field-0.paths.items) it.1 c.in_ok-unzipped.ensures,
     )

@@ -7,7 +7,7 @@ use Rattle.tables_sql.proofs.Steps.{clean_before}
 pub returns-in-Ok-inspect-clause-opened : goal.returns-in-Ok-inspect-clause-opened
 returns-in-Ok-inspect-clause-opened g c =
     let now = c.in-Ok-inspect.ensures in
-    (c.in-Ok.conn, record { opened = c.in-Ok.ensures.opened; alone = now.alone; same = now.same; survives = now.survives })
+    (c.in-Ok.conn, record { opened = c.in-Ok.ensures.opened; idle = now.idle; same = now.same; survives = now.survives })
 
 pub returns-in-Ok-inspect-clause-held : goal.returns-in-Ok-inspect-clause-held
 returns-in-Ok-inspect-clause-held g c clean =
@@ -22,7 +22,7 @@ returns-in-Ok-inspect-clause-guarded g c clean =
 pub returns-in-Err-inspect-clause-cause : goal.returns-in-Err-inspect-clause-cause
 returns-in-Err-inspect-clause-cause g c =
     let now = c.in-Err-inspect.ensures in
-    (c.in-Ok.conn, record { opened = c.in-Ok.ensures.opened; alone = now.alone; same = now.same; survives = now.survives }, now.cause)
+    (c.in-Ok.conn, record { opened = c.in-Ok.ensures.opened; idle = now.idle; same = now.same; survives = now.survives }, now.cause)
 
 pub returns-in-Err-clause-cause : goal.returns-in-Err-clause-cause
 returns-in-Err-clause-cause g c = (c.in-Err.error, c.opening_failure.ensures, c.in-Err.ensures.cause)

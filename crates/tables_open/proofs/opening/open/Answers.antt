@@ -21,3 +21,10 @@ returns-in_ok-probe-in_default-clause-found g c clean =
     let same = c.in_ok-probe-in_default.ensures.unchanged clean in
     let found = c.recognise.ensures in
     found_none c.recognise.result old new (record { nothing = found.nothing; first = found.first; second = found.second; third = found.third }) same (c.is_autocommit-settled.ensures.settled c.if-prove.false same.0.was_open) c.in_default.not-Tables
+
+pub inspect_tables-requires-clause-frame : goal.inspect_tables-requires-clause-frame
+inspect_tables-requires-clause-frame g c = record {
+  idle = c.requires.idle;
+  settled = λ clean. c.is_autocommit-settled.ensures.settled c.if-prove.false;
+  sound = λ clean up. (c.recognise.ensures.live up).0;
+}

@@ -7,7 +7,7 @@ use Rattle.tables_open.proofs.testing.all.Given as goal
 
 abbrev pub invariant-tables : goal.invariant-tables
 invariant-tables g l = record {
-  alone : l.conn.in_transaction ≡ false;
+  idle : l.conn.in_transaction ≡ false;
   tested : HasCleanDisk (state g.S.Store l.conn) → AreTested HasOwnRowids HasReadableTexts l.tables (state g.S.Store l.fn.conn) l.table-index (state g.S.Store l.conn) l.readable;
   survives : Survives (state g.S.Store l.fn.conn) (state g.S.Store l.conn) (λ _. ⊥);
 }

@@ -14,7 +14,7 @@ use Rattle.tables_rows.proofs.Several.{several_failed, reads_done, reads_then}
 use Rattle.tables_roots.proofs.profiles.read.Goals as goal
 
 pub load_table-requires-2-clause-frame : goal.load_table-requires-2-clause-frame
-load_table-requires-2-clause-frame g c = record { alone = c.load_table.ensures.read.frame.alone; ready = c.load_table.ensures.read.frame.ready }
+load_table-requires-2-clause-frame g c = record { idle = c.load_table.ensures.read.frame.idle; ready = c.load_table.ensures.read.frame.ready }
 
 pub load_table-requires-2-clause-fits : goal.load_table-requires-2-clause-fits
 load_table-requires-2-clause-fits g c clean =

@@ -5,12 +5,12 @@ use Rattle.tables_sql.specs.Contents.{contents_of}
 use Rattle.tables_world.specs.Worlds.{world_in}
 use Rattle.tables_outline.specs.Outline.{OutlineValue}
 use Rattle.tables_roots.specs.Loaded.{are_moving}
-use Rattle.tables_roots.proofs.TwoReads.{taken_next, roots_unsound, roots_told_next}
+use Rattle.tables_roots.proofs.TwoReads.{read_next, roots_unsound, roots_reported_next}
 use Rattle.tables_rows.proofs.Several.{several_failed, reads_done, reads_then}
 use Rattle.tables_roots.proofs.roots.load_explicit.Goals as goal
 
 pub load_moving-requires-clause-frame : goal.load_moving-requires-clause-frame
-load_moving-requires-clause-frame g c = record { alone = c.load_fixed.ensures.read.frame.alone; ready = c.load_fixed.ensures.read.frame.ready }
+load_moving-requires-clause-frame g c = record { idle = c.load_fixed.ensures.read.frame.idle; ready = c.load_fixed.ensures.read.frame.ready }
 
 pub load_moving-requires-clause-profiles : goal.load_moving-requires-clause-profiles
 load_moving-requires-clause-profiles g c clean =
@@ -33,7 +33,7 @@ returns-clause-reported g c clean =
     let middle : HasCleanDisk b = omega (arith, c.load_moving.ensures.read.frame.survives.clean) in
     let same = (c.in_ok-load_fixed.ensures.read.unchanged middle).0.now_is in
     let outline = c.in_ok-load_fixed.ensures.loaded middle c.if-not-branch.false in
-    roots_told_next c.args.outline.now.objects (contents_of a.now) c.load_moving.result (sym (c.in_ok-load_fixed.ensures.reported middle) ∙ c.if-not-branch.false) _
+    roots_reported_next c.args.outline.now.objects (contents_of a.now) c.load_moving.result (sym (c.in_ok-load_fixed.ensures.reported middle) ∙ c.if-not-branch.false) _
     (λ i. are_moving (outline i).objects (contents_of (same i))) (c.load_moving.ensures.reported clean)
 
 pub returns-clause-loaded : goal.returns-clause-loaded
@@ -43,7 +43,7 @@ returns-clause-loaded g c clean =
     let middle : HasCleanDisk b = omega (arith, c.load_moving.ensures.read.frame.survives.clean) in
     let same = (c.in_ok-load_fixed.ensures.read.unchanged middle).0.now_is in
     let outline = c.in_ok-load_fixed.ensures.loaded middle c.if-not-branch.false in
-    taken_next c.load_moving.result c.load_moving.new.outline _ _
+    read_next c.load_moving.result c.load_moving.new.outline _ _
     (λ i. record (outline i) { profiles = (world_in (contents_of (same i))).profiles; runtime = (contents_of (same i)).runtime }) (c.load_moving.ensures.loaded clean)
 
 pub returns-in_err-load_fixed-clause-read : goal.returns-in_err-load_fixed-clause-read

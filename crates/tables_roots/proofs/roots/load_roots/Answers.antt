@@ -8,14 +8,14 @@ use Rattle.tables_sql.specs.Contents.{contents_of}
 use Rattle.tables_world.specs.Worlds.{world_in}
 use Rattle.tables_outline.specs.Outline.{OutlineValue}
 use Rattle.tables_roots.specs.Loaded.{with_explicit, are_temporary}
-use Rattle.tables_roots.proofs.TwoReads.{taken_next}
+use Rattle.tables_roots.proofs.TwoReads.{read_next}
 use Rattle.tables_roots.proofs.Sessions.{none_kept}
-use Rattle.tables_roots.proofs.AllReads.{all_unsound, all_lasting, sessions_told}
+use Rattle.tables_roots.proofs.AllReads.{all_unsound, all_read, sessions_reported}
 use Rattle.tables_rows.proofs.Several.{several_failed, reads_done, reads_then}
 use Rattle.tables_roots.proofs.roots.load_roots.Goals as goal
 
 pub load_table-requires-clause-frame : goal.load_table-requires-clause-frame
-load_table-requires-clause-frame g c = record { alone = c.load_explicit.ensures.read.frame.alone; ready = c.load_explicit.ensures.read.frame.ready }
+load_table-requires-clause-frame g c = record { idle = c.load_explicit.ensures.read.frame.idle; ready = c.load_explicit.ensures.read.frame.ready }
 
 pub load_table-requires-clause-exists : goal.load_table-requires-clause-exists
 load_table-requires-clause-exists g c clean is_open =
@@ -36,7 +36,7 @@ pub returns-then-not-has_temporary-clause-reported : goal.returns-then-not-has_t
 returns-then-not-has_temporary-clause-reported g c clean =
     let early : HasCleanDisk (state g.S.Store c.args.conn.now) = omega (arith, c.load_explicit.ensures.read.frame.survives.clean) in
     let none = c.requires.no_table early (sym c.has_temporary.ensures ∙ c.if-not-has_temporary.true) (c.in_ok-load_explicit.ensures.read.unchanged clean).0.was_open in
-    all_lasting c.args.outline.now.objects (contents_of (state g.S.Store c.args.conn.now).now) c.in_ok-load_explicit.field-0 c.if-not-branch.false none (c.in_ok-load_explicit.ensures.reported clean)
+    all_read c.args.outline.now.objects (contents_of (state g.S.Store c.args.conn.now).now) c.in_ok-load_explicit.field-0 c.if-not-branch.false none (c.in_ok-load_explicit.ensures.reported clean)
 
 pub returns-then-not-has_temporary-clause-loaded : goal.returns-then-not-has_temporary-clause-loaded
 returns-then-not-has_temporary-clause-loaded g c clean ok =
@@ -54,7 +54,7 @@ returns-clause-reported g c clean =
     let middle : HasCleanDisk b = omega (arith, c.load_table.ensures.read.frame.survives.clean) in
     let same = (c.in_ok-load_explicit.ensures.read.unchanged middle).0.now_is in
     let outline = c.in_ok-load_explicit.ensures.loaded middle c.if-not-branch.false in
-    sessions_told c.args.outline.now.objects (contents_of a.now) c.load_table.result c.in_ok-load_explicit.field-0 c.if-not-branch.false (c.in_ok-load_explicit.ensures.reported middle) _
+    sessions_reported c.args.outline.now.objects (contents_of a.now) c.load_table.result c.in_ok-load_explicit.field-0 c.if-not-branch.false (c.in_ok-load_explicit.ensures.reported middle) _
     (λ i. are_temporary (outline i).objects (contents_of (same i))) (c.load_table.ensures.reported clean)
 
 pub returns-clause-loaded : goal.returns-clause-loaded
@@ -64,7 +64,7 @@ returns-clause-loaded g c clean =
     let middle : HasCleanDisk b = omega (arith, c.load_table.ensures.read.frame.survives.clean) in
     let same = (c.in_ok-load_explicit.ensures.read.unchanged middle).0.now_is in
     let outline = c.in_ok-load_explicit.ensures.loaded middle c.if-not-branch.false in
-    taken_next c.load_table.result c.load_table.new.outline _ _ (λ i. record (outline i) { temporary = (world_in (contents_of (same i))).temporary }) (c.load_table.ensures.loaded clean)
+    read_next c.load_table.result c.load_table.new.outline _ _ (λ i. record (outline i) { temporary = (world_in (contents_of (same i))).temporary }) (c.load_table.ensures.loaded clean)
 
 pub returns-in_err-load_explicit-clause-read : goal.returns-in_err-load_explicit-clause-read
 returns-in_err-load_explicit-clause-read g c = several_failed _ _ c.from_residual.result _ c.from_residual.ensures.1 c.load_explicit.ensures.read.frame c.in_err-load_explicit.ensures.read.cause

@@ -3,7 +3,7 @@ use Rattle.tables_rows.proofs.reading.select.Goals as goal
 
 pub returns-clause-frame : goal.returns-clause-frame
 returns-clause-frame g c = record {
-  alone = c.select.ensures.alone c.requires.frame.alone;
+  idle = c.select.ensures.idle c.requires.frame.idle;
   same = shows_same c.select.ensures.survives c.requires.frame.ready c.select.ensures.same;
   ready = still_ready c.select.ensures.survives c.requires.frame.ready c.select.ensures.same;
   survives = c.select.ensures.survives;

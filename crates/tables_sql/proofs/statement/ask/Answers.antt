@@ -9,14 +9,14 @@ returns-in-Err-clause-same g c clean = on_ok c.unless_stopped.result _ _ (λ sto
 pub returns-in-Err-clause-cause : goal.returns-in-Err-clause-cause
 returns-in-Err-clause-cause g c clean = err_with c.unless_stopped.result _ _ (λ f is. ask_failed _ _ _ f is (c.in-Err.ensures.err clean)) c.unless_stopped.ensures.failed
 
-pub returns-in-Err-clause-kept : goal.returns-in-Err-clause-kept
-returns-in-Err-clause-kept g c clean = failed_keeps _ _ _ _ _ (c.in-Err.ensures.err clean)
+pub returns-in-Err-clause-clean_disk : goal.returns-in-Err-clause-clean_disk
+returns-in-Err-clause-clean_disk g c clean = failed_keeps _ _ _ _ _ (c.in-Err.ensures.err clean)
 
 pub returns-clause-same : goal.returns-clause-same
 returns-clause-same g c clean = ask_same (state g.S.Store c.args.tx.now.conn.now) (state g.S.Store c.query_all.new.self.conn.now) _ (c.in_default.ensures.ok clean)
 
-pub returns-clause-kept : goal.returns-clause-kept
-returns-clause-kept g c clean =
+pub returns-clause-clean_disk : goal.returns-clause-clean_disk
+returns-clause-clean_disk g c clean =
     let old = state g.S.Store c.args.tx.now.conn.now in
     let new = state g.S.Store c.query_all.new.self.conn.now in
     unchanged_keeps old new (ask_same old new _ (c.in_default.ensures.ok clean))

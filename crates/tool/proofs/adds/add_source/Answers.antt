@@ -8,7 +8,7 @@ use Rattle.tool_pure.specs.Stream.{InputFails}
 use Rattle.nar.specs.Tree.{IsBytes}
 use Rattle.intake.specs.Arriving.{bytes_in}
 use Rattle.tool.specs.Requests.{Gives, StepsAs, on_object, with_bytes}
-use Rattle.tool.proofs.Fronted.{archive_step}
+use Rattle.tool.proofs.RefusedPrefixes.{archive_step}
 use Rattle.tool.proofs.Requested.{over}
 use Rattle.tool.proofs.Whole.{object_came}
 use Rattle.tool.proofs.adds.add_source.Goals as goal

@@ -6,7 +6,7 @@ use Rattle.tool_words.specs.Asked.{object_view}
 use Rattle.report.specs.Outputs.{change_of}
 use Rattle.tool_pure.specs.Stream.{InputFails}
 use Rattle.tool.specs.Requests.{Gives, StepsAs, on_object, with_bytes}
-use Rattle.tool.proofs.Fronted.{contents_step}
+use Rattle.tool.proofs.RefusedPrefixes.{contents_step}
 use Rattle.tool.proofs.Requested.{over}
 use Rattle.tool.proofs.Whole.{object_came}
 use Rattle.tool.proofs.adds.add_text.Goals as goal

@@ -3,7 +3,7 @@ use Rattle.store_types.specs.View.{request_view}
 use Rattle.report.specs.Outputs.{Printed, Written, change_of}
 use Rattle.tool.specs.Calls.{Serves}
 use Rattle.tool.specs.Requests.{IsAskedBy}
-use Rattle.tool.proofs.Answered.{errors_alone}
+use Rattle.tool.proofs.Answered.{errors_only}
 use Rattle.tool.proofs.Called.{asked, served, stopped_over}
 use Rattle.tool.proofs.calls.call_over.Goals as goal
 
@@ -27,5 +27,5 @@ returns-in-Err-clause-answer g c = λ ask is.
     let out = g.W.Write.contents c.args.output.now in
     let p : Printed = record { writer = change_of g.E.Write.contents c.args.errors.now c.say.new.writer; status = c.say.result } in
     let caller = c.args.caller.now in
-    stopped_over (Serves g.S.Store c.args.config c.args.tables caller (errors_alone out p)) ask c.args.config.store_dir caller input c.in-Err.stop out p
+    stopped_over (Serves g.S.Store c.args.config c.args.tables caller (errors_only out p)) ask c.args.config.store_dir caller input c.in-Err.stop out p
     (subst (λ (d : List ℕ). IsAskedBy ask d caller input (Err c.in-Err.stop)) c.store_dir.ensures (c.in-Err.ensures.asked ask is)) c.say.ensures

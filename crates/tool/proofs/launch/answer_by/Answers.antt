@@ -3,7 +3,7 @@ use Rattle.report.specs.Outputs.{Printed, change_of}
 use Rattle.report.specs.declared.failures.Failure.TheVariants.{File}
 use Rattle.tool_pure.specs.declared.stops.Stop.TheVariants.{Failed}
 use Rattle.tool_pure.specs.Configuration.{IsConfig, opened_by}
-use Rattle.tool.proofs.Answered.{errors_alone, no_failure, none_read, said_alone, stops_else, stops_who, text_read, that_failure}
+use Rattle.tool.proofs.Answered.{errors_only, no_failure, none_read, said_only, stops_else, stops_who, text_read, that_failure}
 use Rattle.tool.proofs.launch.answer_by.Goals as goal
 
 pub returns-in-Ok-clause-answer : goal.returns-in-Ok-clause-answer
@@ -33,5 +33,5 @@ returns-clause-answer g c =
     let line = c.args.line.now in (
       Err c.in-Err.stop,
       none_read g.C.Read.remaining c.args.file c.in-Err.stop _ (that_failure c.in-Err.stop (Failed File)) config.none config.unopened config.memory config.err,
-      stops_else line.task c.in-Err.stop (errors_alone out p) c.in_default.not-Who (said_alone c.in-Err.stop out p c.say-in_default.ensures),
+      stops_else line.task c.in-Err.stop (errors_only out p) c.in_default.not-Who (said_only c.in-Err.stop out p c.say-in_default.ensures),
     )

@@ -3,8 +3,8 @@ use Rattle.std.proofs.lemmas.Result.{err_from_is_err_and}
 use Rattle.tool_pure.specs.Archive.{ls_answer}
 use Rattle.report.specs.Outputs.{change_of}
 use Rattle.tool_pure.specs.Stream.{InputFails, IsFailure, result_text}
-use Rattle.tool_pure.proofs.Archives.{ls_front}
-use Rattle.tool_pure.proofs.Results.{by_line, lost, of_front}
+use Rattle.tool_pure.proofs.Archives.{ls_prefix}
+use Rattle.tool_pure.proofs.Results.{by_line, lost, of_prefix}
 use Rattle.tool_pure.proofs.listings.ls_result.Goals as goal
 
 pub returns-clause-answer : goal.returns-clause-answer
@@ -12,8 +12,8 @@ returns-clause-answer g c =
     let bytes = c.in_ok-nar.nar.items in
     let fails = InputFails true 16777224 (change_of g.R.Read.remaining c.args.input.now c.read_input.new.input) in
     let found = by_line fails c.listing.result _ c.listing.ensures.ok c.listing.ensures.err in
-    of_front fails None ls_answer (g.R.Read.remaining c.args.input.now) (result_text c.listing.result) 16777224 bytes
-    refl c.in_ok-nar.ensures.ok (λ all e is. is ∙ ap ls_answer e ∙ ls_front all)
+    of_prefix fails None ls_answer (g.R.Read.remaining c.args.input.now) (result_text c.listing.result) 16777224 bytes
+    refl c.in_ok-nar.ensures.ok (λ all e is. is ∙ ap ls_answer e ∙ ls_prefix all)
     (subst (λ a. IsFailure fails (result_text c.listing.result) ⊎ (result_text c.listing.result ≡ ls_answer a)) c.as_slice.ensures.value found)
 
 pub returns-in_err-nar-clause-answer : goal.returns-in_err-nar-clause-answer

@@ -11,6 +11,6 @@ returns g c =
     let dir : c.store_dir.result.now ≡ c.args.store.now.settings.store_dir =
     c.store_dir.ensures ∙ ap (λ (s : Settings). s.store_dir) (c.config.ensures ∙ kept.settings) in (
       reply_view c.call-reply.result,
-      record { settings = kept.settings; step = kept.step; cause = kept.cause; others = kept.others; still = kept.still; lasts = kept.lasts; survives = kept.survives },
+      record { settings = kept.settings; step = kept.step; cause = kept.cause; others = kept.others; still = kept.still; stays_durable = kept.stays_durable; survives = kept.survives },
       subst (λ (d : List ℕ). IsPrinted d (reply_view c.call-reply.result) (record { output = change_of g.W.Write.contents c.args.output.now c.print_reply.new.output; errors = change_of g.E.Write.contents c.args.errors.now c.print_reply.new.errors; status = c.print_reply.result })) dir c.print_reply.ensures,
     )

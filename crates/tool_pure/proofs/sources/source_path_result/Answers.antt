@@ -4,9 +4,9 @@ use Rattle.paths.specs.StorePath.{base_of}
 use Rattle.tool_pure.specs.Object.{object_fault, source_path_answer}
 use Rattle.report.specs.Outputs.{change_of}
 use Rattle.tool_pure.specs.Stream.{InputFails, IsFailure, result_text}
-use Rattle.tool_pure.proofs.Archives.{source_front}
+use Rattle.tool_pure.proofs.Archives.{source_prefix}
 use Rattle.std.proofs.lemmas.Result.{err_from_is_err_and}
-use Rattle.tool_pure.proofs.Results.{stopped_at, by_line, of_front, with_text}
+use Rattle.tool_pure.proofs.Results.{stopped_at, by_line, of_prefix, with_text}
 use Rattle.tool_pure.proofs.sources.source_path_result.Goals as goal
 
 pub returns-in_err-object-clause-answer : goal.returns-in_err-object-clause-answer
@@ -26,6 +26,6 @@ returns-clause-answer g c =
     let fault = object_fault dir name (map g.S.AsStr.text c.args.references.now) in
     let fails = InputFails (is_none fault) 16777224 (change_of g.R.Read.remaining c.args.input.now c.read_object.new.input) in
     let found = by_line fails c.source_line.result _ c.source_line.ensures.ok c.source_line.ensures.err in
-    of_front fails fault (source_path_answer dir name bases) (g.R.Read.remaining c.args.input.now) (result_text c.source_line.result) 16777224 bytes
-    c.in_ok-object.ensures.object.0 c.in_ok-object.ensures.bytes (λ all e is. source_front dir name bases all bytes e (result_text c.source_line.result) (with_text c.source_line.result _ (subst (λ l. IfOk c.source_line.result (λ line. length l ≤ 16777216)) c.as_slice.ensures.value c.source_line.ensures.fits)) is)
+    of_prefix fails fault (source_path_answer dir name bases) (g.R.Read.remaining c.args.input.now) (result_text c.source_line.result) 16777224 bytes
+    c.in_ok-object.ensures.object.0 c.in_ok-object.ensures.bytes (λ all e is. source_prefix dir name bases all bytes e (result_text c.source_line.result) (with_text c.source_line.result _ (subst (λ l. IfOk c.source_line.result (λ line. length l ≤ 16777216)) c.as_slice.ensures.value c.source_line.ensures.fits)) is)
     (subst (λ a. IsFailure fails (result_text c.source_line.result) ⊎ (result_text c.source_line.result ≡ a)) same found)

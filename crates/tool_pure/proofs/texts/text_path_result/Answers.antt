@@ -4,9 +4,9 @@ use Rattle.paths.specs.StorePath.{base_of}
 use Rattle.tool_pure.specs.Object.{object_fault, text_path_answer}
 use Rattle.report.specs.Outputs.{change_of}
 use Rattle.tool_pure.specs.Stream.{InputFails, IsFailure, result_text}
-use Rattle.tool_pure.proofs.Objects.{text_front}
+use Rattle.tool_pure.proofs.Objects.{text_prefix}
 use Rattle.std.proofs.lemmas.Result.{err_from_is_err_and}
-use Rattle.tool_pure.proofs.Results.{stopped_at, by_line, of_front}
+use Rattle.tool_pure.proofs.Results.{stopped_at, by_line, of_prefix}
 use Rattle.tool_pure.proofs.texts.text_path_result.Goals as goal
 
 pub returns-in_err-object-clause-answer : goal.returns-in_err-object-clause-answer
@@ -26,6 +26,6 @@ returns-clause-answer g c =
     let fault = object_fault dir name (map g.S.AsStr.text c.args.references.now) in
     let fails = InputFails (is_none fault) 16777105 (change_of g.R.Read.remaining c.args.input.now c.read_object.new.input) in
     let found = by_line fails c.text_line.result _ c.text_line.ensures.ok c.text_line.ensures.err in
-    of_front fails fault (text_path_answer dir name bases) (g.R.Read.remaining c.args.input.now) (result_text c.text_line.result) 16777105 bytes
-    c.in_ok-object.ensures.object.0 c.in_ok-object.ensures.bytes (λ all e is. is ∙ ap (text_path_answer dir name bases) e ∙ text_front dir name bases all)
+    of_prefix fails fault (text_path_answer dir name bases) (g.R.Read.remaining c.args.input.now) (result_text c.text_line.result) 16777105 bytes
+    c.in_ok-object.ensures.object.0 c.in_ok-object.ensures.bytes (λ all e is. is ∙ ap (text_path_answer dir name bases) e ∙ text_prefix dir name bases all)
     (subst (λ a. IsFailure fails (result_text c.text_line.result) ⊎ (result_text c.text_line.result ≡ a)) same found)

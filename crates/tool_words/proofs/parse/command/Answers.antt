@@ -1,5 +1,5 @@
 use Rattle.std.proofs.Common.{◌≡◌, List, [], map, Result, true, ap, ap₂, refl, ◌∙◌, sym}
-use Rattle.std.proofs.lemmas.Result.{IfOk-weaker, IfErr-weaker}
+use Rattle.std.proofs.lemmas.Result.{IfOk-weaker, IfErr-weaker, err_from_is_err_and}
 use Rattle.std.proofs.lemmas.Bool.{and_parts}
 use Rattle.clap.specs.Kinds.{Kinds}
 use Rattle.clap.specs.Walk.{Text}
@@ -34,30 +34,31 @@ refused words kinds (Usage fault) is h = rw (← is) h
 refused words kinds (Misuse fault) is h = absurd h
 refused words kinds Memory is h = tt
 
-pub returns-in-Ok-clause-ok : goal.returns-in-Ok-clause-ok
+pub returns-clause-ok : goal.returns-clause-ok
 unfolding line_of faults_of
-returns-in-Ok-clause-ok g c =
+returns-clause-ok g c =
     let words = map g.S.AsStr.text c.args.words.now in
     let free = ap is_simple_and_free c.in_ok-nixkeep.ensures ∙ app_is_free in
-    let none = sym (ap (λ a. fault_of a words) c.in_ok-nixkeep.ensures) ∙ c.in-Ok.ensures.kinds free in
-    let stated = c.in-Ok.ensures.matches (simple_if_free (app_of c.in_ok-nixkeep.nixkeep) free) in
+    let none = sym (ap (λ a. fault_of a words) c.in_ok-nixkeep.ensures) ∙ c.in_ok-matches.ensures.kinds free in
+    let stated = c.in_ok-matches.ensures.matches (simple_if_free (app_of c.in_ok-nixkeep.nixkeep) free) in
     let line = ap₂ line_from (stated.0 ∙ ap (λ a. matches_of a words) c.in_ok-nixkeep.ensures) (stated.1 ∙ ap (λ a. subcommand_of a words) c.in_ok-nixkeep.ensures) in
     IfOk-weaker c.read.result _ _ (λ found stands. record { no_fault = none; is_line = sym line ∙ stands }) c.read.ensures.ok
 
-pub returns-in-Ok-clause-err : goal.returns-in-Ok-clause-err
+pub returns-clause-err : goal.returns-clause-err
 unfolding line_of faults_of
-returns-in-Ok-clause-err g c =
+returns-clause-err g c =
     let words = map g.S.AsStr.text c.args.words.now in
     let free = ap is_simple_and_free c.in_ok-nixkeep.ensures ∙ app_is_free in
-    let none = sym (ap (λ a. fault_of a words) c.in_ok-nixkeep.ensures) ∙ c.in-Ok.ensures.kinds free in
-    let stated = c.in-Ok.ensures.matches (simple_if_free (app_of c.in_ok-nixkeep.nixkeep) free) in
+    let none = sym (ap (λ a. fault_of a words) c.in_ok-nixkeep.ensures) ∙ c.in_ok-matches.ensures.kinds free in
+    let stated = c.in_ok-matches.ensures.matches (simple_if_free (app_of c.in_ok-nixkeep.nixkeep) free) in
     let line = ap₂ line_from (stated.0 ∙ ap (λ a. matches_of a words) c.in_ok-nixkeep.ensures) (stated.1 ∙ ap (λ a. subcommand_of a words) c.in_ok-nixkeep.ensures) in
     IfErr-weaker c.read.result _ _ (λ e misses. missing words _ e none line misses) c.read.ensures.err
 
-pub returns-in-Err-clause-err : goal.returns-in-Err-clause-err
+pub returns-in_err-matches-clause-err : goal.returns-in_err-matches-clause-err
 unfolding faults_of
-returns-in-Err-clause-err g c =
+returns-in_err-matches-clause-err g c =
     let words = map g.S.AsStr.text c.args.words.now in
     let free = ap is_simple_and_free c.in_ok-nixkeep.ensures ∙ app_is_free in
-    let has = c.in-Err.ensures.kinds free in
-    refused words _ _ (ap (λ a. fault_of a words) c.in_ok-nixkeep.ensures) (c.refusal.ensures _ has)
+    let has = c.in_err-matches.ensures.kinds free in
+    let p = err_from_is_err_and c.from_residual-in_err-matches.result c.from_residual-in_err-matches.ensures.1 in
+    rw p.1 (refused words _ p.0 (ap (λ a. fault_of a words) c.in_ok-nixkeep.ensures) (p.2 _ has))

@@ -5,4 +5,4 @@ pub returns-in-Ok : goal.returns-in-Ok
 returns-in-Ok g c = inr c.serve_listener.ensures
 
 pub returns-in-Err : goal.returns-in-Err
-returns-in-Err g c = inl c.say.ensures
+returns-in-Err g c = inl c.print_failure.ensures

@@ -10,8 +10,8 @@ returns-in-Ok g c =
     let end = c.serve_connection-end.result in
     let new = c.serve_connection-end.new.state in
     let served = subst (λ s. Served (Answers g.S.Store) (g.R.Read.remaining c.args.input.now) (g.W.Write.contents c.args.output.now) (g.W.Write.contents c.serve_connection-end.new.output) s new (result_of end))
-    c.new-store.ensures c.serve_connection-end.ensures.served in
+    c.in-Ok.ensures c.serve_connection-end.ensures.served in
     inr (end, new, served, c.serve_connection-end.ensures.said, c.status_of.ensures)
 
 pub returns-in-Err : goal.returns-in-Err
-returns-in-Err g c = inl (Keeps-refl (g.W.Write.contents c.args.output.now), c.say.ensures)
+returns-in-Err g c = inl (Keeps-refl (g.W.Write.contents c.args.output.now), c.print_failure.ensures)

@@ -3,7 +3,7 @@ use Rattle.wire_bodies.specs.Lines.{Entry}
 use Rattle.wire_bodies.specs.Values.{values, each}
 use Rattle.wire_bodies.specs.Kinds.{root_text}
 use Rattle.wire_bodies.specs.Bodies.{labelled}
-use Rattle.wire_bodies.proofs.Alone.{labelled-more}
+use Rattle.wire_bodies.proofs.WholeBodies.{labelled-more}
 use Rattle.wire_bodies.proofs.ValueLemmas.{values_yes, values_no, each_more}
 use Rattle.wire_bodies.proofs.Passed.{answers_nothing}
 use Rattle.wire_bodies.proofs.Passing.{one_passed, each_bad}

@@ -1,5 +1,5 @@
 use Rattle.wire_bodies.specs.Bodies.{IsPath}
-use Rattle.wire_bodies.proofs.Alone.{says_none}
+use Rattle.wire_bodies.proofs.WholeBodies.{says_none}
 use Rattle.wire_bodies.proofs.whole.path_body.Goals as goal
 
 pub returns-clause-bad : goal.returns-clause-bad

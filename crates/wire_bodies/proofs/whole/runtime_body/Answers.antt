@@ -1,5 +1,5 @@
 use Rattle.wire_bodies.specs.Bodies.{IsRuntime}
-use Rattle.wire_bodies.proofs.Alone.{says_none}
+use Rattle.wire_bodies.proofs.WholeBodies.{says_none}
 use Rattle.wire_bodies.proofs.whole.runtime_body.Goals as goal
 
 pub returns-clause-bad : goal.returns-clause-bad

@@ -3,7 +3,7 @@ use Rattle.std.proofs.lemmas.Result.{err_from_is_err_and}
 use Rattle.wire_messages.specs.Bodies.{has_come}
 use Rattle.wire_server.specs.Answers.{body_in}
 use Rattle.wire_server.specs.declared.ready.Ready.TheVariants.{Kept, Lost, Refused}
-use Rattle.wire_server.proofs.Received.{kept_all, of_nothing, cut_short, whole_arrives}
+use Rattle.wire_server.proofs.Received.{store_all, of_nothing, cut_short, whole_arrives}
 use Rattle.wire_server.proofs.receiving.receive_rest.Goals as goal
 
 pub returns-in-Kept-clause-came : goal.returns-in-Kept-clause-came
@@ -13,8 +13,8 @@ returns-in-Kept-clause-came g c =
     let got = c.in_ok-receive_body-in-Accepted.ensures.came in
     let reported = ap Ok c.in-Kept.is in
     let whole = got.came.whole (ap has_come reported) in
-    let body = kept_all (g.A.Body.Keeper.kept c.in-Accepted.body) (g.A.Body.Keeper.kept c.receive_body.new.body) (body_in (c.args.held.now ++ got.came.read) c.args.head c.args.size)
-    begun.1 (got.kept_all reported) in (
+    let body = store_all (g.A.Body.Keeper.kept c.in-Accepted.body) (g.A.Body.Keeper.kept c.receive_body.new.body) (body_in (c.args.held.now ++ got.came.read) c.args.head c.args.size)
+    begun.1 (got.store_all reported) in (
       got.came.read,
       got.came.consumed,
       whole_arrives c.args.held.now got.came.read c.args.head c.args.size is g.A.Responder.answers g.A.Responder.decides g.A.Body.Keeper.kept g.A.Body.Keeper.may_be c.args.state.now

@@ -2,14 +2,14 @@ use Rattle.std.proofs.Common.{rules, ◌≡◌, sym, subst}
 use Rattle.std.proofs.lemmas.Result.{err_from_is_err_and}
 use Rattle.wire_server.specs.Serves.{Serves, Stops, Rests}
 use Rattle.wire_server.proofs.Reported.{Reported}
-use Rattle.wire_server.proofs.Ends.{told_start, rested, counted_out}
+use Rattle.wire_server.proofs.Ends.{reported_start, rested, counted_out}
 use Rattle.wire_server.proofs.Turns.{turn_end, turn_broken, turn_lost, turn_cut, turn_closed, turn_on}
 use Rattle.wire_server.proofs.serving.run.Goals as goal
 
 pub messages-init : goal.messages-init
 messages-init g c =
     subst (λ held. Reported g.A.Responder.answers (g.R.Read.remaining c.args.input.now) (g.R.Read.remaining c.args.input.now) (g.W.Write.contents c.args.output.now) (g.W.Write.contents c.args.output.now) held c.args.state.now c.args.state.now 0)
-    (sym c.new-buffer.ensures.items) (told_start g.A.Responder.answers (g.R.Read.remaining c.args.input.now) (g.W.Write.contents c.args.output.now) c.args.state.now)
+    (sym c.new-buffer.ensures.items) (reported_start g.A.Responder.answers (g.R.Read.remaining c.args.input.now) (g.W.Write.contents c.args.output.now) c.args.state.now)
 
 pub returns-in-Err-Failed : goal.returns-in-Err-Failed
 returns-in-Err-Failed g c =

@@ -2,7 +2,7 @@ use Rattle.std.proofs.Common.{◌≡◌, ◌∙◌, ◌+◌, ◌<◌, ◌∷◌,
 use Rattle.live.specs.Places.{entries_at}
 use Rattle.live.specs.Remaining.{IsRemaining, Remaining, times_in}
 use Rattle.live.proofs.Counts.{first_held}
-use Rattle.live.proofs.Leavings.{lessened, positive, skipped, settled}
+use Rattle.live.proofs.Removals.{lessened, positive, skipped, settled}
 use Rattle.live.proofs.remaining.Remaining.forget.Goals as goal
 use Rattle.live.proofs.remaining.Remaining.forget.Goals.{then-target-place+in_ok-lessen, else-target-place}
 

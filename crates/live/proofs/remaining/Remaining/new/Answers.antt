@@ -4,13 +4,13 @@ use Rattle.std.specs.List.{slice_index}
 use Rattle.std.specs.BinaryHeap.{heap_items}
 use Rattle.std.specs.declared.cmp.Reverse.{Reverse}
 use Rattle.std.proofs.lemmas.List.{get_or_default}
-use Rattle.live.proofs.Beginnings.{IsBegun, begun, begun_referred, begun_waiting, told_none}
+use Rattle.live.proofs.Beginnings.{IsBegun, begun, begun_referred, begun_waiting, none_reported}
 use Rattle.live.proofs.remaining.Remaining.new.Goals as goal
 use Rattle.live.proofs.remaining.Remaining.new.Goals.{then-index-eq0+in_ok-push-2, else-index-eq0}
 
 pub loop-place-preserved : goal.loop-place-preserved
 loop-place-preserved c =
-    let is = told_none c.first_root.result c.is_none.result c.is_none.ensures ∙ ap is_none c.first_root.ensures in
+    let is = none_reported c.first_root.result c.is_none.result c.is_none.ensures ∙ ap is_none c.first_root.ensures in
     let below : c.loop-place.place < length c.in_ok-referrers.referrers.items = (let t = c.loop-place-test.true in let n = c.len-count.ensures.value in let p = c.in_ok-referrers.ensures.places in omega arith) in
     let read : slice_index c.in_ok-referrers.referrers.items c.loop-place.place ≡ c.index.result.now = get_or_default c.in_ok-referrers.referrers.items c.loop-place.place 0 c.index.result.now below ∙ sym c.index.ensures in
     subst (λ (ds : List Bool). IsBegun c.args.marks.now c.in_ok-referrers.referrers.items (c.loop-place.place + 1) ds (heap_items c.if-index-eq0.ready)) (sym c.in_ok-push.ensures.items)

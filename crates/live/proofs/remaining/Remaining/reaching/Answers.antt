@@ -4,7 +4,7 @@ use Rattle.std.specs.List.{slice_index}
 use Rattle.live.specs.Remaining.{Remaining, is_in}
 use Rattle.live.proofs.Asked.{misses, one_misses, one_passes, passes}
 use Rattle.live.proofs.Ranges.{read_is}
-use Rattle.live.proofs.Reachings.{both_hold, not_here, not_there, passing_inside, reaching_asked}
+use Rattle.live.proofs.Reachings.{both_hold, not_here, not_by_second, passing_inside, reaching_asked}
 use Rattle.live.proofs.remaining.Remaining.reaching.Goals as goal
 use Rattle.live.proofs.remaining.Remaining.reaching.Goals.{then-index+then-index-lt1+in_ok-push, then-index+else-index-lt1, else-index}
 
@@ -21,7 +21,7 @@ loop-other-preserved c =
           (passes c.in_ok-marks.marks.items c.loop-other.other c.loop-other.other w.index-then-index.result.now marked w.index-then-index.ensures refl w.if-index-lt1.true))
           (ap (λ (v : Vec ℕ Global). v.items) w.reaching-is ∙ w.in_ok-push.ensures.items)
       | then-index+else-index-lt1 w ↦ one_misses p c.loop-other.other c.loop-other.reaching.items c.if-index.reaching.items c.loop-other.invariant
-          (not_there (is_in c.args.self.now.left c.loop-other.other) (nat_lt (slice_index c.in_ok-marks.marks.items c.loop-other.other) 1)
+          (not_by_second (is_in c.args.self.now.left c.loop-other.other) (nat_lt (slice_index c.in_ok-marks.marks.items c.loop-other.other) 1)
           (misses c.in_ok-marks.marks.items c.loop-other.other c.loop-other.other w.index-then-index.result.now marked w.index-then-index.ensures refl w.if-index-lt1.false))
           (ap (λ (v : Vec ℕ Global). v.items) w.reaching-is)
       | else-index w ↦ one_misses p c.loop-other.other c.loop-other.reaching.items c.if-index.reaching.items c.loop-other.invariant

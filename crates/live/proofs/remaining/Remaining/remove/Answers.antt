@@ -1,6 +1,6 @@
 use Rattle.std.proofs.Common.{arith, sym, subst, true}
 use Rattle.live.specs.Remaining.{IsRemaining, Remaining, nothing_owed}
-use Rattle.live.proofs.Leavings.{goes}
+use Rattle.live.proofs.Removals.{goes}
 use Rattle.live.proofs.Ranges.{read_is}
 use Rattle.live.proofs.remaining.Remaining.remove.Goals as goal
 

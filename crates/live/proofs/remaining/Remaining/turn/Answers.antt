@@ -5,7 +5,7 @@ use Rattle.std.specs.Option.{option_map}
 use Rattle.live.specs.Numbering.{graph_of, path_at}
 use Rattle.live.specs.Remaining.{group_at, is_in, left_after, places_left}
 use Rattle.live.proofs.Rests.{no_group, no_turn}
-use Rattle.live.proofs.Turns.{taken_turn}
+use Rattle.live.proofs.Turns.{consumed_turn}
 use Rattle.live.proofs.remaining.Remaining.turn.Goals as goal
 
 pub returns-then-wanted-eq0-clause-turn : goal.returns-then-wanted-eq0-clause-turn
@@ -16,7 +16,7 @@ returns-then-wanted-eq0-clause-turn c rows is_dead size stands turn turns =
 pub returns-in_ok-still_wanted-in-Some-clause-turn : goal.returns-in_ok-still_wanted-in-Some-clause-turn
 returns-in_ok-still_wanted-in-Some-clause-turn c rows is_dead size stands turn turns =
     let listed = c.deref.ensures.value in
-    taken_turn c.args.graph.now c.args.self.now c.remove_all.new.self c.args.sizes.now rows is_dead size stands c.deref.result.now
+    consumed_turn c.args.graph.now c.args.self.now c.remove_all.new.self c.args.sizes.now rows is_dead size stands c.deref.result.now
     (subst (All (λ t. t < length c.args.graph.now)) (sym listed) (subst (λ (o : Option (Vec ℕ Global)). IfSome o (λ v. All (λ t. t < length c.args.graph.now) v.items)) c.in-Some.is c.in_ok-group.ensures.inside))
     c.requires.remaining.places c.in_ok-still_wanted-in-Some.ensures.remaining.places
     (λ i h. c.in_ok-still_wanted-in-Some.ensures.left i h ∙ ap (λ (bs : List Bool). is_in bs i && not (list_any (λ j. j == i) c.deref.result.now)) c.in_ok-group.ensures.left)

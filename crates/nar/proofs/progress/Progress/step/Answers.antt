@@ -4,7 +4,7 @@ use Rattle.std.proofs.lemmas.List.{nil_from_length}
 use Rattle.nar.specs.Tree.{IsBytes}
 use Rattle.nar.specs.Feeding.{Fed}
 use Rattle.nar.specs.NestView.{symbols_of}
-use Rattle.nar.proofs.Bytes.{IsBytes-front}
+use Rattle.nar.proofs.Bytes.{IsBytes-prefix}
 use Rattle.nar.proofs.Taking.{passed_on}
 use Rattle.nar.proofs.Feeding.{fed_more, fault_of_all}
 use Rattle.nar.proofs.Counting.{tail_nil}
@@ -19,7 +19,7 @@ returns-in_err-count_on-in-Some-clause-err c = passed_on _ _ _ c.from_residual.e
     let rest = c.split_at.result.1.now in
     let e : all ≡ (h.consumed ++ front) ++ rest = cut all h.consumed c.args.piece.now front rest _ h.is c.split_at.ensures.front c.split_at.ensures.back in
     let s = rw c.in-Some.is at h.has_read in
-    fault_of_all all (h.consumed ++ front) rest c.in_err-count_on-in-Some.field-0.0 e bytes (c.in_err-count_on-in-Some.ensures.err fault h.consumed (IsBytes-front (h.consumed ++ front) rest (subst IsBytes e bytes)) s.1))
+    fault_of_all all (h.consumed ++ front) rest c.in_err-count_on-in-Some.field-0.0 e bytes (c.in_err-count_on-in-Some.ensures.err fault h.consumed (IsBytes-prefix (h.consumed ++ front) rest (subst IsBytes e bytes)) s.1))
 
 pub returns-in_ok-count_on-in-Some-clause-ok : goal.returns-in_ok-count_on-in-Some-clause-ok
 returns-in_ok-count_on-in-Some-clause-ok c = λ all bytes h.
@@ -27,7 +27,7 @@ returns-in_ok-count_on-in-Some-clause-ok c = λ all bytes h.
     let rest = c.split_at.result.1.now in
     let e : all ≡ (h.consumed ++ front) ++ rest = cut all h.consumed c.args.piece.now front rest _ h.is c.split_at.ensures.front c.split_at.ensures.back in
     let s = rw c.in-Some.is at h.has_read in
-    record { consumed = h.consumed ++ front; is = e; has_read = c.in_ok-count_on-in-Some.ensures.ok h.consumed (IsBytes-front (h.consumed ++ front) rest (subst IsBytes e bytes)) s }
+    record { consumed = h.consumed ++ front; is = e; has_read = c.in_ok-count_on-in-Some.ensures.ok h.consumed (IsBytes-prefix (h.consumed ++ front) rest (subst IsBytes e bytes)) s }
 
 -- ---- no string has begun
 

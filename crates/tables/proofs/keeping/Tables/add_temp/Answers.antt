@@ -8,7 +8,7 @@ use Rattle.tables_outline.specs.Maps.{temporary_bytes}
 use Rattle.tables_make.specs.Reasons.{HasReason}
 use Rattle.tables.specs.RowsPut.{TemporaryRow}
 use Rattle.tables.specs.Temporary.{keeps}
-use Rattle.tables.proofs.Kept.{write_agrees, write_commits, write_fails, failure_agrees, failure_seen, rows_as}
+use Rattle.tables.proofs.AfterWrites.{write_agrees, write_commits, write_fails, failure_agrees, failure_seen, rows_as}
 use Rattle.tables.proofs.SessionRows.{added_follows}
 use Rattle.tables.proofs.SessionChanges.{temporary_write, temporary_put, temporary_undone}
 use Rattle.tables.proofs.keeping.Tables.add_temp.Goals as goal

@@ -1,28 +1,28 @@
 use Rattle.std.proofs.Common.{refl, subst, IsTrue}
 use Rattle.sqlite.specs.Held.{state}
-use Rattle.tables.specs.Kept.{Kept}
-use Rattle.tables.proofs.Kept.{told_failed, clean_before}
-use Rattle.tables.proofs.ReadArchives.{archive_told, archive_size, none_kept}
+use Rattle.tables.specs.TablesValue.{TablesValue}
+use Rattle.tables.proofs.AfterWrites.{reported_failed, clean_before}
+use Rattle.tables.proofs.ReadArchives.{archive_reported, archive_size, none_kept}
 use Rattle.tables.proofs.keeping.Tables.archive.Goals as goal
 
 pub returns-clause-found : goal.returns-clause-found
 returns-clause-found g c clean =
     let read = c.in_ok-found.ensures.reads clean in
-    archive_told g.S.Store _ c.args.self.now c.self.view_is c.as_str.result.now c.args.path.now _ c.as_str.ensures.value
+    archive_reported g.S.Store _ c.args.self.now c.self.view_is c.as_str.result.now c.args.path.now _ c.as_str.ensures.value
     (clean_before (state g.S.Store c.self.inside.connection) (state g.S.Store c.read_archive.new.conn) _ c.read_archive.ensures.survives clean) read.0.0.was_open read.1
 
 pub returns-clause-was_open : goal.returns-clause-was_open
 returns-clause-was_open g c clean some =
     let read = c.in_ok-found.ensures.reads clean in
-    (subst (λ (n : Kept _). IsTrue (state g.S.Store n.connection).is_open) c.self.view_is read.0.0.was_open, read.0.0.is_open)
+    (subst (λ (n : TablesValue _). IsTrue (state g.S.Store n.connection).is_open) c.self.view_is read.0.0.was_open, read.0.0.is_open)
 
 pub returns-clause-same : goal.returns-clause-same
 returns-clause-same g c =
-    told_failed g.S.Store _ c.args.self.now c.self.view_is c.read_archive.new.conn c.self.inside.outline c.self.invariant _ c.read_archive.ensures.survives c.read_archive.ensures.same refl
+    reported_failed g.S.Store _ c.args.self.now c.self.view_is c.read_archive.new.conn c.self.inside.outline c.self.invariant _ c.read_archive.ensures.survives c.read_archive.ensures.same refl
 
 pub returns-in_err-found-clause-same : goal.returns-in_err-found-clause-same
 returns-in_err-found-clause-same g c =
-    told_failed g.S.Store _ c.args.self.now c.self.view_is c.read_archive.new.conn c.self.inside.outline c.self.invariant _ c.read_archive.ensures.survives c.read_archive.ensures.same refl
+    reported_failed g.S.Store _ c.args.self.now c.self.view_is c.read_archive.new.conn c.self.inside.outline c.self.invariant _ c.read_archive.ensures.survives c.read_archive.ensures.same refl
 
 pub read_archive-requires-clause-size : goal.read_archive-requires-clause-size
 read_archive-requires-clause-size g c clean is_open =

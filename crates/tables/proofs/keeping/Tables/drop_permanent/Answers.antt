@@ -3,7 +3,7 @@ use Rattle.std.proofs.lemmas.Result.{err_from_is_err_and}
 use Rattle.std.specs.FinMap as finite
 use Rattle.paths.specs.Root.{bytes_cmp, Set}
 use Rattle.model.specs.World.{Path, pair_cmp}
-use Rattle.tables.proofs.Kept.{write_agrees, write_commits, write_fails}
+use Rattle.tables.proofs.AfterWrites.{write_agrees, write_commits, write_fails}
 use Rattle.tables.proofs.RootChanges.{roots_write}
 use Rattle.tables.proofs.keeping.Tables.drop_permanent.Goals as goal
 

@@ -6,10 +6,10 @@ use Rattle.sqlite.specs.Held.{state}
 use Rattle.tables_sql.specs.Contents.{contents_of}
 use Rattle.tables_sql.specs.Entries.{stored}
 use Rattle.tables_world.specs.Pieces.{row_part, further_pieces}
-use Rattle.tables.specs.Kept.{Kept}
-use Rattle.tables.specs.Rewritten.{LacksObject, put_object}
+use Rattle.tables.specs.TablesValue.{TablesValue}
+use Rattle.tables.specs.Rewritten.{HasNoObject, put_object}
 use Rattle.tables.specs.RowsPut.{AddedRows, ObjectRows}
-use Rattle.tables.proofs.Kept.{write_agrees, write_commits, write_fails, failure_agrees, failure_seen, rows_as}
+use Rattle.tables.proofs.AfterWrites.{write_agrees, write_commits, write_fails, failure_agrees, failure_seen, rows_as}
 use Rattle.tables.proofs.AddedObjects.{found_put, object_undone, object_fits, object_rows, object_write, put_is}
 use Rattle.tables_make.proofs.Reasons.{more_reason}
 use Rattle.tables.proofs.keeping.Tables.insert_object.Goals as goal
@@ -20,7 +20,7 @@ unreachable-requires g c =
 
 pub commit-requires-clause-fits : goal.commit-requires-clause-fits
 commit-requires-clause-fits g c clean is_open =
-    subst (λ (p : List ℕ). LacksObject p (contents_of (state g.S.Store c.self.inside.connection).now)) (sym c.as_str.ensures.value) (object_fits g.S.Store (record { connection = c.self.inside.connection; dir = c.self.inside.dir; outline = c.self.inside.outline }) c.args.self.now c.self.view_is c.insert_object.new.self c.args.path.now c.in_ok-key.key c.args.nar.now c.args.object c.in-Some.object.now c.in_ok-texts.texts.deriver c.in_ok-texts.texts.ca
+    subst (λ (p : List ℕ). HasNoObject p (contents_of (state g.S.Store c.self.inside.connection).now)) (sym c.as_str.ensures.value) (object_fits g.S.Store (record { connection = c.self.inside.connection; dir = c.self.inside.dir; outline = c.self.inside.outline }) c.args.self.now c.self.view_is c.insert_object.new.self c.args.path.now c.in_ok-key.key c.args.nar.now c.args.object c.in-Some.object.now c.in_ok-texts.texts.deriver c.in_ok-texts.texts.ca
     c.self.invariant c.requires.new c.requires.size c.requires.hash c.in_ok-texts.ensures.deriver c.in_ok-texts.ensures.ca c.in_ok-texts.ensures.valid
     (same_Some c.in-Some.object.now c.args.object
     (found_put c.self.inside.outline c.insert_object.new.self c.args.path.now c.in_ok-key.key c.args.object (Some c.in-Some.object.now) c.in_ok-key.ensures.cases c.in_ok-insert_object.ensures.done c.in-Some.ensures))
@@ -47,7 +47,7 @@ invariant_of-self-in-Err g c =
     (found_put c.self.inside.outline c.insert_object.new.self c.args.path.now c.in_ok-key.key c.args.object (Some c.in-Some.object.now) c.in_ok-key.ensures.cases c.in_ok-insert_object.ensures.done c.in-Some.ensures))
     c.requires.sound) c.commit.new.conn c.remove_object.new.self _ (rows_as g.S.Store _ _ (ap (λ (p : List ℕ). put_object p (stored (row_part c.args.nar.now) c.in-Some.object.now.hash c.in_ok-texts.texts.deriver c.in_ok-texts.texts.ca) (finite.keys c.in-Some.object.now.references) (finite.entries c.in-Some.object.now.outputs) (further_pieces c.args.nar.now)) c.as_str.ensures.value) c.in-Err.ensures.frame)
     (object_undone c.self.inside.outline c.insert_object.new.self c.remove_object.new.self c.args.path.now c.in_ok-key.key c.args.object c.in_ok-key.ensures.cases c.in_ok-insert_object.ensures.done
-    (ap (λ (n : Kept g.row.S.Denot). finite.get n.outline.objects c.args.path.now) c.self.view_is ∙ c.requires.new) c.remove_object.ensures)
+    (ap (λ (n : TablesValue g.row.S.Denot). finite.get n.outline.objects c.args.path.now) c.self.view_is ∙ c.requires.new) c.remove_object.ensures)
 
 pub returns-in-Ok-clause-frame : goal.returns-in-Ok-clause-frame
 returns-in-Ok-clause-frame g c =
@@ -70,7 +70,7 @@ returns-clause-frame g c =
     (found_put c.self.inside.outline c.insert_object.new.self c.args.path.now c.in_ok-key.key c.args.object (Some c.in-Some.object.now) c.in_ok-key.ensures.cases c.in_ok-insert_object.ensures.done c.in-Some.ensures))
     c.requires.sound) c.commit.new.conn c.remove_object.new.self _ (rows_as g.S.Store _ _ (ap (λ (p : List ℕ). put_object p (stored (row_part c.args.nar.now) c.in-Some.object.now.hash c.in_ok-texts.texts.deriver c.in_ok-texts.texts.ca) (finite.keys c.in-Some.object.now.references) (finite.entries c.in-Some.object.now.outputs) (further_pieces c.args.nar.now)) c.as_str.ensures.value) c.in-Err.ensures.frame)
     (object_undone c.self.inside.outline c.insert_object.new.self c.remove_object.new.self c.args.path.now c.in_ok-key.key c.args.object c.in_ok-key.ensures.cases c.in_ok-insert_object.ensures.done
-    (ap (λ (n : Kept g.row.S.Denot). finite.get n.outline.objects c.args.path.now) c.self.view_is ∙ c.requires.new) c.remove_object.ensures) _
+    (ap (λ (n : TablesValue g.row.S.Denot). finite.get n.outline.objects c.args.path.now) c.self.view_is ∙ c.requires.new) c.remove_object.ensures) _
 
 pub returns-clause-cause : goal.returns-clause-cause
 returns-clause-cause g c =

@@ -6,12 +6,12 @@ use Rattle.model.specs.Profiles.{put_at, switched}
 use Rattle.tables_outline.specs.Maps.{pair_bytes}
 use Rattle.tables_outline.specs.Outline.{profile_of}
 use Rattle.tables_make.specs.Reasons.{HasReason}
-use Rattle.tables.specs.Kept.{Kept}
+use Rattle.tables.specs.TablesValue.{TablesValue}
 use Rattle.tables.specs.Rewritten.{put_generation}
 use Rattle.tables.specs.RowsPut.{GenerationRows}
-use Rattle.tables.proofs.Kept.{write_agrees, write_commits, write_fails, failure_agrees, failure_seen, rows_as}
+use Rattle.tables.proofs.AfterWrites.{write_agrees, write_commits, write_fails, failure_agrees, failure_seen, rows_as}
 use Rattle.tables.proofs.ProfileWrites.{profile_write}
-use Rattle.tables.proofs.AddedGenerations.{add_follows, put_there, generation_put, generation_there, generation_undone}
+use Rattle.tables.proofs.AddedGenerations.{add_follows, put_present, generation_put, generation_there, generation_undone}
 use Rattle.tables.proofs.keeping.Tables.put_generation.Goals as goal
 
 pub invariant_of-self-in-Ok : goal.invariant_of-self-in-Ok
@@ -26,7 +26,7 @@ invariant_of-self-in-Err g c =
     let owned : Pair = (c.args.owner.now, c.args.name.now) in
     failure_agrees g.S.Store (profile_write owned (λ p. switched (put_at p c.args.number c.args.target.now) c.args.current) (put_generation owned c.args.number c.args.target.now c.args.current) g.S.Store _ c.args.self.now c.self.view_is c.self.invariant c.requires.sound
     (λ clean is_open. add_follows _ _ (c.self.invariant.rows clean is_open).sound owned c.args.number c.args.target.now c.args.current)) c.commit.new.conn c.undo_generation.new.self _ (rows_as g.S.Store _ _ (ap {B = Contents → Contents} (λ (t : List ℕ). put_generation owned c.args.number t c.args.current) c.as_str.ensures.value) c.in-Err.ensures.frame)
-    (generation_undone c.self.inside.outline c.put_generation.new.self owned (pair_bytes c.in_ok-key.key) (pair_bytes c.in_ok-again.again) c.args.number c.args.target.now c.in_ok-value.value c.in_ok-key.ensures c.in_ok-again.ensures c.in_ok-value.ensures.cases c.in_ok-had.ensures.done c.switch_generation.new.self c.args.current c.switch_generation.ensures (ap (λ (n : Kept _). finite.get (profile_of n.outline owned).generations c.args.number) c.self.view_is ∙ c.requires.new) c.undo_generation.new.self _ c.in_ok-had.ensures.had c.undo_generation.ensures)
+    (generation_undone c.self.inside.outline c.put_generation.new.self owned (pair_bytes c.in_ok-key.key) (pair_bytes c.in_ok-again.again) c.args.number c.args.target.now c.in_ok-value.value c.in_ok-key.ensures c.in_ok-again.ensures c.in_ok-value.ensures.cases c.in_ok-had.ensures.done c.switch_generation.new.self c.args.current c.switch_generation.ensures (ap (λ (n : TablesValue _). finite.get (profile_of n.outline owned).generations c.args.number) c.self.view_is ∙ c.requires.new) c.undo_generation.new.self _ c.in_ok-had.ensures.had c.undo_generation.ensures)
 
 pub returns-in-Ok-clause-frame : goal.returns-in-Ok-clause-frame
 returns-in-Ok-clause-frame g c =
@@ -40,7 +40,7 @@ returns-clause-frame g c =
     let owned : Pair = (c.args.owner.now, c.args.name.now) in
     write_fails g.S.Store (profile_write owned (λ p. switched (put_at p c.args.number c.args.target.now) c.args.current) (put_generation owned c.args.number c.args.target.now c.args.current) g.S.Store _ c.args.self.now c.self.view_is c.self.invariant c.requires.sound
     (λ clean is_open. add_follows _ _ (c.self.invariant.rows clean is_open).sound owned c.args.number c.args.target.now c.args.current)) c.commit.new.conn c.undo_generation.new.self _ (rows_as g.S.Store _ _ (ap {B = Contents → Contents} (λ (t : List ℕ). put_generation owned c.args.number t c.args.current) c.as_str.ensures.value) c.in-Err.ensures.frame)
-    (generation_undone c.self.inside.outline c.put_generation.new.self owned (pair_bytes c.in_ok-key.key) (pair_bytes c.in_ok-again.again) c.args.number c.args.target.now c.in_ok-value.value c.in_ok-key.ensures c.in_ok-again.ensures c.in_ok-value.ensures.cases c.in_ok-had.ensures.done c.switch_generation.new.self c.args.current c.switch_generation.ensures (ap (λ (n : Kept _). finite.get (profile_of n.outline owned).generations c.args.number) c.self.view_is ∙ c.requires.new) c.undo_generation.new.self _ c.in_ok-had.ensures.had c.undo_generation.ensures) _
+    (generation_undone c.self.inside.outline c.put_generation.new.self owned (pair_bytes c.in_ok-key.key) (pair_bytes c.in_ok-again.again) c.args.number c.args.target.now c.in_ok-value.value c.in_ok-key.ensures c.in_ok-again.ensures c.in_ok-value.ensures.cases c.in_ok-had.ensures.done c.switch_generation.new.self c.args.current c.switch_generation.ensures (ap (λ (n : TablesValue _). finite.get (profile_of n.outline owned).generations c.args.number) c.self.view_is ∙ c.requires.new) c.undo_generation.new.self _ c.in_ok-had.ensures.had c.undo_generation.ensures) _
 
 pub returns-clause-cause : goal.returns-clause-cause
 returns-clause-cause g c =
@@ -55,4 +55,4 @@ undo_generation-requires g c =
 pub switch_generation-requires : goal.switch_generation-requires
 switch_generation-requires g c =
     let owned : Pair = (c.args.owner.now, c.args.name.now) in
-    put_there c.self.inside.outline c.put_generation.new.self owned (pair_bytes c.in_ok-key.key) (pair_bytes c.in_ok-again.again) c.args.number c.args.target.now c.in_ok-value.value c.in_ok-key.ensures c.in_ok-again.ensures c.in_ok-value.ensures.cases c.in_ok-had.ensures.done
+    put_present c.self.inside.outline c.put_generation.new.self owned (pair_bytes c.in_ok-key.key) (pair_bytes c.in_ok-again.again) c.args.number c.args.target.now c.in_ok-value.value c.in_ok-key.ensures c.in_ok-again.ensures c.in_ok-value.ensures.cases c.in_ok-had.ensures.done

@@ -5,7 +5,7 @@ use Rattle.model.specs.World.{Path, pair_cmp}
 use Rattle.tables_sql.specs.Contents.{Contents}
 use Rattle.tables_make.specs.Reasons.{HasReason}
 use Rattle.tables.specs.RowsPut.{PermanentRow}
-use Rattle.tables.proofs.Kept.{write_agrees, write_commits, write_fails, failure_agrees, failure_seen, rows_as}
+use Rattle.tables.proofs.AfterWrites.{write_agrees, write_commits, write_fails, failure_agrees, failure_seen, rows_as}
 use Rattle.tables.proofs.PutRoots.{permanent_put, permanent_there, permanent_undone}
 use Rattle.tables.proofs.RootChanges.{roots_write}
 use Rattle.tables.proofs.keeping.Tables.put_permanent.Goals as goal

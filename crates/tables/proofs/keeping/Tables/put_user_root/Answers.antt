@@ -6,7 +6,7 @@ use Rattle.tables_sql.specs.Contents.{Contents}
 use Rattle.tables_outline.specs.Maps.{pair_bytes}
 use Rattle.tables_make.specs.Reasons.{HasReason}
 use Rattle.tables.specs.RowsPut.{UserRootRow}
-use Rattle.tables.proofs.Kept.{write_agrees, write_commits, write_fails, failure_agrees, failure_seen, rows_as}
+use Rattle.tables.proofs.AfterWrites.{write_agrees, write_commits, write_fails, failure_agrees, failure_seen, rows_as}
 use Rattle.tables.proofs.PutRoots.{user_put, user_there, user_undone}
 use Rattle.tables.proofs.RootChanges.{roots_write}
 use Rattle.tables.proofs.keeping.Tables.put_user_root.Goals as goal

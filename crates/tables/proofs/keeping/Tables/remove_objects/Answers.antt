@@ -1,7 +1,7 @@
 use Rattle.std.proofs.Common.{refl}
 use Rattle.std.proofs.lemmas.Result.{err_from_is_err_and}
 use Rattle.tables.proofs.Covered.{covered}
-use Rattle.tables.proofs.Kept.{write_agrees, write_commits, write_fails}
+use Rattle.tables.proofs.AfterWrites.{write_agrees, write_commits, write_fails}
 use Rattle.tables.proofs.RemovedObjects.{removed_write}
 use Rattle.tables.proofs.keeping.Tables.remove_objects.Goals as goal
 
@@ -12,7 +12,7 @@ delete_rows-requires-clause-covers g c clean is_open =
 
 pub delete_rows-requires-clause-frame : goal.delete_rows-requires-clause-frame
 delete_rows-requires-clause-frame g c = record {
-  alone = c.self.invariant.alone;
+  idle = c.self.invariant.idle;
   ready = λ clean up. (c.self.invariant.rows clean up).ready;
   whole = λ clean up. (c.self.invariant.rows clean up).whole;
 }

@@ -6,12 +6,12 @@ use Rattle.model.specs.Profiles.{has_generation, put_at, switched}
 use Rattle.tables_outline.specs.Maps.{pair_bytes}
 use Rattle.tables_outline.specs.Outline.{profile_of}
 use Rattle.tables_make.specs.Reasons.{HasReason}
-use Rattle.tables.specs.Kept.{Kept}
+use Rattle.tables.specs.TablesValue.{TablesValue}
 use Rattle.tables.specs.Rewritten.{put_generation}
 use Rattle.tables.specs.RowsPut.{GenerationRows}
-use Rattle.tables.proofs.Kept.{write_agrees, write_commits, write_fails, failure_agrees, failure_seen, rows_as}
+use Rattle.tables.proofs.AfterWrites.{write_agrees, write_commits, write_fails, failure_agrees, failure_seen, rows_as}
 use Rattle.tables.proofs.ProfileWrites.{profile_write}
-use Rattle.tables.proofs.AddedGenerations.{add_follows, put_there, generation_put}
+use Rattle.tables.proofs.AddedGenerations.{add_follows, put_present, generation_put}
 use Rattle.tables.proofs.keeping.Tables.replace_generation.Goals as goal
 
 pub invariant_of-self : goal.invariant_of-self
@@ -49,9 +49,9 @@ returns-clause-cause g c =
 
 pub replace_generation-requires : goal.replace_generation-requires
 replace_generation-requires g c =
-    ap₂ (λ (n : Kept _) (k : Pair). has_generation (profile_of n.outline k) c.args.number) c.self.view_is c.in_ok-key.ensures ∙ c.requires.present
+    ap₂ (λ (n : TablesValue _) (k : Pair). has_generation (profile_of n.outline k) c.args.number) c.self.view_is c.in_ok-key.ensures ∙ c.requires.present
 
 pub switch_generation-requires : goal.switch_generation-requires
 switch_generation-requires g c =
     let owned : Pair = (c.args.owner.now, c.args.name.now) in
-    put_there c.self.inside.outline c.replace_generation.new.self owned (pair_bytes c.in_ok-key.key) (pair_bytes c.in_ok-key.key) c.args.number c.args.target.now c.in_ok-value.value c.in_ok-key.ensures c.in_ok-key.ensures c.in_ok-value.ensures.cases c.replace_generation.ensures
+    put_present c.self.inside.outline c.replace_generation.new.self owned (pair_bytes c.in_ok-key.key) (pair_bytes c.in_ok-key.key) c.args.number c.args.target.now c.in_ok-value.value c.in_ok-key.ensures c.in_ok-key.ensures c.in_ok-value.ensures.cases c.replace_generation.ensures

@@ -5,7 +5,7 @@ use Rattle.model.specs.World.{Path, pair_cmp}
 use Rattle.tables_outline.specs.Maps.{labelled_bytes, seen_set}
 use Rattle.tables_make.specs.Reasons.{RowsOf}
 use Rattle.tables.specs.RowsPut.{RuntimeRow}
-use Rattle.tables.proofs.Kept.{write_agrees, write_commits, write_fails, failure_agrees, failure_seen}
+use Rattle.tables.proofs.AfterWrites.{write_agrees, write_commits, write_fails, failure_agrees, failure_seen}
 use Rattle.tables.proofs.RootChanges.{roots_write}
 use Rattle.tables.proofs.keeping.Tables.replace_runtime.Goals as goal
 

@@ -4,9 +4,9 @@ use Rattle.sqlite.specs.Held.{state}
 use Rattle.model.specs.World.{Pair}
 use Rattle.model.specs.Profiles.{has_generation, put_at, switched}
 use Rattle.tables_outline.specs.Outline.{profile_of}
-use Rattle.tables.specs.Kept.{Kept}
+use Rattle.tables.specs.TablesValue.{TablesValue}
 use Rattle.tables.specs.RowsPut.{ProfileRow, GenerationRows}
-use Rattle.tables.proofs.NumbersLeft.{set_is_switch, set_is_new, there_of}
+use Rattle.tables.proofs.NumbersLeft.{set_is_switch, set_is_new, present_of}
 use Rattle.tables_make.proofs.Reasons.{as_reason, more_reason}
 use Rattle.tables.proofs.SetProfiles.{set_sound, set_commits}
 use Rattle.tables.proofs.keeping.Tables.set_profile.Goals as goal
@@ -14,12 +14,12 @@ use Rattle.tables.proofs.keeping.Tables.set_profile.Goals as goal
 pub switch_generation-requires-clause-present : goal.switch_generation-requires-clause-present
 switch_generation-requires-clause-present g c =
     let owned : Pair = (c.args.owner.now, c.args.name.now) in
-    there_of (finite.get c.args.self.now.outline.profiles owned) c.args.number (sym (ap₂ (λ (n : Kept _) (k : Pair). has_generation (profile_of n.outline k) c.args.number) c.self.view_is c.in_ok-key.ensures) ∙ sym c.has_generation.ensures ∙ c.if-has_generation.true)
+    present_of (finite.get c.args.self.now.outline.profiles owned) c.args.number (sym (ap₂ (λ (n : TablesValue _) (k : Pair). has_generation (profile_of n.outline k) c.args.number) c.self.view_is c.in_ok-key.ensures) ∙ sym c.has_generation.ensures ∙ c.if-has_generation.true)
 
 pub switch_generation-requires-clause-sound : goal.switch_generation-requires-clause-sound
 switch_generation-requires-clause-sound g c =
     let owned : Pair = (c.args.owner.now, c.args.name.now) in
-    set_sound g.S.Store c.args.self.now owned c.args.target.now (λ p. switched p c.args.number) (set_is_switch (profile_of c.args.self.now.outline owned) c.args.target.now c.args.number c.requires.number (sym (ap₂ (λ (n : Kept _) (k : Pair). has_generation (profile_of n.outline k) c.args.number) c.self.view_is c.in_ok-key.ensures) ∙ sym c.has_generation.ensures ∙ c.if-has_generation.true)) c.requires.sound
+    set_sound g.S.Store c.args.self.now owned c.args.target.now (λ p. switched p c.args.number) (set_is_switch (profile_of c.args.self.now.outline owned) c.args.target.now c.args.number c.requires.number (sym (ap₂ (λ (n : TablesValue _) (k : Pair). has_generation (profile_of n.outline k) c.args.number) c.self.view_is c.in_ok-key.ensures) ∙ sym c.has_generation.ensures ∙ c.if-has_generation.true)) c.requires.sound
 
 pub put_generation-requires-clause-sound : goal.put_generation-requires-clause-sound
 put_generation-requires-clause-sound g c =
@@ -29,7 +29,7 @@ put_generation-requires-clause-sound g c =
 pub returns-then-has_generation-clause-frame : goal.returns-then-has_generation-clause-frame
 returns-then-has_generation-clause-frame g c =
     let owned : Pair = (c.args.owner.now, c.args.name.now) in
-    set_commits g.S.Store c.args.self.now owned c.args.target.now (λ p. switched p c.args.number) (set_is_switch (profile_of c.args.self.now.outline owned) c.args.target.now c.args.number c.requires.number (sym (ap₂ (λ (n : Kept _) (k : Pair). has_generation (profile_of n.outline k) c.args.number) c.self.view_is c.in_ok-key.ensures) ∙ sym c.has_generation.ensures ∙ c.if-has_generation.true)) c.switch_generation.result c.switch_generation.new.self c.switch_generation.ensures.frame
+    set_commits g.S.Store c.args.self.now owned c.args.target.now (λ p. switched p c.args.number) (set_is_switch (profile_of c.args.self.now.outline owned) c.args.target.now c.args.number c.requires.number (sym (ap₂ (λ (n : TablesValue _) (k : Pair). has_generation (profile_of n.outline k) c.args.number) c.self.view_is c.in_ok-key.ensures) ∙ sym c.has_generation.ensures ∙ c.if-has_generation.true)) c.switch_generation.result c.switch_generation.new.self c.switch_generation.ensures.frame
 
 pub returns-then-has_generation-clause-cause : goal.returns-then-has_generation-clause-cause
 returns-then-has_generation-clause-cause g c clean =

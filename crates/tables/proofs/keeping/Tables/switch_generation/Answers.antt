@@ -6,14 +6,14 @@ use Rattle.tables_sql.specs.Contents.{Contents}
 use Rattle.model.specs.World.{Pair}
 use Rattle.model.specs.Profiles.{switched}
 use Rattle.tables_outline.specs.Outline.{with_profile, profile_of}
-use Rattle.tables.specs.Kept.{Kept}
+use Rattle.tables.specs.TablesValue.{TablesValue}
 use Rattle.tables.proofs.ProfileWrites.{profile_write, switch_follows}
-use Rattle.tables.proofs.Kept.{write_agrees, write_commits, write_fails}
+use Rattle.tables.proofs.AfterWrites.{write_agrees, write_commits, write_fails}
 use Rattle.tables.proofs.keeping.Tables.switch_generation.Goals as goal
 
 pub switch_generation-requires : goal.switch_generation-requires
 switch_generation-requires g c =
-    ap (λ (k : Pair). finite.contains_key c.self.inside.outline.profiles k) c.in_ok-key.ensures ∙ ap (λ (n : Kept _). finite.contains_key n.outline.profiles (c.args.owner.now, c.args.name.now)) c.self.view_is ∙ c.requires.present
+    ap (λ (k : Pair). finite.contains_key c.self.inside.outline.profiles k) c.in_ok-key.ensures ∙ ap (λ (n : TablesValue _). finite.contains_key n.outline.profiles (c.args.owner.now, c.args.name.now)) c.self.view_is ∙ c.requires.present
 
 pub returns-in_err-commit-clause-frame : goal.returns-in_err-commit-clause-frame
 returns-in_err-commit-clause-frame g c =

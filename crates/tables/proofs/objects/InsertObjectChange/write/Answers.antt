@@ -15,6 +15,7 @@ use Rattle.tables.specs.Rewritten.{AreFree, put_object}
 use Rattle.tables_make.specs.Reasons.{RowsOf}
 use Rattle.tables_make.specs.Migrating.{PieceRow}
 use Rattle.tables.specs.RowsPut.{ReferenceRow, OutputRow, ObjectRows}
+use Rattle.tables.proofs.Cuts.{row_part_is}
 use Rattle.tables.proofs.Free.{outputs_free, pieces_free, references_free}
 use Rattle.tables.proofs.Lists.{zipped, keys_count}
 use Rattle.tables_make.proofs.Reasons.{as_reason, is_none, more_reason, next_reason, put_open, text_same}
@@ -22,7 +23,7 @@ use Rattle.tables_sql.proofs.Transactions.{done_both, failed_next, steps_both}
 use Rattle.tables_sql.proofs.Steps.{under_after}
 use Rattle.tables.proofs.Failing.{err_kept}
 use Rattle.tables_sql.proofs.TestFailures.{passed_on, survives_both}
-use Rattle.tables.proofs.Transactions.{pieces_stand}
+use Rattle.tables.proofs.Transactions.{pieces_exist}
 use Rattle.tables.proofs.objects.InsertObjectChange.write.Goals as goal
 
 pub put_outputs-requires-clause-count : goal.put_outputs-requires-clause-count
@@ -92,7 +93,7 @@ put_pieces-requires-clause-exists g c clean =
     let b = state g.S.Store c.insert.new.tx.conn.now in
     let d = state g.S.Store c.put_references.new.tx.conn.now in
     let e = state g.S.Store c.put_outputs.new.tx.conn.now in
-    pieces_stand a e _ (steps_both a d e _ _ (steps_both a b d _ _ c.in_ok-insert.ensures.done c.put_references.ensures.frame.survives c.in_ok-put_references.ensures.done) c.put_outputs.ensures.frame.survives c.in_ok-put_outputs.ensures.done)
+    pieces_exist a e _ (steps_both a d e _ _ (steps_both a b d _ _ c.in_ok-insert.ensures.done c.put_references.ensures.frame.survives c.in_ok-put_references.ensures.done) c.put_outputs.ensures.frame.survives c.in_ok-put_outputs.ensures.done)
     (survives_both a d e (survives_both a b d c.insert.ensures.frame.survives c.put_references.ensures.frame.survives) c.put_outputs.ensures.frame.survives) (λ early is_open. (c.requires.whole early is_open).pieces) clean
 
 pub returns-clause-frame : goal.returns-clause-frame
@@ -115,7 +116,7 @@ returns-clause-done g c =
     let d = state g.S.Store c.put_references.new.tx.conn.now in
     let e = state g.S.Store c.put_outputs.new.tx.conn.now in
     done_both a e (state g.S.Store c.put_pieces.new.tx.conn.now) _ _ (steps_both a d e _ _ (steps_both a b d _ _ c.in_ok-insert.ensures.done c.put_references.ensures.frame.survives c.in_ok-put_references.ensures.done) c.put_outputs.ensures.frame.survives c.in_ok-put_outputs.ensures.done) c.put_pieces.ensures.frame.survives
-    c.put_pieces.result _ (λ x i. put_object it.base.now (stored (c.first_of.ensures i) (c.hash.ensures i) it.texts.now.deriver it.texts.now.ca) (c.references.ensures i) ((ap₂ zip c.names.ensures c.outputs.ensures ∙ zipped (finite.entries it.object.now.outputs)) i) (further_pieces it.nar.now) x) c.put_pieces.ensures.done
+    c.put_pieces.result _ (λ x i. put_object it.base.now (stored ((c.first.ensures ∙ row_part_is it.nar.now) i) (c.hash.ensures i) it.texts.now.deriver it.texts.now.ca) (c.references.ensures i) ((ap₂ zip c.names.ensures c.outputs.ensures ∙ zipped (finite.entries it.object.now.outputs)) i) (further_pieces it.nar.now) x) c.put_pieces.ensures.done
 
 -- ---- nothing of it is there
 
@@ -159,8 +160,8 @@ returns-in_err-insert-clause-cause g c clean =
     let it = c.args.self.now in
     let a = state g.S.Store c.args.tx.now.conn.now in
     let b = state g.S.Store c.insert.new.tx.conn.now in
-    let row : Row = Text it.base.now ∷ Blob c.first_of.result.now ∷ Blob c.hash.result.now ∷ text_or_null it.texts.now.deriver ∷ text_or_null it.texts.now.ca ∷ [] in
-    let is : row ≡ _ = λ i. Text it.base.now ∷ Blob (c.first_of.ensures i) ∷ Blob (c.hash.ensures i) ∷ text_same it.texts.now.deriver i ∷ text_same it.texts.now.ca i ∷ [] in
+    let row : Row = Text it.base.now ∷ Blob c.first.result.now ∷ Blob c.hash.result.now ∷ text_or_null it.texts.now.deriver ∷ text_or_null it.texts.now.ca ∷ [] in
+    let is : row ≡ _ = λ i. Text it.base.now ∷ Blob ((c.first.ensures ∙ row_part_is it.nar.now) i) ∷ Blob (c.hash.ensures i) ∷ text_same it.texts.now.deriver i ∷ text_same it.texts.now.ca i ∷ [] in
     let early : HasCleanDisk a = omega (arith, c.insert.ensures.frame.survives.clean, clean) in
     passed_on c.from_residual.result _ _ c.from_residual.ensures.1 (put_open (ObjectRows it.base.now (stored (row_part it.nar.now) it.object.now.hash it.texts.now.deriver it.texts.now.ca) (finite.keys it.object.now.references) (finite.entries it.object.now.outputs) (further_pieces it.nar.now)) a b _ row _ (inl (refl, is)) (λ up. is_none _ (c.requires.fits early up).object) _ (c.in_err-insert.ensures.cause clean))
 

@@ -7,7 +7,7 @@ use Rattle.tables_sql.specs.declared.failure.Failure.TheVariants.{Memory}
 use Rattle.tables_sql.proofs.TestFailures.{passed_on}
 use Rattle.tables_make.specs.Making.{IsMade}
 use Rattle.paths.specs.Names.{is_store_dir}
-use Rattle.tables.proofs.Made.{made_agrees, made_tells, memory_alone}
+use Rattle.tables.proofs.Made.{made_agrees, made_reports, memory_only}
 use Rattle.tables.proofs.opening.Tables+MemStore.open_in_memory.Goals as goal
 
 pub invariant_of-result : goal.invariant_of-result
@@ -17,7 +17,7 @@ invariant_of-result c =
     let same : c.as_str.result.now ≡ c.in_ok-kept.kept = c.as_str.ensures.value ∙ sym c.in_ok-kept.ensures.cases in
     let valid : IsTrue (is_store_dir c.in_ok-kept.kept) = ap is_store_dir c.in_ok-kept.ensures.cases ∙ c.as_str.ensures.valid in
     let made : HasCleanDisk new → IsMade c.in_ok-kept.kept old new = λ clean. subst (λ (d : List ℕ). IsMade d old new) same (c.in_ok-make.ensures.done clean) in
-    made_agrees over_memory c.make.new.conn old c.in_ok-kept.kept c.new-outline.result valid c.new-outline.ensures made c.make.ensures.alone
+    made_agrees over_memory c.make.new.conn old c.in_ok-kept.kept c.new-outline.result valid c.new-outline.ensures made c.make.ensures.idle
 
 pub returns-clause-reported : goal.returns-clause-reported
 returns-clause-reported c =
@@ -26,11 +26,11 @@ returns-clause-reported c =
     let same : c.as_str.result.now ≡ c.in_ok-kept.kept = c.as_str.ensures.value ∙ sym c.in_ok-kept.ensures.cases in
     let valid : IsTrue (is_store_dir c.in_ok-kept.kept) = ap is_store_dir c.in_ok-kept.ensures.cases ∙ c.as_str.ensures.valid in
     let made : HasCleanDisk new → IsMade c.in_ok-kept.kept old new = λ clean. subst (λ (d : List ℕ). IsMade d old new) same (c.in_ok-make.ensures.done clean) in
-    made_tells over_memory c.make.new.conn old c.in_ok-kept.kept c.new-outline.result valid c.new-outline.ensures made
+    made_reports over_memory c.make.new.conn old c.in_ok-kept.kept c.new-outline.result valid c.new-outline.ensures made
 
 pub returns-in_err-make-clause-cause : goal.returns-in_err-make-clause-cause
 returns-in_err-make-clause-cause c =
     let valid : IsTrue (is_store_dir c.as_str.result.now) = ap is_store_dir c.as_str.ensures.value ∙ c.as_str.ensures.valid in
-    let why = memory_alone c.in_ok-connection.connection c.make.new.conn c.as_str.result.now valid c.in_ok-connection.ensures.empty c.in_ok-connection.ensures.fresh
+    let why = memory_only c.in_ok-connection.connection c.make.new.conn c.as_str.result.now valid c.in_ok-connection.ensures.empty c.in_ok-connection.ensures.fresh
     c.in_err-make.field-0.0 (c.in_err-make.ensures.cause (memory_is_clean c.make.new.conn)) in
     passed_on c.from_residual-in_err-make.result c.in_err-make.field-0.0 (λ failure. failure ≡ Memory) c.from_residual-in_err-make.ensures.1 why

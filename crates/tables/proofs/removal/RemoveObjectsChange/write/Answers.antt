@@ -7,7 +7,7 @@ use Rattle.tables.specs.Rewritten.{Covers}
 use Rattle.tables.proofs.Covered.{covers_less}
 use Rattle.tables.proofs.Removed.{without_next}
 use Rattle.tables_sql.proofs.TestFailures.{passed_on, survives_both}
-use Rattle.tables.proofs.Transactions.{pieces_stand}
+use Rattle.tables.proofs.Transactions.{pieces_exist}
 use Rattle.tables_make.proofs.Reasons.{as_reason, next_reason}
 use Rattle.tables.proofs.removal.RemoveObjectsChange.write.Goals as goal
 
@@ -32,7 +32,7 @@ delete_objects-requires-clause-covers g c clean =
 
 pub delete_objects-requires-clause-exists : goal.delete_objects-requires-clause-exists
 delete_objects-requires-clause-exists g c clean =
-    pieces_stand (state g.S.Store c.args.tx.now.conn.now) (state g.S.Store c.delete_object.new.tx.conn.now) _ c.in_ok-delete_object.ensures.done c.delete_object.ensures.frame.survives (λ early is_open. (c.requires.whole early is_open).pieces) clean
+    pieces_exist (state g.S.Store c.args.tx.now.conn.now) (state g.S.Store c.delete_object.new.tx.conn.now) _ c.in_ok-delete_object.ensures.done c.delete_object.ensures.frame.survives (λ early is_open. (c.requires.whole early is_open).pieces) clean
 
 pub returns-clause-frame : goal.returns-clause-frame
 returns-clause-frame g c =

@@ -9,7 +9,7 @@ use Rattle.tables_outline.specs.Maps.{seen_map, pair_bytes}
 use Rattle.tables_outline.specs.View.{outline_view, profile_view}
 use Rattle.tables_outline.specs.Filling.{with_generation}
 use Rattle.tables_outline.specs.Outline.{OutlineValue}
-use Rattle.tables_outline.proofs.Generations.{profile_there, generation_put}
+use Rattle.tables_outline.proofs.Generations.{profile_present, generation_put}
 use Rattle.tables_outline.proofs.outline.Outline.add_generation.Goals as goal
 use Rattle.tables_outline.proofs.outline.Outline.add_generation.Goals.{in-Some+in_ok-put-in-Some, in-None}
 
@@ -20,8 +20,8 @@ returns-clause-present c =
     let seen : (b : Bool) → finite.contains_key (seen_map pair_cmp pair_bytes profile_view es) owned ≡ b → b ≡ finite.contains_key c.args.self.now.profiles owned =
     λ b h. sym h ∙ ap (λ (o : OutlineValue). finite.contains_key o.profiles owned) c.self.view_is in
     elim c.match-get_mut.branch [
-      | in-Some+in_ok-put-in-Some w ↦ subst (λ (r : Result Bool AllocError). IfOk r (λ b. b ≡ finite.contains_key c.args.self.now.profiles owned)) (sym w.result-is) (seen _ (profile_there es owned _ (sym c.get_mut.ensures.value ∙ ap option_copied_mut w.in-Some.is)))
-      | in-None w ↦ subst (λ (r : Result Bool AllocError). IfOk r (λ b. b ≡ finite.contains_key c.args.self.now.profiles owned)) (sym w.result-is) (seen _ (profile_there es owned _ (sym c.get_mut.ensures.value ∙ ap option_copied_mut w.in-None.is)))
+      | in-Some+in_ok-put-in-Some w ↦ subst (λ (r : Result Bool AllocError). IfOk r (λ b. b ≡ finite.contains_key c.args.self.now.profiles owned)) (sym w.result-is) (seen _ (profile_present es owned _ (sym c.get_mut.ensures.value ∙ ap option_copied_mut w.in-Some.is)))
+      | in-None w ↦ subst (λ (r : Result Bool AllocError). IfOk r (λ b. b ≡ finite.contains_key c.args.self.now.profiles owned)) (sym w.result-is) (seen _ (profile_present es owned _ (sym c.get_mut.ensures.value ∙ ap option_copied_mut w.in-None.is)))
     ]
 
 pub returns-clause-done : goal.returns-clause-done

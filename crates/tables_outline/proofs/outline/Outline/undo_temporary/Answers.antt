@@ -7,14 +7,14 @@ use Rattle.tables_outline.specs.Maps.{seen_set, temporary_bytes}
 use Rattle.tables_outline.specs.View.{outline_view}
 use Rattle.tables_outline.specs.Outline.{OutlineValue}
 use Rattle.tables_outline.specs.Temporary.{unkept}
-use Rattle.tables_outline.proofs.SetTrees.{Kept}
+use Rattle.tables_outline.proofs.SetTrees.{SessionEntry}
 use Rattle.tables_outline.proofs.SessionTrees.{tuple_cmp, drop_kept}
 use Rattle.tables_outline.proofs.outline.Outline.undo_temporary.Goals as goal
 
 pub returns-then-not-had : goal.returns-then-not-had
 returns-then-not-had c =
     let keys = c.self.inside.temporary.keys in
-    let kept : Kept = c.args.kept.now in
+    let kept : SessionEntry = c.args.kept.now in
     ap (λ m. record (outline_view c.self.inside) { temporary = m })
     (ap (seen_set temporary_cmp temporary_bytes) c.remove.ensures.keys
     ∙ drop_kept keys kept (ap (list_any (λ k. is_eq (tuple_cmp kept k))) (sym c.remove.ensures.keys) ∙ c.remove.ensures.updates.1))

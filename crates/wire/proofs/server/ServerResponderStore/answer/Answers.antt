@@ -22,7 +22,7 @@ returns-in-Ok g c = λ h is admits.
       cause = c.call-reply.ensures.cause;
       others = c.call-reply.ensures.others;
       still = c.call-reply.ensures.still;
-      lasts = c.call-reply.ensures.lasts;
+      stays_durable = c.call-reply.ensures.stays_durable;
       survives = c.call-reply.ensures.survives;
     } in
     let after = c.store_dir.ensures ∙ ap (λ v. v.store_dir) (c.config-in-Ok.ensures ∙ c.call-reply.ensures.settings) in

@@ -1,0 +1,5 @@
+//! Small callers of `tool`, written as a stranger would write them.
+#![tactic(auto)]
+
+#[cfg(test)]
+mod commands;

@@ -1,0 +1,36 @@
+//! What a command that serves a store begins and ends with.
+ghost use Rattle.std.specs.Prelude.{◌≡◌, IfOk};
+
+use crate::server::Server;
+use policy::Config;
+use sqlite::Alter;
+use std::alloc::{AllocError, Global};
+use store::Store;
+use tables::Tables;
+
+/// A server, and the store of these tables.
+///
+/// # Errors
+///
+/// Memory was refused for the server. The tables are closed.
+pub(crate) fn open<S: Alter + Drop>(
+    alloc: Global,
+    config: Config,
+    tables: Tables<S>,
+) -> Result<(Server, Store<S>), AllocError>
+    requires { tables.dir ≡ config.store_dir }
+    ensures { IfOk result (λ it. it.1 ≡ record { tables = tables; settings = config }) }
+{
+    match Server::new(alloc) {
+        Ok(server) => Ok((server, Store::new(alloc, config, tables))),
+        Err(fault) => {
+            drop(tables.release());
+            Err(fault)
+        }
+    }
+}
+
+/// Closes a store, and its tables.
+pub(crate) fn close<S: Alter + Drop>(store: Store<S>) {
+    drop(store.release().release());
+}
