@@ -1,5 +1,6 @@
 """How the programs of this folder are called, and how they report: each figure with its limit, where it has one."""
 import json
+import math
 import os
 import statistics
 import subprocess
@@ -12,6 +13,8 @@ from tests.lib import report
 
 ROUNDS = 5
 MIB = 1_048_576
+# What the exponent of a growth may be: nothing is quadratic.
+EXPONENT = 1.2
 records = []
 section = None
 
@@ -78,6 +81,14 @@ def median(what, found, most, unit="s"):
     limit(what, found, most, unit, of=statistics.median)
 
 
+def exponent(what, few, many, times, is_limited=True):
+    """By which power the least time of some rounds grows where there is so many times as much: 1 is in proportion, 2 is
+    quadratic."""
+    power = math.log(min(many) / min(few)) / math.log(times)
+    what = f"{what}: {shown(min(few), 's')} and {shown(min(many), 's')}"
+    limit(what, power, EXPONENT if is_limited else None, "power")
+
+
 def skipped(*tools):
     """Whether a peer isn't installed, which is printed and kept."""
     why = report.missing(tools)
@@ -118,15 +129,16 @@ class Runs:
 
 def command(words, given=None, env=None):
     """Seconds and KiB of a run from the start of the process to its end, which has to be with 0; its input is a
-    file."""
-    with open(given or os.devnull, "rb") as source:
+    file. So is what it says on standard error, of any length: real Nix has a line for each object that it deletes."""
+    with open(given or os.devnull, "rb") as source, tempfile.TemporaryFile() as said:
         start = time.perf_counter()
-        ran = subprocess.Popen(words, env=env, stdin=source, stdout=subprocess.DEVNULL, stderr=subprocess.PIPE)
+        ran = subprocess.Popen(words, env=env, stdin=source, stdout=subprocess.DEVNULL, stderr=said)
         _, status, usage = os.wait4(ran.pid, 0)
         took = time.perf_counter() - start
-    ran.returncode, said = os.waitstatus_to_exitcode(status), ran.communicate()[1]
-    if ran.returncode:
-        sys.exit(f"{' '.join(words)[:200]}: status {ran.returncode}: {said.decode(errors='replace')}")
+        ran.returncode = os.waitstatus_to_exitcode(status)
+        if ran.returncode:
+            said.seek(0)
+            sys.exit(f"{' '.join(words)[:200]}: status {ran.returncode}: {said.read().decode(errors='replace')}")
     return took, usage.ru_maxrss
 
 

@@ -2,10 +2,11 @@
 import contextlib
 import hashlib
 import os
+import shutil
 import sqlite3
 import time
 
-from tests.lib.model.tables import PIECE
+from tests.lib.model.tables import PIECE, TABLES
 from tests.lib.nar import archive
 
 OF_OBJECT = ("object", "refs", "outs", "piece")
@@ -42,7 +43,7 @@ def refer(conn, name, targets):
 
 def filled(run, path, objects, size, references, roots=(), is_ring=True):
     """A store of N objects of a size in bytes, each with references to those after it, the last ones to the first
-    where they are a ring, and roots at those with these numbers."""
+    where they are a ring, and roots that lead to those with these numbers."""
     run(path, "list")
     with opened(path) as conn:
         conn.execute("BEGIN")
@@ -51,10 +52,23 @@ def filled(run, path, objects, size, references, roots=(), is_ring=True):
             insert(conn, base(number), nar, hashlib.sha256(nar).digest())
             targets = {(number + near + 1) % objects for near in range(references)}
             refer(conn, base(number), [it for it in targets if is_ring or it > number])
-        conn.executemany("INSERT INTO permanent VALUES (?1, ?2)", [(f"root{at}", base(at)) for at in roots])
+        named = [(f"root{at}", base(it)) for at, it in enumerate(roots)]
+        conn.executemany("INSERT INTO permanent VALUES (?1, ?2)", named)
         conn.execute("COMMIT")
         conn.execute("PRAGMA wal_checkpoint(TRUNCATE)")
     return path
+
+
+def foreign(run, path):
+    """A copy of a file whose tables are another program's. A command opens it, and finds an empty store next to them:
+    all that it tests is what `sqlite` tests by itself."""
+    copy = shutil.copy(path, f"{path}-foreign")
+    with opened(copy) as conn:
+        for name in TABLES:
+            conn.execute(f"ALTER TABLE {name} RENAME TO other_{name}")
+        conn.execute("PRAGMA wal_checkpoint(TRUNCATE)")
+    run(copy, "list")
+    return copy
 
 
 def delete(path, numbers):

@@ -1,0 +1,80 @@
+"""Why figures miss their limits, and what was tried: a remark for each, by a pattern of its names."""
+import collections
+import re
+
+# A pattern of the benchmark, the section and the figure, joined by ": ", and what to say of those that miss a limit.
+Remark = collections.namedtuple("Remark", "pattern about text")
+REMARKS = [
+    Remark(r"stores: `list` on 100 objects .*: time", "`list` of 100 objects of 1 MiB, its time",
+           """`sqlite` tests a file when it opens it, and copies each row for that: a row of the same section has what
+           that takes alone. `sha2` is scalar code, and takes 1.7 times as long as C's for each byte. Tried: archives go
+           piece by piece through one checker and one digest, each byte is hashed once, and no page is read twice."""),
+    Remark(r"stores: `list` on 100 objects .*: memory", "`list` of 100 objects of 1 MiB, its memory",
+           """The opening of `sqlite` alone holds 105 MiB for 100 MiB of rows: it copies all rows of a table into one
+           list (`all_rows`), whatever options it is given. Tried: nixkeep's own tests hold one archive at a time, which
+           took 16 MiB off."""),
+    Remark(r"stores: `list` on .*: (time|100,000 .*)", "`list` of many small objects",
+           """Of 100 instructions the opening of `sqlite` takes 45 to 49, SHA-256 20 to 22, a query for each object 8,
+           the queries for texts and for rowids 8. The opening looks up the row of each entry of each index. Tried: a
+           place in memory for each page (10 of 100 and two of three reads less), all references, outputs and keys of
+           pieces by one query each (13 less), look-ups among texts without a path (1 less). Not done yet: one scan of
+           the objects in place of a query for each, and one query of a table for its texts and rowids, some 12 of
+           100."""),
+    Remark(r"counts: memory .*", "memory of the index",
+           """An object is an entry of a tree, with a list of its references and their texts in blocks of their own. Not
+           tried yet: the index filled in the order of the file, and paths that are shared."""),
+    Remark(r"(requests|http): .* 16 MiB.*: (time|next to one SHA-256 of it by the same crate)",
+           "adds of 16 MiB to a file",
+           """`sqlite` copies each byte of a value when it is bound, evaluated and made a row, and then into a record, a
+           page, the log and the file (bench/counts); no call of it takes a value that it needn't copy. Tried: rows of
+           65,536 bytes that are bound as slices of what came, no second digest of contents unless an address asks for
+           one (3.2 to 3.6 times before), and no copy of the archive by nixkeep itself."""),
+    Remark(r"nix: the exponent of .*", "growths of everyday actions", "As in bench/growth."),
+    Remark(r"nix: .*by nixkeep-remote over a server: .*", "actions by `nixkeep-remote`",
+           """Of what processors spend on a run that asks for nothing, python3 alone takes a sixth, and its module
+           http.client half, since it loads email and ssl; a server takes less than a millisecond for most requests
+           (bench/requests). Tried: Debian's python3 in place of one that a script chooses, which took half as long
+           again, and curl as the client, which has rows of its own. Not tried yet: requests without http.client."""),
+    Remark(r"nix: .*by curl over a server: .*", "actions by curl",
+           """Each runs a process, connects, and sends one request. What the server takes of that is in
+           bench/requests."""),
+    Remark(r"nix: .* by a command: .*", "actions by a command",
+           """A command opens the file, and tests all of it before it answers: real Nix opens its database and trusts
+           it. So a command takes as long as `list`, whatever it does. Tried: all that is tried for `list`. A server
+           tests its file once."""),
+    Remark(r"growth: .*", "growths",
+           """A file of more than 64 MiB is read with a place for 2,000 of its pages alone, so the opening of `sqlite`
+           reads pages again for the entries of its indexes. Not tried yet: a higher bound."""),
+    Remark(r"libraries: .*in pieces of 100: what comes", "an archive in pieces of 100 bytes",
+           """In six runs of a quiet machine it takes 1.13 to 1.19 times one digest; a call for each 100 bytes takes the
+           rest."""),
+    Remark(r"commands: .*", "commands without a store",
+           """A process of nixkeep starts, reads its words and its configuration, and hashes what it is given; `sha2` is
+           scalar code."""),
+]
+
+
+def name_of(bench, it):
+    return f"{bench}: {it['section']}: {it['what']}"
+
+
+def remark_of(name):
+    """The remark on a figure; None where there is none."""
+    return next((it for it in REMARKS if re.fullmatch(it.pattern, name)), None)
+
+
+def missed(found):
+    """The names of the figures that miss their limit."""
+    return [name_of(bench, it) for bench, of in found.items() for it in of["figures"] if it.get("is_met") is False]
+
+
+def lines(found):
+    """The lines of the page: what is said of the figures that miss their limit, and of which nothing is."""
+    counted = collections.Counter(remark_of(name) for name in missed(found))
+    for remark in REMARKS:
+        if count := counted[remark]:
+            figures = "1 figure" if count == 1 else f"{count} figures"
+            yield f"- **{remark.about}** ({figures}): {' '.join(remark.text.split())}"
+    for name in missed(found):
+        if remark_of(name) is None:
+            yield f"- **{name}**: nothing is known of why."
