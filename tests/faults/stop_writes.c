@@ -1,7 +1,8 @@
 /* Ends the process as it is about to make the call STOP_AT that changes a file whose path begins with STOP_IN; half of a
-   write is made where STOP_TORN stands. What a file has when it is synced is copied to a file next to it; the file LOST
-   isn't synced. */
+   write is made where STOP_TORN stands. Where STOP_FAILS stands, reads count too, and in place of an end that call and
+   all after it fail. What a file has when it is synced is copied to a file next to it; the file LOST isn't synced. */
 #include "preload.h"
+#include <errno.h>
 #include <stdio.h>
 #include <string.h>
 #include <sys/types.h>
@@ -23,8 +24,11 @@ static int path_of(int fd, char *path) {
   return is_within(path);
 }
 
-/* Counts a call: whether the process has to stop at it. */
-static int is_due(void) { return ++counts()->calls == number("STOP_AT"); }
+/* Counts a call: whether the process has to stop at it, or the call fails. */
+static int is_due(void) {
+  unsigned long now = ++counts()->calls, at = number("STOP_AT");
+  return now == at || (getenv("STOP_FAILS") && at && now > at);
+}
 
 /* The same for a call on an open file, if that one counts. */
 static int is_stop(int fd) {
@@ -32,10 +36,20 @@ static int is_stop(int fd) {
   return path_of(fd, path) && is_due();
 }
 
+/* Whether a read of an open file fails. */
+static int is_unread(int fd) { return getenv("STOP_FAILS") && is_stop(fd); }
+
+/* The end of the process, or what a call returns that fails. */
+static int stopped(void) {
+  if (!getenv("STOP_FAILS")) _exit(STOPPED);
+  errno = EIO;
+  return -1;
+}
+
 /* A call at which the process may stop. */
 #define STOPS(call, is_meant, ...) \
   NEXT(call); \
-  if (is_meant) _exit(STOPPED); \
+  if (is_meant) return stopped(); \
   return next(__VA_ARGS__)
 
 static typeof(pwrite64) *pwrite_of_c(void) {
@@ -43,13 +57,13 @@ static typeof(pwrite64) *pwrite_of_c(void) {
   return next;
 }
 
-static void stop_in(int fd, const void *from, size_t size, off_t at) {
+static int stop_in(int fd, const void *from, size_t size, off_t at) {
   if (getenv("STOP_TORN") && pwrite_of_c()(fd, from, size / 2, at) < 0) abort();
-  _exit(STOPPED);
+  return stopped();
 }
 
 ssize_t pwrite64(int fd, const void *from, size_t size, off_t at) {
-  if (is_stop(fd)) stop_in(fd, from, size, at);
+  if (is_stop(fd)) return stop_in(fd, from, size, at);
   return pwrite_of_c()(fd, from, size, at);
 }
 
@@ -57,9 +71,20 @@ ssize_t pwrite(int fd, const void *from, size_t size, off_t at) { return pwrite6
 
 ssize_t write(int fd, const void *from, size_t size) {
   NEXT(write);
-  if (is_stop(fd)) stop_in(fd, from, size, lseek(fd, 0, SEEK_CUR));
+  if (is_stop(fd)) return stop_in(fd, from, size, lseek(fd, 0, SEEK_CUR));
   return next(fd, from, size);
 }
+
+static ssize_t read_at(int fd, void *to, size_t size, off_t at) {
+  NEXT(pread64);
+  return next(fd, to, size, at);
+}
+
+ssize_t pread64(int fd, void *to, size_t size, off_t at) { return is_unread(fd) ? stopped() : read_at(fd, to, size, at); }
+
+ssize_t pread(int fd, void *to, size_t size, off_t at) { return pread64(fd, to, size, at); }
+
+ssize_t read(int fd, void *to, size_t size) { STOPS(read, is_unread(fd), fd, to, size); }
 
 int ftruncate64(int fd, off_t size) { STOPS(ftruncate64, is_stop(fd), fd, size); }
 
@@ -74,7 +99,7 @@ static void keep(int fd) {
   snprintf(to, sizeof to, "%s.synced", path);
   int from = open(path, O_RDONLY), out = open(to, O_CREAT | O_TRUNC | O_WRONLY, 0600);
   off_t at = 0;
-  for (ssize_t size; (size = pread(from, block, sizeof block, at)) > 0; at += size)
+  for (ssize_t size; (size = read_at(from, block, sizeof block, at)) > 0; at += size)
     if (pwrite_of_c()(out, block, size, at) != size) abort();
   close(from);
   close(out);
@@ -83,7 +108,7 @@ static void keep(int fd) {
 static int synced(int fd, int (*next)(int)) {
   char path[MOST];
   const char *lost = getenv("LOST");
-  if (is_stop(fd)) _exit(STOPPED);
+  if (is_stop(fd)) return stopped();
   if (lost && path_of(fd, path) && !strcmp(path, lost)) return 0;
   int done = next(fd);
   keep(fd);

@@ -53,23 +53,43 @@ fn of_source_digest(
     source_path_of(alloc, dir, name, &[], digest)
 }
 
+/// Whether the text of these contents named `myfile` is at a path.
+fn is_text_at(alloc: Global, contents: &[u8], base: &str) -> Result<bool, Fail> {
+    let (dir, name) = (store_dir(alloc)?, name(alloc, "myfile")?);
+    Ok(of_text(alloc, &dir, &name, &[], contents)?.as_str() == base)
+}
+
+/// The same, by the digest of the contents.
+fn is_text_of_digest_at(alloc: Global, contents: &[u8], base: &str) -> Result<bool, Fail> {
+    let (dir, name) = (store_dir(alloc)?, name(alloc, "myfile")?);
+    Ok(of_text_digest(alloc, &dir, &name, contents)?.as_str() == base)
+}
+
 #[test]
 fn paths_of_texts(rt: HostRuntime) -> Result<(), Fail> {
     let alloc = rt.alloc();
-    let (dir, name) = (store_dir(alloc)?, name(alloc, "myfile")?);
-    let text = of_text(alloc, &dir, &name, &[], b"mycontent\n")?;
-    assert!(rt; text.as_str() == TEXT);
-    assert!(rt; of_text_digest(alloc, &dir, &name, b"mycontent\n")? == text);
+    assert!(rt; is_text_at(alloc, b"mycontent\n", TEXT)?);
+    assert!(rt; is_text_of_digest_at(alloc, b"mycontent\n", TEXT)?);
     Ok(())
+}
+
+/// Whether the source of this archive named `myfile` is at a path.
+fn is_source_at(alloc: Global, archive: &[u8], base: &str) -> Result<bool, Fail> {
+    let (dir, name) = (store_dir(alloc)?, name(alloc, "myfile")?);
+    Ok(of_source(alloc, &dir, &name, archive)?.as_str() == base)
+}
+
+/// The same, by the digest of the archive.
+fn is_source_of_digest_at(alloc: Global, digest: &[u8; 32], base: &str) -> Result<bool, Fail> {
+    let (dir, name) = (store_dir(alloc)?, name(alloc, "myfile")?);
+    Ok(of_source_digest(alloc, &dir, &name, digest)?.as_str() == base)
 }
 
 #[test]
 fn paths_of_sources(rt: HostRuntime) -> Result<(), Fail> {
     let alloc = rt.alloc();
-    let (dir, name) = (store_dir(alloc)?, name(alloc, "myfile")?);
-    let source = of_source(alloc, &dir, &name, MY_FILE)?;
-    assert!(rt; source.as_str() == SOURCE);
-    assert!(rt; of_source_digest(alloc, &dir, &name, &MY_HASH)? == source);
+    assert!(rt; is_source_at(alloc, MY_FILE, SOURCE)?);
+    assert!(rt; is_source_of_digest_at(alloc, &MY_HASH, SOURCE)?);
     Ok(())
 }
 
@@ -137,14 +157,18 @@ fn fault_of(
     }
 }
 
+/// The fault of the source's address next to another path, if it has one.
+fn fault_at(alloc: Global, base: &str) -> Result<Option<VerifyError>, Fail> {
+    let address = address(alloc, ADDRESS)?;
+    let path = path(alloc, base)?;
+    fault_of(alloc, &address, &path, MY_FILE)
+}
+
 #[test]
 fn verified_sources(rt: HostRuntime) -> Result<(), Fail> {
     let alloc = rt.alloc();
-    let address = address(alloc, ADDRESS)?;
-    let source = path(alloc, SOURCE)?;
-    assert_eq!(rt; fault_of(alloc, &address, &source, MY_FILE)?, None);
-    let other = path(alloc, "xv2iccirbrvklck36f1g7vldn5v58vck-myfile2")?;
-    let fault = fault_of(alloc, &address, &other, MY_FILE)?;
+    assert_eq!(rt; fault_at(alloc, SOURCE)?, None);
+    let fault = fault_at(alloc, "xv2iccirbrvklck36f1g7vldn5v58vck-myfile2")?;
     assert_eq!(rt; fault, Some(VerifyError::CaMismatch));
     Ok(())
 }
@@ -162,7 +186,7 @@ fn verified_texts(rt: HostRuntime) -> Result<(), Fail> {
     Ok(())
 }
 
-/// The same fault by the facts of the archive.
+/// The fault of an address, by the facts of the archive.
 fn fault_by_facts(
     alloc: Global,
     address: &Ca,
@@ -176,19 +200,23 @@ fn fault_by_facts(
     }
 }
 
-#[test]
-fn verified_facts(rt: HostRuntime) -> Result<(), Fail> {
-    let alloc = rt.alloc();
+/// The fault of the source's address next to another path, by the facts of the archive.
+fn fault_by_facts_at(alloc: Global, base: &str) -> Result<Option<VerifyError>, Fail> {
     let facts = Facts {
         nar_hash: MY_HASH,
         nar_size: 128,
         plain: None,
     };
     let address = address(alloc, ADDRESS)?;
-    let source = path(alloc, SOURCE)?;
-    assert_eq!(rt; fault_by_facts(alloc, &address, &source, &facts)?, None);
-    let text = path(alloc, TEXT)?;
-    let fault = fault_by_facts(alloc, &address, &text, &facts)?;
+    let path = path(alloc, base)?;
+    fault_by_facts(alloc, &address, &path, &facts)
+}
+
+#[test]
+fn verified_facts(rt: HostRuntime) -> Result<(), Fail> {
+    let alloc = rt.alloc();
+    assert_eq!(rt; fault_by_facts_at(alloc, SOURCE)?, None);
+    let fault = fault_by_facts_at(alloc, TEXT)?;
     assert_eq!(rt; fault, Some(VerifyError::CaMismatch));
     Ok(())
 }

@@ -23,19 +23,22 @@ fn listing_of(alloc: Global, node: &Node) -> Result<String, AllocError> {
     Ok(text)
 }
 
+/// Whether a tree is that of the file.
+fn is_my_file(node: &Node) -> bool {
+    matches!(
+        node,
+        Node::Regular {
+            executable: false,
+            contents: b"mycontent\n"
+        }
+    )
+}
+
 #[test]
 fn read_and_written(rt: HostRuntime) -> Result<(), Fail> {
     let alloc = rt.alloc();
     let node = tree_of(alloc, MY_FILE)?;
-    assert!(rt;
-        matches!(
-            &node,
-            Node::Regular {
-                executable: false,
-                contents: b"mycontent\n"
-            }
-        )
-    );
+    assert!(rt; is_my_file(&node));
     assert!(rt; archive_of(alloc, &node)?.as_slice() == MY_FILE);
     assert!(rt; listing_of(alloc, &node)?.as_str() == "r 10 .\n");
     Ok(())

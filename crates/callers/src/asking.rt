@@ -1,14 +1,96 @@
 //! Requests that are made of a new store, and its replies as one text.
-use crate::fixtures::{SETTINGS, caller, new_store};
-use crate::requests::{add_all, read_source};
-use crate::roots::{delete_text, keep_text, set_profile, set_roots};
-use crate::spent::lose_archives;
+use crate::fixtures::{SETTINGS, SOURCE, TEXT, caller, new_store, path};
+use crate::requests::{add_source, add_text, import, import_with};
+use crate::roots::{
+    add_temp, delete, delete_generation, drop_permanent, drop_user_root, end_session,
+    new_generation, one_runtime_root, rollback, set_permanent, set_user_root, switch,
+};
+use crate::spent::{lost_import, lost_import_with, lost_source};
 use policy::{CallerError, store_dir};
 use report::reply_text;
 use std::alloc::Global;
 use std::test::Fail;
 use store::{Reply, Request, Store};
 use tables::MemStore;
+
+/// What is asked of a store.
+#[derive(Clone, Copy)]
+pub enum Asked {
+    AddText,
+    AddSource,
+    Import,
+    ImportWith,
+    LostSource,
+    LostImport,
+    LostImportWith,
+    List,
+    Info,
+    LsOfText,
+    LsOfSource,
+    Nar,
+    SetPermanent,
+    DropPermanent,
+    SetUserRoot,
+    DropUserRoot,
+    ListRoots,
+    RootsOf,
+    NewGeneration,
+    Rollback,
+    Switch,
+    DeleteGeneration,
+    OneRuntimeRoot,
+    NoRuntimeRoot,
+    AddTemp,
+    EndSession,
+    Live,
+    Dead,
+    Report,
+    Delete,
+    /// Whether what is live is deleted too, and up to how many bytes.
+    Collect(bool, Option<u64>),
+}
+
+/// Who asks, and what.
+pub type Step = (&'static str, Asked);
+
+fn request_of(alloc: Global, asked: Asked) -> Result<Request, Fail> {
+    match asked {
+        Asked::AddText => add_text(alloc),
+        Asked::AddSource => add_source(alloc),
+        Asked::Import => import(alloc, None),
+        Asked::ImportWith => import_with(alloc),
+        Asked::LostSource => lost_source(alloc),
+        Asked::LostImport => lost_import(alloc, None),
+        Asked::LostImportWith => lost_import_with(alloc),
+        Asked::List => Ok(Request::List),
+        Asked::Info => Ok(Request::Info(path(alloc, SOURCE)?)),
+        Asked::LsOfText => Ok(Request::Ls(path(alloc, TEXT)?)),
+        Asked::LsOfSource => Ok(Request::Ls(path(alloc, SOURCE)?)),
+        Asked::Nar => Ok(Request::Nar(path(alloc, SOURCE)?)),
+        Asked::SetPermanent => set_permanent(alloc),
+        Asked::DropPermanent => drop_permanent(alloc),
+        Asked::SetUserRoot => set_user_root(alloc),
+        Asked::DropUserRoot => drop_user_root(alloc),
+        Asked::ListRoots => Ok(Request::ListRoots),
+        Asked::RootsOf => Ok(Request::RootsOf(path(alloc, TEXT)?)),
+        Asked::NewGeneration => new_generation(alloc),
+        Asked::Rollback => rollback(alloc),
+        Asked::Switch => switch(alloc),
+        Asked::DeleteGeneration => delete_generation(alloc),
+        Asked::OneRuntimeRoot => one_runtime_root(alloc),
+        Asked::NoRuntimeRoot => Ok(Request::ReplaceRuntime(Vec::new(alloc))),
+        Asked::AddTemp => add_temp(alloc),
+        Asked::EndSession => end_session(alloc),
+        Asked::Live => Ok(Request::Live),
+        Asked::Dead => Ok(Request::Dead),
+        Asked::Report => Ok(Request::Report),
+        Asked::Delete => delete(alloc),
+        Asked::Collect(ignore_liveness, max_freed) => Ok(Request::Collect {
+            ignore_liveness,
+            max_freed,
+        }),
+    }
+}
 
 /// The reply of a store to a request of a user.
 fn reply_to(
@@ -22,7 +104,7 @@ fn reply_to(
 }
 
 /// Calls a store, and appends the text of its reply.
-pub fn ask(
+fn ask(
     alloc: Global,
     store: &mut Store<MemStore>,
     user: &str,
@@ -34,40 +116,24 @@ pub fn ask(
     Ok(())
 }
 
-/// Requests that are made one after another.
-#[derive(Clone, Copy)]
-pub enum Course {
-    Adding,
-    Reading,
-    Roots,
-    Profile,
-    Sessions,
-    Deleting,
-    Losing,
-}
-
 fn ask_all(
     alloc: Global,
-    course: Course,
+    steps: &[Step],
     store: &mut Store<MemStore>,
     text: &mut Vec<u8>,
 ) -> Result<(), Fail> {
-    match course {
-        Course::Adding => add_all(alloc, store, text),
-        Course::Reading => read_source(alloc, store, text),
-        Course::Roots => set_roots(alloc, store, text),
-        Course::Profile => set_profile(alloc, store, text),
-        Course::Sessions => keep_text(alloc, store, text),
-        Course::Deleting => delete_text(alloc, store, text),
-        Course::Losing => lose_archives(alloc, store, text),
+    for step in steps {
+        let request = request_of(alloc, step.1)?;
+        ask(alloc, store, step.0, request, text)?;
     }
+    Ok(())
 }
 
-/// What a new store replies to the requests of a course.
-pub fn replies_to(alloc: Global, course: Course) -> Result<Vec<u8>, Fail> {
+/// What a new store replies to these requests, one after another.
+pub fn replies_to(alloc: Global, steps: &[Step]) -> Result<Vec<u8>, Fail> {
     let mut store = new_store(alloc, SETTINGS)?;
     let mut text = Vec::new(alloc);
-    let end = ask_all(alloc, course, &mut store, &mut text);
+    let end = ask_all(alloc, steps, &mut store, &mut text);
     drop(store.release().release());
     end?;
     Ok(text)

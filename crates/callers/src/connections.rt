@@ -1,14 +1,10 @@
-//! A caller of `wire`: a store is served on streams, and on a port of this machine.
+//! A caller of `wire`: a store is served on streams.
 use crate::fixtures::{SETTINGS, new_store};
 use policy::{Config, store_dir};
 use std::alloc::Global;
-use std::io;
-use std::io::{Read, Write};
-use std::net::{Shutdown, TcpListener, TcpStream};
 use std::test::Fail;
-use store::Store;
-use tables::{MemStore, Tables};
-use wire::{Count, WireError, serve, serve_on, serve_streams};
+use tables::Tables;
+use wire::{Count, WireError, serve, serve_streams};
 
 /// A listing of the paths, and an add of a text.
 const MESSAGES: &[u8] = b"GET /paths HTTP/1.1\r\nstore-user: bob\r\n\r\n\
@@ -66,54 +62,5 @@ fn refused_on_streams(rt: HostRuntime) -> Result<(), Fail> {
         assert!(rt; status == 0 && errors.is_empty());
         assert!(rt; output.ends_with(ending));
     }
-    Ok(())
-}
-
-/// Sends messages, and ends the sending.
-fn send(client: &mut TcpStream, messages: &[u8]) -> io::Result<()> {
-    client.write_all(messages)?;
-    client.shutdown(Shutdown::Write)
-}
-
-/// Serves a store on the first connection of a listener. How many connections failed, and the faults.
-fn accept(
-    rt: &HostRuntime,
-    listener: &TcpListener,
-    store: &mut Store<MemStore>,
-) -> io::Result<(u32, Vec<u8>)> {
-    let mut errors = Vec::new(rt.alloc());
-    let failed = serve_on(rt, rt.alloc(), listener, 1, store, &mut errors)?;
-    Ok((failed, errors))
-}
-
-/// Serves a new store on the first connection of a listener, without faults.
-fn serve_first(rt: &HostRuntime, listener: &TcpListener) -> Result<(), Fail> {
-    let mut store = new_store(rt.alloc(), SETTINGS)?;
-    let end = accept(rt, listener, &mut store);
-    drop(store.release().release());
-    let (failed, errors) = end?;
-    if failed == 0 && errors.is_empty() {
-        Ok(())
-    } else {
-        Err(Fail::new("a connection failed"))
-    }
-}
-
-/// What is received until the other side ends its sending.
-fn receive(alloc: Global, client: &mut TcpStream) -> io::Result<Vec<u8>> {
-    let mut replies = Vec::new(alloc);
-    client.read_to_end(&mut replies)?;
-    Ok(replies)
-}
-
-// One thread is client and server: what the client sends waits at the listener.
-#[test]
-fn served_on_loopback(rt: HostRuntime) -> Result<(), Fail> {
-    let listener = TcpListener::bind(&rt, "127.0.0.1:0")?;
-    let mut client = TcpStream::connect(&rt, listener.local_addr()?)?;
-    send(&mut client, MESSAGES)?;
-    serve_first(&rt, &listener)?;
-    let replies = receive(rt.alloc(), &mut client)?;
-    assert!(rt; replies.as_slice() == REPLIES);
     Ok(())
 }

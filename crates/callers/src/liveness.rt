@@ -1,8 +1,10 @@
 //! A caller of `live`.
 use crate::fixtures::path;
-use live::{Graph, Keep, Root, Roots, Row, are_valid, do_rise, limited, mark, referrers, roots_of};
+use live::{
+    Graph, Keep, Root, Roots, Row, are_valid, do_rise, limited, mark, place_of, referrers, roots_of,
+};
 use paths::{RootKind, StorePath};
-use std::alloc::Global;
+use std::alloc::{AllocError, Global};
 use std::test::Fail;
 
 /// References and derivers keep alive.
@@ -21,55 +23,89 @@ fn row<'a>(path: &'a StorePath, references: &'a [StorePath]) -> Row<'a> {
     }
 }
 
+/// The numbers of paths, of roots and of steps where there are none.
+fn counts_of_nothing(alloc: Global) -> Result<(usize, usize, u64), AllocError> {
+    let graph = Graph::new(alloc, &[])?;
+    let roots = Roots::new(alloc, &[], &[])?;
+    let marks = mark(alloc, &graph, &roots, KEEP)?;
+    Ok((graph.len(), roots.len(), marks.steps()))
+}
+
 // Without paths nothing is live, and no step is taken.
 #[test]
 fn empty_graph(rt: HostRuntime) -> Result<(), Fail> {
-    let alloc = rt.alloc();
-    let graph = Graph::new(alloc, &[])?;
-    let roots = Roots::new(alloc, &[], &[])?;
-    assert!(rt; graph.len() == 0 && roots.len() == 0);
-    let marks = mark(alloc, &graph, &roots, KEEP)?;
-    assert_eq!(rt; marks.steps(), 0);
-    assert!(rt; referrers(alloc, &graph, &[])?.is_empty());
+    assert_eq!(rt; counts_of_nothing(rt.alloc())?, (0, 0, 0));
     Ok(())
 }
 
-/// What is found of a graph: the first root of each path, the number of roots that reach it, the referrers of the first
-/// path, and the steps.
-#[derive(Drop)]
-struct Reached {
-    first: Vec<Option<usize>>,
-    counts: Vec<usize>,
-    refer: Vec<usize>,
-    steps: u64,
+/// The place of a path among rows. `None` if no row has it, or the rows don't rise.
+fn place(rows: &[Row], path: &StorePath) -> Option<usize> {
+    if do_rise(rows) {
+        place_of(rows, path)
+    } else {
+        None
+    }
 }
 
-fn reach(alloc: Global, rows: &[Row], roots: &[Root]) -> Result<Option<Reached>, Fail> {
+#[test]
+fn places_of_paths(rt: HostRuntime) -> Result<(), Fail> {
+    let first = path(rt.alloc(), "00000000000000000000000000000000-p")?;
+    let second = path(rt.alloc(), "11111111111111111111111111111111-x")?;
+    let third = path(rt.alloc(), "22222222222222222222222222222222-y")?;
+    let rows = [row(&first, &[]), row(&third, &[])];
+    assert_eq!(rt; place(&rows, &first), Some(0));
+    assert_eq!(rt; place(&rows, &third), Some(1));
+    assert_eq!(rt; place(&rows, &second), None);
+    Ok(())
+}
+
+/// The first root of the path at a place, the number of roots that reach it, and the steps of the marking.
+type Reached = (Option<usize>, usize, u64);
+
+fn reach(
+    alloc: Global,
+    rows: &[Row],
+    roots: &[Root],
+    place: usize,
+) -> Result<Option<Reached>, AllocError> {
     if !do_rise(rows) || !are_valid(rows, roots) {
         return Ok(None);
     }
     let graph = Graph::new(alloc, rows)?;
-    let aims = Roots::new(alloc, rows, roots)?;
-    let marks = mark(alloc, &graph, &aims, KEEP)?;
-    if graph.len() == 0 {
+    if place >= graph.len() {
         return Ok(None);
     }
-    let mut first = Vec::new(alloc);
-    let mut counts = Vec::new(alloc);
-    for place in 0..graph.len() {
-        first.push(marks.first_root(place))?;
-        counts.push(roots_of(alloc, &graph, &aims, KEEP, place)?.len())?;
-    }
-    let refer = referrers(alloc, &graph, &[0])?;
-    Ok(Some(Reached {
-        first,
-        counts,
-        refer,
-        steps: marks.steps(),
-    }))
+    let aims = Roots::new(alloc, rows, roots)?;
+    let marks = mark(alloc, &graph, &aims, KEEP)?;
+    let count = roots_of(alloc, &graph, &aims, KEEP, place)?.len();
+    Ok(Some((marks.first_root(place), count, marks.steps())))
 }
 
-// The second path refers to the first and has the root; nothing refers to the third.
+/// The places of the paths that refer to the first.
+fn referrers_of_first(alloc: Global, rows: &[Row]) -> Result<Vec<usize>, AllocError> {
+    if !do_rise(rows) {
+        return Ok(Vec::new(alloc));
+    }
+    let graph = Graph::new(alloc, rows)?;
+    if graph.len() == 0 {
+        return Ok(Vec::new(alloc));
+    }
+    referrers(alloc, &graph, &[0])
+}
+
+/// Whether paths are reached as the second refers to the first and has the root, and nothing refers to the third. There
+/// are two live paths, and three objects, an edge and a root.
+fn are_reached(alloc: Global, rows: &[Row], roots: &[Root]) -> Result<bool, AllocError> {
+    for (place, first, count) in [(0, Some(0), 1), (1, Some(0), 1), (2, None, 0)] {
+        match reach(alloc, rows, roots, place)? {
+            Some((found, counted, steps))
+                if found == first && counted == count && steps >= 2 && steps <= 5 => {}
+            _ => return Ok(false),
+        }
+    }
+    Ok(referrers_of_first(alloc, rows)?.as_slice() == [0, 1].as_slice())
+}
+
 #[test]
 fn reached_by_a_root(rt: HostRuntime) -> Result<(), Fail> {
     let alloc = rt.alloc();
@@ -88,14 +124,7 @@ fn reached_by_a_root(rt: HostRuntime) -> Result<(), Fail> {
         target: &second,
         label: "ann/r",
     }];
-    let Some(found) = reach(alloc, &rows, &roots)? else {
-        return Err(Fail::new("no graph"));
-    };
-    assert!(rt; found.first.as_slice() == [Some(0), Some(0), None].as_slice());
-    assert!(rt; found.counts.as_slice() == [1, 1, 0].as_slice());
-    assert!(rt; found.refer.as_slice() == [0, 1].as_slice());
-    // Two live paths; three objects, an edge and a root.
-    assert!(rt; found.steps >= 2 && found.steps <= 5);
+    assert!(rt; are_reached(alloc, &rows, &roots)?);
     Ok(())
 }
 
@@ -116,7 +145,23 @@ fn removed(alloc: Global, rows: &[Row], limit: u64) -> Result<Option<Vec<usize>>
     Ok(Some(limited(alloc, &graph, &marks, &sizes, limit)?))
 }
 
-// The first path goes last, since both others refer to it.
+/// Whether a collection up to each limit removes the right ones of three paths: the first is removed last, since both
+/// others refer to it.
+fn are_removed(alloc: Global, rows: &[Row]) -> Result<bool, Fail> {
+    for (limit, places) in [
+        (0, [].as_slice()),
+        (1, [1].as_slice()),
+        (113, [1, 2].as_slice()),
+        (u64::MAX, [0, 1, 2].as_slice()),
+    ] {
+        match removed(alloc, rows, limit)? {
+            Some(found) if found.as_slice() == places => {}
+            _ => return Ok(false),
+        }
+    }
+    Ok(true)
+}
+
 #[test]
 fn removed_up_to_a_limit(rt: HostRuntime) -> Result<(), Fail> {
     let alloc = rt.alloc();
@@ -130,16 +175,6 @@ fn removed_up_to_a_limit(rt: HostRuntime) -> Result<(), Fail> {
         row(&second, &references),
         row(&third, &references),
     ];
-    for (limit, places) in [
-        (0, [].as_slice()),
-        (1, [1].as_slice()),
-        (113, [1, 2].as_slice()),
-        (u64::MAX, [0, 1, 2].as_slice()),
-    ] {
-        let Some(found) = removed(alloc, &rows, limit)? else {
-            return Err(Fail::new("no graph"));
-        };
-        assert!(rt; found.as_slice() == places, "{limit}");
-    }
+    assert!(rt; are_removed(alloc, &rows)?);
     Ok(())
 }

@@ -1,12 +1,11 @@
 //! A caller of `store`: objects are added, read and listed.
-use crate::asking::{Course, ask, replies_to};
+use crate::asking::{Asked, Step, replies_to};
 use crate::fixtures::{ADDRESS, MY_FILE, MY_HASH, SETTINGS, SOURCE, TEXT, caller, new_store, path};
 use paths::{Ca, Name};
 use policy::Caller;
 use std::alloc::{AllocError, Global};
 use std::test::Fail;
-use store::{Answer, Intake, Refusal, Reply, Request, Store};
-use tables::MemStore;
+use store::{Answer, Intake, Refusal, Reply, Request};
 
 /// The text object `myfile`, added.
 pub fn add_text(alloc: Global) -> Result<Request, Fail> {
@@ -27,7 +26,7 @@ fn in_pieces(alloc: Global, archive: &[u8]) -> Result<Intake, AllocError> {
 }
 
 /// The source object `myfile`, added.
-fn add_source(alloc: Global) -> Result<Request, Fail> {
+pub fn add_source(alloc: Global) -> Result<Request, Fail> {
     Ok(Request::AddSource {
         name: Name::parse(alloc, "myfile")?,
         refs: Vec::new(alloc),
@@ -35,8 +34,8 @@ fn add_source(alloc: Global) -> Result<Request, Fail> {
     })
 }
 
-/// The same archive at another path, imported with this content address or without one.
-fn import(alloc: Global, ca: Option<Ca>) -> Result<Request, Fail> {
+/// An import of the archive at another path, with this content address or without one.
+pub fn import(alloc: Global, ca: Option<Ca>) -> Result<Request, Fail> {
     Ok(Request::Import {
         path: path(alloc, "11111111111111111111111111111111-o")?,
         nar_hash: MY_HASH,
@@ -47,20 +46,20 @@ fn import(alloc: Global, ca: Option<Ca>) -> Result<Request, Fail> {
     })
 }
 
-/// The same import with the content address of the source.
-fn import_with(alloc: Global) -> Result<Request, Fail> {
+/// An import at that path with the content address of the source.
+pub fn import_with(alloc: Global) -> Result<Request, Fail> {
     import(alloc, Some(Ca::parse(alloc, ADDRESS)?))
 }
 
-pub fn add_all(alloc: Global, store: &mut Store<MemStore>, text: &mut Vec<u8>) -> Result<(), Fail> {
-    ask(alloc, store, "bob", add_text(alloc)?, text)?;
-    ask(alloc, store, "bob", add_source(alloc)?, text)?;
-    ask(alloc, store, "bob", import(alloc, None)?, text)?;
-    ask(alloc, store, "bob", import_with(alloc)?, text)?;
-    ask(alloc, store, "ann", import(alloc, None)?, text)?;
-    ask(alloc, store, "eve", Request::List, text)?;
-    ask(alloc, store, "bob", Request::List, text)
-}
+const ADDING: &[Step] = &[
+    ("bob", Asked::AddText),
+    ("bob", Asked::AddSource),
+    ("bob", Asked::Import),
+    ("bob", Asked::ImportWith),
+    ("ann", Asked::Import),
+    ("eve", Asked::List),
+    ("bob", Asked::List),
+];
 
 // An import without content address is for the trusted, and the address is of another path.
 const ADDED: &[u8] = b"/nix/store/a0d1zlpv81nsfbam8ay3i7snrc0sgsvr-myfile
@@ -76,27 +75,19 @@ denied: connect
 
 #[test]
 fn added_and_listed(rt: HostRuntime) -> Result<(), Fail> {
-    let text = replies_to(rt.alloc(), Course::Adding)?;
+    let text = replies_to(rt.alloc(), ADDING)?;
     assert!(rt; text.as_slice() == ADDED);
     Ok(())
 }
 
-/// Adds the source, and reads it.
-pub fn read_source(
-    alloc: Global,
-    store: &mut Store<MemStore>,
-    text: &mut Vec<u8>,
-) -> Result<(), Fail> {
-    ask(alloc, store, "bob", add_source(alloc)?, text)?;
-    let info = Request::Info(path(alloc, SOURCE)?);
-    ask(alloc, store, "bob", info, text)?;
-    let listing = Request::Ls(path(alloc, SOURCE)?);
-    ask(alloc, store, "bob", listing, text)?;
-    let listing = Request::Ls(path(alloc, TEXT)?);
-    ask(alloc, store, "bob", listing, text)?;
-    let archive = Request::Nar(path(alloc, SOURCE)?);
-    ask(alloc, store, "bob", archive, text)
-}
+/// The source is added and read; the text isn't there.
+const READING: &[Step] = &[
+    ("bob", Asked::AddSource),
+    ("bob", Asked::Info),
+    ("bob", Asked::LsOfSource),
+    ("bob", Asked::LsOfText),
+    ("bob", Asked::Nar),
+];
 
 const READ: &[u8] = b"/nix/store/xv2iccirbrvklck36f1g7vldn5v58vck-myfile
 StorePath: /nix/store/xv2iccirbrvklck36f1g7vldn5v58vck-myfile
@@ -119,7 +110,7 @@ fn are_joined(bytes: &[u8], first: &[u8], second: &[u8]) -> bool {
 
 #[test]
 fn read_and_listed(rt: HostRuntime) -> Result<(), Fail> {
-    let text = replies_to(rt.alloc(), Course::Reading)?;
+    let text = replies_to(rt.alloc(), READING)?;
     assert!(rt; are_joined(&text, READ, MY_FILE));
     Ok(())
 }

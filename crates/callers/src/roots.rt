@@ -1,32 +1,30 @@
 //! A caller of `store`: roots, profiles and sessions, and what they keep alive.
-use crate::asking::{Course, ask, replies_to};
+use crate::asking::{Asked, Step, replies_to};
 use crate::fixtures::{TEXT, path};
-use crate::requests::add_text;
 use std::alloc::{AllocError, Global};
 use std::test::Fail;
-use store::{Request, Store};
-use tables::MemStore;
+use store::Request;
 
 fn owned(alloc: Global, text: &str) -> Result<String, AllocError> {
     String::from_str(alloc, text)
 }
 
 /// The permanent root `system` on the text.
-fn set_permanent(alloc: Global) -> Result<Request, Fail> {
+pub fn set_permanent(alloc: Global) -> Result<Request, Fail> {
     Ok(Request::SetPermanent {
         name: owned(alloc, "system")?,
         path: path(alloc, TEXT)?,
     })
 }
 
-fn drop_permanent(alloc: Global) -> Result<Request, Fail> {
+pub fn drop_permanent(alloc: Global) -> Result<Request, Fail> {
     Ok(Request::DropPermanent {
         name: owned(alloc, "system")?,
     })
 }
 
 /// The root `editor` of `bob` on the text.
-fn set_user_root(alloc: Global) -> Result<Request, Fail> {
+pub fn set_user_root(alloc: Global) -> Result<Request, Fail> {
     Ok(Request::SetUserRoot {
         user: owned(alloc, "bob")?,
         name: owned(alloc, "editor")?,
@@ -34,33 +32,25 @@ fn set_user_root(alloc: Global) -> Result<Request, Fail> {
     })
 }
 
-fn drop_user_root(alloc: Global) -> Result<Request, Fail> {
+pub fn drop_user_root(alloc: Global) -> Result<Request, Fail> {
     Ok(Request::DropUserRoot {
         user: owned(alloc, "bob")?,
         name: owned(alloc, "editor")?,
     })
 }
 
-fn roots_of_text(alloc: Global) -> Result<Request, Fail> {
-    Ok(Request::RootsOf(path(alloc, TEXT)?))
-}
+/// A permanent root and one of `bob` are set, and both are dropped.
+const ROOTS: &[Step] = &[
+    ("bob", Asked::AddText),
+    ("ann", Asked::SetPermanent),
+    ("bob", Asked::SetUserRoot),
+    ("bob", Asked::ListRoots),
+    ("ann", Asked::DropPermanent),
+    ("ann", Asked::DropUserRoot),
+    ("bob", Asked::RootsOf),
+];
 
-/// Sets a permanent root and one of `bob`, and drops both.
-pub fn set_roots(
-    alloc: Global,
-    store: &mut Store<MemStore>,
-    text: &mut Vec<u8>,
-) -> Result<(), Fail> {
-    ask(alloc, store, "bob", add_text(alloc)?, text)?;
-    ask(alloc, store, "ann", set_permanent(alloc)?, text)?;
-    ask(alloc, store, "bob", set_user_root(alloc)?, text)?;
-    ask(alloc, store, "bob", Request::ListRoots, text)?;
-    ask(alloc, store, "ann", drop_permanent(alloc)?, text)?;
-    ask(alloc, store, "ann", drop_user_root(alloc)?, text)?;
-    ask(alloc, store, "bob", roots_of_text(alloc)?, text)
-}
-
-const ROOTS: &[u8] = b"/nix/store/a0d1zlpv81nsfbam8ay3i7snrc0sgsvr-myfile
+const ROOTS_REPLY: &[u8] = b"/nix/store/a0d1zlpv81nsfbam8ay3i7snrc0sgsvr-myfile
 done
 done
 gcroots/system /nix/store/a0d1zlpv81nsfbam8ay3i7snrc0sgsvr-myfile
@@ -71,13 +61,13 @@ done
 
 #[test]
 fn roots_set_and_dropped(rt: HostRuntime) -> Result<(), Fail> {
-    let text = replies_to(rt.alloc(), Course::Roots)?;
-    assert!(rt; text.as_slice() == ROOTS);
+    let text = replies_to(rt.alloc(), ROOTS)?;
+    assert!(rt; text.as_slice() == ROOTS_REPLY);
     Ok(())
 }
 
 /// A generation of the profile `work` of `bob`.
-fn new_generation(alloc: Global) -> Result<Request, Fail> {
+pub fn new_generation(alloc: Global) -> Result<Request, Fail> {
     Ok(Request::SetProfile {
         user: owned(alloc, "bob")?,
         profile: owned(alloc, "work")?,
@@ -85,14 +75,14 @@ fn new_generation(alloc: Global) -> Result<Request, Fail> {
     })
 }
 
-fn rollback(alloc: Global) -> Result<Request, Fail> {
+pub fn rollback(alloc: Global) -> Result<Request, Fail> {
     Ok(Request::Rollback {
         user: owned(alloc, "bob")?,
         profile: owned(alloc, "work")?,
     })
 }
 
-fn switch(alloc: Global) -> Result<Request, Fail> {
+pub fn switch(alloc: Global) -> Result<Request, Fail> {
     Ok(Request::Switch {
         user: owned(alloc, "bob")?,
         profile: owned(alloc, "work")?,
@@ -100,7 +90,7 @@ fn switch(alloc: Global) -> Result<Request, Fail> {
     })
 }
 
-fn delete_generation(alloc: Global) -> Result<Request, Fail> {
+pub fn delete_generation(alloc: Global) -> Result<Request, Fail> {
     Ok(Request::DeleteGeneration {
         user: owned(alloc, "bob")?,
         profile: owned(alloc, "work")?,
@@ -108,21 +98,17 @@ fn delete_generation(alloc: Global) -> Result<Request, Fail> {
     })
 }
 
-/// Sets a profile, and leaves its only generation current.
-pub fn set_profile(
-    alloc: Global,
-    store: &mut Store<MemStore>,
-    text: &mut Vec<u8>,
-) -> Result<(), Fail> {
-    ask(alloc, store, "bob", add_text(alloc)?, text)?;
-    ask(alloc, store, "bob", new_generation(alloc)?, text)?;
-    ask(alloc, store, "bob", rollback(alloc)?, text)?;
-    ask(alloc, store, "bob", switch(alloc)?, text)?;
-    ask(alloc, store, "bob", delete_generation(alloc)?, text)?;
-    ask(alloc, store, "bob", Request::Live, text)
-}
+/// A profile is set, and its only generation stays current.
+const PROFILE: &[Step] = &[
+    ("bob", Asked::AddText),
+    ("bob", Asked::NewGeneration),
+    ("bob", Asked::Rollback),
+    ("bob", Asked::Switch),
+    ("bob", Asked::DeleteGeneration),
+    ("bob", Asked::Live),
+];
 
-const PROFILE: &[u8] = b"/nix/store/a0d1zlpv81nsfbam8ay3i7snrc0sgsvr-myfile
+const PROFILE_REPLY: &[u8] = b"/nix/store/a0d1zlpv81nsfbam8ay3i7snrc0sgsvr-myfile
 generation 1
 refused: 31 no-older-generation
 generation 1
@@ -132,24 +118,20 @@ refused: 30 current-generation
 
 #[test]
 fn profile_set_and_switched(rt: HostRuntime) -> Result<(), Fail> {
-    let text = replies_to(rt.alloc(), Course::Profile)?;
-    assert!(rt; text.as_slice() == PROFILE);
+    let text = replies_to(rt.alloc(), PROFILE)?;
+    assert!(rt; text.as_slice() == PROFILE_REPLY);
     Ok(())
 }
 
 /// A runtime root on the text.
-fn one_runtime_root(alloc: Global) -> Result<Request, Fail> {
+pub fn one_runtime_root(alloc: Global) -> Result<Request, Fail> {
     let mut pairs = Vec::new(alloc);
     pairs.push((owned(alloc, "/proc/1/exe")?, path(alloc, TEXT)?))?;
     Ok(Request::ReplaceRuntime(pairs))
 }
 
-fn no_runtime_root(alloc: Global) -> Request {
-    Request::ReplaceRuntime(Vec::new(alloc))
-}
-
 /// A root of a session of `bob` on the text.
-fn add_temp(alloc: Global) -> Result<Request, Fail> {
+pub fn add_temp(alloc: Global) -> Result<Request, Fail> {
     Ok(Request::AddTemp {
         owner: owned(alloc, "bob")?,
         session: 2,
@@ -157,7 +139,7 @@ fn add_temp(alloc: Global) -> Result<Request, Fail> {
     })
 }
 
-fn end_session(alloc: Global) -> Result<Request, Fail> {
+pub fn end_session(alloc: Global) -> Result<Request, Fail> {
     Ok(Request::EndSession {
         owner: owned(alloc, "bob")?,
         session: 2,
@@ -165,23 +147,19 @@ fn end_session(alloc: Global) -> Result<Request, Fail> {
 }
 
 /// Runtime roots and a session keep the text, until neither is left.
-pub fn keep_text(
-    alloc: Global,
-    store: &mut Store<MemStore>,
-    text: &mut Vec<u8>,
-) -> Result<(), Fail> {
-    ask(alloc, store, "bob", add_text(alloc)?, text)?;
-    ask(alloc, store, "ann", one_runtime_root(alloc)?, text)?;
-    ask(alloc, store, "bob", add_temp(alloc)?, text)?;
-    ask(alloc, store, "ann", Request::ListRoots, text)?;
-    ask(alloc, store, "bob", Request::ListRoots, text)?;
-    ask(alloc, store, "ann", no_runtime_root(alloc), text)?;
-    ask(alloc, store, "bob", end_session(alloc)?, text)?;
-    ask(alloc, store, "bob", Request::Dead, text)
-}
+const KEEPING: &[Step] = &[
+    ("bob", Asked::AddText),
+    ("ann", Asked::OneRuntimeRoot),
+    ("bob", Asked::AddTemp),
+    ("ann", Asked::ListRoots),
+    ("bob", Asked::ListRoots),
+    ("ann", Asked::NoRuntimeRoot),
+    ("bob", Asked::EndSession),
+    ("bob", Asked::Dead),
+];
 
 // Callers who aren't trusted see no label of these kinds.
-const KEPT: &[u8] = b"/nix/store/a0d1zlpv81nsfbam8ay3i7snrc0sgsvr-myfile
+const KEPT_REPLY: &[u8] = b"/nix/store/a0d1zlpv81nsfbam8ay3i7snrc0sgsvr-myfile
 runtime roots 1
 done
 /proc/1/exe /nix/store/a0d1zlpv81nsfbam8ay3i7snrc0sgsvr-myfile
@@ -194,13 +172,13 @@ temporary roots 1
 
 #[test]
 fn kept_for_a_while(rt: HostRuntime) -> Result<(), Fail> {
-    let text = replies_to(rt.alloc(), Course::Sessions)?;
-    assert!(rt; text.as_slice() == KEPT);
+    let text = replies_to(rt.alloc(), KEEPING)?;
+    assert!(rt; text.as_slice() == KEPT_REPLY);
     Ok(())
 }
 
 /// The text is deleted if it isn't live.
-fn delete(alloc: Global) -> Result<Request, Fail> {
+pub fn delete(alloc: Global) -> Result<Request, Fail> {
     let mut paths = Vec::new(alloc);
     paths.push(path(alloc, TEXT)?)?;
     Ok(Request::Delete {
@@ -209,30 +187,18 @@ fn delete(alloc: Global) -> Result<Request, Fail> {
     })
 }
 
-/// What is dead is deleted, or all, up to a limit.
-fn collect(ignore_liveness: bool, max_freed: Option<u64>) -> Request {
-    Request::Collect {
-        ignore_liveness,
-        max_freed,
-    }
-}
+/// The text is deleted, added again and collected.
+const DELETING: &[Step] = &[
+    ("bob", Asked::AddText),
+    ("bob", Asked::Report),
+    ("bob", Asked::Delete),
+    ("bob", Asked::AddText),
+    ("ann", Asked::Collect(true, None)),
+    ("ann", Asked::Collect(false, Some(0))),
+    ("ann", Asked::Collect(false, None)),
+];
 
-/// Deletes the text, adds it again, and collects it.
-pub fn delete_text(
-    alloc: Global,
-    store: &mut Store<MemStore>,
-    text: &mut Vec<u8>,
-) -> Result<(), Fail> {
-    ask(alloc, store, "bob", add_text(alloc)?, text)?;
-    ask(alloc, store, "bob", Request::Report, text)?;
-    ask(alloc, store, "bob", delete(alloc)?, text)?;
-    ask(alloc, store, "bob", add_text(alloc)?, text)?;
-    ask(alloc, store, "ann", collect(true, None), text)?;
-    ask(alloc, store, "ann", collect(false, Some(0)), text)?;
-    ask(alloc, store, "ann", collect(false, None), text)
-}
-
-const DELETED: &[u8] = b"/nix/store/a0d1zlpv81nsfbam8ay3i7snrc0sgsvr-myfile
+const DELETED_REPLY: &[u8] = b"/nix/store/a0d1zlpv81nsfbam8ay3i7snrc0sgsvr-myfile
 class       paths            bytes
 live            0                0
 dead            1              128
@@ -248,7 +214,7 @@ freed 1 paths 128 bytes
 
 #[test]
 fn deleted_and_collected(rt: HostRuntime) -> Result<(), Fail> {
-    let text = replies_to(rt.alloc(), Course::Deleting)?;
-    assert!(rt; text.as_slice() == DELETED);
+    let text = replies_to(rt.alloc(), DELETING)?;
+    assert!(rt; text.as_slice() == DELETED_REPLY);
     Ok(())
 }

@@ -19,17 +19,24 @@ fn kept_by(config: &Config) -> (bool, bool) {
     (keep_derivations(config), keep_outputs(config))
 }
 
+/// Whether a configuration has this store directory, and says this of derivations and of outputs.
+fn are_settings(
+    alloc: Global,
+    text: &[u8],
+    dir: &str,
+    kept: (bool, bool),
+) -> Result<bool, ConfigError> {
+    let config = config(alloc, text)?;
+    Ok(dir_in(&config) == dir && kept_by(&config) == kept)
+}
+
+const OTHER: &[u8] = b"store-dir = \"/s\"\nkeep-outputs = true\nkeep-derivations = false\n";
+
 #[test]
 fn read_settings(rt: HostRuntime) -> Result<(), Fail> {
-    let defaults = config(rt.alloc(), b"")?;
-    assert!(rt; dir_in(&defaults) == "/nix/store");
-    assert_eq!(rt; kept_by(&defaults), (true, false));
-    let config = config(
-        rt.alloc(),
-        b"store-dir = \"/s\"\nkeep-outputs = true\nkeep-derivations = false\n",
-    )?;
-    assert!(rt; dir_in(&config) == "/s");
-    assert_eq!(rt; kept_by(&config), (false, true));
+    let alloc = rt.alloc();
+    assert!(rt; are_settings(alloc, b"", "/nix/store", (true, false))?);
+    assert!(rt; are_settings(alloc, OTHER, "/s", (false, true))?);
     Ok(())
 }
 

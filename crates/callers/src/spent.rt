@@ -1,12 +1,11 @@
 //! A caller of `store`, who passes on an intake to which memory was refused.
-use crate::asking::{Course, ask, replies_to};
+use crate::asking::{Asked, Step, replies_to};
 use crate::fixtures::{ADDRESS, MY_FILE, SOURCE, path};
 use paths::{Ca, Name};
 use std::alloc::{AllocError, Global};
 use std::fs::read_to_string;
 use std::test::Fail;
-use store::{Intake, Request, Store};
-use tables::MemStore;
+use store::{Intake, Request};
 
 /// The greatest number of blocks that are reserved.
 const MOST: usize = 40_000;
@@ -73,7 +72,7 @@ fn spent_intake(alloc: Global) -> Result<Intake, Fail> {
 }
 
 /// A source whose archive was lost.
-fn source(alloc: Global) -> Result<Request, Fail> {
+pub fn lost_source(alloc: Global) -> Result<Request, Fail> {
     Ok(Request::AddSource {
         name: Name::parse(alloc, "myfile.drv")?,
         refs: Vec::new(alloc),
@@ -82,7 +81,7 @@ fn source(alloc: Global) -> Result<Request, Fail> {
 }
 
 /// An import whose archive was lost. It refers to itself, and its digest is another.
-fn import(alloc: Global, ca: Option<Ca>) -> Result<Request, Fail> {
+pub fn lost_import(alloc: Global, ca: Option<Ca>) -> Result<Request, Fail> {
     let mut refs = Vec::new(alloc);
     refs.push(path(alloc, SOURCE)?)?;
     Ok(Request::Import {
@@ -95,24 +94,20 @@ fn import(alloc: Global, ca: Option<Ca>) -> Result<Request, Fail> {
     })
 }
 
-/// The same import with a content address.
-fn import_with(alloc: Global) -> Result<Request, Fail> {
-    import(alloc, Some(Ca::parse(alloc, ADDRESS)?))
+/// The import with a content address.
+pub fn lost_import_with(alloc: Global) -> Result<Request, Fail> {
+    lost_import(alloc, Some(Ca::parse(alloc, ADDRESS)?))
 }
 
 /// Requests whose archives were lost. Nothing is in the store afterwards.
-pub fn lose_archives(
-    alloc: Global,
-    store: &mut Store<MemStore>,
-    text: &mut Vec<u8>,
-) -> Result<(), Fail> {
-    ask(alloc, store, "bob", source(alloc)?, text)?;
-    ask(alloc, store, "bob", import_with(alloc)?, text)?;
-    ask(alloc, store, "bob", import(alloc, None)?, text)?;
-    ask(alloc, store, "eve", source(alloc)?, text)?;
-    ask(alloc, store, "eve", import(alloc, None)?, text)?;
-    ask(alloc, store, "bob", Request::List, text)
-}
+const LOSING: &[Step] = &[
+    ("bob", Asked::LostSource),
+    ("bob", Asked::LostImportWith),
+    ("bob", Asked::LostImport),
+    ("eve", Asked::LostSource),
+    ("eve", Asked::LostImport),
+    ("bob", Asked::List),
+];
 
 const LOST: &[u8] = b"failed: memory
 failed: memory
@@ -124,7 +119,7 @@ denied: connect
 #[test]
 fn spent_intakes(rt: HostRuntime) -> Result<(), Fail> {
     if is_plain(&rt) {
-        let text = replies_to(rt.alloc(), Course::Losing)?;
+        let text = replies_to(rt.alloc(), LOSING)?;
         assert!(rt; text.as_slice() == LOST);
     }
     Ok(())

@@ -34,12 +34,12 @@ fn refused_words(rt: HostRuntime) {
     assert!(rt; command(rt.alloc(), &words).is_err());
 }
 
-/// Runs words without an input. The exit status, the results, and what is said of faults.
-fn ran(rt: &HostRuntime, words: &[&str]) -> (u8, Vec<u8>, Vec<u8>) {
+/// Whether words that are run without an input end with this status, print these results, and say this of faults.
+fn is_run(rt: &HostRuntime, words: &[&str], status: u8, printed: &[u8], complained: &[u8]) -> bool {
     let mut input = b"".as_slice();
     let (mut output, mut errors) = (Vec::new(rt.alloc()), Vec::new(rt.alloc()));
-    let status = run(rt, Unknown, words, &mut input, &mut output, &mut errors);
-    (status, output, errors)
+    let found = run(rt, Unknown, words, &mut input, &mut output, &mut errors);
+    found == status && output.as_slice() == printed && errors.as_slice() == complained
 }
 
 #[test]
@@ -59,14 +59,12 @@ fn run_on_words(rt: HostRuntime) {
             b"refused: 20 bad-caller\n",
         ),
     ] {
-        let (found, output, errors) = ran(&rt, &words);
-        assert_eq!(rt; found, status);
-        assert!(rt; output.as_slice() == printed && errors.as_slice() == complained);
+        assert!(rt; is_run(&rt, &words, status, printed, complained));
     }
 }
 
-/// Answers the line that words are, under default settings and without an input.
-fn answered(rt: &HostRuntime, words: &[&str]) -> Result<(u8, Vec<u8>, Vec<u8>), CommandError> {
+/// Whether the line that words are is done under default settings and without an input, and prints this at first.
+fn is_answered(rt: &HostRuntime, words: &[&str], first: &[u8]) -> Result<bool, CommandError> {
     let line = command(rt.alloc(), words)?;
     let mut input = b"".as_slice();
     let (mut output, mut errors) = (Vec::new(rt.alloc()), Vec::new(rt.alloc()));
@@ -79,15 +77,13 @@ fn answered(rt: &HostRuntime, words: &[&str]) -> Result<(u8, Vec<u8>, Vec<u8>), 
         &mut output,
         &mut errors,
     );
-    Ok((status, output, errors))
+    Ok(status == 0 && errors.is_empty() && output.starts_with(first))
 }
 
 #[test]
 fn answered_lines(rt: HostRuntime) -> Result<(), Fail> {
     let words = ["nixkeep", "--user", "ann", "report"];
-    let (status, output, errors) = answered(&rt, &words)?;
-    assert!(rt; status == 0 && errors.is_empty());
-    assert!(rt; output.starts_with(b"class       paths            bytes\n"));
+    assert!(rt; is_answered(&rt, &words, b"class       paths            bytes\n")?);
     Ok(())
 }
 
@@ -102,11 +98,11 @@ fn verdict_on_a_stranger(rt: HostRuntime) -> Result<(), Fail> {
     Ok(())
 }
 
-/// What `who` prints about a user, and its exit status.
-fn printed_by_who(alloc: Global, user: Option<&str>) -> (u8, Vec<u8>) {
+/// Whether `who` ends with this status and prints this about a user.
+fn is_printed_by_who(alloc: Global, user: Option<&str>, status: u8, printed: &[u8]) -> bool {
     let mut output = Vec::new(alloc);
-    let status = who(alloc, CLOSED, user, None, &mut output);
-    (status, output)
+    let found = who(alloc, CLOSED, user, None, &mut output);
+    found == status && output.as_slice() == printed
 }
 
 #[test]
@@ -120,22 +116,12 @@ fn who_is_who(rt: HostRuntime) {
         (Some("bob"), 4, b"class: stranger\ndenied: connect\n"),
         (None, 3, b"refused: 20 bad-caller\n"),
     ] {
-        let (found, output) = printed_by_who(rt.alloc(), user);
-        assert_eq!(rt; found, status);
-        assert!(rt; output.as_slice() == printed);
+        assert!(rt; is_printed_by_who(rt.alloc(), user, status, printed));
     }
 }
 
-/// A writer's contents where a command is done and says nothing of faults.
-fn done(status: u8, output: Vec<u8>, errors: Vec<u8>) -> Result<Vec<u8>, Fail> {
-    if status == 0 && errors.is_empty() {
-        Ok(output)
-    } else {
-        Err(Fail::new("not done"))
-    }
-}
-
-fn path_of_text(alloc: Global, dir: &StoreDir, contents: &[u8]) -> Result<Vec<u8>, Fail> {
+/// Whether a text named `myfile` has this path.
+fn is_path_of_text(alloc: Global, dir: &StoreDir, contents: &[u8], line: &[u8]) -> bool {
     let (mut output, mut errors) = (Vec::new(alloc), Vec::new(alloc));
     let mut input = contents;
     let none = [""; 0];
@@ -148,10 +134,11 @@ fn path_of_text(alloc: Global, dir: &StoreDir, contents: &[u8]) -> Result<Vec<u8
         &mut output,
         &mut errors,
     );
-    done(status, output, errors)
+    status == 0 && errors.is_empty() && output.as_slice() == line
 }
 
-fn path_of_source(alloc: Global, dir: &StoreDir, archive: &[u8]) -> Result<Vec<u8>, Fail> {
+/// Whether a source named `myfile` has this path.
+fn is_path_of_source(alloc: Global, dir: &StoreDir, archive: &[u8], line: &[u8]) -> bool {
     let (mut output, mut errors) = (Vec::new(alloc), Vec::new(alloc));
     let mut input = archive;
     let none = [""; 0];
@@ -164,14 +151,15 @@ fn path_of_source(alloc: Global, dir: &StoreDir, archive: &[u8]) -> Result<Vec<u
         &mut output,
         &mut errors,
     );
-    done(status, output, errors)
+    status == 0 && errors.is_empty() && output.as_slice() == line
 }
 
-fn listing_of(alloc: Global, archive: &[u8]) -> Result<Vec<u8>, Fail> {
+/// Whether an archive has this listing.
+fn is_listing(alloc: Global, archive: &[u8], lines: &[u8]) -> bool {
     let (mut output, mut errors) = (Vec::new(alloc), Vec::new(alloc));
     let mut input = archive;
     let status = ls(alloc, &mut input, &mut output, &mut errors);
-    done(status, output, errors)
+    status == 0 && errors.is_empty() && output.as_slice() == lines
 }
 
 const TEXT_LINE: &[u8] = b"/nix/store/a0d1zlpv81nsfbam8ay3i7snrc0sgsvr-myfile\n";
@@ -182,8 +170,8 @@ const SOURCE_LINE: &[u8] = b"/nix/store/xv2iccirbrvklck36f1g7vldn5v58vck-myfile\
 fn paths_of_inputs(rt: HostRuntime) -> Result<(), Fail> {
     let alloc = rt.alloc();
     let dir = StoreDir::parse(alloc, "/nix/store")?;
-    assert!(rt; path_of_text(alloc, &dir, b"mycontent\n")?.as_slice() == TEXT_LINE);
-    assert!(rt; path_of_source(alloc, &dir, MY_FILE)?.as_slice() == SOURCE_LINE);
-    assert!(rt; listing_of(alloc, MY_FILE)?.as_slice() == b"r 10 .\n".as_slice());
+    assert!(rt; is_path_of_text(alloc, &dir, b"mycontent\n", TEXT_LINE));
+    assert!(rt; is_path_of_source(alloc, &dir, MY_FILE, SOURCE_LINE));
+    assert!(rt; is_listing(alloc, MY_FILE, b"r 10 .\n"));
     Ok(())
 }

@@ -5,9 +5,3 @@
 mod fakes;
 #[cfg(test)]
 mod libraries;
-#[cfg(test)]
-mod served;
-#[cfg(test)]
-mod stops;
-#[cfg(test)]
-mod stores;

@@ -35,19 +35,21 @@ fn readers_that_fail(rt: HostRuntime) {
 
 #[test]
 fn writers_that_fail(rt: HostRuntime) {
-    for calls in 0..12usize {
-        let mut output = Narrow {
-            written: Vec::new(rt.alloc()),
-            most: 1,
-            calls,
-            fault: Some(ErrorKind::Other),
-        };
-        let is_sent = send_bytes(&mut output, BYTES).is_ok();
-        assert!(rt; is_sent == (calls >= 10), "{calls}");
-        assert!(rt;
-            BYTES.starts_with(&output.written) && output.written.len() == calls.min(10),
-            "{calls}"
-        );
+    for fault in [Some(ErrorKind::Other), None] {
+        for calls in 0..12usize {
+            let mut output = Narrow {
+                written: Vec::new(rt.alloc()),
+                most: 1,
+                calls,
+                fault,
+            };
+            let is_sent = send_bytes(&mut output, BYTES).is_ok();
+            assert!(rt; is_sent == (calls >= 10), "{calls}");
+            assert!(rt;
+                BYTES.starts_with(&output.written) && output.written.len() == calls.min(10),
+                "{calls}"
+            );
+        }
     }
 }
 
