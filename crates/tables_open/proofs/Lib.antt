@@ -1,11 +1,11 @@
 pub mod Asking
 pub mod OneAfterAnother
 pub mod Opened
-pub mod OurRowids
+pub mod OurRows
 pub mod OwnRowids
 pub mod ReadableRows
+pub mod RowQueries
 pub mod RowidFailures
-pub mod RowidQueries
 pub mod Shown
 pub mod Tested
 pub mod Tests

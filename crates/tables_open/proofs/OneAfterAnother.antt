@@ -7,8 +7,8 @@ use Rattle.sqlite.specs.State.{State, HasCleanDisk, IsUnchanged, Survives}
 use Rattle.sqlite.proofs.Callers.{unchanged_then}
 use Rattle.tables_sql.specs.Calls.{KeepsShown}
 use Rattle.tables_sql.specs.Failures.{FailsToTest}
-use Rattle.tables_sql.specs.declared.failure.Failure.{Failure}
-use Rattle.tables_sql.specs.declared.failure.Failure.TheVariants.{Memory, Size, Disk}
+use Rattle.tables_sql.specs.declared.failure.Failed.{Failed}
+use Rattle.tables_sql.specs.declared.failure.Failed.TheVariants.{Memory, Size, Disk}
 use Rattle.tables_sql.proofs.RowByRow.{unchanged_before}
 use Rattle.tables_sql.proofs.TestFailures.{fails_after}
 use Rattle.tables_sql.proofs.Truths.{and_so}
@@ -55,10 +55,10 @@ module _ {T : Type 0} (Keyed Readable : Database → T → Type 0) (ts : List T)
         }
 
     -- its test failed
-    pub next_fails : Survives a b (λ _. ⊥) → Survives b d (λ _. ⊥) → HasCleanDisk d → (f : Failure) → FailsToTest b d (¬ Keyed b.now t) f → FailsToTest a d (¬ AllByRecursion (Keyed a.now) ts) f
+    pub next_fails : Survives a b (λ _. ⊥) → Survives b d (λ _. ⊥) → HasCleanDisk d → (f : Failed) → FailsToTest b d (¬ Keyed b.now t) f → FailsToTest a d (¬ AllByRecursion (Keyed a.now) ts) f
     next_fails before later clean f h = go f h a.is_open refl
       where
-        go : (f : Failure) → FailsToTest b d (¬ Keyed b.now t) f → (up : Bool) → a.is_open ≡ up → FailsToTest a d (¬ AllByRecursion (Keyed a.now) ts) f
+        go : (f : Failed) → FailsToTest b d (¬ Keyed b.now t) f → (up : Bool) → a.is_open ≡ up → FailsToTest a d (¬ AllByRecursion (Keyed a.now) ts) f
         go f h true is =
             let same = it.rests is in
             fails_after a b d _ _ (λ _. same, before) later clean (λ _ none all. none (subst (λ (x : Database). Keyed x t) (sym same.0.now_is) (subst (AllByRecursion (Keyed a.now)) split (left_over (Keyed a.now) n ts all)).0)) f h

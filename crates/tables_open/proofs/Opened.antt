@@ -18,7 +18,7 @@ use Rattle.tables_schema.specs.OurTables.{schema_tables, form}
 use Rattle.tables_open.specs.Tables.{HasOwnRowids, HasReadableTexts}
 use Rattle.tables_open.specs.Opened.{IsRecognised, IsBySchema, IsReadyBy, IsFound}
 use Rattle.sqlite.specs.Effect.{Database, IsDatabase}
-use Rattle.tables_sql.specs.declared.failure.Failure.{Failure}
+use Rattle.tables_sql.specs.declared.failure.Failed.{Failed}
 use Rattle.tables_schema.specs.Forms.{piece, store_tables, further_tables}
 use Rattle.tables_sql.specs.Contents.{contents_of, rows_named}
 use Rattle.tables_sql.specs.Calls.{IsKeyed, IsStoreDatabase, IsWhole, HasFurther, IsReady}
@@ -31,7 +31,7 @@ use Rattle.tables_sql.proofs.Lists.{one_list}
 -- ---- what the tests told
 
 -- rowids were tested, and then it was told of the texts: of what the connection showed at first
-pub then_reported : (K R : Database → Type 0) (a m n : State) (r : Result Bool Failure) → IsUnchanged a m × K a.now → IfOk r (λ b. IsUnchanged m n × (IsTrue b ↔ R m.now)) → IfOk r (λ b. IsUnchanged a n × K a.now × (IsTrue b ↔ R a.now))
+pub then_reported : (K R : Database → Type 0) (a m n : State) (r : Result Bool Failed) → IsUnchanged a m × K a.now → IfOk r (λ b. IsUnchanged m n × (IsTrue b ↔ R m.now)) → IfOk r (λ b. IsUnchanged a n × K a.now × (IsTrue b ↔ R a.now))
 then_reported K R a m n (Err e) keyed reported = tt
 then_reported K R a m n (Ok b) keyed reported = (unchanged_then a m n keyed.0 reported.0, keyed.1, subst (λ (d : Database). IsTrue b ↔ R d) keyed.0.0.now_is reported.1)
 

@@ -1,5 +1,5 @@
--- That the rowids of a table, as a query shows them, are integers that differ, so each row has its own.
-use Rattle.std.proofs.Common.{◌≡◌, ◌↔◌, ◌++◌, ap₂, IsSorted, inl, ℕ, suc, ℤ, pos, negsuc, List, [], ◌∷◌, map, flat_map, codes, true, false, None, Option, Ok, refl, sym, ap, subst, subst₂, ◌∙◌, IsPermutation, length, Less, slice_get}
+-- That the rowids of a table, which a query shows first, are integers that differ, so each row has its own.
+use Rattle.std.proofs.Common.{◌≡◌, ◌↔◌, ◌++◌, ap₂, IsSorted, inl, ℕ, suc, ℤ, List, [], ◌∷◌, map, flat_map, codes, true, false, None, Option, Ok, refl, sym, ap, subst, subst₂, ◌∙◌, IsPermutation, length, Less, slice_get}
 use Rattle.std.specs.Prelude.{nat_lt, nat_le, ◌-◌, ◌^◌, option_and_then}
 use Rattle.std.specs.List.{IsDistinct, AllAdjacentBelow}
 use Rattle.std.specs.List.Sorted.{IsStrictlySortedBy}
@@ -12,7 +12,6 @@ use Rattle.std.proofs.lemmas.Simd.{map-map}
 use Rattle.sqlite_value.specs.declared.value.Value.{Value}
 use Rattle.sqlite_value.specs.declared.value.Value.TheVariants.{Int}
 use Rattle.sqlite_value.specs.declared.keys.Collation.{Collation}
-use Rattle.sqlite_value.specs.declared.keys.Key.{Key}
 use Rattle.sqlite_value.specs.Order.{Row, column}
 use Rattle.sqlite_value.proofs.OrderLemmas.{value_cmp-Int}
 use Rattle.sqlite_trees.specs.Tree.{Trees, rowid}
@@ -20,19 +19,15 @@ use Rattle.sqlite_trees.specs.View.{is_int}
 use Rattle.sqlite_ast.specs.declared.Expr.{Expr, out-Expr}
 use Rattle.sqlite_ast.specs.declared.Expr.TheOpen.{Expr-F, Shown-F}
 use Rattle.sqlite_ast.specs.declared.Shown.{Shown, out-Shown}
-use Rattle.sqlite_sql.specs.Term.{Term, lit, col}
-use Rattle.sqlite_sql.specs.Query.{Query, inner, end, IsAnswer, output, Output}
+use Rattle.sqlite_sql.specs.Term.{col}
+use Rattle.sqlite_sql.specs.Query.{Query, IsAnswer, output, Output}
 use Rattle.sqlite_sql.specs.Program.{overlay}
 use Rattle.sqlite_schema.specs.declared.schema.Column.{Column}
-use Rattle.sqlite_schema.specs.declared.program.Program.{Program}
 use Rattle.sqlite_schema.specs.declared.command.Command.TheVariants.{Select}
-use Rattle.sqlite_draft.specs.declared.query.Draft.{Draft}
-use Rattle.sqlite_draft.specs.declared.join.Step.TheVariants.{Inner}
-use Rattle.sqlite_draft.specs.Join.{chain}
 use Rattle.sqlite_resolve.specs.declared.scope.Bound.{Bound}
 use Rattle.sqlite_resolve.specs.declared.scope.Found.TheVariants as found_as
 use Rattle.sqlite_resolve.specs.declared.scope.Output.{Output as Out}
-use Rattle.sqlite_resolve.specs.Body.{outputs, shown, heading, is_column, declared}
+use Rattle.sqlite_resolve.specs.Body.{shown, heading, is_column, declared}
 use Rattle.sqlite_resolve.specs.Expr.{lower, lower_to, node, opened, passes}
 use Rattle.sqlite_resolve.specs.Lowering.{spend, begin, finish}
 use Rattle.sqlite_resolve.specs.Scope.{Name, Context, find as found_in, column as named_column, term_of}
@@ -48,8 +43,9 @@ use Rattle.tables_sql.specs.Calls.{IsKeyed}
 use Rattle.tables_sql.specs.Queries.{IsAnswered}
 use Rattle.tables_open.specs.Opened.{ShowIds}
 use Rattle.tables_sql.proofs.Means.{plain_state}
-use Rattle.tables_sql.proofs.Scans.{IsScan, scan_complete, kept, listed}
+use Rattle.tables_sql.proofs.Scans.{IsScan, shows, scan_complete, kept, listed}
 use Rattle.tables_sql.proofs.Distinct.{tie, turned}
+use Rattle.tables_sql.proofs.Ordered.{Place, outputs_of, query_of, scan_of, whole}
 use Rattle.tables_sql.proofs.Rising.{rising, parted}
 use Rattle.std.proofs.lemmas.List.{map-append}
 use Rattle.tables_sql.proofs.Lists.{one_list}
@@ -80,52 +76,39 @@ pub record IsRowid (cx : Context) (e : Expr) (at : ℕ) : Type 0 where
   pub found : found_in cx None (codes "rowid") ≡ Ok (found_as.Rowid 1 at)
   pub heading : declared cx.schema at (option_and_then (λ t. t.key) (slice_get cx.schema.tables at)) ≡ None
 
-shown_rowid : (cx : Context) (tables : List Bound) (s : Shown) (e : Expr) (text : Name) (at : ℕ) (last : Option Collation) (budget : ℕ) → out-Shown s ≡ Shown-F.One e None text → IsRowid cx e at → nat_lt 1 budget ≡ true
+pub shown_rowid : (cx : Context) (tables : List Bound) (s : Shown) (e : Expr) (text : Name) (at : ℕ) (last : Option Collation) (budget : ℕ) → out-Shown s ≡ Shown-F.One e None text → IsRowid cx e at → nat_lt 1 budget ≡ true
     → shown lower cx tables [] s (plain_state budget last) ≡ Ok (rowid_column ∷ [], plain_state (budget - 1) None)
 unfolding shown heading is_column
 shown_rowid cx tables s e text at last budget is it enough = rw (is, lower_rowid cx e (codes "rowid") at last budget it.names it.found enough, it.names, it.found, it.heading)
 
-pub outputs_rowid : (cx : Context) (tables : List Bound) (all : List Shown) {s : Shown} → all ≡ s ∷ [] → {e : Expr} {text : Name} → out-Shown s ≡ Shown-F.One e None text → (at : ℕ) → IsRowid cx e at → (last : Option Collation) (budget : ℕ) → nat_lt 1 budget ≡ true
-    → outputs lower cx tables all (plain_state budget last) ≡ Ok (rowid_column ∷ [], plain_state (budget - 1) None)
-unfolding outputs
-outputs_rowid cx tables all {s} is {e} {text} is0 at it last budget enough = rw (is, shown_rowid cx tables s e text at last budget is0 it enough)
-
 -- ---- what the query shows
 
-abbrev pub query : List (Term × Key) → ℕ → Query
-query order tree = record {
-  from = inner tree end;
-  filter = [];
-  group = None;
-  project = col 1 0 ∷ [];
-  distinct = false;
-  collations = [];
-  order = order;
-  limit = lit (Int (negsuc 0));
-  offset = lit (Int (pos 0));
-}
+-- what shows the rowid and these columns of a table
+abbrev pub results : List Place → List Out
+results cs = rowid_column ∷ outputs_of cs
 
-abbrev pub whole : List (Term × Key) → ℕ → Program
-whole order tree = record { lets = []; body = query order tree }
+abbrev pub names : List Place → List Name
+names cs = map (λ o. o.name) (results cs)
 
-abbrev pub draft : List (Term × Key) → ℕ → Draft
-draft order tree = record { from = chain (Inner tree ∷ []); filter = []; group = None; project = col 1 0 ∷ []; distinct = false; collations = []; order = order; limit = lit (Int (negsuc 0)); offset = lit (Int (pos 0)) }
+-- of each of its rows
+abbrev pub query : List Place → ℕ → Query
+query cs = query_of (results cs) [] []
 
-pub scan : (order : List (Term × Key)) (tree : ℕ) → IsScan (query order tree) tree
-scan order tree = record { from = refl; group = refl; distinct = refl; whole = λ params rows. refl }
+abbrev pub scan : (cs : List Place) (tree : ℕ) → IsScan (query cs tree) tree
+scan cs = scan_of (results cs) [] []
 
 abbrev pub first : Row → Value
 first row = column row 0
 
-module _ (order : List (Term × Key)) (tree : ℕ) (db : Trees) (rows : List Row) (answer : IsAnswer (query order tree) db [] rows) where
-  -- the rowids that the query shows are those of the table, in another order
+module _ (cs : List Place) (tree : ℕ) (db : Trees) (rows : List Row) (answer : IsAnswer (query cs tree) db [] rows) where
+  -- the rowids that the query shows first are those of the table, in some order
   pub same_rowids : IsPermutation (map rowid (db tree)) (map first rows)
   same_rowids =
-      let shown : map first rows ≡ map (λ (o : Output). first o.1) answer.ordered = ap (map first) (listed (query order tree) tree (scan order tree) db [] rows answer) ∙ map-map first (λ (o : Output). o.1) answer.ordered in
-      let was : map (λ (o : Output). first o.1) answer.kept ≡ map rowid (db tree) = ap (map (λ (o : Output). first o.1)) (kept (query order tree) tree (scan order tree) db [] rows answer) ∙ each (db tree) in
+      let shown : map first rows ≡ map (λ (o : Output). first o.1) answer.ordered = ap (map first) (listed (query cs tree) tree (scan cs tree) db [] rows answer) ∙ map-map first (λ (o : Output). o.1) answer.ordered in
+      let was : map (λ (o : Output). first o.1) answer.kept ≡ map rowid (db tree) = ap (map (λ (o : Output). first o.1)) (kept (query cs tree) tree (scan cs tree) db [] rows answer) ∙ each (db tree) in
       subst₂ IsPermutation was (sym shown) (IsPermutation-map (λ (o : Output). first o.1) answer.kept answer.ordered answer.same)
     where
-      each : (all : List Row) → map (λ (o : Output). first o.1) (map (output (query order tree)) (flat_map (λ (r : Row). ([] ∷ r ∷ []) ∷ []) all)) ≡ map rowid all
+      each : (all : List Row) → map (λ (o : Output). first o.1) (map (output (query cs tree)) (flat_map (λ (r : Row). ([] ∷ r ∷ []) ∷ []) all)) ≡ map rowid all
       each [] = refl
       each (r ∷ all) = ap (λ l. rowid r ∷ l) (each all)
 
@@ -138,12 +121,12 @@ distinct_ints (n ∷ ns) h =
 int_of : (rows : List Row) (ns : List ℤ) → map first rows ≡ map Int ns → (x : Row) → Has rows x → IsInt (first x)
 int_of rows ns e x present = let n = has_mapped Int ns (first x) (subst (λ vs. Has vs (first x)) e (mapped_has first rows x present)) in (n.0, n.2)
 
-keyed_from : (order : List (Term × Key)) (tree : ℕ) (db : Trees) (rows : List Row) → IsAnswer (query order tree) db [] rows → ShowIds rows → IsKeyed (db tree)
-keyed_from order tree db rows answer ids =
+keyed_from : (cs : List Place) (tree : ℕ) (db : Trees) (rows : List Row) → IsAnswer (query cs tree) db [] rows → ShowIds rows → IsKeyed (db tree)
+keyed_from cs tree db rows answer ids =
     let shown : IsDistinct tie (map first rows) = subst (IsDistinct tie) (sym ids.1) (distinct_ints ids.0 ids.2) in
-    let own : IsDistinct tie (map rowid (db tree)) = IsDistinct-IsPermutation tie turned _ _ (IsPermutation-sym _ _ (same_rowids order tree db rows answer)) shown in
+    let own : IsDistinct tie (map rowid (db tree)) = IsDistinct-IsPermutation tie turned _ _ (IsPermutation-sym _ _ (same_rowids cs tree db rows answer)) shown in
     record {
-      ints = λ a h. ap is_int (int_of rows ids.0 ids.1 (rowid a ∷ []) (scan_complete (query order tree) tree (scan order tree) db [] rows answer a h refl)).1;
+      ints = λ a h. ap is_int (int_of rows ids.0 ids.1 (shows (query cs tree) [] a) (scan_complete (query cs tree) tree (scan cs tree) db [] rows answer a h refl)).1;
       distinct_rowids = own;
     }
 
@@ -152,12 +135,12 @@ abbrev pub ShowsDistinct : List ℕ → State → State → Type 0
 ShowsDistinct text old new = (rows : List Row) × IsAnswered text [] old new rows × ShowIds rows
 
 -- each row of the table has a rowid of its own, and nothing changes
-pub keyed_if : (name : List ℕ) (columns : List Column) (key : List ℕ) (text : List ℕ) (order : List (Term × Key)) (old new : State) → IsIntact old.now.schema (strict name columns key)
-    → {count : ℕ} → Compiles name columns key text count (λ at tree. Select (whole order tree) (codes "rowid" ∷ [])) → ShowsDistinct text old new → IsUnchanged old new × IsKeyed (rows_named old.now name)
-keyed_if name columns key text order old new exists is h =
+pub keyed_if : (name : List ℕ) (columns : List Column) (key : List ℕ) (text : List ℕ) (cs : List Place) (old new : State) → IsIntact old.now.schema (strict name columns key)
+    → {count : ℕ} → Compiles name columns key text count (λ at tree. Select (whole (query cs) tree) (names cs)) → ShowsDistinct text old new → IsUnchanged old new × IsKeyed (rows_named old.now name)
+keyed_if name columns key text cs old new exists is h =
     let tree = tree_named old.now.schema name in
-    let answer = answer_of name columns key old new text [] (query order) is exists h.0 h.1.0 in
-    (h.1.1.1, subst IsKeyed (overlay_low old.now.trees tree exists.known.low) (keyed_from order tree (overlay old.now.trees []) h.0 answer h.2))
+    let answer = answer_of name columns key old new text [] (query cs) is exists h.0 h.1.0 in
+    (h.1.1.1, subst IsKeyed (overlay_low old.now.trees tree exists.known.low) (keyed_from cs tree (overlay old.now.trees []) h.0 answer h.2))
 
 -- ---- what a sort and a test of neighbours say of integers
 
@@ -175,6 +158,11 @@ rise_sorted ns sorted same up = (
   λ rise. IsDistinct-IsPermutation (eq_by_cmp int_cmp) swapped sorted ns (IsPermutation-sym ns sorted same) (IsDistinct-from_sorted int_cmp sorted (ints_rise sorted rise)),
   λ apart. rising int_cmp_total sorted up (IsDistinct-IsPermutation (eq_by_cmp int_cmp) swapped ns sorted same apart),
 )
+
+-- ---- one row more
+
+pub ids_more : (rows : List Row) (x : Row) (ns : List ℤ) (n : ℤ) → map first rows ≡ map Int ns → first x ≡ Int n → map first (rows ++ x ∷ []) ≡ map Int (ns ++ n ∷ [])
+ids_more rows x ns n h is = map-append first rows (x ∷ []) ∙ ap₂ (λ vs ws. vs ++ ws) h (ap (λ v. v ∷ []) is) ∙ sym (map-append Int ns (n ∷ []))
 
 -- ---- what rows show that aren't integers, or not different ones
 

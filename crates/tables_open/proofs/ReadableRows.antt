@@ -1,6 +1,7 @@
 -- That the texts of a table are UTF-8 exactly where those are that a query over all its rows shows.
-use Rattle.std.proofs.Common.{◌≡◌, ◌↔◌, ℕ, zero, suc, ◌+◌, ◌<◌, List, [], ◌∷◌, Bool, IsTrue, Result, Ok, Err, IfOk, length, refl, sym, ap, subst, ◌∙◌, arith}
+use Rattle.std.proofs.Common.{◌≡◌, ◌↔◌, ℕ, zero, suc, ◌+◌, ◌<◌, List, [], ◌∷◌, ◌++◌, ◌&&◌, Bool, IsTrue, Result, Ok, Err, IfOk, length, refl, sym, ap, subst, ◌∙◌, arith}
 use Rattle.std.specs.List.{AllByRecursion}
+use Rattle.sqlite_value.specs.declared.value.Value.{Value}
 use Rattle.sqlite_value.specs.Order.{Row, column}
 use Rattle.sqlite_rules.specs.Lists.{Has}
 use Rattle.sqlite_rules.proofs.ListLemmas.{all_has, all_from}
@@ -14,6 +15,9 @@ use Rattle.tables_schema.specs.Intact.{IsIntact, tree_named}
 use Rattle.tables_sql.specs.Contents.{rows_named}
 use Rattle.tables_sql.specs.Texts.{IsReadable, IsReadableRow, AreReadableRows}
 use Rattle.tables_sql.specs.Queries.{IsAnswered}
+use Rattle.std.proofs.lemmas.Bool.{and_from}
+use Rattle.tables_sql.proofs.Lists.{one_list, two_lists}
+use Rattle.tables_sql.proofs.Truths.{and_so}
 use Rattle.tables_sql.proofs.Scans.{IsScan, shows, scan_sound, scan_complete}
 use Rattle.tables_sql.proofs.Statements.{answer_of, Compiles}
 use Rattle.tables_sql.proofs.Writes.{overlay_low}
@@ -42,6 +46,21 @@ all_cells n row = (
   λ h at low. let within = subst (λ m. at < m) (count 1 n row) low in subst IsReadable (sym (cell_is 1 n row at within)) (h at within),
 )
 
+-- a row is readable where its values behind the first are, if that one is
+pub behind : (v : Value) (row : Row) → IsReadable v → IsReadableRow (v ∷ row) ↔ IsReadableRow row
+behind v row readable = (λ h at low. h (suc at) (omega (arith, low)), whole)
+  where
+    whole : IsReadableRow row → IsReadableRow (v ∷ row)
+    whole h zero low = readable
+    whole h (suc at) low = h at (omega (arith, low))
+
+-- one row more
+pub readable_more : (a b : Bool) (rows : List Row) (x : Row) → IsTrue a ↔ AllByRecursion IsReadableRow rows → IsTrue b ↔ IsReadableRow x → IsTrue (a && b) ↔ AllByRecursion IsReadableRow (rows ++ x ∷ [])
+readable_more a b rows x all one = (
+  λ yes. let both = and_so a b yes in two_lists IsReadableRow rows (x ∷ []) (all.0 both.0) (one.0 both.1, tt),
+  λ every. let both = one_list IsReadableRow rows (x ∷ []) every in and_from a b (all.1 both.0) (one.1 both.1.0),
+)
+
 -- the rows that were shown, and whether their texts are UTF-8
 abbrev pub Reports : List ℕ → State → State → Bool → Type 0
 Reports text old new b = (rows : List Row) × IsAnswered text [] old new rows × (IsTrue b ↔ AllByRecursion IsReadableRow rows)
@@ -49,9 +68,9 @@ Reports text old new b = (rows : List Row) × IsAnswered text [] old new rows ×
 module _ (name : List ℕ) (columns : List Column) (key : List ℕ) (text : List ℕ) (names : List (List ℕ)) (query : ℕ → Query) (scan : (tree : ℕ) → IsScan (query tree) tree) (whole : (tree : ℕ) → (query tree).filter ≡ [])
     {count : ℕ} (is : Compiles name columns key text count (λ at tree. Select (record { lets = []; body = query tree }) names)) where
   -- nothing changes, and the texts of the table are UTF-8 exactly where those are that were shown
-  pub told_if : (old new : State) → IsIntact old.now.schema (strict name columns key) → ((tree : ℕ) (r : Row) → Has (rows_named old.now name) r → IsReadableRow (shows (query tree) [] r) ↔ AreOfUtf8 (length columns) r)
+  pub reported_if : (old new : State) → IsIntact old.now.schema (strict name columns key) → ((tree : ℕ) (r : Row) → Has (rows_named old.now name) r → IsReadableRow (shows (query tree) [] r) ↔ AreOfUtf8 (length columns) r)
       → (b : Bool) → Reports text old new b → IsUnchanged old new × (IsTrue b ↔ AreReadableRows (strict name columns key) (rows_named old.now name))
-  told_if old new exists each b h =
+  reported_if old new exists each b h =
       let tree = tree_named old.now.schema name in
       let db = overlay old.now.trees [] in
       let same_rows : db tree ≡ old.now.trees tree = overlay_low old.now.trees tree exists.known.low in

@@ -1,11 +1,10 @@
--- That the texts of each table of the store ask for the rowids and the texts of its rows.
-use Rattle.std.proofs.Common.{ℕ, ◌+◌, [], ◌∷◌, arith, refl, below_none, below_more}
+-- That the text of each table of the store asks for the rowids and the texts of its rows.
+use Rattle.std.proofs.Common.{ℕ, ◌+◌, [], ◌∷◌, arith, below_none, below_more}
 use Rattle.sqlite_value.specs.Order.{Row, column}
 use Rattle.tables_schema.specs.Forms.{meta, object, refs, outs, permanent, user_root, profile, generation, runtime, piece, temp_root}
 use Rattle.tables_sql.specs.Texts.{IsReadable, IsReadableRow}
 use Rattle.tables_sql.proofs.Truths.{and_so}
 use Rattle.tables_sql.proofs.SettingLemmas as settings
-use Rattle.tables_sql.proofs.ObjectLemmas as objects
 use Rattle.tables_sql.proofs.ListingLemmas as listing
 use Rattle.tables_sql.proofs.ReferenceLemmas as references
 use Rattle.tables_sql.proofs.OutputLemmas as outputs
@@ -14,7 +13,6 @@ use Rattle.tables_sql.proofs.UserRootLemmas as user_roots
 use Rattle.tables_sql.proofs.ProfileLemmas as profiles
 use Rattle.tables_sql.proofs.GenerationLemmas as generations
 use Rattle.tables_sql.proofs.RuntimeRootLemmas as runtime_roots
-use Rattle.tables_sql.proofs.PieceLemmas as pieces
 use Rattle.tables_sql.proofs.PieceKeyLemmas as piece_keys
 use Rattle.tables_sql.proofs.TempRootLemmas as temp_roots
 use Rattle.tables_sql.proofs.Typed.{objects_typed, pieces_typed}
@@ -22,11 +20,10 @@ use Rattle.tables_sql.proofs.ReadableValues.{blob_readable}
 use Rattle.tables_schema.specs.declared.our_table.StoreTable.{StoreTable}
 use Rattle.tables_schema.specs.declared.our_table.StoreTable.TheVariants.{Meta, Object, Refs, Outs, Permanent, UserRoot, Profile, Generation, Runtime, Piece, TempRoot}
 use Rattle.tables_schema.specs.OurTables.{form}
-use Rattle.tables_open.specs.Tables.{rowids_text, texts_text}
-use Rattle.tables_open.proofs.Asking.{asks_all}
+use Rattle.tables_open.specs.Tables.{rows_text}
 use Rattle.tables_open.proofs.ReadableRows.{AreOfUtf8, all_cells}
-use Rattle.tables_open.proofs.OurRowids.{our_rowids}
-use Rattle.tables_open.proofs.Tested.{AreTests, tests_by}
+use Rattle.tables_open.proofs.OurRows.{our_rows}
+use Rattle.tables_open.proofs.Tested.{IsTest, test_by}
 
 -- ---- the objects, whose archives are not shown: they are no texts
 
@@ -56,17 +53,17 @@ key_columns r h = let P = λ (at : ℕ). IsReadable (column (key_of r) at) in be
 
 -- ---- each table
 
-pub tests_of : (t : StoreTable) → AreTests (form t) (rowids_text t) (texts_text t)
-tests_of Meta = tests_by meta.name meta.columns meta.primary _ (our_rowids Meta) (asks_all settings.table settings.reading settings.all settings.all.is) (λ tree. refl) (λ db sound exists tree r present. all_cells 2 r)
-tests_of Object = tests_by object.name object.columns object.primary _ (our_rowids Object) (asks_all objects.table listing.listing listing.all listing.all.is) (λ tree. refl)
-    (λ db sound exists tree r present. (all_columns r (blob_readable (column r 2) (and_so _ _ (and_so _ _ (and_so _ _ (and_so _ _ (objects_typed db sound exists r present)).0).0).0).1), shown_columns r))
-tests_of Refs = tests_by refs.name refs.columns refs.primary _ (our_rowids Refs) (asks_all references.table references.reading references.all references.all.is) (λ tree. refl) (λ db sound exists tree r present. all_cells 2 r)
-tests_of Outs = tests_by outs.name outs.columns outs.primary _ (our_rowids Outs) (asks_all outputs.table outputs.reading outputs.all outputs.all.is) (λ tree. refl) (λ db sound exists tree r present. all_cells 3 r)
-tests_of Permanent = tests_by permanent.name permanent.columns permanent.primary _ (our_rowids Permanent) (asks_all permanent_roots.table permanent_roots.reading permanent_roots.all permanent_roots.all.is) (λ tree. refl) (λ db sound exists tree r present. all_cells 2 r)
-tests_of UserRoot = tests_by user_root.name user_root.columns user_root.primary _ (our_rowids UserRoot) (asks_all user_roots.table user_roots.reading user_roots.all user_roots.all.is) (λ tree. refl) (λ db sound exists tree r present. all_cells 3 r)
-tests_of Profile = tests_by profile.name profile.columns profile.primary _ (our_rowids Profile) (asks_all profiles.table profiles.reading profiles.all profiles.all.is) (λ tree. refl) (λ db sound exists tree r present. all_cells 3 r)
-tests_of Generation = tests_by generation.name generation.columns generation.primary _ (our_rowids Generation) (asks_all generations.table generations.reading generations.all generations.all.is) (λ tree. refl) (λ db sound exists tree r present. all_cells 4 r)
-tests_of Runtime = tests_by runtime.name runtime.columns runtime.primary _ (our_rowids Runtime) (asks_all runtime_roots.table runtime_roots.reading runtime_roots.all runtime_roots.all.is) (λ tree. refl) (λ db sound exists tree r present. all_cells 2 r)
-tests_of Piece = tests_by piece.name piece.columns piece.primary _ (our_rowids Piece) (asks_all pieces.table piece_keys.reading piece_keys.keys piece_keys.keys.is) (λ tree. refl)
-    (λ db sound exists tree r present. (whole_piece r (blob_readable (column r 3) (and_so _ _ (pieces_typed db sound exists r present)).1), key_columns r))
-tests_of TempRoot = tests_by temp_root.name temp_root.columns temp_root.primary _ (our_rowids TempRoot) (asks_all temp_roots.table temp_roots.reading temp_roots.all temp_roots.all.is) (λ tree. refl) (λ db sound exists tree r present. all_cells 3 r)
+pub test_of : (t : StoreTable) → IsTest (form t) (rows_text t)
+test_of Meta = test_by meta.name meta.columns meta.primary settings.places (our_rows Meta) (λ db sound exists r present. all_cells 2 r)
+test_of Object = test_by object.name object.columns object.primary listing.places (our_rows Object)
+    (λ db sound exists r present. (all_columns r (blob_readable (column r 2) (and_so _ _ (and_so _ _ (and_so _ _ (and_so _ _ (objects_typed db sound exists r present)).0).0).0).1), shown_columns r))
+test_of Refs = test_by refs.name refs.columns refs.primary references.places (our_rows Refs) (λ db sound exists r present. all_cells 2 r)
+test_of Outs = test_by outs.name outs.columns outs.primary outputs.places (our_rows Outs) (λ db sound exists r present. all_cells 3 r)
+test_of Permanent = test_by permanent.name permanent.columns permanent.primary permanent_roots.places (our_rows Permanent) (λ db sound exists r present. all_cells 2 r)
+test_of UserRoot = test_by user_root.name user_root.columns user_root.primary user_roots.places (our_rows UserRoot) (λ db sound exists r present. all_cells 3 r)
+test_of Profile = test_by profile.name profile.columns profile.primary profiles.places (our_rows Profile) (λ db sound exists r present. all_cells 3 r)
+test_of Generation = test_by generation.name generation.columns generation.primary generations.places (our_rows Generation) (λ db sound exists r present. all_cells 4 r)
+test_of Runtime = test_by runtime.name runtime.columns runtime.primary runtime_roots.places (our_rows Runtime) (λ db sound exists r present. all_cells 2 r)
+test_of Piece = test_by piece.name piece.columns piece.primary piece_keys.places (our_rows Piece)
+    (λ db sound exists r present. (whole_piece r (blob_readable (column r 3) (and_so _ _ (pieces_typed db sound exists r present)).1), key_columns r))
+test_of TempRoot = test_by temp_root.name temp_root.columns temp_root.primary temp_roots.places (our_rows TempRoot) (λ db sound exists r present. all_cells 3 r)

@@ -28,9 +28,9 @@ use Rattle.sqlite.specs.declared.file.Leftover.{Leftover}
 use Rattle.sqlite.specs.declared.error.Error.{Error}
 use Rattle.sqlite.specs.declared.error.Error.TheVariants.{SqliteFailure}
 use Rattle.sqlite.specs.declared.error.ErrorCode.TheVariants.{CannotOpen, OutOfMemory, DatabaseBusy}
-use Rattle.tables_sql.specs.declared.failure.Failure.{Failure}
-use Rattle.tables_open.specs.declared.file.Unopened.{Unopened}
-use Rattle.tables_open.specs.declared.file.Unopened.TheVariants.{Refused, Unreadable}
+use Rattle.tables_sql.specs.declared.failure.Failed.{Failed}
+use Rattle.tables_open.specs.declared.file.UnopenedFile.{UnopenedFile}
+use Rattle.tables_open.specs.declared.file.UnopenedFile.TheVariants.{Refused, Unreadable}
 use Rattle.tables_schema.specs.declared.recognising.Recognised.{Recognised}
 use Rattle.tables_schema.specs.declared.recognising.Recognised.TheVariants.{Nothing, Tables, Other}
 use Rattle.tables_schema.specs.declared.schema.Schema.TheVariants.{V1, V2, V3}
@@ -94,7 +94,7 @@ HasUnkeyed db =
     × ¬ AllByRecursion (λ t. IsIntact db.schema t → IsKeyed (rows_named db t.name)) all_tables
 
 -- Why opening failed. That is what its test may have found.
-abbrev pub FailsToOpen : State → State → Failure → Type 0
+abbrev pub FailsToOpen : State → State → Failed → Type 0
 FailsToOpen old new = FailsToTest old new (HasUnkeyed old.now)
 
 module _ {D : Type 0} {g : disk.Ghosts D} where
@@ -124,7 +124,7 @@ module _ {S : Type 0} {c : calls.Ghosts Host} {start : Ghosts S} {g : disk.Ghost
 
   -- Why files that held this weren't opened: `sqlite` refused them for an error, of which this is the failure; or it
   -- opened them, and what they hold of the store's tables can't be read.
-  abbrev pub FailsToOpenFile : Image → Unopened (FileStore (Modelled Host S c start) g) (Modelled Host S c start) g
+  abbrev pub FailsToOpenFile : Image → UnopenedFile (FileStore (Modelled Host S c start) g) (Modelled Host S c start) g
       → Type 0
   FailsToOpenFile held (Refused failure left) = (e : Error) × (failure ≡ opening_failure e) × Refuses e left
   FailsToOpenFile held (Unreadable it) =

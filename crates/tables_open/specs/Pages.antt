@@ -6,7 +6,7 @@ use Rattle.std.specs.Prelude.{ℕ, ◌+◌, ◌/◌, nat_le, cond, max}
 abbrev pub all_pages : ℕ → ℕ → ℕ → ℕ
 all_pages len logged page = max (len / page) logged + 256
 
--- a number of pages as it is used: of at most 64 MiB, and of at least 8,192,000 bytes
+-- how many pages are cached: together at most 64 MiB, and at least 8,192,000 bytes
 abbrev pub cached_pages : ℕ → ℕ → ℕ → ℕ
 cached_pages len logged page =
     cond (nat_le (all_pages len logged page) (67108864 / page)) (max (all_pages len logged page) (8192000 / page))

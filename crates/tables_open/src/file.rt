@@ -17,7 +17,7 @@ use sqlite_disk::Disk;
 use std::alloc::Global;
 use std::rt::HostRuntime;
 use tables_schema::recognising::Recognised;
-use tables_sql::failure::Failure;
+use tables_sql::failure::Failed;
 
 /// A database that was opened, and by which schema it holds the store's tables. If it does, it is ready for transactions.
 pub struct Opened<S: Alter> {
@@ -33,16 +33,16 @@ pub struct Unreadable<S: Alter> {
     /// The connection, as it was, outside a transaction.
     pub conn: Connection<S>,
     /// Why it can't be read.
-    pub failure: Failure,
+    pub failure: Failed,
 }
 
 /// Why a file wasn't opened. `S` is the store of a connection, over files `D`.
 #[derive(Drop)]
-pub enum Unopened<S: Alter, D: Disk> {
+pub enum UnopenedFile<S: Alter, D: Disk> {
     /// `sqlite` didn't open it.
     Refused {
         /// The failure that kept it from being opened; none, where it is something else than a database.
-        failure: Option<Failure>,
+        failure: Option<Failed>,
         /// What is left of the files, once they were opened.
         left: Option<Leftover<D>>,
     },
@@ -51,15 +51,15 @@ pub enum Unopened<S: Alter, D: Disk> {
 }
 
 /// The failure that kept a file from being opened; none, where it is something else than a database.
-fn opening_failure(error: Error) -> Option<Failure>
+fn opening_failure(error: Error) -> Option<Failed>
     ensures { result ≡ opening_failure error }
 {
     match error {
-        Error::SqliteFailure(ErrorCode::OutOfMemory) => Some(Failure::Memory),
-        Error::SqliteFailure(ErrorCode::TooBig) => Some(Failure::Size),
+        Error::SqliteFailure(ErrorCode::OutOfMemory) => Some(Failed::Memory),
+        Error::SqliteFailure(ErrorCode::TooBig) => Some(Failed::Size),
         Error::SqliteFailure(
             ErrorCode::SystemIoFailure | ErrorCode::DiskFull | ErrorCode::Closed,
-        ) => Some(Failure::Disk),
+        ) => Some(Failed::Disk),
         _ => None,
     }
 }
@@ -95,9 +95,9 @@ pub fn open<S: Start>(
     rt: &HostRuntime,
     path: &str,
     start: S,
-) -> Result<Opened<FileStore<FileFrom<S>>>, Unopened<FileStore<FileFrom<S>>, FileFrom<S>>>
+) -> Result<Opened<FileStore<FileFrom<S>>>, UnopenedFile<FileStore<FileFrom<S>>, FileFrom<S>>>
     ensures memory { path.now ≡ codes ":memory:"
-        → IsErrAnd result (λ e. (left : _) × (e ≡ Unopened.Refused None left)) }
+        → IsErrAnd result (λ e. (left : _) × (e ≡ UnopenedFile.Refused None left)) }
     ensures idle { IfOk result (λ it. it.conn.in_transaction ≡ false) }
     ensures found { IfOk result (λ it. HasCleanDisk (file_state it.conn) → IsFound it.found (file_state it.conn)) }
     ensures opened { IfOk result (λ it. (was : _) × IsAsOpened (image_at S.Start) was it.conn) }
@@ -109,9 +109,9 @@ pub fn open<S: Start>(
     match connect(rt, path, start) {
         Ok(conn) => match inspect(rt.alloc(), conn) {
             Ok(opened) => Ok(opened),
-            Err(untold) => Err(Unopened::Unreadable(untold)),
+            Err(untold) => Err(UnopenedFile::Unreadable(untold)),
         },
-        Err((error, left)) => Err(Unopened::Refused {
+        Err((error, left)) => Err(UnopenedFile::Refused {
             failure: opening_failure(error),
             left,
         }),

@@ -7,6 +7,7 @@ mod measuring;
 pub mod opening;
 mod options;
 mod queries;
+mod reading;
 mod rowids;
 mod testing;
 mod texts;

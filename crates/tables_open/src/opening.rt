@@ -16,7 +16,7 @@ use std::alloc::Global;
 use tables_schema::our_table::schema_tables;
 use tables_schema::recognising::Recognised;
 use tables_schema::{Schema, recognising};
-use tables_sql::failure::Failure;
+use tables_sql::failure::Failed;
 
 /// The tables of the schema, which are there, or `Other` where a text in one of them isn't UTF-8. Fails with `Disk` if two rows of a table share a
 /// rowid, or a rowid is no integer. Nothing changes.
@@ -24,7 +24,7 @@ fn inspect_tables<S: Alter>(
     alloc: Global,
     conn: &mut Connection<S>,
     schema: Schema,
-) -> Result<Recognised, Failure>
+) -> Result<Recognised, Failed>
     requires frame { MayTest S.Store conn.old }
     requires recognised { IsRecognised (Tables schema) (state S.Store conn.old).now.schema }
     ensures frame { LeavesShown S.Store conn.old conn.new }
@@ -43,7 +43,7 @@ fn inspect_tables<S: Alter>(
 }
 
 /// Succeeds only if no fault has shut the connection. Nothing changes.
-fn probe<S: Alter>(conn: &mut Connection<S>) -> Result<(), Failure>
+fn probe<S: Alter>(conn: &mut Connection<S>) -> Result<(), Failed>
     requires idle { conn.old.in_transaction ≡ false }
     requires settled { HasCleanDisk (state S.Store conn.old) → IsTrue (state S.Store conn.old).is_open
         → (state S.Store conn.old).now ≡ (state S.Store conn.old).committed }
@@ -71,7 +71,7 @@ pub fn recognise<S: Alter>(conn: &Connection<S>) -> Recognised
 /// What the connection's database has of the store's tables: the tables of a schema if they are there and each text in them
 /// is UTF-8. Then the connection is ready for transactions. Nothing changes. It fails when it runs out of memory, for a fault of the disk, where
 /// an earlier one has shut the connection, where a limit on steps stops it, and if two rows of a store's table share a rowid or a rowid is no integer.
-pub fn open<S: Alter>(alloc: Global, conn: &mut Connection<S>) -> Result<Recognised, Failure>
+pub fn open<S: Alter>(alloc: Global, conn: &mut Connection<S>) -> Result<Recognised, Failed>
     requires idle { conn.old.in_transaction ≡ false }
     ensures frame { LeavesShown S.Store conn.old conn.new }
     ensures unchanged { HasCleanDisk (state S.Store conn.new)

@@ -1,48 +1,26 @@
-//! The queries of the store's tables: of their rowids, and of their texts.
+//! The queries of the store's tables: each shows the rowids and the texts of one.
 
 ghost use Rattle.std.specs.Prelude.{◌≡◌};
-ghost use Rattle.tables_open.specs.Tables.{rowids_text, texts_text};
+ghost use Rattle.tables_open.specs.Tables.{rows_text};
 
 use tables_schema::our_table::StoreTable;
 
-/// Shows the rowid of each row.
-pub(crate) fn rowids(table: StoreTable) -> &'static str
-    ensures { result.now ≡ rowids_text table }
+/// Shows the rowid and each text of each row, but neither an archive nor the bytes of a piece. With no order, `sqlite` reads a table or
+/// an index from its start to its end.
+pub(crate) fn rows(table: StoreTable) -> &'static str
+    ensures { result.now ≡ rows_text table }
 {
     match table {
-        StoreTable::Meta => "SELECT rowid FROM meta ORDER BY word",
-        StoreTable::Object => "SELECT rowid FROM object ORDER BY base",
-        StoreTable::Refs => "SELECT rowid FROM refs ORDER BY base, target",
-        StoreTable::Outs => "SELECT rowid FROM outs ORDER BY base, name",
-        StoreTable::Permanent => "SELECT rowid FROM permanent ORDER BY name",
-        StoreTable::UserRoot => "SELECT rowid FROM user_root ORDER BY owner, name",
-        StoreTable::Profile => "SELECT rowid FROM profile ORDER BY owner, name",
-        StoreTable::Generation => "SELECT rowid FROM generation ORDER BY owner, name, num",
-        StoreTable::Runtime => "SELECT rowid FROM runtime ORDER BY label, target",
-        StoreTable::Piece => "SELECT rowid FROM piece ORDER BY base, num",
-        StoreTable::TempRoot => "SELECT rowid FROM temp_root ORDER BY owner, session, target",
-    }
-}
-
-/// Shows each text of each row, but neither an archive nor the bytes of a piece.
-pub(crate) fn texts(table: StoreTable) -> &'static str
-    ensures { result.now ≡ texts_text table }
-{
-    match table {
-        StoreTable::Meta => "SELECT word, val FROM meta ORDER BY word",
-        StoreTable::Object => "SELECT base, hash, deriver, ca FROM object ORDER BY base",
-        StoreTable::Refs => "SELECT base, target FROM refs ORDER BY base, target",
-        StoreTable::Outs => "SELECT base, name, target FROM outs ORDER BY base, name",
-        StoreTable::Permanent => "SELECT name, target FROM permanent ORDER BY name",
-        StoreTable::UserRoot => "SELECT owner, name, target FROM user_root ORDER BY owner, name",
-        StoreTable::Profile => "SELECT owner, name, cur FROM profile ORDER BY owner, name",
-        StoreTable::Generation => {
-            "SELECT owner, name, num, target FROM generation ORDER BY owner, name, num"
-        }
-        StoreTable::Runtime => "SELECT label, target FROM runtime ORDER BY label, target",
-        StoreTable::Piece => "SELECT base, num FROM piece ORDER BY base, num",
-        StoreTable::TempRoot => {
-            "SELECT owner, session, target FROM temp_root ORDER BY owner, session, target"
-        }
+        StoreTable::Meta => "SELECT rowid, word, val FROM meta",
+        StoreTable::Object => "SELECT rowid, base, hash, deriver, ca FROM object",
+        StoreTable::Refs => "SELECT rowid, base, target FROM refs",
+        StoreTable::Outs => "SELECT rowid, base, name, target FROM outs",
+        StoreTable::Permanent => "SELECT rowid, name, target FROM permanent",
+        StoreTable::UserRoot => "SELECT rowid, owner, name, target FROM user_root",
+        StoreTable::Profile => "SELECT rowid, owner, name, cur FROM profile",
+        StoreTable::Generation => "SELECT rowid, owner, name, num, target FROM generation",
+        StoreTable::Runtime => "SELECT rowid, label, target FROM runtime",
+        StoreTable::Piece => "SELECT rowid, base, num FROM piece",
+        StoreTable::TempRoot => "SELECT rowid, owner, session, target FROM temp_root",
     }
 }

@@ -10,19 +10,15 @@ ghost use Rattle.tables_sql.specs.Failures.{FailsToTest};
 ghost use Rattle.tables_open.specs.Tables.{HasOwnRowids, HasReadableTexts};
 ghost use Rattle.tables_open.specs.Frames.{LeavesShown, MayTest};
 
-use crate::{queries, rowids, texts};
+use crate::{queries, reading};
 use sqlite::{Alter, Connection};
 use std::alloc::Global;
 use tables_schema::our_table::StoreTable;
-use tables_sql::failure::Failure;
+use tables_sql::failure::Failed;
 
 /// Whether each text of the table is UTF-8. Fails with `Disk` if two of its rows share a rowid, or a rowid is no integer. Nothing changes.
 /// No archive is shown, nor the bytes of a piece.
-fn one<S: Alter>(
-    alloc: Global,
-    conn: &mut Connection<S>,
-    table: StoreTable,
-) -> Result<bool, Failure>
+fn one<S: Alter>(alloc: Global, conn: &mut Connection<S>, table: StoreTable) -> Result<bool, Failed>
     requires frame { MayTest S.Store conn.old }
     requires exists { HasCleanDisk (state S.Store conn.old) → IsTrue (state S.Store conn.old).is_open
         → IsIntact (state S.Store conn.old).now.schema (form table) }
@@ -35,8 +31,7 @@ fn one<S: Alter>(
         → IfErr result (FailsToTest (state S.Store conn.old) (state S.Store conn.new)
         (¬ HasOwnRowids (state S.Store conn.old).now table)) }
 {
-    rowids::check(alloc, conn, queries::rowids(table))?;
-    texts::check(conn, queries::texts(table))
+    reading::check(alloc, conn, queries::rows(table))
 }
 
 /// Tests some tables, one after another.
@@ -44,7 +39,7 @@ pub(crate) fn all<S: Alter>(
     alloc: Global,
     conn: &mut Connection<S>,
     tables: &[StoreTable],
-) -> Result<bool, Failure>
+) -> Result<bool, Failed>
     requires some { 0 < length tables.now }
     requires frame { MayTest S.Store conn.old }
     requires intact { HasCleanDisk (state S.Store conn.old) → IsTrue (state S.Store conn.old).is_open
