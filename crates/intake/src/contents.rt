@@ -1,7 +1,6 @@
 //! Where the contents of a file lie in its archive.
 
 ghost use Rattle.std.specs.Prelude.{◌≡◌, ◌≤◌, ◌++◌, List, ℕ, length, take, drop};
-ghost use Rattle.std.specs.Str.{bytes_eq};
 ghost use Rattle.nar.specs.String.{length_at};
 ghost use Rattle.intake.specs.Contents as spec;
 ghost use Rattle.intake.specs.Contents.{contents_so_far};
@@ -13,18 +12,12 @@ pub const PREFIX: &[u8] = b"\x0d\0\0\0\0\0\0\0nix-archive-1\0\0\0\
 \x07\0\0\0\0\0\0\0regular\0\
 \x08\0\0\0\0\0\0\0contents";
 
-fn same_bytes(a: &[u8], b: &[u8]) -> bool
-    ensures { result ≡ bytes_eq a.now b.now }
-{
-    a == b
-}
-
 /// Whether an archive begins as that of a regular file that isn't executable.
 pub fn begins_plain(archive: &[u8]) -> bool
     ensures { result ≡ spec.begins_plain archive.now }
 {
     let (front, _) = archive.split_at(88usize.min(archive.len()));
-    same_bytes(front, PREFIX)
+    front == PREFIX
 }
 
 /// The length that follows the prefix.

@@ -11,7 +11,7 @@ use Rattle.live.specs.Reach.{reaches}
 use Rattle.live.specs.Limited.{is_referred_to, next_group}
 use Rattle.live.proofs.Groups.{in_filter, filter_in}
 use Rattle.live.proofs.Members.{found}
-use Rattle.laws.specs.Cycles.{IsCycle, CyclesGoByTheLeast}
+use Rattle.laws.specs.Cycles.{IsCycle, CyclesAreDeletedByTheLeast}
 use Rattle.laws.proofs.Sources.{none_less}
 
 module _ (g : Graph) (dead : Path → Bool) (left group : List Path) (rise : IsStrictlySortedBy bytes_cmp left) (many : 1 < length group) where
@@ -31,6 +31,6 @@ module _ (g : Graph) (dead : Path → Bool) (left group : List Path) (rise : IsS
         members = λ q. (λ c. in_filter (λ q. reaches references_only g q p) left q c, λ h. filter_in (λ q. reaches references_only g q p) left q h.0 h.1);
       })
 
-pub cycles_go_by_the_least : CyclesGoByTheLeast
-cycles_go_by_the_least g dead left group rise e many =
+pub cycles_are_deleted_by_the_least : CyclesAreDeletedByTheLeast
+cycles_are_deleted_by_the_least g dead left group rise e many =
     by g dead left group rise many (find (λ p. dead p && not (is_referred_to g left p)) left) (find dead left) refl e

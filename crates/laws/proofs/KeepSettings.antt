@@ -53,5 +53,5 @@ pub living_keep : LivingKeep
 living_keep s w q p alive k =
     let edge = (edge_decided (keep_of s) (graph_of w) q p).1 (from_kept s w q p k) in
     let l = (live_decided (keep_of s) (graph_of w) (roots_of w) q).0 alive in
-    let step : Reaches (keep_of s) (graph_of w) q p = record { valid = valid_is w q ∙ live_has s w q alive; behind = p ∷ []; leads = (edge, refl) } in
+    let step : Reaches (keep_of s) (graph_of w) q p = record { valid = valid_is w q ∙ live_has s w q alive; steps = p ∷ []; leads = (edge, refl) } in
     live_of s w l.root p l.listed (goes_on (keep_of s) (graph_of w) l.root.target q p l.reaches step)

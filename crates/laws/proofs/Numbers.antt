@@ -69,8 +69,8 @@ last_in (x ∷ xs) n e = elim (last_after x xs n e) as (λ _. Contains (x ∷ xs
 -- ---- generations
 
 module _ (p : Profile) where
-  none_there : last_or None (numbers p) ≡ None → (m : ℕ) → IsFalse (has_generation p m)
-  none_there e m = by (has_generation p m) refl
+  none_present : last_or None (numbers p) ≡ None → (m : ℕ) → IsFalse (has_generation p m)
+  none_present e m = by (has_generation p m) refl
     where
       by : (b : Bool) → has_generation p m ≡ b → IsFalse b
       by true h = absurd (last_none (numbers p) e m (key_listed nat_antisymmetric p.generations m h))
@@ -99,8 +99,8 @@ module _ (p : Profile) where
     by_last : (o : Option ℕ) → last_or None (numbers p) ≡ o → (b : Bool) → is_highest p t ≡ b → IsNumberFor p t (if b then highest p else highest p + 1)
     by_last (Some n) e true h = again (highest_top n e) (highest_path h)
     by_last (Some n) e false h = next (highest p) (highest_top n e) (not_at_path h) refl
-    by_last None e true h = absurd (false≢true (sym (none_there e (highest p)) ∙ ap is_some (highest_path h)))
-    by_last None e false h = first (none_there e) (ap (λ o. unwrap_or o 0 + 1) e)
+    by_last None e true h = absurd (false≢true (sym (none_present e (highest p)) ∙ ap is_some (highest_path h)))
+    by_last None e false h = first (none_present e) (ap (λ o. unwrap_or o 0 + 1) e)
 
     pub chosen : IsNumberFor p t (number_for p t)
     chosen = by_last (last_or None (numbers p)) refl (is_highest p t) refl

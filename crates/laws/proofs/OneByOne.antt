@@ -20,7 +20,7 @@ use Rattle.policy.specs.Settings.{Settings}
 use Rattle.model.specs.World.{Path, Object, World, has, all_paths}
 use Rattle.model.specs.Liveness.{graph_of, lives}
 use Rattle.laws.specs.Changes.{Weigh}
-use Rattle.laws.specs.OneByOne.{HasNoCycle, MayGo, ReferrersGoFirst}
+use Rattle.laws.specs.OneByOne.{HasNoCycle, MayBeNext, ReferrersAreDeletedFirst}
 use Rattle.model.proofs.MapMembers.{bytes_antisymmetric, key_listed, listed_key}
 use Rattle.model.proofs.Worlds.{valid_is}
 use Rattle.model.proofs.Deleting.{reference_edge, edge_reference}
@@ -52,7 +52,7 @@ module _ (s : Settings) (w : World) (limit : ℕ) (size : Path → ℕ) (bytes :
     wanted_is : wanted ≡ limit - sum_by size deleted
     rise : IsStrictlySortedBy bytes_cmp left
 
-  may_go : (deleted left : List Path) (wanted : ℕ) → IsParted deleted left wanted → 0 < wanted → (p : Path) → Contains left p → IsTrue (dead p) → is_referred_to (graph_of w) left p ≡ false → MayGo s w limit deleted p
+  may_go : (deleted left : List Path) (wanted : ℕ) → IsParted deleted left wanted → 0 < wanted → (p : Path) → Contains left p → IsTrue (dead p) → is_referred_to (graph_of w) left p ≡ false → MayBeNext s w limit deleted p
   may_go deleted left wanted parted more p c d none = record {
     present = parted.valid p c;
     dead = not-true (lives s w p) d;
@@ -66,7 +66,7 @@ module _ (s : Settings) (w : World) (limit : ℕ) (size : Path → ℕ) (bytes :
   }
 
   -- what may go is left, is dead, and no other left refers to it
-  is_left : (deleted left : List Path) (wanted : ℕ) → IsParted deleted left wanted → (q : Path) → MayGo s w limit deleted q → Contains left q × IsTrue (dead q) × (is_referred_to (graph_of w) left q ≡ false)
+  is_left : (deleted left : List Path) (wanted : ℕ) → IsParted deleted left wanted → (q : Path) → MayBeNext s w limit deleted q → Contains left q × IsTrue (dead q) × (is_referred_to (graph_of w) left q ≡ false)
   is_left deleted left wanted parted q m = (
     elim (parted.parts q m.present) as (λ _. Contains left q) [ inl k ↦ absurd (m.fresh k) | inr l ↦ l ],
     ap not m.dead,
@@ -77,8 +77,8 @@ module _ (s : Settings) (w : World) (limit : ℕ) (size : Path → ℕ) (bytes :
         parted.apart y.0 (m.referrers y.0 r.0 r.1 r.2 (λ is. false≢true (ap not (sym (ap (same y.0) (sym is) ∙ same_itself y.0)) ∙ both.0))) y.1),
   )
 
-  one_gone : (deleted left : List Path) (wanted : ℕ) → IsParted deleted left wanted → (p : Path) → Contains left p → IsParted (deleted ++ p ∷ []) (without (p ∷ []) left) (wanted - sum_by size (p ∷ []))
-  one_gone deleted left wanted parted p c = record {
+  one_removed : (deleted left : List Path) (wanted : ℕ) → IsParted deleted left wanted → (p : Path) → Contains left p → IsParted (deleted ++ p ∷ []) (without (p ∷ []) left) (wanted - sum_by size (p ∷ []))
+  one_removed deleted left wanted parted p c = record {
     valid = λ q k. parted.valid q (in_filter (λ x. not (holds (p ∷ []) x)) left q k).0;
     parts = λ q v. elim (parted.parts q v) as (λ _. Contains (deleted ++ p ∷ []) q ⊎ Contains (without (p ∷ []) left) q) [
       | inl k ↦ inl (Contains-append_left deleted (p ∷ []) q k)
@@ -100,8 +100,8 @@ module _ (s : Settings) (w : World) (limit : ℕ) (size : Path → ℕ) (bytes :
   -- the groups as paths in their order, once some are gone
   record Orders (deleted left : List Path) (groups : List (List Path)) : Type 0 where
     order : List Path
-    each : (front back : List Path) (p : Path) → order ≡ front ++ p ∷ back → MayGo s w limit (deleted ++ front) p
-    least : (front back : List Path) (p : Path) → order ≡ front ++ p ∷ back → (q : Path) → MayGo s w limit (deleted ++ front) q → bytes_cmp q p ≡ Less → ⊥
+    each : (front back : List Path) (p : Path) → order ≡ front ++ p ∷ back → MayBeNext s w limit (deleted ++ front) p
+    least : (front back : List Path) (p : Path) → order ≡ front ++ p ∷ back → (q : Path) → MayBeNext s w limit (deleted ++ front) q → bytes_cmp q p ≡ Less → ⊥
     taken : (p : Path) → IsTrue (is_among groups p) ↔ Contains order p
     enough : (n : ℕ) → Weigh w (deleted ++ order) n → (limit ≤ n) ⊎ ((p : Path) → Contains left p → IsTrue (dead p) → Contains order p)
 
@@ -121,7 +121,7 @@ module _ (s : Settings) (w : World) (limit : ℕ) (size : Path → ℕ) (bytes :
       by (inl none) n k = let is = weight deleted n k in let rest = parted.wanted_is in inl (omega arith)
       by (inr none) n k = inr (λ p c d. absurd (none_left (graph_of w) dead (upward s w limit) acyclic left (left_valid left parted.valid) parted.rise none p c d))
 
-  one_more : (deleted left : List Path) (p : Path) (groups : List (List Path)) → MayGo s w limit deleted p → ((q : Path) → MayGo s w limit deleted q → bytes_cmp q p ≡ Less → ⊥) → Orders (deleted ++ p ∷ []) (without (p ∷ []) left) groups → Orders deleted left ((p ∷ []) ∷ groups)
+  one_more : (deleted left : List Path) (p : Path) (groups : List (List Path)) → MayBeNext s w limit deleted p → ((q : Path) → MayBeNext s w limit deleted q → bytes_cmp q p ≡ Less → ⊥) → Orders (deleted ++ p ∷ []) (without (p ∷ []) left) groups → Orders deleted left ((p ∷ []) ∷ groups)
   one_more deleted left p groups may first_of rest = record {
     order = p ∷ rest.order;
     each = each;
@@ -148,31 +148,31 @@ module _ (s : Settings) (w : World) (limit : ℕ) (size : Path → ℕ) (bytes :
       is_it : (q : Path) → IsTrue (holds (p ∷ []) q) → p ≡ q
       is_it q here = elim (cases p q [] (held_is (p ∷ []) q here)) as (λ _. p ≡ q) [ inl is ↦ is | inr nothing ↦ absurd (no_member q nothing) ]
 
-      each : (front back : List Path) (q : Path) → p ∷ rest.order ≡ front ++ q ∷ back → MayGo s w limit (deleted ++ front) q
-      each [] back q e = subst (λ (x : Path). MayGo s w limit (deleted ++ []) x) (ap (λ (xs : List Path). get_or xs 0 p) e) (subst (λ (ps : List Path). MayGo s w limit ps p) (sym (append-nil deleted)) may)
+      each : (front back : List Path) (q : Path) → p ∷ rest.order ≡ front ++ q ∷ back → MayBeNext s w limit (deleted ++ front) q
+      each [] back q e = subst (λ (x : Path). MayBeNext s w limit (deleted ++ []) x) (ap (λ (xs : List Path). get_or xs 0 p) e) (subst (λ (ps : List Path). MayBeNext s w limit ps p) (sym (append-nil deleted)) may)
       each (y ∷ front) back q e =
           let first : p ≡ y = ap (λ (xs : List Path). get_or xs 0 p) e in
-          subst (λ (x : Path). MayGo s w limit (deleted ++ x ∷ front) q) first (subst (λ (ps : List Path). MayGo s w limit ps q) (append_assoc deleted (p ∷ []) front) (rest.each front back q (ap tail e)))
+          subst (λ (x : Path). MayBeNext s w limit (deleted ++ x ∷ front) q) first (subst (λ (ps : List Path). MayBeNext s w limit ps q) (append_assoc deleted (p ∷ []) front) (rest.each front back q (ap tail e)))
 
-      least : (front back : List Path) (q : Path) → p ∷ rest.order ≡ front ++ q ∷ back → (x : Path) → MayGo s w limit (deleted ++ front) x → bytes_cmp x q ≡ Less → ⊥
+      least : (front back : List Path) (q : Path) → p ∷ rest.order ≡ front ++ q ∷ back → (x : Path) → MayBeNext s w limit (deleted ++ front) x → bytes_cmp x q ≡ Less → ⊥
       least [] back q e x m less =
-          first_of x (subst (λ (ps : List Path). MayGo s w limit ps x) (append-nil deleted) m) (subst (λ (y : Path). bytes_cmp x y ≡ Less) (sym (ap (λ (xs : List Path). get_or xs 0 p) e)) less)
+          first_of x (subst (λ (ps : List Path). MayBeNext s w limit ps x) (append-nil deleted) m) (subst (λ (y : Path). bytes_cmp x y ≡ Less) (sym (ap (λ (xs : List Path). get_or xs 0 p) e)) less)
       least (y ∷ front) back q e x m less =
           let first : p ≡ y = ap (λ (xs : List Path). get_or xs 0 p) e in
           rest.least front back q (ap tail e) x
-          (subst (λ (ps : List Path). MayGo s w limit ps x) (sym (append_assoc deleted (p ∷ []) front)) (subst (λ (z : Path). MayGo s w limit (deleted ++ z ∷ front) x) (sym first) m)) less
+          (subst (λ (ps : List Path). MayBeNext s w limit ps x) (sym (append_assoc deleted (p ∷ []) front)) (subst (λ (z : Path). MayBeNext s w limit (deleted ++ z ∷ front) x) (sym first) m)) less
 
   orders : (groups : List (List Path)) (deleted left : List Path) (wanted : ℕ) → IsParted deleted left wanted → DeletesGroups (graph_of w) dead size left wanted groups → Orders deleted left groups
   orders [] deleted left wanted parted h = at_the_end deleted left wanted parted h
   orders (group ∷ groups) deleted left wanted parted h =
       let x = next_is_unreferred (graph_of w) dead (upward s w limit) acyclic left (left_valid left parted.valid) parted.rise group h.1 in
-      let rest = orders groups (deleted ++ x.path ∷ []) (without (x.path ∷ []) left) (wanted - sum_by size (x.path ∷ [])) (one_gone deleted left wanted parted x.path x.listed)
+      let rest = orders groups (deleted ++ x.path ∷ []) (without (x.path ∷ []) left) (wanted - sum_by size (x.path ∷ [])) (one_removed deleted left wanted parted x.path x.listed)
       (subst (λ (one : List Path). DeletesGroups (graph_of w) dead size (without one left) (wanted - sum_by size one) groups) x.is h.2) in
       subst (λ (one : List Path). Orders deleted left (one ∷ groups)) (sym x.is) (one_more deleted left x.path groups (may_go deleted left wanted parted h.0 x.path x.listed x.dead_ x.unreferred)
       (λ q m less. let at = is_left deleted left wanted parted q m in x.least q at.0 at.1 at.2 less) rest)
 
-pub referrers_go_first : ReferrersGoFirst
-referrers_go_first s w c ignores limit a new h acyclic =
+pub referrers_are_deleted_first : ReferrersAreDeletedFirst
+referrers_are_deleted_first s w c ignores limit a new h acyclic =
     let goes = collects_by_bytes s w c ignores limit a new h in
     let all = orders s w limit goes.size goes.bytes acyclic goes.groups [] (all_paths w) limit (record {
       valid = λ p k. listed_key nat_list_cmp_total w.objects p k;

@@ -27,7 +27,8 @@ use Rattle.model.specs.World.{Path, Pair, World, has}
 use Rattle.model.specs.Request.{Imported, Request, add_text, add_source, import_object, info, nar, ls, list, list_live, list_dead, list_roots, list_roots_of, set_permanent, drop_permanent, set_user_root, drop_user_root, set_profile, rollback, switch, delete_generation, replace_runtime, add_temp, end_session, collect, delete, report}
 use Rattle.model.specs.declared.refusal.Refusal.{Refusal}
 use Rattle.model.specs.declared.refusal.Refusal.TheVariants.{Truncated, BadTag, BadPadding, BadName, NotSorted, TooDeep, Trailing, TooLarge, CaMismatch, BadDerivation, DoubleOutput, NotValid, MissingReference, NarHashMismatch, SelfReference, NoRoot, NoProfile, NoGeneration, CurrentGeneration, NoOlderGeneration, GenerationLimit, TooManyReferences, BadRootName, BadLabel, BadSession}
-use Rattle.model.specs.Profiles.{last_number, profile_at, has_profile, has_generation, number_for, previous}
+use Rattle.model.specs.Profiles.{profile_at, has_profile, has_generation, number_for, previous}
+use Rattle.paths.specs.Decimal.{max_generation}
 use Rattle.model.specs.Adds.{added_import, text_archive_size}
 use Rattle.model.specs.Faults.{archive_refusal, derivation_refusal}
 use Rattle.model.specs.Tests.{unless, first_failing, archive_fault, outputs_fault, tree_fault, if_derivation, is_verified, is_complete, refusal}
@@ -215,7 +216,7 @@ module _ (s : Settings) (w : World) where
       of_derivation P (IsNoDerivation s.store_dir i.path i.nar) (λ q. q) (λ q. q) found.0 x found.2 found.1) (λ _.
       test P (is_complete w i.path i.refs) MissingReference r [] (lacking w i.path i.refs) (λ _. end P r)))))))
 
-  beyond : (owned : Pair) (p : Path) → IsFalse (nat_le (number_for (profile_at w owned) p) last_number) → (n : ℕ) × IsNumberFor (profile_at w owned) p n × (9999 < n)
+  beyond : (owned : Pair) (p : Path) → IsFalse (nat_le (number_for (profile_at w owned) p) max_generation) → (n : ℕ) × IsNumberFor (profile_at w owned) p n × (9999 < n)
   beyond owned p f = (number_for (profile_at w owned) p, chosen (profile_at w owned) p, more_than (number_for (profile_at w owned) p) 9999 f)
 
   reason : (q : Request) (r : Refusal) → refusal s w q ≡ Some r → HasFault s w q r
@@ -250,7 +251,7 @@ module _ (s : Settings) (w : World) where
       let P = HasFault s w (set_profile owner name p) in
       test P (is_plain_name owner && is_plain_name name) BadRootName r _ (one_bad (is_plain_name owner) (is_plain_name name)) (λ _.
       test P (has w p) NotValid r _ (λ f. f) (λ _.
-      test P (nat_le (number_for (profile_at w (owner, name)) p) last_number) GenerationLimit r [] (beyond (owner, name) p) (λ _. end P r)))
+      test P (nat_le (number_for (profile_at w (owner, name)) p) max_generation) GenerationLimit r [] (beyond (owner, name) p) (λ _. end P r)))
   reason (rollback owner name) r =
       let P = HasFault s w (rollback owner name) in
       test P (is_plain_name owner && is_plain_name name) BadRootName r _ (one_bad (is_plain_name owner) (is_plain_name name)) (λ _.

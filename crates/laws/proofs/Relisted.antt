@@ -107,16 +107,16 @@ module _ (dir : List ℕ) (w new : World) (sound : IsSound dir w) (owner name : 
     temporary_ = λ _. k.temporary;
   }
 
-  stood_user : (o : Pair) (t : Path) → (o ≡ (owner, name) → ⊥) → finite.get new.user_roots o ≡ Some t → CoexistedWith w user (user_label owner name) (user_root (o, t))
-  stood_user o t apart e = record {
+  existed_user : (o : Pair) (t : Path) → (o ≡ (owner, name) → ⊥) → finite.get new.user_roots o ≡ Some t → CoexistedWith w user (user_label owner name) (user_root (o, t))
+  existed_user o t apart e = record {
     existed = (each_root w).user o t (sym (k.others o apart) ∙ e);
     other = λ _ l.
         let both = same_user o.0 owner o.1 name (sound.user_root_owner o (ap is_some (sym (k.others o apart) ∙ e))) plain l in
         apart (λ i. (both.0 i, both.1 i));
   }
 
-  stands_user : (r : Root) → CoexistedWith w user (user_label owner name) r → Contains (roots_of new) r
-  stands_user r s = of_kind user (Contains (roots_of new)) r
+  exists_user : (r : Root) → CoexistedWith w user (user_label owner name) r → Contains (roots_of new) r
+  exists_user r s = of_kind user (Contains (roots_of new)) r
       (λ is. users w (λ x. (x.label ≡ user_label owner name → ⊥) → Contains (roots_of new) x)
       (λ o t e f. (each_root new).user o t (k.others o (λ same. f (ap (λ (x : Pair). user_label x.0 x.1) same)) ∙ e)) r s.existed is (s.other is))
       (λ f. moved user w new (turned user new w agree_users) r f s.existed)
@@ -129,12 +129,12 @@ module _ (dir : List ℕ) (w new : World) (sound : IsSound dir w) (owner name : 
     where
       by : (o : Pair) (t : Path) → finite.get new.user_roots o ≡ Some t → (o ≡ (owner, name)) ⊎ (o ≡ (owner, name) → ⊥) → P (user_root (o, t))
       by o t e (inl same) = subst (λ (x : Pair). P (user_root (x, t))) (sym same) (here t (ap (finite.get new.user_roots) (sym same) ∙ e))
-      by o t e (inr apart) = f (user_root (o, t)) (stood_user o t apart e)
+      by o t e (inr apart) = f (user_root (o, t)) (existed_user o t apart e)
 
   pub user_removed : finite.contains_key new.user_roots (owner, name) ≡ false → (r : Root) → Contains (roots_of new) r ↔ CoexistedWith w user (user_label owner name) r
   user_removed deleted r = (
     user_roots_now (CoexistedWith w user (user_label owner name)) (λ x b. b) (λ t e. absurd (false≢true (sym deleted ∙ ap is_some e))) r,
-    stands_user r,
+    exists_user r,
   )
 
   pub user_present : (p : Path) → finite.get new.user_roots (owner, name) ≡ Some p
@@ -144,6 +144,6 @@ module _ (dir : List ℕ) (w new : World) (sound : IsSound dir w) (owner name : 
         (λ t e. inl (ap (λ (q : Path). user_root ((owner, name), q)) (same_Some t p (sym e ∙ present)))) r,
     λ h. elim h as (λ _. Contains (roots_of new) r) [
       | inl is ↦ subst (Contains (roots_of new)) (sym is) ((each_root new).user (owner, name) p present)
-      | inr b ↦ stands_user r b
+      | inr b ↦ exists_user r b
     ],
   )

@@ -120,26 +120,26 @@ generations_stay w new owned n x r = (
 
 module _ (dir : List ℕ) (w new : World) (sound : IsSound dir w) (owner name : List ℕ) (n : ℕ) (x : LosesGeneration w (owner, name) n new) where
   -- the label of another generation is another
-  label_apart : (o : Pair) (q : Profile) (m : ℕ) → finite.get w.profiles o ≡ Some q → IsTrue (has_generation q m) → generation_label o.0 o.1 m ≡ generation_label owner name n
+  label_differ : (o : Pair) (q : Profile) (m : ℕ) → finite.get w.profiles o ≡ Some q → IsTrue (has_generation q m) → generation_label o.0 o.1 m ≡ generation_label owner name n
       → (o.0 ≡ owner) × (o.1 ≡ name) × (m ≡ n)
-  label_apart o q m e present =
+  label_differ o q m e present =
       let mine = sound.profiles (owner, name) x.was x.existed in
       let other_owner = sound.profiles o q e in
       let low : n ≤ 9999 = mine.highest n x.present in
       let small : m ≤ 9999 = other_owner.highest m present in
       same_generation o.0 owner o.1 name m n other_owner.owner mine.owner (omega (arith, small)) (omega (arith, low))
 
-  apart_from : (o : Pair) (q : Profile) (m : ℕ) (t : Path) → finite.get w.profiles o ≡ Some q → finite.get q.generations m ≡ Some t → (o ≡ (owner, name) → m ≡ n → ⊥)
+  differ_from : (o : Pair) (q : Profile) (m : ℕ) (t : Path) → finite.get w.profiles o ≡ Some q → finite.get q.generations m ≡ Some t → (o ≡ (owner, name) → m ≡ n → ⊥)
       → CoexistedWith w profile (generation_label owner name n) (generation_root o (m, t))
-  apart_from o q m t e g other = record {
+  differ_from o q m t e g other = record {
     existed = (each_root w).generation o q m t e g;
-    other = λ _ l. let is = label_apart o q m e (ap is_some g) l in other (λ i. (is.0 i, is.1 i)) is.2;
+    other = λ _ l. let is = label_differ o q m e (ap is_some g) l in other (λ i. (is.0 i, is.1 i)) is.2;
   }
 
   pub generation_absent : (r : Root) → Contains (roots_of new) r ↔ CoexistedWith w profile (generation_label owner name n) r
   generation_absent r = (
     forward w new (owner, name) x.now x.change (CoexistedWith w profile (generation_label owner name n)) (λ y c apart. next_to w profile (generation_label owner name n) y c apart)
-        (λ o q m t apart e g. apart_from o q m t e g (λ same _. apart same))
+        (λ o q m t apart e g. differ_from o q m t e g (λ same _. apart same))
         (λ m t e. left m t e (same_or_not nat_cmp_total nat_antisymmetric m n)) r,
     λ s. backward w new (owner, name) x.now x.change (λ y. (y.kind ≡ profile → y.label ≡ generation_label owner name n → ⊥) → Contains (roots_of new) y) (λ y d _. d)
         (λ q m t e g other. still m t (ap (λ (y : Profile). finite.get y.generations m) (same_Some x.was q (sym x.existed ∙ e)) ∙ g) (λ same. other refl (ap (generation_label owner name) same))) r s.existed s.other,
@@ -147,7 +147,7 @@ module _ (dir : List ℕ) (w new : World) (sound : IsSound dir w) (owner name : 
     where
       left : (m : ℕ) (t : Path) → finite.get x.now.generations m ≡ Some t → (m ≡ n) ⊎ (m ≡ n → ⊥) → CoexistedWith w profile (generation_label owner name n) (generation_root (owner, name) (m, t))
       left m t e (inl same) = absurd (false≢true (sym x.deleted ∙ ap (λ k. is_some (finite.get x.now.generations k)) (sym same) ∙ ap is_some e))
-      left m t e (inr apart) = apart_from (owner, name) x.was m t x.existed (sym (x.others m apart) ∙ e) (λ _ is. apart is)
+      left m t e (inr apart) = differ_from (owner, name) x.was m t x.existed (sym (x.others m apart) ∙ e) (λ _ is. apart is)
 
       still : (m : ℕ) (t : Path) → finite.get x.was.generations m ≡ Some t → (m ≡ n → ⊥) → Contains (roots_of new) (generation_root (owner, name) (m, t))
       still m t e apart = (each_root new).generation (owner, name) x.now m t x.change.exists (x.others m apart ∙ e)

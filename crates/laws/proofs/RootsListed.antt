@@ -49,7 +49,7 @@ is_seen class rs r c = by (is_trusted class)
 
 module _ (s : Settings) (w : World) (c : Caller) (r : Root) (exists : Contains (roots_of w) r) where
   reaches_itself : IsTrue (has w r.target) → IsTrue (reaches (keep_of s) (graph_of w) r.target r.target)
-  reaches_itself v = (decided (keep_of s) (graph_of w) r.target r.target).1 (record { valid = valid_is w r.target ∙ v; behind = []; leads = refl })
+  reaches_itself v = (decided (keep_of s) (graph_of w) r.target r.target).1 (record { valid = valid_is w r.target ∙ v; steps = []; leads = refl })
 
   of_path : IsTrue (has w r.target) → Contains (roots_that_keep s w r.target) r
   of_path v = in_filtered (λ (x : Root). reaches (keep_of s) (graph_of w) x.target r.target) (roots_of w) r exists (reaches_itself v)

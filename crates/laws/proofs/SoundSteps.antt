@@ -11,7 +11,8 @@ use Rattle.model.specs.Sound.{IsSound}
 use Rattle.model.specs.Request.{Request, add_text, add_source, import_object, info, set_permanent, drop_permanent, set_user_root, drop_user_root, set_profile, rollback, switch, delete_generation, replace_runtime, add_temp, end_session, collect, delete}
 use Rattle.model.specs.Reply.{done, denied, refused, failed}
 use Rattle.model.specs.Verdict.{verdict}
-use Rattle.model.specs.Profiles.{last_number, profile_at, has_profile, has_generation, number_for, previous}
+use Rattle.model.specs.Profiles.{profile_at, has_profile, has_generation, number_for, previous}
+use Rattle.paths.specs.Decimal.{max_generation}
 use Rattle.model.specs.Tests.{tests, refusal}
 use Rattle.model.specs.Effects.{effect}
 use Rattle.model.specs.Soundness.{IsWellFormed, KeepsSound, RunsKeepSound}
@@ -40,7 +41,7 @@ module _ (s : Settings) (w : World) (c : Caller) (sound : IsSound s.store_dir w)
       profile_set s.store_dir w sound owner name p
       (met (is_plain_name owner && is_plain_name name) _ (each_passed (tests s w (set_profile owner name p)) e _ (0, omega arith, refl)))
       (met (has w p) _ (each_passed (tests s w (set_profile owner name p)) e _ (1, omega arith, refl)))
-      (met (nat_le (number_for (profile_at w (owner, name)) p) last_number) _ (each_passed (tests s w (set_profile owner name p)) e _ (2, omega arith, refl)))
+      (met (nat_le (number_for (profile_at w (owner, name)) p) max_generation) _ (each_passed (tests s w (set_profile owner name p)) e _ (2, omega arith, refl)))
   done_sound (rollback owner name) v e formed =
       profile_rolled_back s.store_dir w sound owner name
       (met (has_profile w (owner, name)) _ (each_passed (tests s w (rollback owner name)) e _ (1, omega arith, refl)))

@@ -66,26 +66,26 @@ module _ (g : Graph) (dead : Path → Bool) (upward : (q p : Path) → Reaches r
     (apart : (p q : Path) → Reaches references_only g p q → Reaches references_only g q p → p ≡ q)
     (left : List Path) (valid : (p : Path) → Contains left p → IsTrue (is_valid g p)) (rise : IsStrictlySortedBy bytes_cmp left) where
   -- one that is dead and that none refers to
-  abbrev stands_alone : Path → Bool
-  stands_alone p = dead p && not (is_referred_to g left p)
+  abbrev is_deleted_singly : Path → Bool
+  is_deleted_singly p = dead p && not (is_referred_to g left p)
 
   itself : (p : Path) → Contains left p → IsTrue (reaches references_only g p p)
-  itself p c = (decided references_only g p p).1 (record { valid = valid p c; behind = []; leads = refl })
+  itself p c = (decided references_only g p p).1 (record { valid = valid p c; steps = []; leads = refl })
 
   step : (q p : Path) → Contains left q → IsTrue (refers g q p) → Reaches references_only g q p
-  step q p c r = record { valid = valid q c; behind = p ∷ []; leads = ((and_parts (not (same q p)) (is_edge references_only g q p) r).1, refl) }
+  step q p c r = record { valid = valid q c; steps = p ∷ []; leads = ((and_parts (not (same q p)) (is_edge references_only g q p) r).1, refl) }
 
   others : (q p : Path) → IsTrue (refers g q p) → q ≡ p → ⊥
   others q p r is = false≢true (ap not (sym (ap (same q) (sym is) ∙ same_itself q)) ∙ (and_parts (not (same q p)) (is_edge references_only g q p) r).0)
 
   -- from a dead path one goes on to what refers to it, and on; those that reach it get fewer
-  climbs : find stands_alone left ≡ None → (n : ℕ) (p : Path) → Contains left p → IsTrue (dead p) → length (filter (λ y. reaches references_only g y p) left) ≤ n → ⊥
+  climbs : find is_deleted_singly left ≡ None → (n : ℕ) (p : Path) → Contains left p → IsTrue (dead p) → length (filter (λ y. reaches references_only g y p) left) ≤ n → ⊥
   climbs none zero p c d le = let k = filter_in (λ y. reaches references_only g y p) left p c (itself p c) in let lt = k.1 in omega arith
   climbs none (suc n) p c d le = by (is_referred_to g left p) refl (λ q listed is_dead fewer. climbs none n q listed is_dead fewer)
     where
       by : (b : Bool) → is_referred_to g left p ≡ b
           → ((q : Path) → Contains left q → IsTrue (dead q) → length (filter (λ y. reaches references_only g y q) left) ≤ n → ⊥) → ⊥
-      by false e on = not_found stands_alone left p none c (and_from (dead p) (not (is_referred_to g left p)) d (ap not e))
+      by false e on = not_found is_deleted_singly left p none c (and_from (dead p) (not (is_referred_to g left p)) d (ap not e))
       by true e on =
           let q = some_of_any (λ y. refers g y p) left e in
           let first = step q.0 p q.1 q.2 in
@@ -95,7 +95,7 @@ module _ (g : Graph) (dead : Path → Bool) (upward : (q p : Path) → Reaches r
           on q.0 q.1 (upward q.0 p first d) (omega arith)
 
   -- a path that goes alone, and the least of those that could
-  pub record GoesAlone (group : List Path) : Type 0 where
+  pub record IsDeletedSingly (group : List Path) : Type 0 where
     pub path : Path
     pub is : group ≡ path ∷ []
     pub listed : Contains left path
@@ -104,8 +104,8 @@ module _ (g : Graph) (dead : Path → Bool) (upward : (q p : Path) → Reaches r
     pub least : (q : Path) → Contains left q → IsTrue (dead q) → is_referred_to g left q ≡ false → bytes_cmp q path ≡ Less → ⊥
 
   -- the next group is one such path, wherever there is a group, and there is one wherever a dead path is left
-  pub next_is_unreferred : (group : List Path) → next_group g dead left ≡ Some group → GoesAlone group
-  next_is_unreferred group e = by (find stands_alone left) refl e
+  pub next_is_unreferred : (group : List Path) → next_group g dead left ≡ Some group → IsDeletedSingly group
+  next_is_unreferred group e = by (find is_deleted_singly left) refl e
     where
       same_group : (xs ys : List Path) → Some xs ≡ Some ys → ys ≡ xs
       same_group xs ys d = cc
@@ -117,14 +117,14 @@ module _ (g : Graph) (dead : Path → Bool) (upward : (q p : Path) → Reaches r
       none_refers true h = absurd (false≢true h)
       none_refers false h = refl
 
-      second : find stands_alone left ≡ None → (o : Option Path) → find dead left ≡ o → option_map (λ p. filter (λ q. reaches references_only g q p) left) o ≡ Some group → ⊥
+      second : find is_deleted_singly left ≡ None → (o : Option Path) → find dead left ≡ o → option_map (λ p. filter (λ q. reaches references_only g q p) left) o ≡ Some group → ⊥
       second none None f d = no_group d
       second none (Some x) f d = let at = found dead left x f in climbs none (length (filter (λ y. reaches references_only g y x) left)) x at.0 at.1 (omega arith)
 
-      by : (o : Option Path) → find stands_alone left ≡ o → option_or (option_map (λ p. p ∷ []) o) (next_with_referrers g dead left) ≡ Some group → GoesAlone group
+      by : (o : Option Path) → find is_deleted_singly left ≡ o → option_or (option_map (λ p. p ∷ []) o) (next_with_referrers g dead left) ≡ Some group → IsDeletedSingly group
       by None f d = absurd (second f (find dead left) refl d)
       by (Some p) f d =
-          let at = found stands_alone left p f in
+          let at = found is_deleted_singly left p f in
           let parts = and_parts (dead p) (not (is_referred_to g left p)) at.1 in
           record {
             path = p;
@@ -132,12 +132,12 @@ module _ (g : Graph) (dead : Path → Bool) (upward : (q p : Path) → Reaches r
             listed = at.0;
             dead_ = parts.0;
             unreferred = none_refers (is_referred_to g left p) parts.1;
-            least = λ q c t none less. none_less stands_alone left p q rise f c (and_from (dead q) (not (is_referred_to g left q)) t (ap not none)) less;
+            least = λ q c t none less. none_less is_deleted_singly left p q rise f c (and_from (dead q) (not (is_referred_to g left q)) t (ap not none)) less;
           }
 
   pub none_left : next_group g dead left ≡ None → (p : Path) → Contains left p → IsTrue (dead p) → ⊥
-  none_left e p c d = by (find stands_alone left) refl e
+  none_left e p c d = by (find is_deleted_singly left) refl e
     where
-      by : (o : Option Path) → find stands_alone left ≡ o → option_or (option_map (λ x. x ∷ []) o) (next_with_referrers g dead left) ≡ None → ⊥
+      by : (o : Option Path) → find is_deleted_singly left ≡ o → option_or (option_map (λ x. x ∷ []) o) (next_with_referrers g dead left) ≡ None → ⊥
       by None f h = climbs f (length (filter (λ y. reaches references_only g y p) left)) p c d (omega arith)
       by (Some x) f h = false≢true (sym (ap is_some h))

@@ -17,7 +17,7 @@ pub record IsCycle (g : Graph) (dead : Path → Bool) (left group : List Path) :
   pub members : (q : Path) → Contains group q ↔ (Contains left q × IsTrue (reaches references_only g q path))
 
 -- the next group of paths in their order, where it has more than one path
-abbrev pub CyclesGoByTheLeast : Type 0
-CyclesGoByTheLeast = (g : Graph) (dead : Path → Bool) (left group : List Path)
+abbrev pub CyclesAreDeletedByTheLeast : Type 0
+CyclesAreDeletedByTheLeast = (g : Graph) (dead : Path → Bool) (left group : List Path)
     → IsStrictlySortedBy bytes_cmp left → next_group g dead left ≡ Some group → 1 < length group
     → IsCycle g dead left group

@@ -40,5 +40,5 @@ MayFollow temporary _ = ⊥
 -- the roots of a world come in this order
 abbrev pub KindsInOrder : Type 0
 KindsInOrder =
-    (w : World) (front : List Root) (r : Root) (back : List Root) → roots_of w ≡ front ++ r ∷ back → (next : Root)
-    → Contains back next → MayFollow r.kind next.kind
+    (w : World) (before : List Root) (r : Root) (after : List Root) → roots_of w ≡ before ++ r ∷ after → (next : Root)
+    → Contains after next → MayFollow r.kind next.kind

@@ -22,7 +22,7 @@ HasNoCycle w =
 
 -- A path may be deleted next if it is valid, dead and not deleted yet, all others that refer to it are deleted, and the
 -- archives deleted so far have fewer bytes than the limit.
-pub record MayGo (s : Settings) (w : World) (limit : ℕ) (deleted : List Path) (p : Path) : Type 0 where
+pub record MayBeNext (s : Settings) (w : World) (limit : ℕ) (deleted : List Path) (p : Path) : Type 0 where
   pub present : IsTrue (has w p)
   pub dead : IsFalse (lives s w p)
   pub fresh : Contains deleted p → ⊥
@@ -34,13 +34,15 @@ pub record MayGo (s : Settings) (w : World) (limit : ℕ) (deleted : List Path) 
 -- the limit, or no dead path is left.
 pub record CollectsOneByOne (s : Settings) (w : World) (limit : ℕ) (new : World) : Type 0 where
   pub order : List Path
-  pub each : (front back : List Path) (p : Path) → order ≡ front ++ p ∷ back → MayGo s w limit front p
-  pub least : (front back : List Path) (p : Path) → order ≡ front ++ p ∷ back → (q : Path) → MayGo s w limit front q
+  pub each : (before after : List Path) (p : Path) → order ≡ before ++ p ∷ after → MayBeNext s w limit before p
+  pub least : (before after : List Path) (p : Path) → order ≡ before ++ p ∷ after
+      → (q : Path) → MayBeNext s w limit before q
       → bytes_cmp q p ≡ Less → ⊥
   pub removed : (p : Path) → IsTrue (has w p) → IsFalse (has new p) ↔ Contains order p
   pub enough : (bytes : ℕ) → Weigh w order bytes → (limit ≤ bytes)
       ⊎ ((p : Path) → IsTrue (has w p) → IsFalse (lives s w p) → Contains order p)
 
-abbrev pub ReferrersGoFirst : Type 0
-ReferrersGoFirst = (s : Settings) (w : World) (c : Caller) (ignores : Bool) (limit : ℕ) (a : Answer) (new : World)
+abbrev pub ReferrersAreDeletedFirst : Type 0
+ReferrersAreDeletedFirst =
+    (s : Settings) (w : World) (c : Caller) (ignores : Bool) (limit : ℕ) (a : Answer) (new : World)
     → Step s w c (collect ignores (Some limit)) (done a) new → HasNoCycle w → CollectsOneByOne s w limit new

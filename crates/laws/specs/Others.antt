@@ -57,7 +57,7 @@ abbrev pub TrustedMay : Type 0
 TrustedMay = (s : Settings) (w : World) (c : Caller) → IsTrue (is_trusted (class_of s c)) → MayAsTrusted s w c
 
 -- what each caller but a stranger may do with what they own: all that there is
-pub record MayWithHisOwn (s : Settings) (w : World) (c : Caller) : Type 0 where
+pub record MayWithTheirOwn (s : Settings) (w : World) (c : Caller) : Type 0 where
   pub set_user_root : (name : List ℕ) (p : Path) → verdict s w c (set_user_root c.name name p) ≡ None
   pub drop_user_root : (name : List ℕ) → verdict s w c (drop_user_root c.name name) ≡ None
   pub set_profile : (name : List ℕ) (p : Path) → verdict s w c (set_profile c.name name p) ≡ None
@@ -68,4 +68,4 @@ pub record MayWithHisOwn (s : Settings) (w : World) (c : Caller) : Type 0 where
   pub end_session : (session : ℕ) → verdict s w c (end_session c.name session) ≡ None
 
 abbrev pub OwnersMay : Type 0
-OwnersMay = (s : Settings) (w : World) (c : Caller) → IsFalse (is_stranger (class_of s c)) → MayWithHisOwn s w c
+OwnersMay = (s : Settings) (w : World) (c : Caller) → IsFalse (is_stranger (class_of s c)) → MayWithTheirOwn s w c

@@ -36,7 +36,7 @@ OnlyReads (list_roots_of p) = Unit {0}
 OnlyReads report = Unit {0}
 OnlyReads _ = ⊥
 
--- such a request changes nothing
+-- a request that only reads changes nothing
 abbrev pub ReadingChangesNothing : Type 0
 ReadingChangesNothing =
     (s : Settings) (w : World) (c : Caller) (q : Request) (reply : Reply) (new : World) → Step s w c q reply new

@@ -46,7 +46,7 @@ pub record IsKeptByAnother (w : World) (owner : List ℕ) (session : ℕ) (r : R
 -- What was dropped isn't listed to whoever asks next, and every other root from before is: a permanent root, a user
 -- root, a generation; the runtime roots that aren't among those given; and what a session kept, but for what another
 -- owner's session of its number keeps.
-pub record DroppedRootsGo (s : Settings) (w : World) (c : Caller) (mid : World) (next : Caller) : Type 0 where
+pub record DroppedRootsAreNotListed (s : Settings) (w : World) (c : Caller) (mid : World) (next : Caller) : Type 0 where
   pub permanent_ : (name : List ℕ) (a : Answer) → Step s w c (drop_permanent name) (done a) mid
       → ListsRoots s mid next (CoexistedWith w permanent (permanent_label name))
   pub user_ : (owner name : List ℕ) (a : Answer) → Step s w c (drop_user_root owner name) (done a) mid
@@ -83,7 +83,7 @@ pub record SetRootsCome (s : Settings) (w : World) (c : Caller) (mid : World) (n
 abbrev pub DropsAreListed : Type 0
 DropsAreListed =
     (s : Settings) (w : World) (c : Caller) (mid : World) (next : Caller) → IsSound s.store_dir w
-    → DroppedRootsGo s w c mid next
+    → DroppedRootsAreNotListed s w c mid next
 
 abbrev pub SetsAreListed : Type 0
 SetsAreListed =
@@ -102,8 +102,8 @@ pub record ListsNoMore (s : Settings) (w : World) (c : Caller) (label : List ℕ
       → (p : Path) → Shows a (label, p)
       → IsTrue (is_trusted (class_of s c)) × IsTrue (finite.contains_key w.runtime (label, p))
 
--- so it is with the label of a permanent root, of a user root and of a generation that was dropped
-pub record DroppedLabelsGo (s : Settings) (w : World) (c : Caller) (mid : World) (next : Caller) : Type 0 where
+-- the label of a permanent root, of a user root or of a generation that was dropped is no longer listed
+pub record DroppedLabelsDisappear (s : Settings) (w : World) (c : Caller) (mid : World) (next : Caller) : Type 0 where
   pub permanent_ : (name : List ℕ) (a : Answer) → Step s w c (drop_permanent name) (done a) mid
       → ListsNoMore s mid next (codes "gcroots/" ++ name)
   pub user_ : (owner name : List ℕ) (a : Answer) → Step s w c (drop_user_root owner name) (done a) mid
@@ -116,4 +116,4 @@ pub record DroppedLabelsGo (s : Settings) (w : World) (c : Caller) (mid : World)
 abbrev pub DroppedLabelsAreNotListed : Type 0
 DroppedLabelsAreNotListed =
     (s : Settings) (w : World) (c : Caller) (mid : World) (next : Caller) → IsSound s.store_dir w
-    → DroppedLabelsGo s w c mid next
+    → DroppedLabelsDisappear s w c mid next

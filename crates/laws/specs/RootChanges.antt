@@ -102,8 +102,8 @@ AddsForSessions =
     → Step s w c (add_temp owner session p) (done a) new
     → (a ≡ changed) × AddsTemporary w (record { owner = owner; session = session; path = p }) new
 
--- What this session of this owner kept is gone, and each other temporary root is as it was. The answer is the number of
--- those that were deleted, in order and each once.
+-- What this session of this owner kept is deleted, and each other temporary root is as it was. The answer is the number
+-- of those that were deleted, in order and each once.
 pub record Ends (w : World) (owner : List ℕ) (session : ℕ) (a : Answer) (new : World) : Type 0 where
   pub removed : List Temporary
   pub reported : a ≡ temporary_count (length removed)

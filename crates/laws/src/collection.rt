@@ -8,8 +8,8 @@ ghost use Rattle.model.specs.Request.{collect, delete};
 ghost use Rattle.laws.specs.Changes.{FreesAsReported};
 ghost use Rattle.model.specs.Collection.{CollectsByBytes};
 ghost use Rattle.laws.specs.KeepSettings.{EdgesAsSet, LivingKeep};
-ghost use Rattle.laws.specs.OneByOne.{ReferrersGoFirst};
-ghost use Rattle.laws.specs.Cycles.{CyclesGoByTheLeast};
+ghost use Rattle.laws.specs.OneByOne.{ReferrersAreDeletedFirst};
+ghost use Rattle.laws.specs.Cycles.{CyclesAreDeletedByTheLeast};
 
 /// A collection deletes exactly the dead paths, and a second one frees nothing. With a limit it deletes some of them, and no reference
 /// that is left leads to one.
@@ -32,9 +32,9 @@ pub fn limits_count_bytes()
 
 /// Where no references make a cycle, a collection up to a limit takes one path after another, each after all that refer to it. Where
 /// they make one, it takes the least dead path left with all that reach it by references.
-pub fn referrers_go_first()
-    ensures alone { ReferrersGoFirst }
-    ensures cycles { CyclesGoByTheLeast }
+pub fn referrers_are_deleted_first()
+    ensures one_by_one { ReferrersAreDeletedFirst }
+    ensures cycles { CyclesAreDeletedByTheLeast }
 {}
 
 /// An object keeps its references; its outputs, if outputs are to be kept; and its deriver, if derivations are. What a live path

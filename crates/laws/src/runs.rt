@@ -9,7 +9,7 @@ pub fn step_is_functional()
     ensures { IsFunctional }
 {}
 
-/// There is always a reply that isn't a failure.
+/// Every call has a reply that isn't a failure.
 pub fn step_is_total()
     ensures { IsAnswered }
 {}

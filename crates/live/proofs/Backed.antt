@@ -7,7 +7,7 @@ use Rattle.live.specs.Marking.{Frontier, IsDequeued, NoneWaits, all_reached}
 use Rattle.live.specs.Backward.{IsBackward, IsTurned, sources_at}
 use Rattle.live.specs.declared.turning.Reversed.{Reversed}
 use Rattle.live.proofs.OneRoot.{waiting_count}
-use Rattle.live.proofs.Backs.{IsBack, finish, smaller, sources_inside, taken}
+use Rattle.live.proofs.Backs.{IsBack, finish, smaller, sources_inside, step_taken}
 
 module _ (keep : Keep) (rows : List Entries) (inside : AllInside rows) (named : List ℕ) (aims : All (λ t. t < length rows) named) where
   pub placed : (f h : Frontier) (place : ℕ) → IsBack keep rows named f → IsDequeued f.waiting h.waiting place → place < length rows
@@ -20,7 +20,7 @@ module _ (keep : Keep) (rows : List Entries) (inside : AllInside rows) (named : 
     inside_at = subst (All (λ t. t < length h.first)) (sym same) (sources_inside keep rows inside named aims into turned f h (all_reached 1 0 h (sources_at into place)) place w firsts works refl)
 
     pub consumed_at : (g : Frontier) → g ≡ all_reached 1 0 h xs → IsBack keep rows named g
-    consumed_at g is = taken keep rows inside named aims into turned f h g place w firsts works (is ∙ ap (all_reached 1 0 h) same)
+    consumed_at g is = step_taken keep rows inside named aims into turned f h g place w firsts works (is ∙ ap (all_reached 1 0 h) same)
 
     pub smaller_at : (g : Frontier) → g ≡ all_reached 1 0 h xs → count_by (λ m. nat_le 1 m) g.first + waiting_count g.waiting < count_by (λ m. nat_le 1 m) f.first + waiting_count f.waiting
     smaller_at g is = smaller keep rows inside named aims into turned f h g place w firsts works (is ∙ ap (all_reached 1 0 h) same)

@@ -38,3 +38,4 @@ pub mod Turns
 pub mod Walked
 pub mod Walks
 pub mod Ways
+pub mod Placed

@@ -10,7 +10,7 @@ use Rattle.live.specs.Reach.{reaches}
 use Rattle.live.specs.Limited.{is_referred_to, next_with_referrers, next_group, without}
 use Rattle.live.specs.Places.{Entries}
 use Rattle.live.specs.Numbering.{Row, Rise, graph_of, numbered, numbered_links, path_at, paths_of}
-use Rattle.live.specs.Remaining.{Remaining, IsRemaining, IsNextAlone, IsLeastDead, NoneUnreferred, NoneDead, Represents, is_in, nothing_owed, places_left, referred}
+use Rattle.live.specs.Remaining.{Remaining, IsRemaining, IsNextUnreferred, IsLeastDead, NoneUnreferred, NoneDead, Represents, is_in, nothing_owed, places_left, referred}
 use Rattle.std.proofs.lemmas.List.Sums.{sum_by-cons}
 use Rattle.live.proofs.Asked.{same_passing}
 use Rattle.live.proofs.Order.{same_bools}
@@ -22,8 +22,8 @@ module _ (es : List Entries) (s : Remaining) (remains : IsRemaining es nothing_o
   count = remains.places ∙ ap length stands.rows ∙ length-map rows (λ (r : Row). numbered_links (paths_of rows) r.1)
 
   -- whether a path is one that goes alone
-  abbrev goes_alone : Path → Bool
-  goes_alone p = is_dead p && not (is_referred_to (graph_of rows) (map (path_at rows) (places_left s.left)) p)
+  abbrev goes_singly : Path → Bool
+  goes_singly p = is_dead p && not (is_referred_to (graph_of rows) (map (path_at rows) (places_left s.left)) p)
 
   counted : (t : ℕ) → t < length rows → slice_index s.referrers t ≡ referred (numbered rows) s.left t
   counted t h =
@@ -35,8 +35,8 @@ module _ (es : List Entries) (s : Remaining) (remains : IsRemaining es nothing_o
   referred_at p h = referred_is rows stands.rise s.left count p h ∙ ap (nat_lt 0) (sym (counted p h))
 
   -- a dead place left that goes alone has no referrer
-  is_alone : (j : ℕ) → j < length rows → IsTrue (goes_alone (path_at rows j)) → IsTrue (is_in s.dead j) × (slice_index s.referrers j ≡ 0)
-  is_alone j h e =
+  is_singleton : (j : ℕ) → j < length rows → IsTrue (goes_singly (path_at rows j)) → IsTrue (is_in s.dead j) × (slice_index s.referrers j ≡ 0)
+  is_singleton j h e =
       let parts = and_parts (is_dead (path_at rows j)) (not (is_referred_to (graph_of rows) (map (path_at rows) (places_left s.left)) (path_at rows j))) e in
       let zero : slice_index s.referrers j ≤ 0 = ltb-false 0 (slice_index s.referrers j) (sym (referred_at j h) ∙ not_true (is_referred_to (graph_of rows) (map (path_at rows) (places_left s.left)) (path_at rows j)) parts.1) in
       (sym (stands.deads j h) ∙ parts.0, omega (arith, zero))
@@ -45,18 +45,18 @@ module _ (es : List Entries) (s : Remaining) (remains : IsRemaining es nothing_o
       not_true false e = refl
       not_true true e = absurd (false≢true e)
 
-  pub unreferred_is : (p : ℕ) → IsNextAlone s p → next_group (graph_of rows) is_dead (map (path_at rows) (places_left s.left)) ≡ Some (path_at rows p ∷ [])
+  pub unreferred_is : (p : ℕ) → IsNextUnreferred s p → next_group (graph_of rows) is_dead (map (path_at rows) (places_left s.left)) ≡ Some (path_at rows p ∷ [])
   unreferred_is p n =
       let below : p < length rows = (let h = n.place in omega (arith, count)) in
       let passes = and_from (is_dead (path_at rows p)) (not (is_referred_to (graph_of rows) (map (path_at rows) (places_left s.left)) (path_at rows p))) (stands.deads p below ∙ n.is_dead)
       (ap not (referred_at p below ∙ le-ltb 0 (slice_index s.referrers p) (let z = n.unreferred in omega arith))) in
-      let found = find_at (path_at rows) (is_in s.left) goes_alone 0 (length s.left) p (omega arith) (let h = n.place in omega arith) n.is_left passes
-      (λ j h l. false_from_ne_true (goes_alone (path_at rows j)) (λ e. (let a = is_alone j (omega (arith, below)) e in n.least j h a.0 l a.1))) in
+      let found = find_at (path_at rows) (is_in s.left) goes_singly 0 (length s.left) p (omega arith) (let h = n.place in omega arith) n.is_left passes
+      (λ j h l. false_from_ne_true (goes_singly (path_at rows j)) (λ e. (let a = is_singleton j (omega (arith, below)) e in n.least j h a.0 l a.1))) in
       ap (λ o. option_or (option_map (λ q. q ∷ []) o) (next_with_referrers (graph_of rows) is_dead (map (path_at rows) (places_left s.left)))) found
 
-  none_goes_alone : NoneUnreferred s → find goes_alone (map (path_at rows) (places_left s.left)) ≡ None
-  none_goes_alone none = find_none (path_at rows) (is_in s.left) goes_alone 0 (length s.left)
-      (λ j h l. false_from_ne_true (goes_alone (path_at rows j)) (λ e. (let a = is_alone j (omega (arith, h, count)) e in none j (omega arith) a.0 l a.1)))
+  none_goes_singly : NoneUnreferred s → find goes_singly (map (path_at rows) (places_left s.left)) ≡ None
+  none_goes_singly none = find_none (path_at rows) (is_in s.left) goes_singly 0 (length s.left)
+      (λ j h l. false_from_ne_true (goes_singly (path_at rows j)) (λ e. (let a = is_singleton j (omega (arith, h, count)) e in none j (omega arith) a.0 l a.1)))
 
   pub with_referrers_is : (p : ℕ) → NoneUnreferred s → IsLeastDead s p
       → next_group (graph_of rows) is_dead (map (path_at rows) (places_left s.left)) ≡ Some (map (path_at rows) (filter (λ i. is_in s.left i && reaches references_only (graph_of rows) (path_at rows i) (path_at rows p)) (range_with_len 0 (length s.left))))
@@ -64,7 +64,7 @@ module _ (es : List Entries) (s : Remaining) (remains : IsRemaining es nothing_o
       let below : p < length rows = (let h = n.place in omega (arith, count)) in
       let found = find_at (path_at rows) (is_in s.left) is_dead 0 (length s.left) p (omega arith) (let h = n.place in omega arith) n.is_left (stands.deads p below ∙ n.is_dead)
       (λ j h l. false_from_ne_true (is_dead (path_at rows j)) (λ e. n.least j h (sym (stands.deads j (omega (arith, below))) ∙ e) l)) in
-      ap (λ o. option_or (option_map (λ q. q ∷ []) o) (next_with_referrers (graph_of rows) is_dead (map (path_at rows) (places_left s.left)))) (none_goes_alone none)
+      ap (λ o. option_or (option_map (λ q. q ∷ []) o) (next_with_referrers (graph_of rows) is_dead (map (path_at rows) (places_left s.left)))) (none_goes_singly none)
       ∙ ap (λ o. option_map (λ q. filter (λ r. reaches references_only (graph_of rows) r q) (map (path_at rows) (places_left s.left))) o) found
       ∙ ap Some (filter_at (path_at rows) (is_in s.left) (λ r. reaches references_only (graph_of rows) r (path_at rows p)) 0 (length s.left))
 
@@ -72,7 +72,7 @@ module _ (es : List Entries) (s : Remaining) (remains : IsRemaining es nothing_o
   no_group_is none dead =
       let found = find_none (path_at rows) (is_in s.left) is_dead 0 (length s.left)
       (λ j h l. false_from_ne_true (is_dead (path_at rows j)) (λ e. dead j (omega arith) (sym (stands.deads j (omega (arith, h, count))) ∙ e) l)) in
-      ap (λ o. option_or (option_map (λ q. q ∷ []) o) (next_with_referrers (graph_of rows) is_dead (map (path_at rows) (places_left s.left)))) (none_goes_alone none)
+      ap (λ o. option_or (option_map (λ q. q ∷ []) o) (next_with_referrers (graph_of rows) is_dead (map (path_at rows) (places_left s.left)))) (none_goes_singly none)
       ∙ ap (λ o. option_map (λ q. filter (λ r. reaches references_only (graph_of rows) r q) (map (path_at rows) (places_left s.left))) o) found
 
 -- ---- what a group leaves

@@ -10,7 +10,7 @@ use Rattle.live.specs.Limited.{next_group}
 use Rattle.live.specs.Places.{Entries}
 use Rattle.live.specs.Backward.{IsBackward}
 use Rattle.live.specs.Numbering.{Row, Rise, graph_of, numbered, numbered_links, path_at, paths_of}
-use Rattle.live.specs.Remaining.{Remaining, IsRemaining, IsNextAlone, IsLeastDead, NoneUnreferred, NoneDead, Represents, group_at, is_in, nothing_owed, places_left}
+use Rattle.live.specs.Remaining.{Remaining, IsRemaining, IsNextUnreferred, IsLeastDead, NoneUnreferred, NoneDead, Represents, group_at, is_in, nothing_owed, places_left}
 use Rattle.live.proofs.Asked.{one_way, same_passing}
 use Rattle.live.proofs.Nexts.{unreferred_is, with_referrers_is, no_group_is}
 
@@ -54,7 +54,7 @@ module _ (es : List Entries) (old s : Remaining) (ed : s.dead ≡ old.dead) (el 
   before : next_group (graph_of rows) is_dead (map (path_at rows) (places_left s.left)) ≡ next_group (graph_of rows) is_dead (map (path_at rows) (places_left old.left))
   before = ap (λ (bs : List Bool). next_group (graph_of rows) is_dead (map (path_at rows) (places_left bs))) el
 
-  pub from_unreferred : (p : ℕ) → IsNextAlone s p → (v : Vec ℕ Global) → v.items ≡ p ∷ [] → Some (group_at rows v) ≡ next_group (graph_of rows) is_dead (map (path_at rows) (places_left old.left))
+  pub from_unreferred : (p : ℕ) → IsNextUnreferred s p → (v : Vec ℕ Global) → v.items ≡ p ∷ [] → Some (group_at rows v) ≡ next_group (graph_of rows) is_dead (map (path_at rows) (places_left old.left))
   from_unreferred p n v e = ap (λ xs. Some (map (path_at rows) xs)) e ∙ sym (unreferred_is es s remains sizes rows is_dead size here p n) ∙ before
 
   pub from_referrers : (p : ℕ) → NoneUnreferred s → IsLeastDead s p → (v : Vec ℕ Global)

@@ -12,7 +12,7 @@ use Rattle.std.proofs.lemmas.List.Sums.{sum_by-cons}
 use Rattle.std.proofs.lemmas.List.Sorted.{Contains-permutation, IsPermutation-sym}
 use Rattle.std.proofs.lemmas.Map.Keys.{ge_from_not_lt}
 use Rattle.live.specs.Places.{Entries}
-use Rattle.live.specs.Remaining.{Remaining, IsRemaining, IsNextAlone, NoneUnreferred, at, is_in, least_first, nothing_owed, times_in, times, times_left, referred}
+use Rattle.live.specs.Remaining.{Remaining, IsRemaining, IsNextUnreferred, NoneUnreferred, at, is_in, least_first, nothing_owed, times_in, times, times_left, referred}
 use Rattle.live.proofs.Members.{cases, at_head, behind, no_member}
 use Rattle.live.proofs.Ranges.{one_changed}
 use Rattle.live.proofs.References.{times_other, times_self}
@@ -121,8 +121,8 @@ settled es p xs k s h r = owing es (times_in p (drop k xs)) nothing_owed s
 -- ---- a path goes
 
 module _ (es : List Entries) (s : Remaining) (p : ℕ) (inside : p < length es) where
-  gone_at : List Bool
-  gone_at = slice_set s.left p false
+  removed_at : List Bool
+  removed_at = slice_set s.left p false
 
   other_left : (i : ℕ) → (p ≡ i → ⊥) → is_in (slice_set s.left p false) i ≡ is_in s.left i
   other_left i differs = get_or-set_other s.left p i false false (λ e. differs (sym e))
@@ -189,7 +189,7 @@ bound_of (z ∷ zs) x y b c = elim (cases z y zs c) as (λ _. x.0 ≤ y.0) [
     not_less a c h = ge_from_not_lt a c h
 
 module _ (es : List Entries) (s : Remaining) (r : IsRemaining es nothing_owed s) where
-  pub is_next : (x : Reverse ℕ) → Contains s.ready x → IsUpperBound least_first x s.ready → IsTrue (is_in s.left x.0) → IsTrue (is_in s.dead x.0) → IsNextAlone s x.0
+  pub is_next : (x : Reverse ℕ) → Contains s.ready x → IsUpperBound least_first x s.ready → IsTrue (is_in s.left x.0) → IsTrue (is_in s.dead x.0) → IsNextUnreferred s x.0
   is_next x c b l d =
       let w = r.waits x c in
       record {

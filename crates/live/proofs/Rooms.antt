@@ -24,7 +24,7 @@ begun_none = record {
     begun = λ k. (let s = ap (λ (q : Range). q.start) (past k) in omega (arith, s));
     room = λ k. (let e = ap (λ (q : Range). q.end) (past k) in omega (arith, e));
     within = λ k. (let l = ap (λ (q : Range). q.limit) (past k) in omega (arith, l));
-    apart = λ j k a b. absurd (omega arith);
+    disjoint = λ j k a b. absurd (omega arith);
   };
 }
   where
@@ -61,10 +61,10 @@ module _ (n old limit : ℕ) (ranges : List Range) (m : AreBegun n old ranges) (
       begun = each (λ (q : Range). q.start ≤ q.end) m.laid.begun (omega arith) (omega arith);
       room = each (λ (q : Range). q.end ≤ q.limit) m.laid.room more (omega arith);
       within = each (λ (q : Range). q.limit ≤ limit) (λ k. (let w = m.laid.within k in omega arith)) (omega arith) (omega arith);
-      apart = λ j k a b. (let c = m.count in let l = length_push ranges next in elim (cases_lt k n) as (λ _. (range_at (ranges ++ next ∷ []) j).limit ≤ (range_at (ranges ++ next ∷ []) k).start) [
+      disjoint = λ j k a b. (let c = m.count in let l = length_push ranges next in elim (cases_lt k n) as (λ _. (range_at (ranges ++ next ∷ []) j).limit ≤ (range_at (ranges ++ next ∷ []) k).start) [
         | inl lt ↦ (
             let p = ap (λ (q : Range). q.limit) (same j (omega arith)) in let r = ap (λ (q : Range). q.start) (same k lt) in
-            let o = m.laid.apart j k a (omega arith) in omega (arith, p, r, o))
+            let o = m.laid.disjoint j k a (omega arith) in omega (arith, p, r, o))
         | inr ge ↦ (
             let p = ap (λ (q : Range). q.limit) (same j (omega arith)) in let r = ap (λ (q : Range). q.start) (last k (omega arith)) in
             let w = m.laid.within j in omega (arith, p, r, w))

@@ -12,9 +12,9 @@ use Rattle.live.proofs.Walks.{IsWalk, edge_inside, further, less}
 
 module _ (keep : Keep) (rows : List Entries) (targets : List ℕ) (inside : AllInside rows) (aims : All (λ t. t < length rows) targets) where
   -- an object that waited is taken
-  pub taken : (root place : ℕ) (f h g : Frontier) (s t : ℕ) → root < length targets → IsWalk keep rows targets (root + 1) f s → h.first ≡ f.first → IsDequeued f.waiting h.waiting place
+  pub step_taken : (root place : ℕ) (f h g : Frontier) (s t : ℕ) → root < length targets → IsWalk keep rows targets (root + 1) f s → h.first ≡ f.first → IsDequeued f.waiting h.waiting place
       → Grows (length targets) root h g (edges_at keep rows place) → reported t ≡ reported (s + (1 + length (edges_at keep rows place))) → IsWalk keep rows targets (root + 1) g t
-  taken root place f h g s t below w firsts works grows stepped = record {
+  step_taken root place f h g s t below w firsts works grows stepped = record {
     places = grows.places ∙ ap length firsts ∙ w.places;
     count = grows.fits.count ∙ grows.places ∙ ap length firsts ∙ w.places;
     marks = λ i b m. elim (grows.either i) as (λ _. mark_at g i < root + 1) [
@@ -81,9 +81,9 @@ module _ (keep : Keep) (rows : List Entries) (targets : List ℕ) (inside : AllI
 
   -- where nothing waits any more, marks fall along edges
   falls : (f : Frontier) (s : ℕ) → NoneWaits f.waiting → IsWalk keep rows targets (length targets) f s → (a z : ℕ) (bs : List ℕ) → a < length rows → Walks keep rows a bs z → mark_at f z ≤ mark_at f a
-  falls f s empty w a z [] h goes = (let e = ap (mark_at f) goes in omega arith)
-  falls f s empty w a z (b ∷ bs) h goes = elim (w.closed a b h goes.0) as (λ _. mark_at f z ≤ mark_at f a) [
-    | inl le ↦ (let rest = falls f s empty w b z bs (edge_inside keep rows inside a b goes.0) goes.1 in omega arith)
+  falls f s empty w a z [] h walks = (let e = ap (mark_at f) walks in omega arith)
+  falls f s empty w a z (b ∷ bs) h walks = elim (w.closed a b h walks.0) as (λ _. mark_at f z ≤ mark_at f a) [
+    | inl le ↦ (let rest = falls f s empty w b z bs (edge_inside keep rows inside a b walks.0) walks.1 in omega arith)
     | inr waits ↦ absurd (empty a waits)
   ]
 
@@ -94,7 +94,7 @@ module _ (keep : Keep) (rows : List Entries) (targets : List ℕ) (inside : AllI
     places = w.places;
     roots = is;
     reaches = λ i h m. w.reaches i h (omega arith);
-    least = λ i k h b r. (let l = falls f s empty w (slice_index targets k) i r.behind (aims k 0 b) r.goes in let t = w.aimed k b in omega arith);
+    least = λ i k h b r. (let l = falls f s empty w (slice_index targets k) i r.steps (aims k 0 b) r.walks in let t = w.aimed k b in omega arith);
     steps = spent;
   }
     where

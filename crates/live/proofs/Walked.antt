@@ -7,7 +7,7 @@ use Rattle.live.specs.Places.{Entries, AllInside, edges_at}
 use Rattle.live.specs.Marking.{Frontier, IsMarking, IsDequeued, NoneWaits, reached, all_reached, reported}
 use Rattle.live.proofs.OneRoot.{AreMarked, Grows, one, grows, none_waits, consumed_counts, consumed_length, consumed_still, waiting_count}
 use Rattle.live.proofs.Walks.{IsWalk, are_marked, edge_inside, start, begin}
-use Rattle.live.proofs.Visited.{taken, finish}
+use Rattle.live.proofs.Visited.{step_taken, finish}
 
 module _ (keep : Keep) (rows : List Entries) (targets : List ℕ) (inside : AllInside rows) (aims : All (λ t. t < length rows) targets) where
   pub start_at : (f : Frontier) (s n m : ℕ) → f.first ≡ replicate n m → n ≡ length rows → m ≡ length targets → f.waiting ≡ replicate n false → s ≡ 0 → IsWalk keep rows targets 0 f s × NoneWaits f.waiting
@@ -43,7 +43,7 @@ module _ (keep : Keep) (rows : List Entries) (targets : List ℕ) (inside : AllI
         (grows (length targets) root (omega arith) h (edges_at keep rows place) marked (λ j c. (let b = edge_inside keep rows inside place j c in let l = ap length firsts in let p = w.places in omega arith)))
 
     pub consumed_at : (t : ℕ) → reported t ≡ reported (s + (1 + length (edges_at keep rows place))) → IsWalk keep rows targets (root + 1) g t
-    consumed_at t stepped = taken keep rows targets inside aims root place f h g s t (omega arith) w firsts works grown stepped
+    consumed_at t stepped = step_taken keep rows targets inside aims root place f h g s t (omega arith) w firsts works grown stepped
 
     pub smaller : count_by (λ m. nat_le n m) g.first + waiting_count g.waiting < count_by (λ m. nat_le n m) f.first + waiting_count f.waiting
     smaller =

@@ -46,7 +46,7 @@ edge_inside keep rows inside i j c = inside i j (held_if_counting keep (entries_
 
 -- one edge further
 pub further : (keep : Keep) (rows : List Entries) (a m z : ℕ) → Reaches keep rows a m → Contains (edges_at keep rows m) z → Reaches keep rows a z
-further keep rows a m z r c = record { behind = r.behind ++ z ∷ []; goes = on a r.behind r.goes }
+further keep rows a m z r c = record { steps = r.steps ++ z ∷ []; walks = on a r.steps r.walks }
   where
     on : (a : ℕ) (bs : List ℕ) → Walks keep rows a bs m → Walks keep rows a (bs ++ z ∷ []) z
     on a [] h = (subst (λ x. Contains (edges_at keep rows x) z) (sym h) c, refl)
@@ -94,7 +94,7 @@ module _ (keep : Keep) (rows : List Entries) (targets : List ℕ) (inside : AllI
     ];
     reaches = λ i h m. elim (grows.either i) as (λ _. Reaches keep rows (slice_index targets (mark_at g i)) i) [
       | inl same ↦ subst (λ k. Reaches keep rows (slice_index targets k) i) (sym same) (w.reaches i h (omega arith))
-      | inr new ↦ subst (λ k. Reaches keep rows (slice_index targets k) i) (sym new.is) (record { behind = []; goes = alone i new.among })
+      | inr new ↦ subst (λ k. Reaches keep rows (slice_index targets k) i) (sym new.is) (record { steps = []; walks = alone i new.among })
     ];
     aimed = λ j h. elim (cases_lt j root) as (λ _. mark_at g (slice_index targets j) ≤ j) [
       | inl before ↦ (let k = w.aimed j before in let l = less root below f g _ grows (slice_index targets j) in omega arith)

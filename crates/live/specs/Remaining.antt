@@ -64,7 +64,7 @@ abbrev pub places_left : List Bool → List ℕ
 places_left left = filter (is_in left) (range_with_len 0 (length left))
 
 -- the least place that is dead, left and without referrer
-pub record IsNextAlone (s : Remaining) (p : ℕ) : Type 0 where
+pub record IsNextUnreferred (s : Remaining) (p : ℕ) : Type 0 where
   pub place : p < length s.left
   pub is_left : IsTrue (is_in s.left p)
   pub is_dead : IsTrue (is_in s.dead p)

@@ -32,4 +32,4 @@ pub use limited_laws::{
 };
 pub use limiting::limited;
 pub use marking::{Marks, mark};
-pub use numbered::{Graph, Root, Roots, Row, are_valid, do_rise};
+pub use numbered::{Graph, Root, Roots, Row, are_valid, do_rise, place_of};

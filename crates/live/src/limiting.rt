@@ -52,12 +52,12 @@ pub fn limited(
         map (path_at rows) v.items ≡ limited_paths (graph_of rows)
         (λ p. not (is_live keep (graph_of rows) given p)) size limit) }
 {
-    let mut leaving = Remaining::new(alloc, graph, marks)?;
+    let mut remaining = Remaining::new(alloc, graph, marks)?;
     let mut wanted = limit;
     // Each turn takes a path at least, so there are no more than paths.
     'turns: for turn in 0..graph.len() {
-        wanted = leaving.turn(alloc, graph, sizes, wanted)?;
+        wanted = remaining.turn(alloc, graph, sizes, wanted)?;
     }
-    let deleted_places = leaving.deleted_places(alloc)?;
+    let deleted_places = remaining.deleted_places(alloc)?;
     Ok(deleted_places)
 }

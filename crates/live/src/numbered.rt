@@ -14,6 +14,7 @@ mod rows;
 mod texts;
 
 pub use conditions::{are_valid, do_rise};
+pub use places::place_of;
 pub use rows::{Root, Row};
 use std::marker::Model;
 
@@ -144,7 +145,7 @@ impl Walker {
         }
     }
 
-    /// One of an object's entries.
+    /// The place of an object's entry of this number.
     pub(crate) fn entry(&mut self, graph: &Graph, place: usize, entry: usize) -> usize
         requires place { place < length graph.now }
         requires entry { entry < length (held (entries_at graph.now place)) }

@@ -5,7 +5,7 @@ ghost use Rattle.std.specs.List.Sorted.{IsPermutation};
 ghost use Rattle.std.specs.BinaryHeap.{IsHeap, heap_items};
 ghost use Rattle.live.specs.Places.{Entries, entries_at};
 ghost use Rattle.live.specs.Marking.{first_of};
-ghost use Rattle.live.specs.Remaining.{IsNextAlone, IsLeastDead, IsRemaining, NoneUnreferred, NoneDead, Remaining, at, is_in, least_first, nothing_owed, times};
+ghost use Rattle.live.specs.Remaining.{IsNextUnreferred, IsLeastDead, IsRemaining, NoneUnreferred, NoneDead, Remaining, at, is_in, least_first, nothing_owed, times};
 
 use crate::marking::Marks;
 use crate::numbered::{Graph, Walker};
@@ -119,7 +119,7 @@ impl Remaining {
         ensures dead { self.new.dead ≡ self.old.dead }
         ensures left { self.new.left ≡ self.old.left }
         ensures remaining { IsRemaining graph.now nothing_owed self.new }
-        ensures some { IfSome result (IsNextAlone self.new) }
+        ensures some { IfSome result (IsNextUnreferred self.new) }
         ensures none { IfNone result (NoneUnreferred self.new) }
     {
         'search: while let Some(top) = self.ready.peek() {

@@ -39,7 +39,7 @@ edge_reference w p r h =
 
 -- a valid reference is reached by references
 pub reference_reached : (w : World) (p r : Path) (o : Object) → finite.get w.objects p ≡ Some o → IsTrue (finite.contains_key o.references r) → IsTrue (has w r) → Reaches references_only (graph_of w) p r
-reference_reached w p r o e c h = record { valid = valid_is w p ∙ ap is_some e; behind = r ∷ []; leads = (reference_edge w p r o e c h, refl) }
+reference_reached w p r o e c h = record { valid = valid_is w p ∙ ap is_some e; steps = r ∷ []; leads = (reference_edge w p r o e c h, refl) }
 
 -- a reference of an object that is left is left
 pub reference_left : (w : World) (named : List Path) (p : Path) (o : Object) → finite.get (keeping w (λ x. not (is_deleted_with w named x))).objects p ≡ Some o

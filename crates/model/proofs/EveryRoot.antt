@@ -17,11 +17,11 @@ module _ (w : World) where
   until_runtime : (r : Root) → Contains (explicit_roots w ++ runtime_roots w) r → Contains (roots_of w) r
   until_runtime r c = ordered_member (explicit_roots w ++ runtime_roots w ++ temporary_roots w) r (Contains-append_left (explicit_roots w ++ runtime_roots w) (temporary_roots w) r c)
 
-  lasting : (r : Root) → Contains (explicit_roots w) r → Contains (roots_of w) r
-  lasting r c = until_runtime r (Contains-append_left (explicit_roots w) (runtime_roots w) r c)
+  remaining : (r : Root) → Contains (explicit_roots w) r → Contains (roots_of w) r
+  remaining r c = until_runtime r (Contains-append_left (explicit_roots w) (runtime_roots w) r c)
 
   first_two : (r : Root) → Contains (map permanent_root (finite.entries w.permanent) ++ map user_root (finite.entries w.user_roots)) r → Contains (roots_of w) r
-  first_two r c = lasting r (Contains-append_left (map permanent_root (finite.entries w.permanent) ++ map user_root (finite.entries w.user_roots)) (flat_map generation_roots (finite.entries w.profiles)) r c)
+  first_two r c = remaining r (Contains-append_left (map permanent_root (finite.entries w.permanent) ++ map user_root (finite.entries w.user_roots)) (flat_map generation_roots (finite.entries w.profiles)) r c)
 
   permanent_entry : (r : Root) → Contains (map permanent_root (finite.entries w.permanent)) r → IsEntry w r
   permanent_entry r c =
@@ -55,15 +55,15 @@ module _ (w : World) where
     | inr second ↦ user_entry r second
   ]
 
-  lasting_entry : (r : Root) → Contains (explicit_roots w) r → IsEntry w r
-  lasting_entry r c =
+  remaining_entry : (r : Root) → Contains (explicit_roots w) r → IsEntry w r
+  remaining_entry r c =
       elim (Contains-append_cases (map permanent_root (finite.entries w.permanent) ++ map user_root (finite.entries w.user_roots)) (flat_map generation_roots (finite.entries w.profiles)) r c)
       as (λ _. IsEntry w r) [ inl named ↦ dropped_entry r named | inr generation ↦ generation_entry r generation ]
 
   until_runtime_entry : (r : Root) → Contains (explicit_roots w ++ runtime_roots w) r → IsEntry w r
   until_runtime_entry r c =
       elim (Contains-append_cases (explicit_roots w) (runtime_roots w) r c)
-      as (λ _. IsEntry w r) [ inl last ↦ lasting_entry r last | inr run ↦ runtime_entry r run ]
+      as (λ _. IsEntry w r) [ inl last ↦ remaining_entry r last | inr run ↦ runtime_entry r run ]
 
   no_other_root : (r : Root) → Contains (roots_of w) r → IsEntry w r
   no_other_root r c =
@@ -76,7 +76,7 @@ module _ (w : World) where
         (in_mapped permanent_root (finite.entries w.permanent) (name, t) (entry_listed bytes_antisymmetric w.permanent name t e)));
     user = λ owned t e. first_two (user_root (owned, t)) (Contains-append_right (map permanent_root (finite.entries w.permanent)) (map user_root (finite.entries w.user_roots)) (user_root (owned, t))
         (in_mapped user_root (finite.entries w.user_roots) (owned, t) (entry_listed pair_antisymmetric w.user_roots owned t e)));
-    generation = λ owned p n t e f. lasting (generation_root owned (n, t)) (Contains-append_right (map permanent_root (finite.entries w.permanent) ++ map user_root (finite.entries w.user_roots)) (flat_map generation_roots (finite.entries w.profiles)) (generation_root owned (n, t))
+    generation = λ owned p n t e f. remaining (generation_root owned (n, t)) (Contains-append_right (map permanent_root (finite.entries w.permanent) ++ map user_root (finite.entries w.user_roots)) (flat_map generation_roots (finite.entries w.profiles)) (generation_root owned (n, t))
         (in_joined generation_roots (finite.entries w.profiles) (owned, p) (generation_root owned (n, t)) (entry_listed pair_antisymmetric w.profiles owned p e)
         (in_mapped (generation_root owned) (finite.entries p.generations) (n, t) (entry_listed finite.nat_cmp-IsAntisymmetric p.generations n t f))));
     runtime = λ r h. until_runtime (runtime_root r) (Contains-append_right (explicit_roots w) (runtime_roots w) (runtime_root r)

@@ -87,8 +87,8 @@ module _ (g : Graph) (dead : Path → Bool) (size : Path → ℕ) (upward : (q p
       ((p : Path) → IsTrue (holds group p) → IsTrue (dead p) × IsTrue (holds left p))
       × ((q r : Path) → IsTrue (holds left q) → (IsTrue (holds group q) → ⊥) → IsTrue (holds group r) → IsTrue (is_edge references_only g q r) → IsTrue (is_valid g q) → ⊥)
 
-  alone_is : (left : List Path) (p : Path) → find (λ x. dead x && not (is_referred_to g left x)) left ≡ Some p → IsNext left (p ∷ [])
-  alone_is left p e =
+  single_is : (left : List Path) (p : Path) → find (λ x. dead x && not (is_referred_to g left x)) left ≡ Some p → IsNext left (p ∷ [])
+  single_is left p e =
       let at = found (λ x. dead x && not (is_referred_to g left x)) left p e in
       let parts = and_parts (dead p) (not (is_referred_to g left p)) at.1 in (
         (λ x h. let is = only x h in (ap dead is ∙ parts.0, ap (holds left) is ∙ any_from (same p) left p at.0 (same_itself p))),
@@ -110,7 +110,7 @@ module _ (g : Graph) (dead : Path → Bool) (size : Path → ℕ) (upward : (q p
         (λ x h. let parts = passing (λ q. reaches references_only g q p) x left h in (upward x p ((decided references_only g x p).0 parts.0) at.1, parts.1)),
         (λ q r in_ out here edge valid.
             let parts = passing (λ x. reaches references_only g x p) r left here in
-            let step : Reaches references_only g q r = record { valid = valid; behind = r ∷ []; leads = (edge, refl) } in
+            let step : Reaches references_only g q r = record { valid = valid; steps = r ∷ []; leads = (edge, refl) } in
             out (passed (λ x. reaches references_only g x p) q left ((decided references_only g q p).1 (goes_on references_only g q r p step ((decided references_only g r p).0 parts.0))) in_)),
       )
 
@@ -123,19 +123,19 @@ module _ (g : Graph) (dead : Path → Bool) (size : Path → ℕ) (upward : (q p
 
       by : (o : Option Path) → find (λ x. dead x && not (is_referred_to g left x)) left ≡ o → option_or (option_map (λ p. p ∷ []) o) (next_with_referrers g dead left) ≡ Some group → IsNext left group
       by None f e = second (find dead left) refl e
-      by (Some p) f e = let is : p ∷ [] ≡ group = cc in subst (IsNext left) is (alone_is left p f)
+      by (Some p) f e = let is : p ∷ [] ≡ group = cc in subst (IsNext left) is (single_is left p f)
 
   -- what the groups are of some paths left: dead, and referred to by none that is left at last
-  abbrev pub AreTaken : List Path → List (List Path) → Type 0
-  AreTaken left groups =
+  abbrev pub AreChosen : List Path → List (List Path) → Type 0
+  AreChosen left groups =
       ((p : Path) → IsTrue (in_groups groups p) → IsTrue (dead p) × IsTrue (holds left p))
       × ((q r : Path) → IsTrue (holds left q) → (IsTrue (in_groups groups q) → ⊥) → IsTrue (in_groups groups r) → IsTrue (is_edge references_only g q r) → IsTrue (is_valid g q) → ⊥)
 
-  none_taken : (left : List Path) → AreTaken left []
-  none_taken left = ((λ p h. absurd (false≢true h)), (λ q r in_ out here edge valid. false≢true here))
+  none_chosen : (left : List Path) → AreChosen left []
+  none_chosen left = ((λ p h. absurd (false≢true h)), (λ q r in_ out here edge valid. false≢true here))
 
-  more_taken : (left group : List Path) (groups : List (List Path)) → IsNext left group → AreTaken (without group left) groups → AreTaken left (group ∷ groups)
-  more_taken left group groups next rest = (
+  more_chosen : (left group : List Path) (groups : List (List Path)) → IsNext left group → AreChosen (without group left) groups → AreChosen left (group ∷ groups)
+  more_chosen left group groups next rest = (
     (λ p h. elim (or_cases (holds group p) (in_groups groups p) h) as (λ _. IsTrue (dead p) × IsTrue (holds left p)) [
       | inl first ↦ next.0 p first
       | inr later ↦ let in_ = rest.0 p later in (in_.0, (passing (λ x. not (holds group x)) p left in_.1).1)
@@ -148,19 +148,19 @@ module _ (g : Graph) (dead : Path → Bool) (size : Path → ℕ) (upward : (q p
     ]),
   )
 
-  taken : (turns left : List Path) (wanted : ℕ) → AreTaken left (groups_by g dead size turns left wanted)
+  taken : (turns left : List Path) (wanted : ℕ) → AreChosen left (groups_by g dead size turns left wanted)
   unfolding groups_by
-  taken [] left wanted = none_taken left
+  taken [] left wanted = none_chosen left
   taken (turn ∷ turns) left wanted = by (nat_lt 0 wanted) (next_group g dead left) refl (λ (group : List Path). taken turns (without group left) (wanted - sum_by size group))
     where
       by : (b : Bool) (o : Option (List Path)) → next_group g dead left ≡ o
-          → ((group : List Path) → AreTaken (without group left) (groups_by g dead size turns (without group left) (wanted - sum_by size group)))
-          → AreTaken left (cond b (option_map_or (λ group. group ∷ groups_by g dead size turns (without group left) (wanted - sum_by size group)) o []) [])
-      by false o e later = none_taken left
-      by true None e later = none_taken left
-      by true (Some group) e later = more_taken left group (groups_by g dead size turns (without group left) (wanted - sum_by size group)) (next_is left group e) (later group)
+          → ((group : List Path) → AreChosen (without group left) (groups_by g dead size turns (without group left) (wanted - sum_by size group)))
+          → AreChosen left (cond b (option_map_or (λ group. group ∷ groups_by g dead size turns (without group left) (wanted - sum_by size group)) o []) [])
+      by false o e later = none_chosen left
+      by true None e later = none_chosen left
+      by true (Some group) e later = more_chosen left group (groups_by g dead size turns (without group left) (wanted - sum_by size group)) (next_is left group e) (later group)
 
-  pub all_consumed : (limit : ℕ) → AreTaken (finite.keys g) (limited_groups g dead size limit)
+  pub all_consumed : (limit : ℕ) → AreChosen (finite.keys g) (limited_groups g dead size limit)
   all_consumed limit = taken (finite.keys g) (finite.keys g) limit
 
 -- ---- a collection

@@ -41,8 +41,8 @@ use Rattle.model.proofs.Unseen.{like, lives_alike}
 module _ (A B : List Root) (p : Root → Bool) (alike : (x : Root) → IsTrue (p x) → (y : Root) → censored x ≡ censored y → IsTrue (p y))
     (present : (x : Root) → Contains A x → (y : Root) × Contains B y × (censored x ≡ censored y))
     (back : (x : Root) → Contains B x → (y : Root) × Contains A y × (censored x ≡ censored y)) where
-  on_there : (x : Root) → Contains (in_order A) x → (y : Root) × Contains (in_order B) y × (censored x ≡ censored y)
-  on_there x c = let y = present x (member_ordered A x c) in (y.0, ordered_member B y.0 y.1, y.2)
+  on_present : (x : Root) → Contains (in_order A) x → (y : Root) × Contains (in_order B) y × (censored x ≡ censored y)
+  on_present x c = let y = present x (member_ordered A x c) in (y.0, ordered_member B y.0 y.1, y.2)
 
   on_back : (x : Root) → Contains (in_order B) x → (y : Root) × Contains (in_order A) y × (censored x ≡ censored y)
   on_back x c = let y = back x (member_ordered B x c) in (y.0, ordered_member A y.0 y.1, y.2)
@@ -51,7 +51,7 @@ module _ (A B : List Root) (p : Root → Bool) (alike : (x : Root) → IsTrue (p
   one x y f g Equal e = root_antisymmetric (censored x) (censored y) e
   one x y f g Less e =
       let at = found p (in_order A) x f in
-      let z = on_there x at.0 in
+      let z = on_present x at.0 in
       absurd (least_in_order B p y z.0 g z.1 (alike x at.1 z.0 z.2) (below_hidden z.0 y (subst (λ (u : Root). root_cmp u (censored y) ≡ Less) z.2 e)))
   one x y f g Greater e =
       let at = found p (in_order B) y g in
@@ -61,7 +61,7 @@ module _ (A B : List Root) (p : Root → Bool) (alike : (x : Root) → IsTrue (p
 
   pub first_alike : (a b : Option Root) → find p (in_order A) ≡ a → find p (in_order B) ≡ b → option_map censored a ≡ option_map censored b
   first_alike None None f g = refl
-  first_alike (Some x) None f g = let at = found p (in_order A) x f in let z = on_there x at.0 in absurd (not_found p (in_order B) z.0 g z.1 (alike x at.1 z.0 z.2))
+  first_alike (Some x) None f g = let at = found p (in_order A) x f in let z = on_present x at.0 in absurd (not_found p (in_order B) z.0 g z.1 (alike x at.1 z.0 z.2))
   first_alike None (Some y) f g = let at = found p (in_order B) y g in let z = on_back y at.0 in absurd (not_found p (in_order A) z.0 f z.1 (alike y at.1 z.0 z.2))
   first_alike (Some x) (Some y) f g = ap Some (one x y f g (root_cmp (censored x) (censored y)) refl)
 

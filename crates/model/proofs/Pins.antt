@@ -95,29 +95,29 @@ module _ (s : Settings) (w new : World) (keeps : KeepsLive s w new) (r : Root) (
   same_links : (p : Path) → IsTrue (lives s w p) → finite.get (graph_of new) p ≡ finite.get (graph_of w) p
   same_links p l = get-graph new p ∙ ap (option_map links_of) (keeps p l) ∙ sym (get-graph w p)
 
-  edge_stands : (a b : Path) → IsTrue (lives s w a) → IsTrue (lives s w b) → is_edge (keep_of s) (graph_of new) a b ≡ is_edge (keep_of s) (graph_of w) a b
-  edge_stands a b la lb = λ i. is_some (same_links b lb i) && holds (kept_if_valid (keep_of s) (same_links a la i)) b
+  edge_remains : (a b : Path) → IsTrue (lives s w a) → IsTrue (lives s w b) → is_edge (keep_of s) (graph_of new) a b ≡ is_edge (keep_of s) (graph_of w) a b
+  edge_remains a b la lb = λ i. is_some (same_links b lb i) && holds (kept_if_valid (keep_of s) (same_links a la i)) b
 
   one_edge : (a b : Path) → IsTrue (is_valid (graph_of w) a) → IsTrue (is_edge (keep_of s) (graph_of w) a b) → Reaches (keep_of s) (graph_of w) a b
-  one_edge a b v e = record { valid = v; behind = b ∷ []; leads = (e, refl) }
+  one_edge a b v e = record { valid = v; steps = b ∷ []; leads = (e, refl) }
 
-  leads_stands : (a z : Path) (bs : List Path) → Reaches (keep_of s) (graph_of w) r.target a → Leads (keep_of s) (graph_of w) a bs z → Leads (keep_of s) (graph_of new) a bs z
-  leads_stands a z [] before h = h
-  leads_stands a z (b ∷ bs) before h =
+  leads_remains : (a z : Path) (bs : List Path) → Reaches (keep_of s) (graph_of w) r.target a → Leads (keep_of s) (graph_of w) a bs z → Leads (keep_of s) (graph_of new) a bs z
+  leads_remains a z [] before h = h
+  leads_remains a z (b ∷ bs) before h =
       let valid : IsTrue (is_valid (graph_of w) a) = end_valid (keep_of s) (graph_of w) r.target a before in
       let after = goes_on (keep_of s) (graph_of w) r.target a b before (one_edge a b valid h.0) in
-      (edge_stands a b (live_of s w r a listed before) (live_of s w r b listed after) ∙ h.0, leads_stands b z bs after h.1)
+      (edge_remains a b (live_of s w r a listed before) (live_of s w r b listed after) ∙ h.0, leads_remains b z bs after h.1)
 
   itself : (a : Path) → IsTrue (is_valid (graph_of w) a) → Reaches (keep_of s) (graph_of w) a a
-  itself a v = record { valid = v; behind = []; leads = refl }
+  itself a v = record { valid = v; steps = []; leads = refl }
 
   pub reach_stays : (p : Path) → Reaches (keep_of s) (graph_of w) r.target p → Reaches (keep_of s) (graph_of new) r.target p
   reach_stays p h =
       let first = itself r.target h.valid in
       record {
         valid = ap is_some (same_links r.target (live_of s w r r.target listed first)) ∙ h.valid;
-        behind = h.behind;
-        leads = leads_stands r.target p h.behind first h.leads;
+        steps = h.steps;
+        leads = leads_remains r.target p h.steps first h.leads;
       }
 
 pub pins : Pins

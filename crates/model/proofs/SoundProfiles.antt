@@ -13,7 +13,8 @@ use Rattle.live.proofs.Members.{at_head, behind}
 use Rattle.model.specs.World.{Path, Pair, Profile, World, has}
 use Rattle.model.specs.Sound.{IsSoundProfile, IsSound}
 use Rattle.model.proofs.Empty.{no_key, no_entry}
-use Rattle.model.specs.Profiles.{last_number, profile_or_new, profile_at, has_profile, has_generation, numbers, highest, is_path, is_highest, number_for, previous, switched, set_to, rolled_back, without_generation}
+use Rattle.model.specs.Profiles.{profile_or_new, profile_at, has_profile, has_generation, numbers, highest, is_path, is_highest, number_for, previous, switched, set_to, rolled_back, without_generation}
+use Rattle.paths.specs.Decimal.{max_generation}
 use Rattle.model.specs.Effects.{with_profile}
 use Rattle.model.proofs.MapMembers.{nat_antisymmetric, pair_total, pair_antisymmetric, tied_is, listed_key, inserted_key, inserted_entry, contains_key-inserted, removed_key, removed_entry, other_key}
 use Rattle.model.proofs.Filtered.{from_filtered}
@@ -79,14 +80,14 @@ module _ (dir : List ℕ) (w : World) (sound : IsSound dir w) where
   moved : (owned : Pair) (p : Profile) (n : ℕ) → IsTrue (is_plain_name owned.0) → IsTrue (is_plain_name owned.1) → IsBounded w p → IsTrue (finite.contains_key p.generations n) → IsSoundProfile w owned (switched p n)
   moved owned p n owner name bounds h = record { owner = owner; name = name; current = h; lowest = bounds.lowest; highest = bounds.highest; targets = bounds.targets }
 
-  highest_there : (p : Profile) (t : Path) → is_highest p t ≡ true → IsTrue (finite.contains_key p.generations (highest p))
-  highest_there p t e = by (finite.get p.generations (highest p)) e
+  highest_present : (p : Profile) (t : Path) → is_highest p t ≡ true → IsTrue (finite.contains_key p.generations (highest p))
+  highest_present p t e = by (finite.get p.generations (highest p)) e
     where
       by : (o : Option Path) → is_path o t ≡ true → is_some o ≡ true
       by None h = absurd (false≢true h)
       by (Some q) h = refl
 
-  pub profile_set : (owner name : List ℕ) (t : Path) → IsTrue (is_plain_name owner && is_plain_name name) → IsTrue (has w t) → IsTrue (nat_le (number_for (profile_at w (owner, name)) t) last_number)
+  pub profile_set : (owner name : List ℕ) (t : Path) → IsTrue (is_plain_name owner && is_plain_name name) → IsTrue (has w t) → IsTrue (nat_le (number_for (profile_at w (owner, name)) t) max_generation)
       → IsSound dir (with_profile w (owner, name) (set_to (profile_at w (owner, name)) t))
   profile_set owner name t plain valid fits = changed (owner, name) (set_to (profile_at w (owner, name)) t) (by (is_highest (profile_at w (owner, name)) t) refl)
     where
@@ -117,9 +118,9 @@ module _ (dir : List ℕ) (w : World) (sound : IsSound dir w) where
       by : (b : Bool) → is_highest (profile_at w (owner, name)) t ≡ b → IsSoundProfile w (owner, name) (if b
           then switched (profile_at w (owner, name)) (highest (profile_at w (owner, name)))
           else record { generations = finite.insert (profile_at w (owner, name)).generations (highest (profile_at w (owner, name)) + 1) t; current = highest (profile_at w (owner, name)) + 1 })
-      by true e = moved (owner, name) (profile_at w (owner, name)) (highest (profile_at w (owner, name))) names.0 names.1 bounds (highest_there (profile_at w (owner, name)) t e)
+      by true e = moved (owner, name) (profile_at w (owner, name)) (highest (profile_at w (owner, name))) names.0 names.1 bounds (highest_present (profile_at w (owner, name)) t e)
       by false e =
-          let least : highest (profile_at w (owner, name)) + 1 ≤ 9999 = leb-true (highest (profile_at w (owner, name)) + 1) 9999 (sym (ap (λ b. nat_le (if b then highest (profile_at w (owner, name)) else highest (profile_at w (owner, name)) + 1) last_number) e) ∙ fits) in
+          let least : highest (profile_at w (owner, name)) + 1 ≤ 9999 = leb-true (highest (profile_at w (owner, name)) + 1) 9999 (sym (ap (λ b. nat_le (if b then highest (profile_at w (owner, name)) else highest (profile_at w (owner, name)) + 1) max_generation) e) ∙ fits) in
           record {
             owner = names.0;
             name = names.1;
@@ -129,8 +130,8 @@ module _ (dir : List ℕ) (w : World) (sound : IsSound dir w) where
             targets = λ n u f. target n u (inserted_entry nat_cmp_total nat_antisymmetric (profile_at w (owner, name)).generations (highest (profile_at w (owner, name)) + 1) t n u f);
           }
 
-  previous_there : (p : Profile) → IsTrue (is_some (previous p)) → IsTrue (finite.contains_key p.generations (unwrap_or (previous p) p.current))
-  previous_there p h = by (previous p) refl h
+  previous_present : (p : Profile) → IsTrue (is_some (previous p)) → IsTrue (finite.contains_key p.generations (unwrap_or (previous p) p.current))
+  previous_present p h = by (previous p) refl h
     where
       by : (o : Option ℕ) → previous p ≡ o → is_some o ≡ true → IsTrue (finite.contains_key p.generations (unwrap_or o p.current))
       by None e h = absurd (false≢true h)
@@ -141,7 +142,7 @@ module _ (dir : List ℕ) (w : World) (sound : IsSound dir w) where
   profile_rolled_back owner name present older =
       let is = sound_at (owner, name) present in
       changed (owner, name) (rolled_back (profile_at w (owner, name)))
-      (moved (owner, name) (profile_at w (owner, name)) (unwrap_or (previous (profile_at w (owner, name))) (profile_at w (owner, name)).current) is.owner is.name (bounded_at (owner, name)) (previous_there (profile_at w (owner, name)) older))
+      (moved (owner, name) (profile_at w (owner, name)) (unwrap_or (previous (profile_at w (owner, name))) (profile_at w (owner, name)).current) is.owner is.name (bounded_at (owner, name)) (previous_present (profile_at w (owner, name)) older))
 
   pub profile_switched : (owner name : List ℕ) (n : ℕ) → IsTrue (has_profile w (owner, name)) → IsTrue (has_generation (profile_at w (owner, name)) n)
       → IsSound dir (with_profile w (owner, name) (switched (profile_at w (owner, name)) n))

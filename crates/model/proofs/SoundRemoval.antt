@@ -25,7 +25,7 @@ module _ (s : Settings) (w : World) (test : Path → Bool) (lasts : (p : Path) �
     (closed : (p : Path) (o : Object) → finite.get (keeping w test).objects p ≡ Some o → (r : Path) → IsTrue (finite.contains_key o.references r) → IsTrue (has w r) → IsTrue (has (keeping w test) r)) where
   target_left : (r : Root) → Contains (roots_of w) r → IsTrue (has w r.target) → IsTrue (has (keeping w test) r.target)
   target_left r c h =
-      ap is_some (kept_if w.objects test r.target (lasts r.target (live_of s w r r.target c (record { valid = valid_is w r.target ∙ h; behind = []; leads = refl })))) ∙ h
+      ap is_some (kept_if w.objects test r.target (lasts r.target (live_of s w r r.target c (record { valid = valid_is w r.target ∙ h; steps = []; leads = refl })))) ∙ h
 
   pub removed_sound : (dir : List ℕ) → IsSound dir w → IsSound dir (keeping w test)
   removed_sound dir sound = record {

@@ -21,7 +21,7 @@ module _ (w : World) (r1 r2 : Set pair_cmp) where
   pub like : TargetsAreIn r1 r2 → (x : Root) → Contains (roots_of (with_runtime w r1)) x → (y : Root) × Contains (roots_of (with_runtime w r2)) y × (censored x ≡ censored y)
   like same x c = elim (Contains-append_cases (explicit_roots w ++ map runtime_root (finite.keys r1)) (temporary_roots w) x (member_ordered _ x c)) as (λ _. (y : Root) × Contains (roots_of (with_runtime w r2)) y × (censored x ≡ censored y)) [
     | inl early ↦ elim (Contains-append_cases (explicit_roots w) (map runtime_root (finite.keys r1)) x early) as (λ _. (y : Root) × Contains (roots_of (with_runtime w r2)) y × (censored x ≡ censored y)) [
-      | inl lasting ↦ (x, present x (Contains-append_left (explicit_roots w) (map runtime_root (finite.keys r2)) x lasting), refl)
+      | inl remaining ↦ (x, present x (Contains-append_left (explicit_roots w) (map runtime_root (finite.keys r2)) x remaining), refl)
       | inr now ↦
           let p = from_mapped runtime_root (finite.keys r1) x now in
           let q = same p.0.0 p.0.1 (listed_key pair_total r1 p.0 p.1) in

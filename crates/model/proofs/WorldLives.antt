@@ -118,8 +118,8 @@ module _ (dir : List ℕ) (w : World) (sound : IsSound dir w) where
       let x = from_mapped temporary_root (finite.keys w.temporary) r c in
       subst (λ (y : Root). IsTrue (has w y.target)) x.2 (sound.temporary_target x.0 (listed_key temporary_total w.temporary x.0 x.1))
 
-  lasting : (r : Root) → Contains (explicit_roots w) r → IsTrue (has w r.target)
-  lasting r c = elim (Contains-append_cases (map permanent_root (finite.entries w.permanent) ++ map user_root (finite.entries w.user_roots)) (flat_map generation_roots (finite.entries w.profiles)) r c) as (λ _. IsTrue (has w r.target)) [
+  remaining : (r : Root) → Contains (explicit_roots w) r → IsTrue (has w r.target)
+  remaining r c = elim (Contains-append_cases (map permanent_root (finite.entries w.permanent) ++ map user_root (finite.entries w.user_roots)) (flat_map generation_roots (finite.entries w.profiles)) r c) as (λ _. IsTrue (has w r.target)) [
     | inl named ↦ elim (Contains-append_cases (map permanent_root (finite.entries w.permanent)) (map user_root (finite.entries w.user_roots)) r named) as (λ _. IsTrue (has w r.target)) [
       | inl here ↦ permanents r here
       | inr here ↦ users r here
@@ -130,7 +130,7 @@ module _ (dir : List ℕ) (w : World) (sound : IsSound dir w) where
   pub target_valid : (r : Root) → Contains (roots_of w) r → IsTrue (has w r.target)
   target_valid r c = elim (Contains-append_cases (explicit_roots w ++ runtime_roots w) (temporary_roots w) r (member_ordered (explicit_roots w ++ runtime_roots w ++ temporary_roots w) r c)) as (λ _. IsTrue (has w r.target)) [
     | inl early ↦ elim (Contains-append_cases (explicit_roots w) (runtime_roots w) r early) as (λ _. IsTrue (has w r.target)) [
-      | inl here ↦ lasting r here
+      | inl here ↦ remaining r here
       | inr here ↦ runtimes r here
     ]
     | inr here ↦ temporaries r here
@@ -139,7 +139,7 @@ module _ (dir : List ℕ) (w : World) (sound : IsSound dir w) where
 pub targets_live : TargetsLive
 targets_live s w sound r c =
     let valid = target_valid s.store_dir w sound r c in
-    (valid, live_of s w r r.target c (record { valid = valid_is w r.target ∙ valid; behind = []; leads = refl }))
+    (valid, live_of s w r r.target c (record { valid = valid_is w r.target ∙ valid; steps = []; leads = refl }))
 
 -- ---- the first line of a listing
 

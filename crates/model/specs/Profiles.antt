@@ -6,10 +6,6 @@ use Rattle.std.specs.FinMap as finite
 use Rattle.paths.specs.Root.{bytes_cmp}
 use Rattle.model.specs.World.{Path, Pair, Profile, World}
 
--- the greatest number of a generation
-abbrev pub last_number : ℕ
-last_number = 9999
-
 abbrev pub new_profile : Profile
 new_profile = record { generations = finite.empty; current = 0 }
 

@@ -6,6 +6,7 @@ use Rattle.nar.specs.Archive.{IsArchive}
 use Rattle.paths.specs.Names.{is_plain_name}
 use Rattle.paths.specs.StorePath.{is_base_name, is_derivation}
 use Rattle.paths.specs.Root.{is_runtime_label, is_session}
+use Rattle.paths.specs.Decimal.{max_generation}
 use Rattle.paths.specs.ContentAddress.{ContentAddress, verifies}
 use Rattle.drv.specs.Outcome.{outputs_of}
 use Rattle.model.specs.World.{Path, Pair, Object, Profile, Temporary, World, has}
@@ -41,7 +42,7 @@ pub record IsSoundProfile (w : World) (owned : Pair) (p : Profile) : Type 0 wher
   pub current : IsTrue (finite.contains_key p.generations p.current)
   -- every generation is 1 to 9,999, and its target is an object
   pub lowest : (n : ℕ) → IsTrue (finite.contains_key p.generations n) → 1 ≤ n
-  pub highest : (n : ℕ) → IsTrue (finite.contains_key p.generations n) → n ≤ 9999
+  pub highest : (n : ℕ) → IsTrue (finite.contains_key p.generations n) → n ≤ max_generation
   pub targets : (n : ℕ) (t : Path) → finite.get p.generations n ≡ Some t → IsTrue (has w t)
 
 -- a world that is sound in a store directory

@@ -23,7 +23,8 @@ use Rattle.model.specs.declared.refusal.Refusal.{Refusal}
 use Rattle.model.specs.declared.refusal.Refusal.TheVariants.{TooLarge, CaMismatch, BadDerivation, NotValid, MissingReference, NarHashMismatch, SelfReference, NoRoot, NoProfile, NoGeneration, CurrentGeneration, NoOlderGeneration, GenerationLimit, TooManyReferences, BadRootName, BadLabel, BadSession}
 use Rattle.model.specs.Faults.{archive_refusal, derivation_refusal}
 use Rattle.model.specs.Adds.{added_import, text_archive_size}
-use Rattle.model.specs.Profiles.{last_number, profile_at, has_profile, has_generation, number_for, previous}
+use Rattle.model.specs.Profiles.{profile_at, has_profile, has_generation, number_for, previous}
+use Rattle.paths.specs.Decimal.{max_generation}
 
 -- a test: nothing, or the refusal
 abbrev pub unless : Bool → Refusal → Option Refusal
@@ -130,7 +131,7 @@ tests s w (drop_user_root owner name) =
 tests s w (set_profile owner name p) =
     unless (is_plain_name owner && is_plain_name name) BadRootName
     ∷ unless (has w p) NotValid
-    ∷ unless (nat_le (number_for (profile_at w (owner, name)) p) last_number) GenerationLimit
+    ∷ unless (nat_le (number_for (profile_at w (owner, name)) p) max_generation) GenerationLimit
     ∷ []
 tests s w (rollback owner name) =
     unless (is_plain_name owner && is_plain_name name) BadRootName

@@ -61,8 +61,8 @@ module _ (ps : List Part) (x : Symbol) (κ : List Symbol) (at : run start ps ≡
   pub begins_next : (p : Part) (σ : List Symbol) → AreBytes ps → IsBytes (spelled p) → consumed x p ≡ Some σ → Begins (ps ++ p ∷ [])
   begins_next p σ b c e = begins_from_run (ps ++ p ∷ []) (σ ++ κ) (bytes_more ps p b c) (next_run p ∙ ap (option_and_then (λ (v : List Symbol). Some (v ++ κ))) e)
 
-  pub taken_next : (p : Part) → Begins (ps ++ p ∷ []) → (σ : List Symbol) × (consumed x p ≡ Some σ)
-  taken_next p b =
+  pub stepped_next : (p : Part) → Begins (ps ++ p ∷ []) → (σ : List Symbol) × (consumed x p ≡ Some σ)
+  stepped_next p b =
       let a = run_from_begins (ps ++ p ∷ []) b in
       let c = and_then_some (consumed x p) (λ σ. Some (σ ++ κ)) a.0 (sym (next_run p) ∙ a.1) in
       (c.0, c.1)
@@ -224,9 +224,9 @@ module _ (ps : List Part) (b : AreBytes ps) where
   refused_plain : (x : Symbol) (κ : List Symbol) (s : List ℕ) (f : NarError) → IsPlain x → At x κ → cond (is_some (consumed x (other s))) (Ok (other s)) (Err BadTag) ≡ Err f → Refuses ps s f
   refused_plain x κ s f h at e =
       let a = plain_err (consumed x (other s)) (other s) BadTag f e in
-      let no_name : NameMayFollow ps → ⊥ = λ w. let t = taken_next ps x κ at (name w.0) w.1 in plain_no_name x w.0 t.0 h t.1 in
+      let no_name : NameMayFollow ps → ⊥ = λ w. let t = stepped_next ps x κ at (name w.0) w.1 in plain_no_name x w.0 t.0 h t.1 in
       let none_so : (p : Part) → spelled p ≡ s → Begins (ps ++ p ∷ []) → ⊥ = λ p is w.
-      let t = taken_next ps x κ at p w in
+      let t = stepped_next ps x κ at p w in
       let same : p ≡ other s = plain_takes_other x p t.0 h t.1 ∙ ap other is in
       let some : consumed x (other s) ≡ Some (t.0) = subst (λ (q : Part). consumed x q ≡ Some (t.0)) same t.1 in
       none_is_some t.0 (sym a.0 ∙ some) in
@@ -244,7 +244,7 @@ module _ (ps : List Part) (b : AreBytes ps) where
           | inl low ↦ absurd (let q : Ok (name s) ≡ Err f = low.1 in cc)
           | inr low ↦
               let no : Begins (ps ++ name s ∷ []) → ⊥ = λ w.
-              let t = taken_next ps (entry_name d last) κ at (name s) w in
+              let t = stepped_next ps (entry_name d last) κ at (name s) w in
               elim (chosen (is_name s && rises last s) (Some (after_name d s)) None (Some t.0) t.1) [
                 | inl c ↦ both_ways (rises last s) low.0 (and_parts (is_name s) (rises last s) c.0).1
                 | inr c ↦ none_is_some t.0 c.1
@@ -263,10 +263,10 @@ module _ (ps : List Part) (b : AreBytes ps) where
             subst (λ (g : NarError). Refuses ps s g) deep.1 (d, ltb-true 256 d deep.0, same_bytes s _ a.0, begins)
         | inr a ↦
             let no_name : NameMayFollow ps → ⊥ = λ w.
-            let t = taken_next ps (node_word d) κ at (name w.0) w.1 in
+            let t = stepped_next ps (node_word d) κ at (name w.0) w.1 in
             let q : name w.0 ≡ node d = node_takes_node d (name w.0) t.0 t.1 in absurd cc in
             let none_so : (p : Part) → spelled p ≡ s → Begins (ps ++ p ∷ []) → ⊥ = λ p is w.
-            let t = taken_next ps (node_word d) κ at p w in
+            let t = stepped_next ps (node_word d) κ at p w in
             let q : codes "node" ≡ s = sym (ap spelled (node_takes_node d p t.0 t.1)) ∙ is in
             both_ways (bytes_eq s (codes "node")) a.0 ((bytes_eq-Decides s (codes "node")).1 (sym q)) in
             subst (λ (g : NarError). Refuses ps s g) a.1 (no_name, none_so)
@@ -286,8 +286,8 @@ module _ (ps : List Part) (b : AreBytes ps) where
 module _ (ps : List Part) (x : Symbol) (κ : List Symbol) (at : run start ps ≡ Some (x ∷ κ)) (bytes : AreBytes ps) (s : List ℕ) where
   name_or_node : NameMayFollow ps → (d : ℕ) → Begins (ps ++ node d ∷ []) → ⊥
   name_or_node w d b =
-      let t = taken_next ps x κ at (name w.0) w.1 in
-      let u = taken_next ps x κ at (node d) b in
+      let t = stepped_next ps x κ at (name w.0) w.1 in
+      let u = stepped_next ps x κ at (node d) b in
       let n = is_name_symbol x w.0 t.0 t.1 in
       let one : x ≡ entry_name n.0 n.1 = n.2 in
       let two : x ≡ node_word d = is_node_symbol x d u.0 u.1 in
@@ -332,12 +332,12 @@ module _ (ps : List Part) (x : Symbol) (κ : List Symbol) (at : run start ps ≡
   passes_none : (e : NarError) (p : Part) → IsBytes s → check x s ≡ Ok p → Refuses ps s e → ⊥
   passes_none BadTag p sb ok a = let c = checked x s p ok in a.1 p c.same (begins_next ps x κ at p c.left bytes (subst IsBytes (sym c.same) sb) c.takes)
   passes_none BadName p sb ok a =
-      let t = taken_next ps x κ at (name a.0.0) a.0.1 in
+      let t = stepped_next ps x κ at (name a.0.0) a.0.1 in
       let n = is_name_symbol x a.0.0 t.0 t.1 in
       let here : check (entry_name n.0 n.1) s ≡ Ok p = subst (λ (y : Symbol). check y s ≡ Ok p) n.2 ok in
       a.1 (if_ok (is_name s) _ BadName p here).0
   passes_none NotSorted p sb ok a =
-      let t = taken_next ps x κ at (name a.0.0) a.0.1 in
+      let t = stepped_next ps x κ at (name a.0.0) a.0.1 in
       let n = is_name_symbol x a.0.0 t.0 t.1 in
       let here : check (entry_name n.0 n.1) s ≡ Ok p = subst (λ (y : Symbol). check y s ≡ Ok p) n.2 ok in
       let q = if_ok (is_name s) _ BadName p here in
@@ -345,7 +345,7 @@ module _ (ps : List Part) (x : Symbol) (κ : List Symbol) (at : run start ps ≡
       let takes : consumed (entry_name n.0 n.1) (name s) ≡ Some (after_name n.0 s) = rw (q.0, r.0) refl in
       a.2 (begins_next ps x κ at (name s) (after_name n.0 s) bytes sb (subst (λ (y : Symbol). consumed y (name s) ≡ Some (after_name n.0 s)) (sym n.2) takes))
   passes_none TooDeep p sb ok a =
-      let t = taken_next ps x κ at (node a.0) a.3 in
+      let t = stepped_next ps x κ at (node a.0) a.3 in
       let n = is_node_symbol x a.0 t.0 t.1 in
       let here : check (node_word (a.0)) s ≡ Ok p = subst (λ (y : Symbol). check y s ≡ Ok p) n ok in
       let q = if_ok (bytes_eq s (codes "node")) _ BadTag p here in

@@ -36,7 +36,7 @@ fn strings_of<'a>(
 ) -> Result<Place<'a>, NarError>
     ensures ok { IfOk result (λ x. (all : List ℕ) → Fed (symbols_of nest.old) room bytes.now all
         → Fed (symbols_of nest.new) x.room x.rest.now all × Waits (symbols_of nest.new) x.room x.rest.now) }
-    ensures behind { IfOk result (λ x. EndsIn bytes.now x.rest.now) }
+    ensures suffix { IfOk result (λ x. EndsIn bytes.now x.rest.now) }
     ensures err { IfErr result
         (λ e. IfFault e
         (λ f. (all : List ℕ) → Fed (symbols_of nest.old) room bytes.now all → IsFault all f × (f ≢ Truncated))) }
@@ -144,7 +144,7 @@ impl Progress {
     fn look<'a>(&mut self, bytes: &'a [u8]) -> Result<&'a [u8], NarError>
         ensures ok { IfOk result (λ rest. (all : List ℕ) → Fed (symbols_of self.old.nest) self.old.room bytes.now all
             → IsReachedBy self.new.count self.new.nest self.new.room rest.now all) }
-        ensures behind { IfOk result (λ rest. EndsIn bytes.now rest.now) }
+        ensures suffix { IfOk result (λ rest. EndsIn bytes.now rest.now) }
         ensures held { self.new.held ≡ self.old.held }
         ensures err { IfErr result
             (λ e. IfFault e

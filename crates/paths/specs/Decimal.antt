@@ -22,3 +22,19 @@ decimal_of text =
 -- the number of a text that writes one up to `most`; 0 for any other text
 abbrev pub number_up_to : ℕ → List ℕ → ℕ
 number_up_to most text = let n = unwrap_or (decimal_of text) 0 in if nat_le n most then n else 0
+
+-- the greatest number of a generation
+abbrev pub max_generation : ℕ
+max_generation = 9999
+
+-- the greatest number of a session
+abbrev pub max_session : ℕ
+max_session = 4194304
+
+-- the number of a generation that a text writes; 0, which no profile has, for any other text
+abbrev pub generation_number : List ℕ → ℕ
+generation_number text = number_up_to max_generation text
+
+-- the number of a session that a text writes; 0, which is no session's, for any other text
+abbrev pub session_number : List ℕ → ℕ
+session_number text = number_up_to max_session text

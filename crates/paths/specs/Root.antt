@@ -5,6 +5,7 @@ use Rattle.std.specs.declared.cmp.Ordering.{Ordering}
 use Rattle.std.specs.Ordering.{on, then_cmp, nat_cmp}
 use Rattle.std.specs.Cmp.Lexicographic.{slice_cmp}
 use Rattle.std.specs.FinMap as finite
+use Rattle.paths.specs.Decimal.{max_session}
 
 -- the order of bytes: that of names, of labels, and of paths by their base names
 abbrev pub bytes_cmp : List ℕ → List ℕ → Ordering
@@ -72,7 +73,7 @@ temporary_label session = codes "{temp:" ++ decimal session ++ codes "}"
 
 -- the number of a session: 1 to 4,194,304
 abbrev pub is_session : ℕ → Bool
-is_session n = nat_le 1 n && nat_le n 4194304
+is_session n = nat_le 1 n && nat_le n max_session
 
 -- a byte of a runtime label: it is printed, and isn't a space
 abbrev pub is_label_byte : ℕ → Bool

@@ -2,7 +2,7 @@
 #![tactic(auto)]
 
 ghost use Rattle.std.specs.Prelude.{◌≡◌, ◌==◌, ◌||◌, not, slice_index};
-ghost use Rattle.paths.specs.Decimal.{has_no_leading_zero, decimal_of, number_up_to};
+ghost use Rattle.paths.specs.Decimal.{has_no_leading_zero, decimal_of, number_up_to, generation_number, session_number};
 ghost use Rattle.paths.specs.Root.{is_session};
 
 /// The greatest number of a generation.
@@ -59,10 +59,10 @@ fn up_to(most: u64, text: &str) -> u64
 /// assert_eq!(rt; paths::numbers::generation("10000"), 0);
 /// assert_eq!(rt; paths::numbers::generation("01"), 0);
 /// ```
-pub fn generation(text: &str) -> u64
-    ensures { result ≡ number_up_to 9999 text.now }
+pub fn generation(text: &str) -> u32
+    ensures { result ≡ generation_number text.now }
 {
-    up_to(MAX_GENERATION as u64, text)
+    up_to(MAX_GENERATION as u64, text) as u32
 }
 
 /// The number of a session, 1 to 4,194,304. Any other text gives 0, which is no session's.
@@ -72,7 +72,7 @@ pub fn generation(text: &str) -> u64
 /// assert_eq!(rt; paths::numbers::session("4194305"), 0);
 /// ```
 pub fn session(text: &str) -> u64
-    ensures { result ≡ number_up_to 4194304 text.now }
+    ensures { result ≡ session_number text.now }
 {
     up_to(MAX_SESSION as u64, text)
 }

@@ -117,7 +117,7 @@ module _ (dir : List ℕ) (w : World) (sound : IsSound dir w) where
 
   until_runtime : (r : Root) → Contains (explicit_roots w ++ runtime_roots w) r → Unbroken r
   until_runtime r c = elim (Contains-append_cases (explicit_roots w) (runtime_roots w) r c) as (λ _. Unbroken r) [
-    | inl lasting ↦ elim (Contains-append_cases (map permanent_root (finite.entries w.permanent) ++ map user_root (finite.entries w.user_roots)) (flat_map generation_roots (finite.entries w.profiles)) r lasting) as (λ _. Unbroken r) [
+    | inl remaining ↦ elim (Contains-append_cases (map permanent_root (finite.entries w.permanent) ++ map user_root (finite.entries w.user_roots)) (flat_map generation_roots (finite.entries w.profiles)) r remaining) as (λ _. Unbroken r) [
       | inl named ↦ elim (Contains-append_cases (map permanent_root (finite.entries w.permanent)) (map user_root (finite.entries w.user_roots)) r named) as (λ _. Unbroken r) [
         | inl here ↦ permanents r here
         | inr here ↦ users r here

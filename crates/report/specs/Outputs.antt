@@ -63,5 +63,5 @@ abbrev pub Offers : List ℕ → Written → Type 0
 Offers text w = Gives text w ⊎ GivesOut text w
 
 -- memory ran out for a text, and standard error has a line on that
-abbrev pub LacksMemory : Written → Type 0
-LacksMemory w = Keeps w.output.old w.output.new × PrintsFailure Memory (on_errors w)
+abbrev pub RunsOutOfMemory : Written → Type 0
+RunsOutOfMemory w = Keeps w.output.old w.output.new × PrintsFailure Memory (on_errors w)

@@ -16,13 +16,13 @@ use streams::{Pieces, in_pieces};
 fn freed_pieces(
     alloc: Global,
     dir: &StoreDir,
-    gone: &[StorePath],
+    deleted: &[StorePath],
     bytes: u128,
 ) -> Result<Pieces, AllocError>
-    ensures { IfOk result (λ text. text ≡ spec.answer_text dir.now (freed gone.now bytes)) }
+    ensures { IfOk result (λ text. text ≡ spec.answer_text dir.now (freed deleted.now bytes)) }
 {
-    let mut text = paths_pieces(alloc, dir, gone)?;
-    let count = gone.len();
+    let mut text = paths_pieces(alloc, dir, deleted)?;
+    let count = deleted.len();
     let sum = format!(in alloc; "freed {count} paths {bytes} bytes\n")?;
     text.push(sum.as_str().as_bytes())?;
     Ok(text)

@@ -3,7 +3,7 @@ ghost use Rattle.std.specs.Prelude.{◌≡◌};
 ghost use Rattle.report.specs.Failures.{failure_line, of_store};
 ghost use Rattle.store_types.specs.View.{failure_view};
 
-use tables_sql::failure::Failure as StoreFailure;
+use tables_sql::failure::Failed;
 
 /// Why a command or a request has neither a result nor a refusal. Users see the word.
 #[derive(Clone, Copy, PartialEq, Eq, Debug)]
@@ -42,14 +42,14 @@ impl Failure {
     }
 }
 
-impl From<StoreFailure> for Failure {
+impl From<Failed> for Failure {
     ghost from_gives = { λ f failure. failure ≡ of_store (failure_view f) };
 
-    fn from(failure: StoreFailure) -> Failure {
+    fn from(failure: Failed) -> Failure {
         match failure {
-            StoreFailure::Memory => Failure::Memory,
-            StoreFailure::Size => Failure::Size,
-            StoreFailure::Disk => Failure::Disk,
+            Failed::Memory => Failure::Memory,
+            Failed::Size => Failure::Size,
+            Failed::Disk => Failure::Disk,
         }
     }
 }

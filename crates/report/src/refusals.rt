@@ -4,10 +4,10 @@ ghost use Rattle.report.specs.Refusals as spec;
 ghost use Rattle.report.specs.Stops.{failure_text};
 ghost use Rattle.store_types.specs.View.{failure_view};
 
-use crate::failures::Failure as Line;
+use crate::failures::Failure;
 use model::Refusal;
 use policy::KeyWord;
-use tables_sql::failure::Failure;
+use tables_sql::failure::Failed;
 
 /// The line of a refusal: its number and its name, for a configuration the key word, and a line feed.
 ///
@@ -85,8 +85,8 @@ fn bad_config_line(word: KeyWord) -> &'static str
 ///
 /// assert_eq!(rt; report::failure_line(Failed::Disk), "failed: disk\n");
 /// ```
-pub fn failure_line(failure: Failure) -> &'static str
+pub fn failure_line(failure: Failed) -> &'static str
     ensures { result.now ≡ failure_text (failure_view failure) }
 {
-    Line::from(failure).line()
+    Failure::from(failure).line()
 }

@@ -14,8 +14,8 @@ use Rattle.sqlite_trees.specs.declared.store.Store.{Ghosts}
 use Rattle.sqlite.specs.State.{State, HasCleanDisk}
 use Rattle.sqlite.specs.Held.{state}
 use Rattle.tables_sql.specs.Failures.{FailsToRead}
-use Rattle.tables_sql.specs.declared.failure.Failure.{Failure}
-use Rattle.tables_sql.specs.declared.failure.Failure.TheVariants.{Memory, Size, Disk}
+use Rattle.tables_sql.specs.declared.failure.Failed.{Failed}
+use Rattle.tables_sql.specs.declared.failure.Failed.TheVariants.{Memory, Size, Disk}
 use Rattle.policy.specs.Settings.{Settings}
 use Rattle.policy.specs.Caller.{Caller}
 use Rattle.model.specs.World.{Object, Path, World, has}
@@ -61,17 +61,17 @@ is_read : (t : Tree) (nar : List ℕ) → IsArchive t nar → outcome_of nar ≡
 is_read t nar a = (outcome_archive nar t (subst IsBytes (sym a.spells) (spelling_bytes (archive t) (archive_bytes t a.legal)))).1 a
 
 -- its archive is listed, unless memory runs out
-pub lists : {A : Type 0} (old new : State) (dir : List ℕ) (w : World) → IsSound dir w → (p : Path) → IsTrue (has w p) → (nar : List ℕ) → nar ≡ archive_at (finite.get w.objects p) → (r : Result A Failure)
+pub lists : {A : Type 0} (old new : State) (dir : List ℕ) (w : World) → IsSound dir w → (p : Path) → IsTrue (has w p) → (nar : List ℕ) → nar ≡ archive_at (finite.get w.objects p) → (r : Result A Failed)
     → IfErr r (λ f. FailsToList f (outcome_of nar)) → IfErr r (FailsToRead old new)
 lists {A} old new dir w sound p valid nar is r h = by (finite.get w.objects p) refl valid r h
   where
-    reported : (t : Tree) → outcome_of nar ≡ Ok t → (r : Result A Failure) → IfErr r (λ f. FailsToList f (outcome_of nar)) → IfErr r (FailsToRead old new)
+    reported : (t : Tree) → outcome_of nar ≡ Ok t → (r : Result A Failed) → IfErr r (λ f. FailsToList f (outcome_of nar)) → IfErr r (FailsToRead old new)
     reported t read (Ok text) h = tt
     reported t read (Err Memory) h = tt
     reported t read (Err Size) h = absurd h
     reported t read (Err Disk) h = absurd (subst (FailsToList Disk) read h)
 
-    by : (o : Option Object) → finite.get w.objects p ≡ o → IsTrue (is_some o) → (r : Result A Failure) → IfErr r (λ f. FailsToList f (outcome_of nar)) → IfErr r (FailsToRead old new)
+    by : (o : Option Object) → finite.get w.objects p ≡ o → IsTrue (is_some o) → (r : Result A Failed) → IfErr r (λ f. FailsToList f (outcome_of nar)) → IfErr r (FailsToRead old new)
     by None e v r h = absurd (false≢true v)
     by (Some o) e v r h =
         let object = sound.objects p o e in

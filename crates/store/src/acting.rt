@@ -9,7 +9,7 @@ ghost use Rattle.tables.specs.TablesValue.{HasWorld};
 ghost use Rattle.store_types.specs.Spent.{is_spent};
 ghost use Rattle.store_types.specs.View.{request_view, reply_view};
 ghost use Rattle.store_types.specs.declared.replies.Stop.TheVariants.{Failed as failed};
-ghost use Rattle.tables_sql.specs.declared.failure.Failure.TheVariants.{Memory as memory};
+ghost use Rattle.tables_sql.specs.declared.failure.Failed.TheVariants.{Memory as memory};
 ghost use Rattle.store_steps.specs.Meets.{IsMet, reply_to};
 
 use crate::{disk, living, reading, root_listing};

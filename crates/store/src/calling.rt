@@ -19,7 +19,7 @@ ghost use Rattle.store_steps.specs.Meets.{IsMet};
 ghost use Rattle.store_types.specs.Spent.{is_spent, spent_reply};
 ghost use Rattle.store_types.specs.View.{request_view, reply_view};
 ghost use Rattle.store_types.specs.declared.replies.Stop.TheVariants.{Failed as failed};
-ghost use Rattle.tables_sql.specs.declared.failure.Failure.TheVariants.{Memory as memory};
+ghost use Rattle.tables_sql.specs.declared.failure.Failed.TheVariants.{Memory as memory};
 ghost use Rattle.store.specs.View.{IsStill};
 
 use crate::acting::{act, reply};
@@ -30,7 +30,7 @@ use std::marker::Model;
 use store_removal::deleting::denial;
 use store_types::{Answer, Reply, Request, Stop, operation};
 use tables::Tables;
-use tables_sql::failure::Failure;
+use tables_sql::failure::Failed;
 
 /// A store. Contracts see it as its tables and its settings.
 pub struct Store<S: Alter> {
@@ -142,7 +142,7 @@ impl<S: Alter> Store<S> {
         ) {
             Ok(None) => None,
             Ok(Some(root)) => Some(Reply::Denied(Rule::Live, Some(root))),
-            Err(_) => Some(Reply::Failed(Failure::Memory)),
+            Err(_) => Some(Reply::Failed(Failed::Memory)),
         }
     }
 

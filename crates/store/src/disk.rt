@@ -27,7 +27,7 @@ use store_types::{Answer, Refusal, Stop};
 use streams::Pieces;
 use tables::Tables;
 use tables_outline::Outline;
-use tables_sql::failure::Failure;
+use tables_sql::failure::Failed;
 
 /// Tests a path whose archive is to be read.
 pub(crate) fn may_read(outline: &Outline, path: &StorePath) -> Result<(), Refusal>
@@ -39,20 +39,20 @@ pub(crate) fn may_read(outline: &Outline, path: &StorePath) -> Result<(), Refusa
 }
 
 /// The listing of an archive. `Disk` if the bytes aren't an archive, which only a faulty disk returns.
-pub(crate) fn list(alloc: Global, nar: &Pieces) -> Result<String, Failure>
+pub(crate) fn list(alloc: Global, nar: &Pieces) -> Result<String, Failed>
     ensures listing { IfOk result (λ text. string_bytes text ≡ listing_at (outcome_of nar.now)) }
     ensures failed { IfErr result (λ failure. FailsToList failure (outcome_of nar.now)) }
 {
     let mut text = String::new(alloc);
     match intake::list(alloc, nar, &mut text) {
         Ok(()) => Ok(text),
-        Err(NarError::Memory) => Err(Failure::Memory),
-        Err(_) => Err(Failure::Disk),
+        Err(NarError::Memory) => Err(Failed::Memory),
+        Err(_) => Err(Failed::Disk),
     }
 }
 
 /// The archive of a valid path. `Disk` if the tables have none, which only a faulty disk causes.
-fn read<S: Alter>(tables: &mut Tables<S>, path: &StorePath) -> Result<Pieces, Failure>
+fn read<S: Alter>(tables: &mut Tables<S>, path: &StorePath) -> Result<Pieces, Failed>
     ensures reads { OnlyReads S.Store tables.old tables.new }
     ensures archive { HasCleanDisk (state S.Store tables.new.connection) → IfOk result (λ nar. (w : World)
         → HasWorld S.Store tables.old w → nar ≡ archive_at (finite.get w.objects path.now)) }
@@ -60,7 +60,7 @@ fn read<S: Alter>(tables: &mut Tables<S>, path: &StorePath) -> Result<Pieces, Fa
         → FailsToAsk S.Store tables.old tables.new result }
 {
     let Some(nar) = tables.archive(path)? else {
-        return Err(Failure::Disk);
+        return Err(Failed::Disk);
     };
     Ok(nar)
 }
@@ -78,7 +78,7 @@ fn read_listing<S: Alter>(
     alloc: Global,
     tables: &mut Tables<S>,
     path: &StorePath,
-) -> Result<String, Failure>
+) -> Result<String, Failed>
     ensures reads { OnlyReads S.Store tables.old tables.new }
     ensures listing { HasCleanDisk (state S.Store tables.new.connection) → IfOk result (λ text. (w : World)
         → HasWorld S.Store tables.old w

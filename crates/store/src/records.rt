@@ -22,7 +22,7 @@ fn owned_paths(alloc: Global, paths: &[StorePath]) -> Result<Vec<StorePath>, All
 }
 
 /// An owned copy of a path, or `None` for `None`.
-fn kept_one(path: Option<&StorePath>) -> Result<Option<StorePath>, AllocError>
+fn owned_path(path: Option<&StorePath>) -> Result<Option<StorePath>, AllocError>
     ensures { IfOk result (λ p. p ≡ option_map (λ q. q.now) path.entry) }
 {
     match path {
@@ -40,7 +40,7 @@ pub(crate) fn record(alloc: Global, path: StorePath, object: &Summary) -> Result
         hash: *object.hash(),
         size: object.size(),
         references: owned_paths(alloc, object.references())?,
-        deriver: kept_one(object.deriver())?,
+        deriver: owned_path(object.deriver())?,
         ca: object.ca(),
     })
 }

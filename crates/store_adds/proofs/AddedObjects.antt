@@ -5,7 +5,7 @@ use Rattle.std.specs.FinMap as finite
 use Rattle.sqlite_trees.specs.declared.store.Store.{Ghosts}
 use Rattle.sqlite.specs.State.{HasCleanDisk, Survives}
 use Rattle.sqlite.specs.Held.{state}
-use Rattle.tables_sql.specs.declared.failure.Failure.{Failure}
+use Rattle.tables_sql.specs.declared.failure.Failed.{Failed}
 use Rattle.policy.specs.Settings.{Settings}
 use Rattle.policy.specs.Caller.{Caller}
 use Rattle.model.specs.World.{Path, World, has}
@@ -28,7 +28,7 @@ use Rattle.tables.specs.TablesValue.{TablesValue, HasWorld, LeavesWorld}
 use Rattle.store_types.specs.declared.replies.Answer.{Answer}
 use Rattle.store_types.specs.declared.replies.Answer.TheVariants.{Path as Placed}
 use Rattle.store_types.specs.declared.replies.Stop.{Stop}
-use Rattle.store_types.specs.declared.replies.Stop.TheVariants.{Refused, Failed}
+use Rattle.store_types.specs.declared.replies.Stop.TheVariants.{Refused, Failed as failing}
 use Rattle.store_steps.specs.Causes.{puts_rows, touches_disk}
 use Rattle.store_steps.specs.Meets.{MeetsOver, IsMet}
 use Rattle.store_adds.specs.Adding.{Adds, IsAdded}
@@ -46,8 +46,8 @@ module _ {S : Type 0} (g : Ghosts S) (path : Path) (o : Outlined) (k : TablesVal
   abbrev put : List ℕ → World → World
   put nar w = record w { objects = finite.insert w.objects path (with_archive nar o) }
 
-  valid_told : (b : Bool) → finite.contains_key k.outline.objects path ≡ b → (w : World) → HasWorld g k w → has w path ≡ b
-  valid_told b e w t = sym (has_outlined w path) ∙ ap (λ (x : OutlineValue). finite.contains_key x.objects path) t.outline ∙ e
+  valid_reported : (b : Bool) → finite.contains_key k.outline.objects path ≡ b → (w : World) → HasWorld g k w → has w path ≡ b
+  valid_reported b e w t = sym (has_outlined w path) ∙ ap (λ (x : OutlineValue). finite.contains_key x.objects path) t.outline ∙ e
 
   -- its path is valid already
   pub added_present : (nar : List ℕ) → finite.contains_key k.outline.objects path ≡ true → IsAdded g (it nar) (Ok (Placed path)) k k
@@ -55,7 +55,7 @@ module _ {S : Type 0} (g : Ghosts S) (path : Path) (o : Outlined) (k : TablesVal
     dir = refl;
     cause = λ q touches puts. tt;
     others = others_still g k;
-    world = λ w t. (refl, subst (λ (v : World). HasWorld g k v) (sym (ap (λ b. if b then w else put nar w) (valid_told true e w t))) t);
+    world = λ w t. (refl, subst (λ (v : World). HasWorld g k v) (sym (ap (λ b. if b then w else put nar w) (valid_reported true e w t))) t);
     unrefused = λ h. h;
     stays_durable = λ _. stays_durable_still g k;
     survives = λ w t. survives_still (state g k.connection) _;
@@ -63,7 +63,7 @@ module _ {S : Type 0} (g : Ghosts S) (path : Path) (o : Outlined) (k : TablesVal
 
   module _ (nar read : List ℕ) (same : read ≡ nar) (absent : finite.contains_key k.outline.objects path ≡ false) where
     grown : (w : World) → HasWorld g k w → with_object w (it nar) ≡ put read w
-    grown w t = ap (λ b. if b then w else put nar w) (valid_told false absent w t) ∙ ap (λ n. put n w) (sym same)
+    grown w t = ap (λ b. if b then w else put nar w) (valid_reported false absent w t) ∙ ap (λ n. put n w) (sym same)
 
     pub sound_put : ((w : World) → HasWorld g k w → IsSound k.dir (with_object w (it nar))) → (w : World) → HasWorld g k w → IsSound k.dir (put read w)
     sound_put sound w t = subst (λ (v : World). IsSound k.dir v) (grown w t) (sound w t)
@@ -87,8 +87,8 @@ module _ {S : Type 0} (g : Ghosts S) (path : Path) (o : Outlined) (k : TablesVal
       }
 
       -- the call failed
-      pub added_not : (f : Failure) → CommitsChange g k new (unwritten f) (put read) → (rows : Rows) → FailsToChange g k new (unwritten f) rows
-          → IsAdded g (it nar) (Err (Failed f)) k new
+      pub added_not : (f : Failed) → CommitsChange g k new (unwritten f) (put read) → (rows : Rows) → FailsToChange g k new (unwritten f) rows
+          → IsAdded g (it nar) (Err (failing f)) k new
       added_not f frame rows cause = record {
         dir = frame.dir;
         world = frame.failed;
@@ -122,7 +122,7 @@ met_by_adding g s c q r k new a asked gives effect_is answer_is touches puts add
     by : (w : World) → HasWorld g k w → (x : Result Answer Stop) → Adds g a x w new → (next : World) × MeetsOver (HasCleanDisk (state g new.connection)) s w c q x next × HasWorld g new next
     by w t (Ok x) h =
         (effect s w q, ((gives w t.outline).0, λ _. h.0 ∙ ap (λ (y : Added). replied.path y.path) (gives w t.outline).1 ∙ sym (answer_is w), refl), subst (λ (v : World). HasWorld g new v) (becomes w t) h.1)
-    by w t (Err (Failed f)) h = (w, refl, h)
+    by w t (Err (failing f)) h = (w, refl, h)
     by w t (Err (Refused x)) h = absurd h
 
 -- ---- texts

@@ -3,7 +3,7 @@
 ghost use Rattle.std.specs.Prelude.{◌≡◌, IfOk, IfErr, None};
 ghost use Rattle.nar.specs.Outcome.{outcome_of};
 ghost use Rattle.model.specs.Tests.{archive_fault};
-ghost use Rattle.tables_sql.specs.declared.failure.Failure.TheVariants.{Memory as memory};
+ghost use Rattle.tables_sql.specs.declared.failure.Failed.TheVariants.{Memory as memory};
 ghost use Rattle.store_types.specs.declared.replies.Stop.TheVariants.{Failed as failed};
 ghost use Rattle.intake.specs.Arriving.{bytes_in};
 ghost use Rattle.intake.specs.Described.{DescribesBytes};

@@ -10,7 +10,7 @@ ghost use Rattle.model.specs.Adds.{added_import};
 ghost use Rattle.model.specs.Tests as tests;
 ghost use Rattle.model.specs.Tests.{unless};
 ghost use Rattle.store_types.specs.Tested.{Passes, Tested};
-ghost use Rattle.tables_sql.specs.declared.failure.Failure.TheVariants.{Memory as memory};
+ghost use Rattle.tables_sql.specs.declared.failure.Failed.TheVariants.{Memory as memory};
 ghost use Rattle.store_types.specs.declared.replies.Stop.TheVariants.{Failed as failed};
 ghost use Rattle.intake.specs.Described.{DescribesBytes};
 ghost use Rattle.store_adds.specs.Delivered.{delivered_view};
@@ -22,7 +22,7 @@ use intake::Arrived;
 use paths::{Ca, StoreDir, StorePath, VerifyError};
 use std::alloc::Global;
 use store_types::{Imported, Refusal, Stop};
-use tables_sql::failure::Failure;
+use tables_sql::failure::Failed;
 
 fn is_same(a: &[u8], b: &[u8]) -> bool
     ensures { result ≡ same a.now b.now }
@@ -131,7 +131,7 @@ impl Delivered {
         match ca.verify_facts(alloc, dir, &self.path, &self.refs, &facts) {
             Ok(()) => Ok(true),
             Err(VerifyError::CaMismatch) => Ok(false),
-            Err(VerifyError::Memory) => Err(Stop::Failed(Failure::Memory)),
+            Err(VerifyError::Memory) => Err(Stop::Failed(Failed::Memory)),
         }
     }
 }

@@ -10,7 +10,7 @@ ghost use Rattle.model.specs.Tests.{first_failing, import_tests};
 ghost use Rattle.store_types.specs.Tested.{Gives};
 ghost use Rattle.intake.specs.Recorded.{outputs_view};
 ghost use Rattle.store_adds.specs.Parts.{added_view};
-ghost use Rattle.tables_sql.specs.declared.failure.Failure.TheVariants.{Memory as memory};
+ghost use Rattle.tables_sql.specs.declared.failure.Failed.TheVariants.{Memory as memory};
 ghost use Rattle.store_types.specs.declared.replies.Stop.TheVariants.{Failed as failed};
 ghost use Rattle.intake.specs.Described.{DescribesBytes};
 ghost use Rattle.store_adds.specs.Delivered.{delivered_view};

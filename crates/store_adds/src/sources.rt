@@ -8,7 +8,7 @@ ghost use Rattle.tables_outline.specs.Outline.{outline_of};
 ghost use Rattle.model.specs.Adds.{added_source};
 ghost use Rattle.model.specs.Tests.{first_failing, source_tests};
 ghost use Rattle.intake.specs.Arriving.{bytes_in};
-ghost use Rattle.tables_sql.specs.declared.failure.Failure.TheVariants.{Memory as memory};
+ghost use Rattle.tables_sql.specs.declared.failure.Failed.TheVariants.{Memory as memory};
 ghost use Rattle.store_types.specs.declared.replies.Stop.TheVariants.{Failed as failed};
 ghost use Rattle.intake.specs.Described.{DescribesBytes};
 ghost use Rattle.store_types.specs.Tested.{Gives};

@@ -19,17 +19,17 @@ pub living_left : (s : Settings) (w : World) (dead : List Path) → dead ≡ dea
 living_left s w dead are = ap (without w) are ∙ ap (λ (m : Objects). record w { objects = m }) (with_chosen w.objects (lives s w))
 
 -- without what is collected that is left which a collection leaves
-pub collected_left : (s : Settings) (w : World) (ignores : Bool) (limit : Option ℕ) (gone : List Path) → gone ≡ collected_paths s w limit → without w gone ≡ effect s w (collect ignores limit)
-collected_left s w ignores None gone are = living_left s w gone are
-collected_left s w ignores (Some limit) gone are = ap (without w) are
+pub collected_left : (s : Settings) (w : World) (ignores : Bool) (limit : Option ℕ) (found : List Path) → found ≡ collected_paths s w limit → without w found ≡ effect s w (collect ignores limit)
+collected_left s w ignores None found are = living_left s w found are
+collected_left s w ignores (Some limit) found are = ap (without w) are
 
 pub sound_left : (s : Settings) (w : World) (ignores : Bool) (limit : Option ℕ) (dir : List ℕ) → IsSound dir w → IsSound dir (effect s w (collect ignores limit))
 sound_left s w ignores None dir sound = collected_sound s w dir sound
 sound_left s w ignores (Some limit) dir sound = limited_sound s w dir sound limit
 
 -- without the deleted those are left that don't go with the named
-pub others_left : (w : World) (named gone : List Path) → gone ≡ deleted_paths w named → without w gone ≡ keeping w (λ p. not (is_deleted_with w named p))
-others_left w named gone are = ap (without w) are ∙ ap (λ (m : Objects). record w { objects = m }) (without_chosen w.objects (is_deleted_with w named))
+pub others_left : (w : World) (named found : List Path) → found ≡ deleted_paths w named → without w found ≡ keeping w (λ p. not (is_deleted_with w named p))
+others_left w named found are = ap (without w) are ∙ ap (λ (m : Objects). record w { objects = m }) (without_chosen w.objects (is_deleted_with w named))
 
 -- where the named are dead, the world is sound without them and all that refer to them
 pub deleted_sound : (s : Settings) (w : World) (named : List Path) → list_any (lives s w) named ≡ false → (dir : List _) → IsSound dir w → IsSound dir (keeping w (λ p. not (is_deleted_with w named p)))

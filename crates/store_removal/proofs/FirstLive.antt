@@ -96,15 +96,15 @@ module _ (s : Settings) (w : World) where
 
 module _ (s : Settings) (o : OutlineValue) (keep : Keep) (rows : List Row) (valid : List Root) (kept : keep ≡ keep_of s) (is : rows ≡ rows_in o) (same : valid ≡ filter (aims_well o) (roots_of (rooted o)))
     (w : World) (reported : outline_of w ≡ o) where
-  first_told : (p : Path) → first_root keep (graph_of rows) valid p ≡ first_root_of s w p
-  first_told p =
+  first_reported : (p : Path) → first_root keep (graph_of rows) valid p ≡ first_root_of s w p
+  first_reported p =
       let test : Root → Bool = λ r. reaches keep (graph_of rows) r.target p in
       ap (find test) (in_order_is valid (valid_rise o rows is valid same)) ∙ sym (first_found test valid)
       ∙ ap (λ (rs : List Root). slice_get rs 0) (keeping_reported s o keep rows valid p p kept is same refl w reported) ∙ sym (first_keeping s w p)
 
   exactly : (m : Marking) → IsExact keep rows valid m → AreMarked rows m (root_at valid) (first_root_of s w)
   exactly m exact = record {
-    present = λ i l. sym (exact.first i l ∙ first_told _);
+    present = λ i l. sym (exact.first i l ∙ first_reported _);
     nowhere = λ p none. first_keeping s w p ∙ ap (λ (rs : List Root). slice_get rs 0) (sym (none_kept s o rows p is none w reported));
   }
 

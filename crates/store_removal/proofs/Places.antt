@@ -1,18 +1,14 @@
 -- Paths among rows, and what reaches one.
-use Rattle.std.proofs.Common.{◌≡◌, ℕ, ◌+◌, ◌<◌, ◌≤◌, Bool, true, false, cond, ◌||◌, List, [], ◌∷◌, ◌++◌, length, get_or, take, refl, sym, ap, ◌∙◌, arith}
+use Rattle.std.proofs.Common.{◌≡◌, Bool, true, false, cond, ◌||◌, List, [], ◌∷◌, refl, sym, ap, ◌∙◌}
 use Rattle.std.specs.Prelude.{filter, if◌then◌else◌}
 use Rattle.std.specs.List.{list_any}
 use Rattle.std.specs.FinMap as finite
 use Rattle.std.proofs.lemmas.Bool.{false≢true, false_from_ne_true}
-use Rattle.std.proofs.lemmas.List.{length-map, take_all}
-use Rattle.std.proofs.lemmas.List.Elements.{filter_more}
 use Rattle.paths.specs.Root.{Root}
 use Rattle.live.specs.Graph.{Keep, same}
-use Rattle.live.specs.Arguments.{row_view, rows_view}
 use Rattle.live.specs.Live.{roots_that_reach}
-use Rattle.live.specs.Numbering.{Row, graph_of, path_at, paths_of}
+use Rattle.live.specs.Numbering.{Row, graph_of, paths_of}
 use Rattle.live.specs.Reach.{reaches}
-use Rattle.live.specs.declared.numbered.rows.Row.{Row as Handed}
 use Rattle.live.proofs.Reach.{decided, end_valid}
 use Rattle.policy.specs.Settings.{Settings}
 use Rattle.policy.specs.Rules.{is_trusted}
@@ -20,38 +16,14 @@ use Rattle.policy.specs.declared.kinds.Class.{Class}
 use Rattle.model.specs.World.{Pair, Path, World, roots_of}
 use Rattle.tables_outline.specs.Outline.{OutlineValue, outline_of}
 use Rattle.tables_outline.proofs.Orders.{bytes_total, bytes_antisymmetric}
-use Rattle.tables_outline.proofs.Puts.{tied_is}
 use Rattle.tables_outline.proofs.Reported.{has-reported}
 use Rattle.model.specs.Liveness.{keep_of, roots_that_keep}
 use Rattle.model.specs.Seen.{each_once, seen}
 use Rattle.store_removal.specs.Linked.{links_in, rows_in}
 use Rattle.tables_root_list.specs.Rooted.{rooted}
-use Rattle.store_removal.proofs.Marked.{row_path}
 use Rattle.store_removal.proofs.Rising.{paths_in}
 use Rattle.store_removal.proofs.Reported.{graph_reported, roots_reported}
 use Rattle.store_removal.proofs.Valid.{aims_well, filter_kept, reaches_from_valid}
-
--- ---- the search for a path
-
-module _ (rows : List Handed) (i : ℕ) (h : i < length rows) (p : Path) (r : Handed) where
-  pub found_here : same p (get_or rows i r).path.now ≡ true → (i < length rows) × (path_at (rows_view rows) i ≡ p)
-  found_here e = (h, row_path rows i h r ∙ sym (tied_is bytes_antisymmetric p (get_or rows i r).path.now e))
-
-  pub not_here : same p (get_or rows i r).path.now ≡ false → filter (same p) (take i (paths_of (rows_view rows))) ≡ [] → filter (same p) (take (i + 1) (paths_of (rows_view rows))) ≡ []
-  not_here e before =
-      filter_more (same p) (paths_of (rows_view rows)) i [] below ∙ (λ j. before j ++ cond (misses j) (get_or (paths_of (rows_view rows)) i [] ∷ []) [])
-    where
-      below : i < length (paths_of (rows_view rows))
-      below =
-          let a = length-map rows row_view in
-          let b = length-map (rows_view rows) (λ (x : Row). x.0) in
-          omega (arith, h, a, b)
-
-      misses : same p (get_or (paths_of (rows_view rows)) i []) ≡ false
-      misses = ap (same p) (row_path rows i h r) ∙ e
-
-pub nowhere : (rows : List Handed) (n : ℕ) → length rows ≤ n → (p : Path) → filter (same p) (take n (paths_of (rows_view rows))) ≡ [] → filter (same p) (paths_of (rows_view rows)) ≡ []
-nowhere rows n h p none = ap (filter (same p)) (sym (take_all n (paths_of (rows_view rows)) (let a = length-map rows row_view in let b = length-map (rows_view rows) (λ (x : Row). x.0) in omega (arith, h, a, b)))) ∙ none
 
 -- ---- a path that isn't valid
 

@@ -6,7 +6,7 @@ use Rattle.std.specs.FinMap as finite
 use Rattle.std.proofs.lemmas.Bool.{false≢true}
 use Rattle.sqlite_trees.specs.declared.store.Store.{Ghosts}
 use Rattle.sqlite.specs.Held.{state}
-use Rattle.tables_sql.specs.declared.failure.Failure.{Failure}
+use Rattle.tables_sql.specs.declared.failure.Failed.{Failed}
 use Rattle.live.specs.Graph.{holds}
 use Rattle.policy.specs.Settings.{Settings}
 use Rattle.policy.specs.Caller.{Caller}
@@ -36,10 +36,10 @@ positive (x ∷ xs) h = omega arith
 none_deleted : (objects : Objects) → finite.retain_keys objects (λ p. not (holds [] p)) ≡ objects
 none_deleted objects = finite.same_map nat_list_cmp_total bytes_antisymmetric _ _ (λ q. get-keeping objects (λ p. not (holds [] p)) q)
 
-module _ {S : Type 0} (g : Ghosts S) (s : Settings) (c : Caller) (q : Request) (k : TablesValue S) (gone : List Path) (bytes : ℕ) (a : Answer) (seen : answer_view a ≡ freed gone bytes)
-    (removes : (w : World) → outline_of w ≡ k.outline → Removes s w c q gone bytes) where
+module _ {S : Type 0} (g : Ghosts S) (s : Settings) (c : Caller) (q : Request) (k : TablesValue S) (found : List Path) (bytes : ℕ) (a : Answer) (seen : answer_view a ≡ freed found bytes)
+    (removes : (w : World) → outline_of w ≡ k.outline → Removes s w c q found bytes) where
   -- nothing goes
-  pub met_by_none : gone ≡ [] → IsMet g s c q (Ok a) k k
+  pub met_by_none : found ≡ [] → IsMet g s c q (Ok a) k k
   met_by_none none = record {
     dir = refl;
     world = λ w t.
@@ -53,7 +53,7 @@ module _ {S : Type 0} (g : Ghosts S) (s : Settings) (c : Caller) (q : Request) (
   }
 
   -- these go
-  pub met_by_removing : (new : TablesValue S) (handed : List Path) → handed ≡ gone → (r : Result (Unit {0}) Failure) → CommitsChange g k new r (λ w. without w handed)
+  pub met_by_removing : (new : TablesValue S) (handed : List Path) → handed ≡ found → (r : Result (Unit {0}) Failed) → CommitsChange g k new r (λ w. without w handed)
       → HasCause g q (reply_to (answered r a)) k new → IsMet g s c q (answered r a) k new
   met_by_removing new handed same =
       met_by_writing g s c q k new (λ w. without w handed) a (λ w is. (removes w is).passes) (λ w is. seen ∙ (removes w is).answers) (λ w is. ap (without w) same ∙ (removes w is).becomes)

@@ -3,7 +3,8 @@ use Rattle.std.specs.Prelude.{Bool, not, if◌then◌else◌, List, map}
 use Rattle.std.specs.FinMap as finite
 use Rattle.live.specs.Graph.{Links}
 use Rattle.live.specs.Live.{is_live}
-use Rattle.live.specs.Numbering.{Row, graph_of}
+use Rattle.live.specs.Numbering.{AllValid, Rise, RootsRise, Row, graph_of, paths_of}
+use Rattle.paths.specs.Root.{Root}
 use Rattle.policy.specs.Settings.{Settings}
 use Rattle.model.specs.World.{Path, roots_of}
 use Rattle.tables_outline.specs.Outline.{OutlineValue, Outlined}
@@ -20,6 +21,12 @@ row_in e = (e.0, links_in e.1)
 -- the valid paths, each with what its object points to
 abbrev pub rows_in : OutlineValue → List Row
 rows_in o = map row_in (finite.entries o.objects)
+
+-- the paths of rows rise, roots rise, and each root's target is the path of a row
+pub record AreListed (at : List Row) (of : List Root) : Type 0 where
+  pub rows : Rise (paths_of at)
+  pub roots : RootsRise of
+  pub targets : AllValid at of
 
 -- whether some root reaches a path
 abbrev pub lives_in : Settings → OutlineValue → Path → Bool

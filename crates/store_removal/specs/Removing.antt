@@ -12,11 +12,12 @@ use Rattle.model.specs.Answers.{answer}
 
 -- the world without the objects of these paths
 abbrev pub without : World → List Path → World
-without w gone = keeping w (λ p. not (holds gone p))
+without w removed = keeping w (λ p. not (holds removed p))
 
 -- No test of a request fails. The request deletes these paths, its answer is the paths and the sum of their bytes, and
 -- nothing else changes.
-pub record Removes (s : Settings) (w : World) (c : Caller) (q : Request) (gone : List Path) (bytes : ℕ) : Type 0 where
+pub record Removes (s : Settings) (w : World) (c : Caller) (q : Request) (removed : List Path) (bytes : ℕ)
+    : Type 0 where
   pub passes : refusal s w q ≡ None
-  pub answers : freed gone bytes ≡ answer s w c q
-  pub becomes : without w gone ≡ effect s w q
+  pub answers : freed removed bytes ≡ answer s w c q
+  pub becomes : without w removed ≡ effect s w q

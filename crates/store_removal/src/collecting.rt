@@ -5,7 +5,7 @@ ghost use Rattle.std.specs.List.{slice_index};
 ghost use Rattle.live.specs.Arguments.{rows_view, roots_view};
 ghost use Rattle.live.specs.Keeping.{keep_view};
 ghost use Rattle.live.specs.Live.{is_live};
-ghost use Rattle.live.specs.Numbering.{AllValid, Rise, RootsRise, graph_of, path_at, paths_of};
+ghost use Rattle.live.specs.Numbering.{graph_of, path_at};
 ghost use Rattle.model.specs.World.{Path, World};
 ghost use Rattle.tables_outline.specs.Outline.{outline_of};
 ghost use Rattle.store_removal.specs.Sizes.{size_in};
@@ -14,6 +14,7 @@ ghost use Rattle.store_steps.specs.Meets.{IsMet};
 ghost use Rattle.live.specs.Limited as limits;
 ghost use Rattle.model.specs.Liveness as spec;
 ghost use Rattle.model.specs.Request as asked;
+ghost use Rattle.store_removal.specs.Linked.{AreListed};
 
 use crate::borrowing::{borrowed_roots, of_valid};
 use crate::deleting::paths_at;
@@ -51,9 +52,7 @@ fn places(
     sizes: &[u64],
     limit: u64,
 ) -> Result<Vec<usize>, AllocError>
-    requires rows { Rise (paths_of (rows_view rows.now)) }
-    requires roots { RootsRise (roots_view roots.now) }
-    requires targets { AllValid (rows_view rows.now) (roots_view roots.now) }
+    requires listed { AreListed (rows_view rows.now) (roots_view roots.now) }
     requires sizes { length sizes.now ≡ length rows.now }
     ensures inside { IfOk result
         (λ v. (size : Path → ℕ)
@@ -69,8 +68,8 @@ fn places(
     let graph = Graph::new(alloc, rows)?;
     let aims = Roots::new(alloc, rows, roots)?;
     let marks = mark(alloc, &graph, &aims, keep)?;
-    let going = limited(alloc, &graph, &marks, sizes, limit)?;
-    Ok(going)
+    let deleted = limited(alloc, &graph, &marks, sizes, limit)?;
+    Ok(deleted)
 }
 
 /// The paths that a collection up to a limit removes, in order.
@@ -137,6 +136,6 @@ pub fn collect<S: Alter>(
 ) -> Result<Answer, Stop>
     ensures { (c : Caller) → IsMet S.Store config.now c (asked.collect ignores limit) result tables.old tables.new }
 {
-    let gone = find_collected(alloc, config, tables.outline(), limit)?;
-    remove(tables, gone)
+    let found = find_collected(alloc, config, tables.outline(), limit)?;
+    remove(tables, found)
 }

@@ -24,10 +24,9 @@ ghost use Rattle.model.specs.Request as asked;
 
 use crate::keeping::first_live;
 use crate::linking::rows;
-use crate::reaching::place_of;
 use crate::removing::{Found, remove};
 use crate::sizes::bytes_in;
-use live::{Graph, Row, referrers};
+use live::{Graph, Row, place_of, referrers};
 use paths::StorePath;
 use policy::{Caller, Config, class};
 use sqlite::Alter;
@@ -39,6 +38,7 @@ use tables_outline::Outline;
 
 /// The places of those of some paths that are rows'.
 fn places(alloc: Global, rows: &[Row], named: &[StorePath]) -> Result<Vec<usize>, AllocError>
+    requires { Rise (paths_of (rows_view rows.now)) }
     ensures inside { IfOk result (λ v. All (λ k. k < length rows.now) v.items) }
     // A test that none but a row's path passes, passes for one of them if it does for one of the paths.
     ensures those { IfOk result
@@ -77,8 +77,8 @@ fn referring(alloc: Global, rows: &[Row], places: &[usize]) -> Result<Vec<StoreP
         (paths_of (rows_view rows.now))) }
 {
     let graph = Graph::new(alloc, rows)?;
-    let going = referrers(alloc, &graph, places)?;
-    paths_at(alloc, rows, &going)
+    let deleted = referrers(alloc, &graph, places)?;
+    paths_at(alloc, rows, &deleted)
 }
 
 /// The named paths that are valid and all that reach one by references, named or not, in order.
@@ -141,6 +141,6 @@ pub fn delete<S: Alter>(
     ensures { (s : Settings) (c : callers.Caller)
         → IsMet S.Store s c (asked.delete named.items ignores) result tables.old tables.new }
 {
-    let gone = find_deleted(alloc, tables.outline(), &named)?;
-    remove(tables, gone)
+    let found = find_deleted(alloc, tables.outline(), &named)?;
+    remove(tables, found)
 }

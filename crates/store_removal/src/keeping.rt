@@ -4,6 +4,7 @@ ghost use Rattle.std.specs.Prelude.{◌≡◌, ◌<◌, ℕ, IfOk, IfSome, Optio
 ghost use Rattle.std.specs.List.{list_any};
 ghost use Rattle.paths.specs.Root.{Root as TheRoot};
 ghost use Rattle.live.specs.Arguments.{rows_view};
+ghost use Rattle.live.specs.Numbering.{Rise, paths_of};
 ghost use Rattle.model.specs.World.{Path, World};
 ghost use Rattle.tables_outline.specs.Maps.{labelled_bytes};
 ghost use Rattle.tables_outline.specs.Outline.{outline_of};
@@ -15,9 +16,8 @@ ghost use Rattle.store_removal.specs.Keeping.{AreMarked, first_value};
 use crate::borrowing::{borrowed_roots, of_valid};
 use crate::linking::rows;
 use crate::living::{keep_of, marks};
-use crate::reaching::place_of;
 use crate::seen::seen_root;
-use live::{Marks, Row};
+use live::{Marks, Row, place_of};
 use paths::StorePath;
 use policy::{Class, Config};
 use std::alloc::{AllocError, Global};
@@ -26,7 +26,8 @@ use tables_root_list::root_list;
 
 /// The place of the first root of a path, by the marks of the rows.
 fn mark_of(rows: &[Row], marks: &Marks, path: &StorePath) -> Option<usize>
-    requires { length marks.now.first ≡ length rows.now }
+    requires rise { Rise (paths_of (rows_view rows.now)) }
+    requires marks { length marks.now.first ≡ length rows.now }
     ensures inside { IfSome result (λ k. k < marks.now.none) }
     ensures root { (root : ℕ → TheRoot) (root_of : Path → Option TheRoot)
         → AreMarked (rows_view rows.now) marks.now root root_of → option_map root result ≡ root_of path.now }
@@ -39,7 +40,8 @@ fn mark_of(rows: &[Row], marks: &Marks, path: &StorePath) -> Option<usize>
 
 /// The place of the first root of the first of some paths that has one, by the marks of the rows.
 fn first_mark(rows: &[Row], marks: &Marks, named: &[StorePath]) -> Option<usize>
-    requires { length marks.now.first ≡ length rows.now }
+    requires rise { Rise (paths_of (rows_view rows.now)) }
+    requires marks { length marks.now.first ≡ length rows.now }
     ensures inside { IfSome result (λ k. k < marks.now.none) }
     ensures root { (root : ℕ → TheRoot) (root_of : Path → Option TheRoot)
         → AreMarked (rows_view rows.now) marks.now root root_of

@@ -7,11 +7,11 @@ ghost use Rattle.live.specs.Exact.{IsExact};
 ghost use Rattle.live.specs.Arguments.{rows_view, roots_view};
 ghost use Rattle.live.specs.Keeping.{keep_view};
 ghost use Rattle.live.specs.Marking.{first_of};
-ghost use Rattle.live.specs.Numbering.{AllValid, Rise, RootsRise, paths_of};
+ghost use Rattle.live.specs.Numbering.{paths_of};
 ghost use Rattle.model.specs.World.{World, Path};
 ghost use Rattle.tables_outline.specs.Outline.{outline_of};
 ghost use Rattle.model.specs.Liveness as spec;
-ghost use Rattle.store_removal.specs.Linked.{is_wanted, lives_in, rows_in};
+ghost use Rattle.store_removal.specs.Linked.{AreListed, is_wanted, lives_in, rows_in};
 
 use crate::borrowing::{borrowed_roots, of_valid};
 use crate::linking::rows;
@@ -39,9 +39,7 @@ pub(crate) fn marks(
     rows: &[Row],
     roots: &[Root],
 ) -> Result<Marks, AllocError>
-    requires rows { Rise (paths_of (rows_view rows.now)) }
-    requires roots { RootsRise (roots_view roots.now) }
-    requires targets { AllValid (rows_view rows.now) (roots_view roots.now) }
+    requires { AreListed (rows_view rows.now) (roots_view roots.now) }
     ensures exact { IfOk result (IsExact (keep_view keep) (rows_view rows.now) (roots_view roots.now)) }
     ensures roots { IfOk result (λ m. m.none ≡ length roots.now) }
 {

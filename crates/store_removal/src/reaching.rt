@@ -1,7 +1,6 @@
 //! Which roots reach a path.
 
-ghost use Rattle.std.specs.Prelude.{◌≡◌, ◌<◌, All, [], IfNone, IfOk, IfSome, filter, length, map};
-ghost use Rattle.live.specs.Graph.{same};
+ghost use Rattle.std.specs.Prelude.{◌≡◌, ◌<◌, All, IfOk, length, map};
 ghost use Rattle.live.specs.Arguments.{roots_view, rows_view};
 ghost use Rattle.live.specs.Live.{roots_that_reach};
 ghost use Rattle.live.specs.Keeping.{keep_view};
@@ -16,25 +15,12 @@ use crate::borrowing::{borrowed_roots, of_valid};
 use crate::linking::rows;
 use crate::living::keep_of;
 use crate::seen::seen;
-use live::{Graph, Keep, Root, Roots, Row, roots_of};
+use live::{Graph, Keep, Root, Roots, Row, place_of, roots_of};
 use paths::StorePath;
 use policy::{Class, Config};
 use std::alloc::{AllocError, Global};
 use tables_outline::Outline;
 use tables_root_list::root_list;
-
-/// The place of a path among rows, or `None` if no row has it.
-pub(crate) fn place_of(rows: &[Row], path: &StorePath) -> Option<usize>
-    ensures found { IfSome result (λ i. (i < length rows.now) × (path_at (rows_view rows.now) i ≡ path.now)) }
-    ensures none { IfNone result (filter (same path.now) (paths_of (rows_view rows.now)) ≡ []) }
-{
-    for place in 0..rows.len() {
-        if path == rows[place].path {
-            return Some(place);
-        }
-    }
-    None
-}
 
 /// The roots at some places.
 fn roots_at<'a>(

@@ -36,14 +36,14 @@ fn is_nothing(paths: &[StorePath]) -> bool
 }
 
 /// Deletes the objects of some paths, which may be none. The caller ensures that the world is sound without the objects.
-pub(crate) fn remove<S: Alter>(tables: &mut Tables<S>, gone: Found) -> Result<Answer, Stop>
-    requires { (w : World) → HasWorld S.Store tables.old w → IsSound tables.old.dir (without w gone.paths.items) }
+pub(crate) fn remove<S: Alter>(tables: &mut Tables<S>, found: Found) -> Result<Answer, Stop>
+    requires { (w : World) → HasWorld S.Store tables.old w → IsSound tables.old.dir (without w found.paths.items) }
     // A request is met that deletes these objects and changes nothing else.
     ensures { (s : Settings) (c : Caller) (q : asked.Request) → IsTrue (touches_disk q)
-        → ((w : World) → outline_of w ≡ tables.old.outline → Removes s w c q gone.paths.items gone.bytes)
+        → ((w : World) → outline_of w ≡ tables.old.outline → Removes s w c q found.paths.items found.bytes)
         → IsMet S.Store s c q result tables.old tables.new }
 {
-    let Found { paths, bytes } = gone;
+    let Found { paths, bytes } = found;
     if is_nothing(&paths) {
         return Ok(Answer::Freed(paths, bytes));
     }

@@ -18,7 +18,7 @@ use Rattle.tables_outline.specs.Outline.{OutlineValue, outline_of}
 use Rattle.tables_outline.proofs.Trees.{seen, cmp, listed, inserted}
 use Rattle.tables_outline.proofs.Ordered.{mapped_length}
 use Rattle.store_steps.proofs.Outlined.{has_outlined}
-use Rattle.store_steps.proofs.Outputs.{Fronts, put_next}
+use Rattle.intake.proofs.FirstEntries.{Precede, put_next}
 
 -- whether the labels are those of runtime roots
 pub labels_mapped : (ps : List (String Global × Path)) → list_all (λ (p : Pair). is_runtime_label p.0) (map labelled_bytes ps) ≡ list_all (λ (p : String Global × Path). is_runtime_label (string_bytes p.0)) ps
@@ -50,10 +50,10 @@ module _ {A B : Type 0} (f : A → B) (test : B → Bool) where
 module _ {L : Type 0} (R : L → L → Ordering) (o : IsTotalOrder R) where
   -- the last one is put into the set, if it passes
   pub next_pair : (b : Bool) (before left : List (L × Unit {0})) (k : L) (m new : Set R) (all : List (L × Unit {0}))
-      → before ≡ left ++ cond b ((k, tt) ∷ []) [] → new ≡ (if b then finite.insert m k tt else m) → Fronts R before m all → Fronts R left new all
+      → before ≡ left ++ cond b ((k, tt) ∷ []) [] → new ≡ (if b then finite.insert m k tt else m) → Precede R before m all → Precede R left new all
   next_pair true before left k m new all split is h = put_next R o before left k tt m new all split is h
   next_pair false before left k m new all split is h =
-      subst (λ (n : Set R). Fronts R left n all) (sym is) (subst (λ (l : List (L × Unit {0})). Fronts R l m all) (split ∙ append-nil left) h)
+      subst (λ (n : Set R). Precede R left n all) (sym is) (subst (λ (l : List (L × Unit {0})). Precede R l m all) (split ∙ append-nil left) h)
 
 -- ---- sets that grow, and how many there are
 

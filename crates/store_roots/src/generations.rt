@@ -3,7 +3,8 @@
 ghost use Rattle.std.specs.Prelude.{◌≡◌, ◌==◌, not, nat_le, is_some, Some, IfOk, string_bytes};
 ghost use Rattle.model.specs.World.{World};
 ghost use Rattle.model.specs.Profiles as profiles;
-ghost use Rattle.model.specs.Profiles.{last_number, number_for, previous, profile_at};
+ghost use Rattle.model.specs.Profiles.{number_for, previous, profile_at};
+ghost use Rattle.paths.specs.Decimal.{max_generation};
 ghost use Rattle.tables_outline.specs.Outline.{outline_of, profile_of};
 ghost use Rattle.model.specs.Tests.{unless};
 ghost use Rattle.store_types.specs.Tested.{Finds, Tested};
@@ -74,7 +75,7 @@ pub(crate) fn has_number_left(
 ) -> Result<u32, Refusal>
     ensures reported { (w : World) → outline_of w ≡ outline.now → Finds (λ n. n) result
         (unless (nat_le (number_for (profile_at w (string_bytes owned.now.0, string_bytes owned.now.1)) path.now)
-        last_number) Refusal.GenerationLimit)
+        max_generation) Refusal.GenerationLimit)
         (number_for (profile_at w (string_bytes owned.now.0, string_bytes owned.now.1)) path.now) }
     ensures number { IfOk result
         (λ n. n ≡ number_for (profile_of outline.now (string_bytes owned.now.0, string_bytes owned.now.1)) path.now) }

@@ -7,8 +7,8 @@ use Rattle.sqlite_trees.specs.declared.store.Store.{Ghosts}
 use Rattle.sqlite.specs.State.{State}
 use Rattle.sqlite.specs.Held.{state}
 use Rattle.tables_sql.specs.Failures.{HasDiskCause}
-use Rattle.tables_sql.specs.declared.failure.Failure.{Failure}
-use Rattle.tables_sql.specs.declared.failure.Failure.TheVariants.{Memory, Size, Disk}
+use Rattle.tables_sql.specs.declared.failure.Failed.{Failed}
+use Rattle.tables_sql.specs.declared.failure.Failed.TheVariants.{Memory, Size, Disk}
 use Rattle.policy.specs.Settings.{Settings}
 use Rattle.policy.specs.Caller.{Caller}
 use Rattle.model.specs.World.{World}
@@ -20,7 +20,7 @@ use Rattle.tables.specs.TablesValue.{TablesValue}
 use Rattle.store_types.specs.Meets.{Meets}
 use Rattle.store_types.specs.declared.replies.Answer.{Answer}
 use Rattle.store_types.specs.declared.replies.Stop.{Stop}
-use Rattle.store_types.specs.declared.replies.Stop.TheVariants.{Refused, Failed}
+use Rattle.store_types.specs.declared.replies.Stop.TheVariants.{Refused, Failed as failed}
 use Rattle.store_steps.specs.Causes.{HasCause, IsDiskReason, puts_rows, touches_disk}
 use Rattle.store_steps.specs.Meets.{reply_to}
 use Rattle.store_steps.specs.Writing.{answered}
@@ -30,12 +30,12 @@ module _ {S : Type 0} (g : Ghosts S) (q : Request) (old new : TablesValue S) whe
   pub memory_only : (s : Settings) (w : World) (c : Caller) (r : Result Answer Stop) (next : World) → Meets s w c q r next → HasCause g q (reply_to r) old new
   memory_only s w c (Ok a) next m = tt
   memory_only s w c (Err (Refused r)) next m = tt
-  memory_only s w c (Err (Failed Memory)) next m = tt
-  memory_only s w c (Err (Failed Size)) next m = let is : Size ≡ Memory = m.0 in let no : ⊥ = cc in absurd no
-  memory_only s w c (Err (Failed Disk)) next m = let is : Disk ≡ Memory = m.0 in let no : ⊥ = cc in absurd no
+  memory_only s w c (Err (failed Memory)) next m = tt
+  memory_only s w c (Err (failed Size)) next m = let is : Size ≡ Memory = m.0 in let no : ⊥ = cc in absurd no
+  memory_only s w c (Err (failed Disk)) next m = let is : Disk ≡ Memory = m.0 in let no : ⊥ = cc in absurd no
 
   -- what isn't read of the disk has a reason
-  pub read_fails : IsTrue (touches_disk q) → (f : Failure) → FailsToAsk g {T = Unit {0}} old new (Err f) → HasCause g q (reply_to (Err (Failed f))) old new
+  pub read_fails : IsTrue (touches_disk q) → (f : Failed) → FailsToAsk g {T = Unit {0}} old new (Err f) → HasCause g q (reply_to (Err (failed f))) old new
   read_fails touches Memory cause = tt
   read_fails touches Size cause = (touches, λ clean. absurd (cause clean))
   read_fails touches Disk cause = (touches, λ clean. elim (cause clean) [ inl fault ↦ inl fault | inr more ↦ inr (elim more [ inl limited ↦ inl limited | inr none ↦ absurd none ]) ])
@@ -47,7 +47,7 @@ module _ {S : Type 0} (g : Ghosts S) (q : Request) (old new : TablesValue S) whe
     by_disk s t (inr (inr x)) = inr (inr (puts x.2 x.3 x.4, (x.0, x.1, x.2, x.5)))
 
     -- a change that isn't written has a reason
-    pub write_fails : (a : Answer) (r : Result (Unit {0}) Failure) → FailsToChange g old new r rows → HasCause g q (reply_to (answered r a)) old new
+    pub write_fails : (a : Answer) (r : Result (Unit {0}) Failed) → FailsToChange g old new r rows → HasCause g q (reply_to (answered r a)) old new
     write_fails a (Ok u) cause = tt
     write_fails a (Err Memory) cause = tt
     write_fails a (Err Size) cause = (touches, λ clean. let x = cause clean in (puts x.1.2 x.1.3 x.1.4, x.0))

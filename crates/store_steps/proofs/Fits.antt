@@ -9,7 +9,8 @@ use Rattle.policy.specs.Settings.{Settings}
 use Rattle.model.specs.World.{Path, Pair, World, has}
 use Rattle.model.specs.Sound.{IsSound}
 use Rattle.model.specs.Request.{set_permanent, set_user_root, set_profile, rollback, switch, delete_generation, replace_runtime, add_temp}
-use Rattle.model.specs.Profiles.{last_number, profile_at, has_profile, has_generation, number_for, previous, set_to, switched, rolled_back, without_generation}
+use Rattle.model.specs.Profiles.{profile_at, has_profile, has_generation, number_for, previous, set_to, switched, rolled_back, without_generation}
+use Rattle.paths.specs.Decimal.{max_generation}
 use Rattle.model.specs.Tests.{tests, refusal}
 use Rattle.model.specs.Effects.{with_permanent, with_user_root, with_profile, with_runtime, with_temporary, valid_pairs}
 use Rattle.model.proofs.Passed.{met, each_passed}
@@ -39,7 +40,7 @@ module _ (dir : List ℕ) (w : World) (sound : IsSound dir w) where
       profile_set dir w sound owner name p
       (met (is_plain_name owner && is_plain_name name) _ (each_passed (tests no_settings w (set_profile owner name p)) e _ (0, omega arith, refl)))
       (met (has w p) _ (each_passed (tests no_settings w (set_profile owner name p)) e _ (1, omega arith, refl)))
-      (met (nat_le (number_for (profile_at w (owner, name)) p) last_number) _ (each_passed (tests no_settings w (set_profile owner name p)) e _ (2, omega arith, refl)))
+      (met (nat_le (number_for (profile_at w (owner, name)) p) max_generation) _ (each_passed (tests no_settings w (set_profile owner name p)) e _ (2, omega arith, refl)))
 
   pub rollback_fits : (owner name : List ℕ) → refusal no_settings w (rollback owner name) ≡ None → IsSound dir (with_profile w (owner, name) (rolled_back (profile_at w (owner, name))))
   rollback_fits owner name e =

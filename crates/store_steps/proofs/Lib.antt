@@ -1,7 +1,6 @@
 pub mod Caused
 pub mod Fits
 pub mod Outlined
-pub mod Outputs
 pub mod Passing
 pub mod Untouched
 pub mod Written

@@ -3,7 +3,7 @@ use Rattle.std.proofs.Common.{◌≡◌, ℕ, None, Result, Ok, Err, refl, sym, 
 use Rattle.sqlite_trees.specs.declared.store.Store.{Ghosts}
 use Rattle.sqlite.specs.State.{Survives}
 use Rattle.sqlite.specs.Held.{state}
-use Rattle.tables_sql.specs.declared.failure.Failure.{Failure}
+use Rattle.tables_sql.specs.declared.failure.Failed.{Failed}
 use Rattle.policy.specs.Settings.{Settings}
 use Rattle.policy.specs.Caller.{Caller}
 use Rattle.model.specs.World.{World}
@@ -47,7 +47,7 @@ module _ {S : Type 0} (g : Ghosts S) (s : Settings) (c : Caller) (q : Request) (
           (λ db rows. (passes w t.outline, subst (λ (v : World). LeavesWorld k.dir (state g k.connection).now db v) (becomes w t.outline) rows)) (left w t)
 
       -- the write makes of each world what the request does
-      pub met_by_writing : (r : Result (Unit {0}) Failure) → CommitsChange g k new r F → HasCause g q (reply_to (answered r a)) k new → IsMet g s c q (answered r a) k new
+      pub met_by_writing : (r : Result (Unit {0}) Failed) → CommitsChange g k new r F → HasCause g q (reply_to (answered r a)) k new → IsMet g s c q (answered r a) k new
       met_by_writing (Ok u) frame cause = record {
         dir = frame.dir;
         world = λ w t. (effect s w q, (passes w t.outline, λ _. answers w t.outline, refl), subst (λ (v : World). HasWorld g new v) (becomes w t.outline) (frame.done w t));
@@ -68,16 +68,16 @@ module _ {S : Type 0} (g : Ghosts S) (s : Settings) (c : Caller) (q : Request) (
       }
 
 -- what a write returns, and one that counts
-abbrev pub written : Result (Unit {0}) Failure
+abbrev pub written : Result (Unit {0}) Failed
 written = Ok tt
 
-abbrev pub unwritten : Failure → Result (Unit {0}) Failure
+abbrev pub unwritten : Failed → Result (Unit {0}) Failed
 unwritten f = Err f
 
-abbrev pub counted : ℕ → Result ℕ Failure
+abbrev pub counted : ℕ → Result ℕ Failed
 counted n = Ok n
 
-abbrev pub uncounted : Failure → Result ℕ Failure
+abbrev pub uncounted : Failed → Result ℕ Failed
 uncounted f = Err f
 
 -- a write that counts is a write
@@ -94,7 +94,7 @@ module _ {S : Type 0} (g : Ghosts S) (k new : TablesValue S) (F : World → Worl
     survives = frame.survives;
   }
 
-  pub counted_failed : (f : Failure) → CommitsChange g k new (uncounted f) F → CommitsChange g k new (unwritten f) F
+  pub counted_failed : (f : Failed) → CommitsChange g k new (uncounted f) F → CommitsChange g k new (unwritten f) F
   counted_failed f frame = record {
     dir = frame.dir;
     done = tt;

@@ -4,10 +4,10 @@ ghost use Rattle.std.specs.Prelude.{◌≡◌};
 ghost use Rattle.store_steps.specs.Writing.{answered as answer_of};
 
 use store_types::{Answer, Stop};
-use tables_sql::failure::Failure;
+use tables_sql::failure::Failed;
 
 /// `answer` if the write was done, else its failure.
-pub fn answered(written: Result<(), Failure>, answer: Answer) -> Result<Answer, Stop>
+pub fn answered(written: Result<(), Failed>, answer: Answer) -> Result<Answer, Stop>
     ensures { result ≡ answer_of written answer }
 {
     written?;

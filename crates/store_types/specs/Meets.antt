@@ -8,7 +8,7 @@ use Rattle.model.specs.Request.{Request}
 use Rattle.model.specs.Tests.{refusal}
 use Rattle.model.specs.Effects.{effect}
 use Rattle.model.specs.Answers.{answer}
-use Rattle.tables_sql.specs.declared.failure.Failure.TheVariants.{Memory}
+use Rattle.tables_sql.specs.declared.failure.Failed.TheVariants.{Memory}
 use Rattle.store_types.specs.declared.replies.Answer.{Answer}
 use Rattle.store_types.specs.declared.replies.Stop.{Stop}
 use Rattle.store_types.specs.declared.replies.Stop.TheVariants.{Refused, Failed}

@@ -4,7 +4,7 @@ use Rattle.std.specs.Option.{option_map_or}
 use Rattle.nar.specs.declared.error.NarError.{NarError}
 use Rattle.drv.specs.declared.error.DrvError.{DrvError}
 use Rattle.model.specs.Faults.{archive_refusal, derivation_refusal}
-use Rattle.tables_sql.specs.declared.failure.Failure.TheVariants.{Memory}
+use Rattle.tables_sql.specs.declared.failure.Failed.TheVariants.{Memory}
 use Rattle.store_types.specs.declared.replies.Stop.{Stop}
 use Rattle.store_types.specs.declared.replies.Stop.TheVariants.{Refused, Failed}
 

@@ -1,7 +1,7 @@
 -- What a test returns.
 use Rattle.std.specs.Prelude.{◌≡◌, Option, Some, None, Result, Ok, Err}
 use Rattle.model.specs.declared.refusal.Refusal.{Refusal}
-use Rattle.tables_sql.specs.declared.failure.Failure.TheVariants.{Memory}
+use Rattle.tables_sql.specs.declared.failure.Failed.TheVariants.{Memory}
 use Rattle.store_types.specs.declared.replies.Stop.{Stop}
 use Rattle.store_types.specs.declared.replies.Stop.TheVariants.{Refused, Failed}
 

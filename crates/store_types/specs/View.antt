@@ -5,8 +5,8 @@ use Rattle.model.specs.Request as asked
 use Rattle.model.specs.Reply as replied
 use Rattle.tables_outline.specs.Maps.{labelled_bytes}
 use Rattle.intake.specs.Arriving.{bytes_in}
-use Rattle.tables_sql.specs.declared.failure.Failure.{Failure}
-use Rattle.tables_sql.specs.declared.failure.Failure.TheVariants.{Memory, Size, Disk}
+use Rattle.tables_sql.specs.declared.failure.Failed.{Failed}
+use Rattle.tables_sql.specs.declared.failure.Failed.TheVariants.{Memory, Size, Disk}
 use Rattle.store_types.specs.declared.requests.Imported.{Imported}
 use Rattle.store_types.specs.declared.requests.Request.{Request}
 use Rattle.store_types.specs.declared.requests.Request.TheVariants.{AddText, Info as InfoOf, Nar, Ls, List as ListAll, Live, Dead, ListRoots, RootsOf, Report, SetPermanent, DropPermanent, SetUserRoot, DropUserRoot, Rollback, Switch, DeleteGeneration, SetProfile, AddTemp, EndSession, ReplaceRuntime, AddSource, Import, Collect, Delete}
@@ -15,7 +15,7 @@ use Rattle.store_types.specs.declared.replies.Usage.{Usage}
 use Rattle.store_types.specs.declared.replies.Answer.{Answer}
 use Rattle.store_types.specs.declared.replies.Answer.TheVariants.{Path, Record, Archive, Listing, Paths, Roots, Changed, Generation, RuntimeCount, TemporaryCount, Freed, Usage as UsageOf}
 use Rattle.store_types.specs.declared.replies.Reply.{Reply}
-use Rattle.store_types.specs.declared.replies.Reply.TheVariants.{Done, Denied, Refused, Failed}
+use Rattle.store_types.specs.declared.replies.Reply.TheVariants.{Done, Denied, Refused, Failed as failing}
 
 -- what is passed with its path; without bytes if its intake is spent (`Spent`)
 abbrev pub import_view : Imported → asked.Imported
@@ -93,7 +93,7 @@ answer_view (Freed ps n) = replied.freed ps.items n
 answer_view (UsageOf live dead total) = replied.usage (usage_view live) (usage_view dead) (usage_view total)
 
 -- what a call ran out of, or what failed
-abbrev pub failure_view : Failure → replied.Failure
+abbrev pub failure_view : Failed → replied.Failure
 failure_view Memory = replied.memory
 failure_view Size = replied.size
 failure_view Disk = replied.disk
@@ -102,4 +102,4 @@ abbrev pub reply_view : Reply → replied.Reply
 reply_view (Done a) = replied.done (answer_view a)
 reply_view (Denied rule root) = replied.denied rule (option_map labelled_bytes root)
 reply_view (Refused r) = replied.refused r
-reply_view (Failed f) = replied.failed (failure_view f)
+reply_view (failing f) = replied.failed (failure_view f)

@@ -9,4 +9,4 @@ pub use model::Refusal;
 pub use replies::{Answer, Info, Reply, Stop, Usage};
 pub use requests::{Imported, Request};
 pub use rules::operation;
-pub use tables_sql::failure::Failure as Failed;
+pub use tables_sql::failure::Failed;

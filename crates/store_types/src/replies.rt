@@ -3,7 +3,7 @@
 ghost use Rattle.std.specs.Prelude.{◌≡◌};
 ghost use Rattle.store_types.specs.Stops.{archive_stop, derivation_stop};
 ghost use Rattle.store_types.specs.declared.replies.Stop.TheVariants.{Failed as failed, Refused as refused};
-ghost use Rattle.tables_sql.specs.declared.failure.Failure.TheVariants.{Memory as memory};
+ghost use Rattle.tables_sql.specs.declared.failure.Failed.TheVariants.{Memory as memory};
 
 use drv::DrvError;
 use model::Refusal;
@@ -12,7 +12,7 @@ use paths::{Ca, StorePath};
 use policy::Rule;
 use std::alloc::{AllocError, AllocFailed};
 use streams::Pieces;
-use tables_sql::failure::Failure;
+use tables_sql::failure::Failed;
 
 /// The record of an object.
 #[derive(Drop)]
@@ -80,7 +80,7 @@ pub enum Reply {
     /// The first test that fails.
     Refused(Refusal),
     /// The call failed, and nothing changed.
-    Failed(Failure),
+    Failed(Failed),
 }
 
 /// Why a request that no rule forbids isn't done.
@@ -89,14 +89,14 @@ pub enum Stop {
     /// The first test that fails.
     Refused(Refusal),
     /// The call failed.
-    Failed(Failure),
+    Failed(Failed),
 }
 
 impl From<AllocError> for Stop {
     ghost from_gives = { λ _ e. e ≡ failed memory };
 
     fn from(_e: AllocError) -> Stop {
-        Stop::Failed(Failure::Memory)
+        Stop::Failed(Failed::Memory)
     }
 }
 
@@ -104,7 +104,7 @@ impl<T: Drop> From<AllocFailed<T>> for Stop {
     ghost from_gives = { λ _ e. e ≡ failed memory };
 
     fn from(_e: AllocFailed<T>) -> Stop {
-        Stop::Failed(Failure::Memory)
+        Stop::Failed(Failed::Memory)
     }
 }
 
@@ -116,10 +116,10 @@ impl From<Refusal> for Stop {
     }
 }
 
-impl From<Failure> for Stop {
+impl From<Failed> for Stop {
     ghost from_gives = { λ f e. e ≡ failed f };
 
-    fn from(failure: Failure) -> Stop {
+    fn from(failure: Failed) -> Stop {
         Stop::Failed(failure)
     }
 }
@@ -130,7 +130,7 @@ impl From<NarError> for Stop {
     fn from(fault: NarError) -> Stop {
         match Refusal::of_archive(fault) {
             Some(refusal) => Stop::Refused(refusal),
-            None => Stop::Failed(Failure::Memory),
+            None => Stop::Failed(Failed::Memory),
         }
     }
 }
@@ -141,7 +141,7 @@ impl From<DrvError> for Stop {
     fn from(fault: DrvError) -> Stop {
         match Refusal::of_derivation(fault) {
             Some(refusal) => Stop::Refused(refusal),
-            None => Stop::Failed(Failure::Memory),
+            None => Stop::Failed(Failed::Memory),
         }
     }
 }

@@ -109,8 +109,8 @@ module _ (old put : OutlineValue) (owned key again : Pair) (n : ℕ) (target val
         ∙ ap (λ (o : Option Profile). with_profile (with_profile old owned added) owned (switched (profile_or_new o) current)) (get_put old.profiles owned added)
         ∙ ap (λ m. record old { profiles = m }) (put_again old.profiles owned added (switched added current))
 
-    pub generation_there : IsTrue (finite.contains_key now.profiles again)
-    generation_there = ap₂ (λ (o : OutlineValue) k. finite.contains_key o.profiles k) generation_put same_again ∙ has_put pair_total pair_antisymmetric old.profiles owned (switched added current)
+    pub generation_present : IsTrue (finite.contains_key now.profiles again)
+    generation_present = ap₂ (λ (o : OutlineValue) k. finite.contains_key o.profiles k) generation_put same_again ∙ has_put pair_total pair_antisymmetric old.profiles owned (switched added current)
 
     -- one that was added is taken away again
     loaded : (o : Option Profile) → finite.get old.profiles owned ≡ o → finite.get (profile_or_new o).generations n ≡ None → (x : Profile) → x ≡ switched (put_at (profile_or_new o) n target) current

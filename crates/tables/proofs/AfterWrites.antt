@@ -8,7 +8,7 @@ use Rattle.sqlite.specs.Held.{Held, state}
 use Rattle.tables_sql.specs.Contents.{Contents, contents_of}
 use Rattle.tables_sql.specs.Calls.{IsWhole, KeepsShown, LeavesRows}
 use Rattle.tables_sql.proofs.Steps.{ready_after}
-use Rattle.tables_sql.specs.declared.failure.Failure.{Failure}
+use Rattle.tables_sql.specs.declared.failure.Failed.{Failed}
 use Rattle.model.specs.World.{World}
 use Rattle.model.specs.Sound.{IsSound}
 use Rattle.tables_world.specs.Worlds.{IsSoundContents, world_in}
@@ -64,8 +64,8 @@ module _ {S : Type 0} (g : Ghosts S) where
         pub agrees_done : conn.in_transaction ≡ false → Agrees g (record { connection = conn; dir = k.dir; outline = outline })
         agrees_done idle = record { idle = idle; rows = λ clean _. outlined_after clean }
 
-        told_after : (w : World) → HasWorld g k w → HasWorld g (record { connection = conn; dir = k.dir; outline = outline }) (F w)
-        told_after w t = record {
+        reported_after : (w : World) → HasWorld g k w → HasWorld g (record { connection = conn; dir = k.dir; outline = outline }) (F w)
+        reported_after w t = record {
           outline = law w ∙ ap G t.outline ∙ sym is;
           rows = λ clean _.
               let it = written clean in
@@ -75,7 +75,7 @@ module _ {S : Type 0} (g : Ghosts S) where
         }
 
         pub reported_done : (w : World) → HasWorld g now w → HasWorld g (record { connection = conn; dir = k.dir; outline = outline }) (F w)
-        reported_done = subst (λ (n : TablesValue S). (w : World) → HasWorld g n w → HasWorld g (record { connection = conn; dir = k.dir; outline = outline }) (F w)) view told_after
+        reported_done = subst (λ (n : TablesValue S). (w : World) → HasWorld g n w → HasWorld g (record { connection = conn; dir = k.dir; outline = outline }) (F w)) view reported_after
 
       -- what a crash leaves of it
       module _ (survives : Survives (state g k.connection) (state g conn) (λ db. IsTrue (state g k.connection).is_open × LeavesRows (state g k.connection).now db (f (contents_of (state g k.connection).now)))) where
@@ -127,8 +127,8 @@ module _ {S : Type 0} (g : Ghosts S) where
             };
       }
 
-      told_still : (w : World) → HasWorld g k w → HasWorld g (record { connection = conn; dir = k.dir; outline = outline }) w
-      told_still w t = record {
+      reported_still : (w : World) → HasWorld g k w → HasWorld g (record { connection = conn; dir = k.dir; outline = outline }) w
+      reported_still w t = record {
         outline = t.outline ∙ sym is;
         rows = λ clean is_open.
             let it = kept clean in
@@ -137,7 +137,7 @@ module _ {S : Type 0} (g : Ghosts S) where
       }
 
       pub reported_failed : (w : World) → HasWorld g now w → HasWorld g (record { connection = conn; dir = k.dir; outline = outline }) w
-      reported_failed = subst (λ (n : TablesValue S). (w : World) → HasWorld g n w → HasWorld g (record { connection = conn; dir = k.dir; outline = outline }) w) view told_still
+      reported_failed = subst (λ (n : TablesValue S). (w : World) → HasWorld g n w → HasWorld g (record { connection = conn; dir = k.dir; outline = outline }) w) view reported_still
 
   -- ---- a write as a whole: what it makes of the rows, of the world and of the outline
 
@@ -193,6 +193,6 @@ module _ {S : Type 0} (g : Ghosts S) where
   rows_as {a = a} {b = b} {r = r} f h = subst (λ (k : Contents → Contents). CommitsRows g a b r k)
 
   -- why it failed, as callers see it
-  pub failure_seen : {k now : TablesValue S} (conn : Held S) (rows : Rows) (e : Failure) → k ≡ now → (HasCleanDisk (state g conn) → IsReason rows (state g k.connection) (state g conn) e)
+  pub failure_seen : {k now : TablesValue S} (conn : Held S) (rows : Rows) (e : Failed) → k ≡ now → (HasCleanDisk (state g conn) → IsReason rows (state g k.connection) (state g conn) e)
       → HasCleanDisk (state g conn) → IsReason rows (state g now.connection) (state g conn) e
   failure_seen conn rows e = subst (λ (n : TablesValue S). HasCleanDisk (state g conn) → IsReason rows (state g n.connection) (state g conn) e)

@@ -30,11 +30,11 @@ lesser Greater h = absurd h
 -- one of them is put, and the others are free still
 rest_free : {K X : Type 0} {R : K → K → Ordering} → IsTotalOrder R → (m : finite.FinMap R X) (k : K) (v : X) (ks : List K)
     → AllByRecursion (λ j. eq_by_cmp R j k ≡ false) ks → AllByRecursion (λ j. finite.get m j ≡ None) ks → AllByRecursion (λ j. finite.get (finite.insert m k v) j ≡ None) ks
-rest_free o m k v [] apart free = tt
-rest_free o m k v (j ∷ js) apart free = (finite.get-insert o m k v j ∙ ap (λ b. cond b (Some v) (finite.get m j)) apart.0 ∙ free.0, rest_free o m k v js apart.1 free.1)
+rest_free o m k v [] distinct free = tt
+rest_free o m k v (j ∷ js) distinct free = (finite.get-insert o m k v j ∙ ap (λ b. cond b (Some v) (finite.get m j)) distinct.0 ∙ free.0, rest_free o m k v js distinct.1 free.1)
 
 pub free_next : {K X : Type 0} {R : K → K → Ordering} → IsTotalOrder R → (m : finite.FinMap R X) (k : K) (v : X) (ks : List K) → AreFree m (k ∷ ks) → AreFree (finite.insert m k v) ks
-free_next o m k v ks h = record { apart = h.apart.1; free = rest_free o m k v ks h.apart.0 h.free.1 }
+free_next o m k v ks h = record { distinct = h.distinct.1; free = rest_free o m k v ks h.distinct.0 h.free.1 }
 
 -- none of a list is there
 all_free : {K X Y : Type 0} {R : K → K → Ordering} (m : finite.FinMap R X) (f : Y → K) (ys : List Y) → ((y : Y) → finite.get m (f y) ≡ None) → AllByRecursion (λ k. finite.get m k ≡ None) (map f ys)
@@ -61,24 +61,24 @@ numbered_by p a b = ap (λ r. ordering_then r (int_cmp a b)) (tied_itself bytes_
 
 -- the outputs of a path that has none
 pub outputs_free : (p : Path) (m : finite.FinMap pair_cmp Path) (es : List (List ℕ × Path)) → ((name : List ℕ) → finite.get m (p, name) ≡ None) → T (is_sorted bytes_cmp es) → AreFree m (map (λ (e : List ℕ × Path). (p, e.0)) es)
-outputs_free p m es none sorted = record { apart = keys_distinct bytes_cmp bytes_total pair_cmp (λ (x : Path). (p, x)) (pair_by p) es sorted; free = all_free m (λ (e : List ℕ × Path). (p, e.0)) es (λ e. none e.0) }
+outputs_free p m es none sorted = record { distinct = keys_distinct bytes_cmp bytes_total pair_cmp (λ (x : Path). (p, x)) (pair_by p) es sorted; free = all_free m (λ (e : List ℕ × Path). (p, e.0)) es (λ e. none e.0) }
 
 -- its references
 pub references_free : (p : Path) (m : PairSet) (s : Set bytes_cmp) → ((r : Path) → finite.get m (p, r) ≡ None) → AreFree m (map (λ (t : Path). (p, t)) (finite.keys s))
 references_free p m s none = record {
-  apart = subst (AreDistinct pair_cmp) (sym (map-map (λ (t : Path). (p, t)) (λ (e : Path × Unit {0}). e.0) (finite.entries s))) (keys_distinct bytes_cmp bytes_total pair_cmp (λ (x : Path). (p, x)) (pair_by p) (finite.entries s) (finite.entries_sorted s));
+  distinct = subst (AreDistinct pair_cmp) (sym (map-map (λ (t : Path). (p, t)) (λ (e : Path × Unit {0}). e.0) (finite.entries s))) (keys_distinct bytes_cmp bytes_total pair_cmp (λ (x : Path). (p, x)) (pair_by p) (finite.entries s) (finite.entries_sorted s));
   free = all_free m (λ (t : Path). (p, t)) (finite.keys s) none;
 }
 
 -- the further pieces of its archive
 pub pieces_free : (p : Path) (m : finite.FinMap numbered_cmp (List ℕ)) (es : List (ℤ × List ℕ)) → ((n : ℤ) → finite.get m (p, n) ≡ None) → T (is_sorted int_cmp es) → AreFree m (map (λ (e : ℤ × List ℕ). (p, e.0)) es)
-pieces_free p m es none sorted = record { apart = keys_distinct int_cmp int_cmp_total numbered_cmp (λ (n : ℤ). (p, n)) (numbered_by p) es sorted; free = all_free m (λ (e : ℤ × List ℕ). (p, e.0)) es (λ e. none e.0) }
+pieces_free p m es none sorted = record { distinct = keys_distinct int_cmp int_cmp_total numbered_cmp (λ (n : ℤ). (p, n)) (numbered_by p) es sorted; free = all_free m (λ (e : ℤ × List ℕ). (p, e.0)) es (λ e. none e.0) }
 
 -- runtime roots in order, where there is none
 pub runtime_free : (keys : List (String Global × List ℕ)) → IsStrictlySortedBy (λ a b. pair_cmp (labelled_bytes a) (labelled_bytes b)) keys → AreFree (finite.empty {X = Unit {0}} {R = pair_cmp}) (map labelled_bytes keys)
 runtime_free keys sorted =
     let s : Set pair_cmp = seen_set pair_cmp labelled_bytes keys in
     record {
-      apart = subst (AreDistinct pair_cmp) (set_keys pair_cmp labelled_bytes pair_total pair_antisymmetric keys sorted) (keys_distinct pair_cmp pair_total pair_cmp (λ (k : Pair). k) (λ a b. refl) (finite.entries s) (finite.entries_sorted s));
+      distinct = subst (AreDistinct pair_cmp) (set_keys pair_cmp labelled_bytes pair_total pair_antisymmetric keys sorted) (keys_distinct pair_cmp pair_total pair_cmp (λ (k : Pair). k) (λ a b. refl) (finite.entries s) (finite.entries_sorted s));
       free = all_free (finite.empty {X = Unit {0}} {R = pair_cmp}) labelled_bytes keys (λ k. finite.get-empty pair_cmp (labelled_bytes k));
     }

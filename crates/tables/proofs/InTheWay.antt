@@ -77,8 +77,8 @@ module _ (s : Shown) where
   abbrev Untaken : Table → Type 0
   Untaken t = is_name_used s t ≡ false
 
-  clear_there : (t : Table) → is_present s t ≡ true → is_left_alone t ≡ true → IsClear t
-  clear_there t present idle =
+  clear_present : (t : Table) → is_present s t ≡ true → is_left_alone t ≡ true → IsClear t
+  clear_present t present idle =
       or_from (is_acted_on s t) (is_awaited s t || is_blocked s t) (and_right (is_present s t) (not (is_left_alone t)) (not_from_true (is_left_alone t) idle))
       (or_from (is_awaited s t) (is_blocked s t) (and_left (not (is_present s t)) (not (is_unawaited s t.name)) (not_from_true (is_present s t) present)) (and_left (not (is_present s t)) (lacks_sequence s) (not_from_true (is_present s t) present)))
 
@@ -87,14 +87,14 @@ module _ (s : Shown) where
       or_from (is_acted_on s t) (is_awaited s t || is_blocked s t) (and_left (is_present s t) (not (is_left_alone t)) away)
       (or_from (is_awaited s t) (is_blocked s t) (and_right (not (is_present s t)) (not (is_unawaited s t.name)) (not_from_true (is_unawaited s t.name) unawaited)) (and_right (not (is_present s t)) (lacks_sequence s) counted))
 
-  stands_formed : (t : Table) → IsIntact s t → HasItsForm s t
-  stands_formed t h = (h.at, h.known)
+  exists_formed : (t : Table) → IsIntact s t → HasItsForm s t
+  exists_formed t h = (h.at, h.known)
 
-  stands_clear : (t : Table) → IsIntact s t → IsClear t
-  stands_clear t h = clear_there t (ap is_some h.known.named.0) (and_from _ _ h.unreferred (and_from _ _ h.idle h.unguarded))
+  exists_clear : (t : Table) → IsIntact s t → IsClear t
+  exists_clear t h = clear_present t (ap is_some h.known.named.0) (and_from _ _ h.unreferred (and_from _ _ h.idle h.unguarded))
 
-  clear_stands : (t : Table) → HasItsForm s t → IsClear t → IsIntact s t
-  clear_stands t h clear =
+  clear_exists : (t : Table) → HasItsForm s t → IsClear t → IsIntact s t
+  clear_exists t h clear =
       let acts = not_both (is_present s t) (not (is_left_alone t)) (or_parts (is_acted_on s t) (is_awaited s t || is_blocked s t) clear).0 (ap is_some h.1.named.0) in
       let idle = both (is_unreferred s (tree_named s t.name)) (is_unshared s t.name (tree_named s t.name) && is_unguarded s (tree_named s t.name) t.primary) (not_back (is_left_alone t) acts) in
       let last = both (is_unshared s t.name (tree_named s t.name)) (is_unguarded s (tree_named s t.name) t.primary) idle.1 in
@@ -134,13 +134,13 @@ module _ (s : Shown) where
   each_clear h = apart IsClear (any_none is_hindered all_tables h)
 
   formed : HasTables s → AllByRecursion (HasItsForm s) store_tables
-  formed h = mapped (IsIntact s) (HasItsForm s) stands_formed store_tables h
+  formed h = mapped (IsIntact s) (HasItsForm s) exists_formed store_tables h
 
   formed_clear : HasTables s → AllByRecursion IsClear store_tables
-  formed_clear h = mapped (IsIntact s) IsClear stands_clear store_tables h
+  formed_clear h = mapped (IsIntact s) IsClear exists_clear store_tables h
 
-  standing : AllByRecursion (HasItsForm s) store_tables → AllByRecursion IsClear store_tables → HasTables s
-  standing h k = zipped (HasItsForm s) IsClear (IsIntact s) clear_stands store_tables h k
+  existing : AllByRecursion (HasItsForm s) store_tables → AllByRecursion IsClear store_tables → HasTables s
+  existing h k = zipped (HasItsForm s) IsClear (IsIntact s) clear_exists store_tables h k
 
   -- tables of a schema have their forms, and are clear
   forms_of : (schema : Schema) → HasTablesOf schema s → HasFormsOf schema s × (are_others_in_the_way s ≡ false)
@@ -149,35 +149,35 @@ module _ (s : Shown) where
     all_clear (formed_clear h.0) (free_clear h.3 piece h.1) (free_clear h.3 temp_root h.2),
   )
   forms_of V2 h = (
-    (formed h.0, stands_formed piece h.1, free_untaken temp_root h.2),
-    all_clear (formed_clear h.0) (stands_clear piece h.1) (free_clear h.3 temp_root h.2),
+    (formed h.0, exists_formed piece h.1, free_untaken temp_root h.2),
+    all_clear (formed_clear h.0) (exists_clear piece h.1) (free_clear h.3 temp_root h.2),
   )
   forms_of V3 h = (
-    (formed h.0, stands_formed piece h.1, stands_formed temp_root h.2),
-    all_clear (formed_clear h.0) (stands_clear piece h.1) (stands_clear temp_root h.2),
+    (formed h.0, exists_formed piece h.1, exists_formed temp_root h.2),
+    all_clear (formed_clear h.0) (exists_clear piece h.1) (exists_clear temp_root h.2),
   )
 
   tables_of : (schema : Schema) → HasFormsOf schema s → are_others_in_the_way s ≡ false → HasTablesOf schema s
   tables_of V1 h clear =
       let it = each_clear clear in
-      (standing h.0 it.0, clear_free piece h.1 it.1.0, clear_free temp_root h.2 it.1.1, clear_counted temp_root h.2 it.1.1)
+      (existing h.0 it.0, clear_free piece h.1 it.1.0, clear_free temp_root h.2 it.1.1, clear_counted temp_root h.2 it.1.1)
   tables_of V2 h clear =
       let it = each_clear clear in
-      (standing h.0 it.0, clear_stands piece h.1 it.1.0, clear_free temp_root h.2 it.1.1, clear_counted temp_root h.2 it.1.1)
+      (existing h.0 it.0, clear_exists piece h.1 it.1.0, clear_free temp_root h.2 it.1.1, clear_counted temp_root h.2 it.1.1)
   tables_of V3 h clear =
       let it = each_clear clear in
-      (standing h.0 it.0, clear_stands piece h.1 it.1.0, clear_stands temp_root h.2 it.1.1)
+      (existing h.0 it.0, clear_exists piece h.1 it.1.0, clear_exists temp_root h.2 it.1.1)
 
   -- none of the store's tables: nothing of the store is there, and nothing stands in the way
-  none_apart : HasNone s → (has_store_tables s ≡ false) × (are_others_in_the_way s ≡ false)
-  none_apart h = (
+  none_differ : HasNone s → (has_store_tables s ≡ false) × (are_others_in_the_way s ≡ false)
+  none_differ h = (
     none_any (is_name_used s) all_tables
         (together Untaken (mapped (λ (t : Table). IsFree s t.name) Untaken free_untaken store_tables h.free) (free_untaken piece h.further.0) (free_untaken temp_root h.further.1.0)),
     all_clear (mapped (λ (t : Table). IsFree s t.name) IsClear (free_clear h.counted) store_tables h.free) (free_clear h.counted piece h.further.0) (free_clear h.counted temp_root h.further.1.0),
   )
 
-  none_of_ours : has_store_tables s ≡ false → are_others_in_the_way s ≡ false → HasNone s
-  none_of_ours of_store clear =
+  none_of_store : has_store_tables s ≡ false → are_others_in_the_way s ≡ false → HasNone s
+  none_of_store of_store clear =
       let it = each_clear clear in
       let untaken = apart Untaken (any_none (is_name_used s) all_tables of_store) in
       record {
@@ -200,7 +200,7 @@ no_store_cause dir db h = by (are_others_in_the_way db.schema) refl
   where
     of_store : (b : Bool) → has_store_tables db.schema ≡ b → are_others_in_the_way db.schema ≡ false → IsTrue (has_store_tables db.schema)
     of_store true is clear = is
-    of_store false is clear = absurd (h.0 (none_of_ours db.schema is clear))
+    of_store false is clear = absurd (h.0 (none_of_store db.schema is clear))
 
     by : (b : Bool) → are_others_in_the_way db.schema ≡ b → IsRefusal dir db BadSchema
     by true is = inr is
@@ -208,8 +208,8 @@ no_store_cause dir db h = by (are_others_in_the_way db.schema) refl
 
 -- and where this is why there is none
 pub cause_no_store : (dir : List ℕ) (db : Database) → IsRefusal dir db BadSchema → IsNoStore db
-cause_no_store dir db (inl h) = (λ none. false≢true (sym (none_apart db.schema none).0 ∙ h.0), λ d holds. h.1 d (holds.0, present_by holds.0 d db holds.1))
-cause_no_store dir db (inr h) = (λ none. false≢true (sym (none_apart db.schema none).1 ∙ h), λ d holds. false≢true (sym (forms_of db.schema holds.0 holds.1.tables).1 ∙ h))
+cause_no_store dir db (inl h) = (λ none. false≢true (sym (none_differ db.schema none).0 ∙ h.0), λ d holds. h.1 d (holds.0, present_by holds.0 d db holds.1))
+cause_no_store dir db (inr h) = (λ none. false≢true (sym (none_differ db.schema none).1 ∙ h), λ d holds. false≢true (sym (forms_of db.schema holds.0 holds.1.tables).1 ∙ h))
 
 pub refuses_the_rest : RefusesTheRest
 refuses_the_rest dir db = (cause_no_store dir db, no_store_cause dir db)

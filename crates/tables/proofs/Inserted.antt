@@ -167,8 +167,8 @@ module _ (dir : List ℕ) (p : Path) (nar : List ℕ) (o : Stored) (rs : List Pa
       by true t h = subst₂ P (sym (tied_is bytes_antisymmetric q p t)) (same_Some o x h) mine
       by false t h = foreign_rows t h
 
-  still_there : (q : Path) → (same q p ≡ false → IsTrue (finite.contains_key c.objects q)) → IsTrue (finite.contains_key (finite.insert c.objects p o) q)
-  still_there q h = ap is_some (finite.get-insert bytes_total c.objects p o q) ∙ by (same q p) refl
+  still_present : (q : Path) → (same q p ≡ false → IsTrue (finite.contains_key c.objects q)) → IsTrue (finite.contains_key (finite.insert c.objects p o) q)
+  still_present q h = ap is_some (finite.get-insert bytes_total c.objects p o q) ∙ by (same q p) refl
     where
       by : (b : Bool) → same q p ≡ b → is_some (cond b (Some o) (finite.get c.objects q)) ≡ true
       by true t = refl
@@ -186,10 +186,10 @@ module _ (dir : List ℕ) (p : Path) (nar : List ℕ) (o : Stored) (rs : List Pa
           subst (λ m. IsCut x.nar (finite.entries m)) (sym (other_pieces q apart)) (rows.cut h q x was));
       address = λ q x text e ca. stored_after q x e (λ k y. y.ca ≡ Some text → IsSome (address_of text)) (new.address text) (λ apart was. rows.address q x text was) ca;
       hash = λ q x e. stored_after q x e (λ k y. y.hash ≡ sha256 (archive_in (rows_of after) k y)) (new.hash ∙ ap sha256 (sym own_archive)) (λ apart was. rows.hash q x was ∙ ap sha256 (sym (other_archive q apart x)));
-      pieces = λ q n present. still_there q (λ apart. rows.pieces q n (ap is_some (sym (other_piece q apart n)) ∙ present));
-      references = λ q r present. still_there q (λ apart. rows.references q r
+      pieces = λ q n present. still_present q (λ apart. rows.pieces q n (ap is_some (sym (other_piece q apart n)) ∙ present));
+      references = λ q r present. still_present q (λ apart. rows.references q r
           (ap is_some (sym (get-put_references p rs c.refs q r ∙ ap (λ b. cond (b && list_any (same r) rs) (Some tt) (finite.get c.refs (q, r))) apart)) ∙ present));
-      outputs = λ q n present. still_there q (λ apart. rows.outputs q n
+      outputs = λ q n present. still_present q (λ apart. rows.outputs q n
           (ap is_some (sym (get-put_outputs p es c.outs new.sorted q n ∙ ap (λ b. cond b (either (find_entry bytes_cmp n es) (finite.get c.outs (q, n))) (finite.get c.outs (q, n))) apart)) ∙ present));
       generations = rows.generations;
       numbers = rows.numbers;

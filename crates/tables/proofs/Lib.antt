@@ -3,6 +3,7 @@ pub use Rattle.model.proofs.SoundProfiles
 pub use Rattle.model.proofs.SoundRoots
 pub mod AddedGenerations
 pub mod AddedObjects
+pub mod Adopted
 pub mod Agreed
 pub mod Begun
 pub mod Brought
@@ -17,7 +18,6 @@ pub mod InTheWay
 pub mod Inserted
 pub mod Joined
 pub mod AfterWrites
-pub mod AfterCrash
 pub mod Lists
 pub mod Made
 pub mod NumbersLeft

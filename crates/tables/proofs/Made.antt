@@ -9,11 +9,11 @@ use Rattle.sqlite.specs.State.{State, HasCleanDisk}
 use Rattle.sqlite.specs.Held.{Held, IsNew, state}
 use Rattle.sqlite.specs.Steps.{IsEmpty, over_memory}
 use Rattle.tables_schema.specs.Forms.{all_tables}
-use Rattle.tables_sql.specs.declared.failure.Failure.{Failure}
-use Rattle.tables_sql.specs.declared.failure.Failure.TheVariants.{Memory, Size, Disk}
+use Rattle.tables_sql.specs.declared.failure.Failed.{Failed}
+use Rattle.tables_sql.specs.declared.failure.Failed.TheVariants.{Memory, Size, Disk}
 use Rattle.tables_sql.specs.Contents.{Contents}
 use Rattle.tables_schema.specs.Finding.{HasNone, IsFree}
-use Rattle.tables_make.specs.Making.{FailsToMake, IsMade, IsTooLong, LacksNames, RunsOutOfTrees, first_contents}
+use Rattle.tables_make.specs.Making.{FailsToMake, IsMade, IsTooLong, IsIndexNameUsed, RunsOutOfTrees, first_contents}
 use Rattle.paths.specs.Names.{is_store_dir}
 use Rattle.model.specs.World.{no_world}
 use Rattle.tables_schema.specs.declared.schema.Schema.TheVariants.{V3}
@@ -69,10 +69,10 @@ module _ {S : Type 0} (g : Ghosts S) (conn : Held S) (old : State) (dir : List �
 -- ---- why none are made in memory
 
 -- numbers and names are left where there is nothing
-none_missing : (s : Schema) → s ≡ no_schema → RunsOutOfTrees s all_tables ⊎ LacksNames s all_tables → ⊥
-none_missing s is h = by (subst (λ (x : Schema). RunsOutOfTrees x all_tables ⊎ LacksNames x all_tables) is h)
+none_missing : (s : Schema) → s ≡ no_schema → RunsOutOfTrees s all_tables ⊎ IsIndexNameUsed s all_tables → ⊥
+none_missing s is h = by (subst (λ (x : Schema). RunsOutOfTrees x all_tables ⊎ IsIndexNameUsed x all_tables) is h)
   where
-    by : RunsOutOfTrees no_schema all_tables ⊎ LacksNames no_schema all_tables → ⊥
+    by : RunsOutOfTrees no_schema all_tables ⊎ IsIndexNameUsed no_schema all_tables → ⊥
     by (inl few) = absurd (omega (arith, few))
     by (inr used) = absurd (false≢true used)
 
@@ -81,7 +81,7 @@ not_long : (dir : List ℕ) → IsTrue (is_store_dir dir) → IsTooLong dir → 
 not_long dir valid long = absurd (omega (arith, leb-true (length dir) 200 (and_parts _ _ (and_parts _ _ valid).0).0, long))
 
 -- it ran out
-pub memory_only : (conn new : Held MemStore) (dir : List ℕ) → IsTrue (is_store_dir dir) → IsEmpty (state over_memory conn) → IsNew conn → (f : Failure) → FailsToMake dir (state over_memory conn) (state over_memory new) f → f ≡ Memory
+pub memory_only : (conn new : Held MemStore) (dir : List ℕ) → IsTrue (is_store_dir dir) → IsEmpty (state over_memory conn) → IsNew conn → (f : Failed) → FailsToMake dir (state over_memory conn) (state over_memory new) f → f ≡ Memory
 memory_only conn new dir valid empty fresh Memory h = refl
 memory_only conn new dir valid empty fresh Size h = absurd (not_long dir valid h.0)
 memory_only conn new dir valid empty fresh Disk (inl (inl more)) = absurd (omega (arith, more))

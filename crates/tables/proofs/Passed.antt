@@ -15,12 +15,7 @@ before : (a b : State) (P : Trees → Type 0) → Survives a b P → HasCleanDis
 before a b P h clean = omega (arith, h.clean, clean)
 
 module _ {T E : Type 0} (f : T → State) (h : E → State) where
-  -- a crash leaves one of more
-  pub wider : (r : Result T E) (a : State) (P Q : Trees → Type 0) → ((db : Trees) → P db → Q db) → MatchResult r (λ t. Survives a (f t) P) (λ e. Survives a (h e) P) → MatchResult r (λ t. Survives a (f t) Q) (λ e. Survives a (h e) Q)
-  wider (Ok t) a P Q more s = survives_weaker a (f t) P Q (λ clean db left. more db left) s
-  wider (Err e) a P Q more s = survives_weaker a (h e) P Q (λ clean db left. more db left) s
-
-  -- and what was so at the start goes with it
+  -- a crash leaves one of more, by what was so at the start
   pub with_before : (r : Result T E) (a : State) (A : Type 0) (P Q : Trees → Type 0) → (HasCleanDisk a → A) → ((db : Trees) → A → P db → Q db)
       → MatchResult r (λ t. Survives a (f t) P) (λ e. Survives a (h e) P) → MatchResult r (λ t. Survives a (f t) Q) (λ e. Survives a (h e) Q)
   with_before (Ok t) a A P Q was more s = survives_weaker a (f t) P Q (λ clean db left. more db (was (before a (f t) P s clean)) left) s

@@ -54,8 +54,8 @@ module _ (dir : List ℕ) (c : Contents) (rows : IsSoundContents dir c) (profile
       by q true t g = ap (λ (j : Pair). Some (profile_in (rows_of after) j (pos p.current))) (tied_is pair_antisymmetric q owned t) ∙ ap (λ (m : finite.FinMap nat_cmp Path). Some (record { generations = m; current = p.current })) own
       by q false t g = each q t g
 
-  still_there : (q : Pair) → (eq_by_cmp pair_cmp q owned ≡ false → IsTrue (finite.contains_key c.profiles q)) → IsTrue (finite.contains_key profiles q)
-  still_there q h = ap is_some (are.profile q) ∙ by (eq_by_cmp pair_cmp q owned) refl
+  still_present : (q : Pair) → (eq_by_cmp pair_cmp q owned ≡ false → IsTrue (finite.contains_key c.profiles q)) → IsTrue (finite.contains_key profiles q)
+  still_present q h = ap is_some (are.profile q) ∙ by (eq_by_cmp pair_cmp q owned) refl
     where
       by : (b : Bool) → eq_by_cmp pair_cmp q owned ≡ b → is_some (cond b (Some (pos p.current)) (finite.get c.profiles q)) ≡ true
       by true t = refl
@@ -78,7 +78,7 @@ module _ (dir : List ℕ) (c : Contents) (rows : IsSoundContents dir c) (profile
           hash = rows.hash;
           references = rows.references;
           outputs = rows.outputs;
-          generations = λ owner name n present. still_there (owner, name) (λ apart.
+          generations = λ owner name n present. still_present (owner, name) (λ apart.
               let m = are.numbers owner name n present in
               rows.generations owner name n (ap (λ k. is_some (finite.get c.generations (owner, name, k))) m.1
               ∙ ap is_some (sym (are.generation (owner, name) m.0 ∙ ap (λ b. cond b (finite.get p.generations m.0) (finite.get c.generations (owner, name, pos m.0))) apart))

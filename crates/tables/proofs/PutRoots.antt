@@ -13,8 +13,8 @@ module _ (old put : OutlineValue) (name key target value : List ℕ) (same : key
   pub permanent_put : put ≡ record old { permanent = finite.insert old.permanent name target }
   permanent_put = is ∙ ap₂ (λ k v. record old { permanent = finite.insert old.permanent k v }) same same_value
 
-  pub permanent_there : IsTrue (finite.contains_key put.permanent name)
-  permanent_there = ap (λ (o : OutlineValue). finite.contains_key o.permanent name) permanent_put ∙ has_put bytes_total bytes_antisymmetric old.permanent name target
+  pub permanent_present : IsTrue (finite.contains_key put.permanent name)
+  permanent_present = ap (λ (o : OutlineValue). finite.contains_key o.permanent name) permanent_put ∙ has_put bytes_total bytes_antisymmetric old.permanent name target
 
   pub permanent_undone : (undone : OutlineValue) (had : Option Path) → had ≡ finite.get old.permanent key → undone ≡ record put { permanent = unput put.permanent name had } → undone ≡ old
   permanent_undone undone had was back =
@@ -27,8 +27,8 @@ module _ (old put : OutlineValue) (owned key again : Pair) (target value : List 
   pub user_put : put ≡ record old { user_roots = finite.insert old.user_roots owned target }
   user_put = is ∙ ap₂ (λ k v. record old { user_roots = finite.insert old.user_roots k v }) same same_value
 
-  pub user_there : IsTrue (finite.contains_key put.user_roots again)
-  user_there = ap₂ (λ (o : OutlineValue) k. finite.contains_key o.user_roots k) user_put same_again ∙ has_put pair_total pair_antisymmetric old.user_roots owned target
+  pub user_present : IsTrue (finite.contains_key put.user_roots again)
+  user_present = ap₂ (λ (o : OutlineValue) k. finite.contains_key o.user_roots k) user_put same_again ∙ has_put pair_total pair_antisymmetric old.user_roots owned target
 
   pub user_undone : (undone : OutlineValue) (had : Option Path) → had ≡ finite.get old.user_roots key → undone ≡ record put { user_roots = unput put.user_roots again had } → undone ≡ old
   user_undone undone had was back =

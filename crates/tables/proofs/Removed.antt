@@ -139,8 +139,8 @@ module _ (dir : List ℕ) (ps : List Path) (c : Contents) (rows : IsSoundContent
       by false t h = (t, h)
 
   -- a row of a path is there only where the path stays
-  still_there : {X : Type 0} (q : Path) (g : Option X) → is_some (cond (not (holds ps q)) g None) ≡ true → (is_some g ≡ true → IsTrue (finite.contains_key c.objects q)) → IsTrue (finite.contains_key (finite.retain_keys c.objects (λ k. not (holds ps k))) q)
-  still_there q g present was = ap is_some (get-kept bytes_total bytes_antisymmetric c.objects (λ k. not (holds ps k)) q) ∙ by (holds ps q) present
+  still_present : {X : Type 0} (q : Path) (g : Option X) → is_some (cond (not (holds ps q)) g None) ≡ true → (is_some g ≡ true → IsTrue (finite.contains_key c.objects q)) → IsTrue (finite.contains_key (finite.retain_keys c.objects (λ k. not (holds ps k))) q)
+  still_present q g present was = ap is_some (get-kept bytes_total bytes_antisymmetric c.objects (λ k. not (holds ps k)) q) ∙ by (holds ps q) present
     where
       by : (b : Bool) → is_some (cond (not b) g None) ≡ true → is_some (cond (not b) (finite.get c.objects q) None) ≡ true
       by true h = absurd (false≢true h)
@@ -157,9 +157,9 @@ module _ (dir : List ℕ) (ps : List Path) (c : Contents) (rows : IsSoundContent
       cut = λ h q x e. let was = stored_was q x e in subst (λ m. IsCut x.nar (finite.entries m)) (sym (pieces_kept q was.0)) (rows.cut h q x was.1);
       address = λ q x text e. rows.address q x text (stored_was q x e).1;
       hash = λ q x e. let was = stored_was q x e in rows.hash q x was.1 ∙ ap sha256 (sym (archive_kept q was.0 x));
-      pieces = λ q n present. still_there q (finite.get c.pieces (q, n)) (ap is_some (sym (get-kept numbered_total numbered_antisymmetric c.pieces (λ k. not (holds ps k.0)) (q, n))) ∙ present) (rows.pieces q n);
-      references = λ q r present. still_there q (finite.get c.refs (q, r)) (ap is_some (sym (get-kept pair_total pair_antisymmetric c.refs (λ k. not (holds ps k.0)) (q, r))) ∙ present) (rows.references q r);
-      outputs = λ q n present. still_there q (finite.get c.outs (q, n)) (ap is_some (sym (get-kept pair_total pair_antisymmetric c.outs (λ k. not (holds ps k.0)) (q, n))) ∙ present) (rows.outputs q n);
+      pieces = λ q n present. still_present q (finite.get c.pieces (q, n)) (ap is_some (sym (get-kept numbered_total numbered_antisymmetric c.pieces (λ k. not (holds ps k.0)) (q, n))) ∙ present) (rows.pieces q n);
+      references = λ q r present. still_present q (finite.get c.refs (q, r)) (ap is_some (sym (get-kept pair_total pair_antisymmetric c.refs (λ k. not (holds ps k.0)) (q, r))) ∙ present) (rows.references q r);
+      outputs = λ q n present. still_present q (finite.get c.outs (q, n)) (ap is_some (sym (get-kept pair_total pair_antisymmetric c.outs (λ k. not (holds ps k.0)) (q, n))) ∙ present) (rows.outputs q n);
       generations = rows.generations;
       numbers = rows.numbers;
       current = rows.current;

@@ -92,8 +92,8 @@ module _ (dir : List ℕ) (c : Contents) (rows : IsSoundContents dir c) where
         };
       }
 
-  was_told : (t : Temporary) → finite.contains_key c.temp_roots (row_of t) ≡ finite.contains_key (world_in c).temporary t
-  was_told t = sym (temporary_at (rows_of c) rows.sessions t)
+  was_reported : (t : Temporary) → finite.contains_key c.temp_roots (row_of t) ≡ finite.contains_key (world_in c).temporary t
+  was_reported t = sym (temporary_at (rows_of c) rows.sessions t)
 
   -- one more, or the same once more
   module _ (owner : List ℕ) (session : ℕ) (path : Path) where
@@ -110,11 +110,11 @@ module _ (dir : List ℕ) (c : Contents) (rows : IsSoundContents dir c) where
         by true t present = (session, ap (λ (x : SessionPath). x.1) (tied_is session_path_antisymmetric k (owner, pos session, path) t))
         by false t present = rows.sessions k present
 
-    told_more : (t : Temporary) → finite.contains_key (more c.temp_roots) (row_of t) ≡ finite.contains_key (gains (world_in c).temporary) t
-    told_more t =
+    reported_more : (t : Temporary) → finite.contains_key (more c.temp_roots) (row_of t) ≡ finite.contains_key (gains (world_in c).temporary) t
+    reported_more t =
         ap is_some (finite.get-insert session_path_total c.temp_roots (owner, pos session, path) tt (row_of t))
         ∙ ap (λ b. is_some (cond b (Some tt) (finite.get c.temp_roots (row_of t)))) (kept_tied t (keeps owner session path))
-        ∙ by (eq_by_cmp temporary_cmp t (keeps owner session path)) (was_told t)
+        ∙ by (eq_by_cmp temporary_cmp t (keeps owner session path)) (was_reported t)
         ∙ ap is_some (sym (finite.get-insert temporary_total (world_in c).temporary (keeps owner session path) tt t))
       where
         by : (b : Bool) → is_some (finite.get c.temp_roots (row_of t)) ≡ is_some (finite.get (world_in c).temporary t) → is_some (cond b (Some tt) (finite.get c.temp_roots (row_of t))) ≡ is_some (cond b (Some tt) (finite.get (world_in c).temporary t))
@@ -122,7 +122,7 @@ module _ (dir : List ℕ) (c : Contents) (rows : IsSoundContents dir c) where
         by false h = h
 
     pub added_follows : Follows dir (λ (x : Contents). record x { temp_roots = finite.insert x.temp_roots (owner, pos session, path) tt }) (λ (w : World). record w { temporary = finite.insert w.temporary (keeps owner session path) tt }) c
-    added_follows = others_follow more gains numbers_more told_more
+    added_follows = others_follow more gains numbers_more reported_more
 
   -- those of a session gone
   module _ (owner : List ℕ) (session : ℕ) where
@@ -142,11 +142,11 @@ module _ (dir : List ℕ) (c : Contents) (rows : IsSoundContents dir c) where
         by true present = present
         by false present = absurd (false≢true present)
 
-    told_fewer : (t : Temporary) → finite.contains_key (fewer c.temp_roots) (row_of t) ≡ finite.contains_key (loses (world_in c).temporary) t
-    told_fewer t =
+    reported_fewer : (t : Temporary) → finite.contains_key (fewer c.temp_roots) (row_of t) ≡ finite.contains_key (loses (world_in c).temporary) t
+    reported_fewer t =
         ap is_some (get-kept session_path_total session_path_antisymmetric c.temp_roots stays (row_of t))
         ∙ ap (λ b. is_some (cond (not (eq_by_cmp bytes_cmp t.owner owner && b)) (finite.get c.temp_roots (row_of t)) None)) (number_tied t.session session)
-        ∙ by (not (is_of_session owner session t)) (was_told t)
+        ∙ by (not (is_of_session owner session t)) (was_reported t)
         ∙ ap is_some (sym (get-kept temporary_total temporary_antisymmetric (world_in c).temporary (λ u. not (is_of_session owner session u)) t))
       where
         by : (b : Bool) → is_some (finite.get c.temp_roots (row_of t)) ≡ is_some (finite.get (world_in c).temporary t) → is_some (cond b (finite.get c.temp_roots (row_of t)) None) ≡ is_some (cond b (finite.get (world_in c).temporary t) None)
@@ -154,7 +154,7 @@ module _ (dir : List ℕ) (c : Contents) (rows : IsSoundContents dir c) where
         by false h = refl
 
     pub ended_follows : Follows dir (λ (x : Contents). record x { temp_roots = finite.retain_keys x.temp_roots (λ k. not (eq_by_cmp bytes_cmp k.0 owner && eq_by_cmp int_cmp k.1 (pos session))) }) (λ (w : World). record w { temporary = entries_without_session owner session w.temporary }) c
-    ended_follows = others_follow fewer loses numbers_fewer told_fewer
+    ended_follows = others_follow fewer loses numbers_fewer reported_fewer
 
 -- ---- one is taken away by a test of each part
 

@@ -2,8 +2,8 @@
 use Rattle.std.specs.Prelude.{Option}
 use Rattle.std.specs.Option.{option_map_or}
 use Rattle.tables_open.specs.Disk as disk
-use Rattle.tables_open.specs.declared.file.Unopened.{Unopened as NoFile}
-use Rattle.tables_open.specs.declared.file.Unopened.TheVariants as file
+use Rattle.tables_open.specs.declared.file.UnopenedFile.{UnopenedFile}
+use Rattle.tables_open.specs.declared.file.UnopenedFile.TheVariants as file
 use Rattle.tables.specs.declared.refusing.Cause.{Cause}
 use Rattle.tables.specs.declared.refusing.Cause.TheVariants.{BadSchema, Failed}
 use Rattle.tables.specs.declared.refusing.Unopened.{Unopened}
@@ -11,7 +11,7 @@ use Rattle.tables.specs.declared.refusing.Unopened.TheVariants.{File, Store}
 
 module _ {S D : Type 0} {g : disk.Ghosts D} where
   -- no connection was opened: what isn't a database is no store
-  abbrev pub file_cause : NoFile S D g → Cause
+  abbrev pub file_cause : UnopenedFile S D g → Cause
   file_cause (file.Refused failure left) = option_map_or Failed failure BadSchema
   file_cause (file.Unreadable it) = Failed it.failure
 

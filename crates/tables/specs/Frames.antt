@@ -1,11 +1,12 @@
 -- What each write requires of the tables, and what it promises of them, by the change that it makes of a world.
 use Rattle.std.specs.Prelude.{◌≡◌, false, Result, IsTrue, OnOk, OnErr}
+use Rattle.std.specs.Borrow.{MutBor}
 use Rattle.sqlite_trees.specs.declared.store.Store.{Ghosts}
 use Rattle.sqlite.specs.State.{HasCleanDisk, Survives}
 use Rattle.sqlite.specs.Held.{Held, state}
 use Rattle.tables_sql.specs.Contents.{Contents, contents_of}
-use Rattle.tables_sql.specs.declared.failure.Failure.{Failure}
-use Rattle.tables_rows.specs.Frames.{FailsInReads}
+use Rattle.tables_sql.specs.declared.failure.Failed.{Failed}
+use Rattle.tables_rows.specs.Frames.{FailsInReads, IsInside, Makes, StaysInside}
 use Rattle.tables_sql.specs.Calls.{IsDurable, IsReady, IsWhole, KeepsShown, LeavesRows}
 use Rattle.model.specs.World.{World}
 use Rattle.model.specs.Sound.{IsSound}
@@ -14,6 +15,20 @@ use Rattle.tables.specs.TablesValue.{TablesValue, HasWorld, IsWritten, LeavesWor
 use Rattle.tables.specs.Others.{KeepsOthers}
 
 module _ {S : Type 0} (g : Ghosts S) where
+  -- ---- a write of rows, inside a transaction
+
+  -- a transaction is under way over the store's tables, and no fault has shut the connection
+  pub record IsOpenInside (old : MutBor (Held S)) : Type 0 where
+    pub under_way : IsInside g old
+    pub is_open : HasCleanDisk (state g old.now) → IsTrue (state g old.now).is_open
+
+  -- A write inside a transaction: the change is made there, or it fails for a reason, by the rows that it puts.
+  pub record Writes {T : Type 0} (old new : MutBor (Held S)) (result : Result T Failed)
+      (change : Contents → Contents) (rows : Rows) : Type 0 where
+    pub frame : StaysInside g old new result
+    pub done : Makes g old new result change
+    pub cause : HasReason g old.now new.now result rows
+
   -- ---- a write of rows, over a connection
 
   -- no transaction is under way, and unless a fault has shut the connection all of the store's tables are there and
@@ -67,11 +82,17 @@ module _ {S : Type 0} (g : Ghosts S) where
         (λ db. LeavesWorld old.dir (state g old.connection).now db (change w))
 
   -- why it isn't made, by the rows that it puts
-  abbrev pub FailsToChange : {T : Type 0} → TablesValue S → TablesValue S → Result T Failure → Rows → Type 0
+  abbrev pub FailsToChange : {T : Type 0} → TablesValue S → TablesValue S → Result T Failed → Rows → Type 0
   FailsToChange old new result rows = HasReason g old.connection new.connection result rows
+
+  -- a write makes this change, or fails for a reason, by the rows that it puts
+  pub record ChangesTables {T : Type 0} (old new : TablesValue S) (result : Result T Failed) (change : World → World)
+      (rows : Rows) : Type 0 where
+    pub frame : CommitsChange old new result change
+    pub cause : FailsToChange old new result rows
 
   -- ---- a read over tables
 
   -- why something isn't read of the disk
-  abbrev pub FailsToAsk : {T : Type 0} → TablesValue S → TablesValue S → Result T Failure → Type 0
+  abbrev pub FailsToAsk : {T : Type 0} → TablesValue S → TablesValue S → Result T Failed → Type 0
   FailsToAsk old new result = FailsInReads g old.connection new.connection result

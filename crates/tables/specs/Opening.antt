@@ -18,7 +18,7 @@ use Rattle.tables_sql.specs.Calls.{Remains, HasFurther, KeepsForeignRows}
 use Rattle.tables_make.specs.Making.{LeavesMade, FailsToMake, all_created, store_tables_created}
 use Rattle.tables_make.specs.Migrated.{missing_tables, migrated_contents, LeavesMigrated}
 use Rattle.tables_make.specs.Migrating.{FailsToMigrate}
-use Rattle.tables_sql.specs.declared.failure.Failure.{Failure}
+use Rattle.tables_sql.specs.declared.failure.Failed.{Failed}
 use Rattle.tables_open.specs.Opened.{FailsToOpen}
 use Rattle.model.specs.World.{no_world}
 use Rattle.tables_schema.specs.declared.schema.Schema.{Schema}
@@ -29,7 +29,7 @@ use Rattle.tables_outline.specs.Outline.{OutlineValue, outline_of}
 use Rattle.tables.specs.TablesValue.{TablesValue, HasWorld}
 use Rattle.tables.specs.InTheWay.{is_name_used, has_store_tables, are_others_in_the_way}
 use Rattle.tables.specs.declared.refusing.Cause.{Cause}
-use Rattle.tables.specs.declared.refusing.Cause.TheVariants.{BadSchema, OtherStoreDir, Failed}
+use Rattle.tables.specs.declared.refusing.Cause.TheVariants.{BadSchema, OtherStoreDir, Failed as failed}
 
 -- a connection without its limit on steps
 abbrev pub unlimited : State → State
@@ -146,7 +146,7 @@ IsPresent dir db = (schema : Schema) × IsPresentBy schema dir db
 
 -- The failures for which a store isn't opened: the schema or the rows can't be read, or rowids are shared or aren't
 -- integers (FailsToOpen); new tables aren't made; or the tables of an earlier schema aren't migrated to the third.
-abbrev pub FailsToAdopt : List ℕ → State → State → Failure → Type 0
+abbrev pub FailsToAdopt : List ℕ → State → State → Failed → Type 0
 FailsToAdopt dir old new f =
     FailsToOpen old new f
     ⊎ ((HasNone old.now.schema × FailsToMake dir old new f)
@@ -160,11 +160,11 @@ abbrev pub IsRefusal : List ℕ → Database → Cause → Type 0
 IsRefusal dir db BadSchema =
     (IsTrue (has_store_tables db.schema) × ((d : List ℕ) → ¬ IsPresent d db)) ⊎ IsTrue (are_others_in_the_way db.schema)
 IsRefusal dir db OtherStoreDir = (d : List ℕ) × HoldsStore d db × (d ≢ dir)
-IsRefusal dir db (Failed f) = ⊥
+IsRefusal dir db (failed f) = ⊥
 
 -- the cause of a database that isn't opened: what the database holds, or a failure between the two states
 abbrev pub IsCause : List ℕ → State → State → Cause → Type 0
-IsCause dir old new (Failed f) = FailsToAdopt dir old new f
+IsCause dir old new (failed f) = FailsToAdopt dir old new f
 IsCause dir old new refusal = IsRefusal dir old.now refusal
 
 -- the database isn't one in which new tables are made (HasNone), and it holds the store of no directory

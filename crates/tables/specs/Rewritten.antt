@@ -54,7 +54,7 @@ AreDistinct R (k ∷ ks) = AllByRecursion (λ j. eq_by_cmp R j k ≡ false) ks �
 
 -- distinct keys, none of which a map has
 pub record AreFree {K X : Type 0} {R : K → K → Ordering} (m : finite.FinMap R X) (ks : List K) : Type 0 where
-  pub apart : AreDistinct R ks
+  pub distinct : AreDistinct R ks
   pub free : AllByRecursion (λ k. finite.get m k ≡ None) ks
 
 -- a set of pairs, and some more

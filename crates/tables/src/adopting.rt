@@ -1,11 +1,11 @@
 //! Opening a store over a connection.
 
-ghost use Rattle.std.specs.Prelude.{◌≡◌, false, IsTrue, IfOk, IfErr, MatchResult};
-ghost use Rattle.sqlite.specs.State.{HasCleanDisk, Survives};
+ghost use Rattle.std.specs.Prelude.{◌≡◌, false};
+ghost use Rattle.sqlite.specs.State.{HasCleanDisk};
 ghost use Rattle.sqlite.specs.Held.{state};
-ghost use Rattle.tables_sql.specs.Calls.{KeepsShown, IsDurable};
 ghost use Rattle.tables_open.specs.Opened.{IsFound};
-ghost use Rattle.tables.specs.Opening.{OpensStore, LeavesOpening, IsCause, unlimited};
+ghost use Rattle.tables.specs.Opening.{OpensStore, LeavesOpening, unlimited};
+ghost use Rattle.tables.specs.Adopted.{Adopts};
 
 use crate::earlier::open_earlier;
 use crate::found::{open_existing, open_new};
@@ -28,22 +28,8 @@ pub(crate) fn take<S: Alter>(
 ) -> Result<Tables<S>, Unadopted<S>>
     requires idle { conn.in_transaction ≡ false }
     requires found { HasCleanDisk (state S.Store conn) → IsFound found (state S.Store conn) }
-    ensures dir { IfOk result (λ t. t.dir ≡ dir.now) }
-    ensures opens { IfOk result
-        (λ t. HasCleanDisk (state S.Store t.connection) → OpensStore S.Store dir.now (state S.Store conn).now t) }
-    ensures idle { IfErr result (λ e. e.conn.in_transaction ≡ false) }
-    ensures cause { IfErr result
-        (λ e. HasCleanDisk (state S.Store e.conn)
-        → IsCause dir.now (state S.Store conn) (state S.Store e.conn) e.cause) }
-    ensures same { IfErr result
-        (λ e. HasCleanDisk (state S.Store e.conn) → KeepsShown (state S.Store conn) (state S.Store e.conn)) }
-    ensures durable { MatchResult result
-        (λ t. IsTrue (state S.Store t.connection).is_open → IsDurable (state S.Store t.connection))
-        (λ e. IsTrue (state S.Store e.conn).is_open → IsDurable (state S.Store e.conn)) }
-    ensures survives { MatchResult result
-        (λ t. Survives (state S.Store conn) (state S.Store t.connection)
-        (LeavesOpening dir.now (state S.Store conn).now))
-        (λ e. Survives (state S.Store conn) (state S.Store e.conn) (LeavesOpening dir.now (state S.Store conn).now)) }
+    ensures { Adopts S.Store dir.now (state S.Store conn) result
+        (OpensStore S.Store dir.now (state S.Store conn).now) (LeavesOpening dir.now (state S.Store conn).now) }
 {
     match found {
         Recognised::Nothing => open_new(alloc, conn, dir),
@@ -63,23 +49,9 @@ fn adopt_unlimited<S: Alter>(
     conn: Connection<S>,
     dir: &StoreDir,
 ) -> Result<Tables<S>, Unadopted<S>>
-    requires idle { conn.in_transaction ≡ false }
-    ensures dir { IfOk result (λ t. t.dir ≡ dir.now) }
-    ensures opens { IfOk result
-        (λ t. HasCleanDisk (state S.Store t.connection) → OpensStore S.Store dir.now (state S.Store conn).now t) }
-    ensures idle { IfErr result (λ e. e.conn.in_transaction ≡ false) }
-    ensures cause { IfErr result
-        (λ e. HasCleanDisk (state S.Store e.conn)
-        → IsCause dir.now (state S.Store conn) (state S.Store e.conn) e.cause) }
-    ensures same { IfErr result
-        (λ e. HasCleanDisk (state S.Store e.conn) → KeepsShown (state S.Store conn) (state S.Store e.conn)) }
-    ensures durable { MatchResult result
-        (λ t. IsTrue (state S.Store t.connection).is_open → IsDurable (state S.Store t.connection))
-        (λ e. IsTrue (state S.Store e.conn).is_open → IsDurable (state S.Store e.conn)) }
-    ensures survives { MatchResult result
-        (λ t. Survives (state S.Store conn) (state S.Store t.connection)
-        (LeavesOpening dir.now (state S.Store conn).now))
-        (λ e. Survives (state S.Store conn) (state S.Store e.conn) (LeavesOpening dir.now (state S.Store conn).now)) }
+    requires { conn.in_transaction ≡ false }
+    ensures { Adopts S.Store dir.now (state S.Store conn) result
+        (OpensStore S.Store dir.now (state S.Store conn).now) (LeavesOpening dir.now (state S.Store conn).now) }
 {
     match file::inspect(alloc, conn) {
         Ok(opened) => {
@@ -125,23 +97,8 @@ pub fn adopt<S: Alter>(
     dir: &StoreDir,
 ) -> Result<Tables<S>, Unadopted<S>>
     requires idle { conn.in_transaction ≡ false }
-    ensures dir { IfOk result (λ t. t.dir ≡ dir.now) }
-    ensures opens { IfOk result
-        (λ t. HasCleanDisk (state S.Store t.connection) → OpensStore S.Store dir.now (state S.Store conn).now t) }
-    ensures idle { IfErr result (λ e. e.conn.in_transaction ≡ false) }
-    ensures cause { IfErr result
-        (λ e. HasCleanDisk (state S.Store e.conn)
-        → IsCause dir.now (unlimited (state S.Store conn)) (state S.Store e.conn) e.cause) }
-    ensures same { IfErr result
-        (λ e. HasCleanDisk (state S.Store e.conn) → KeepsShown (state S.Store conn) (state S.Store e.conn)) }
-    ensures durable { MatchResult result
-        (λ t. IsTrue (state S.Store t.connection).is_open → IsDurable (state S.Store t.connection))
-        (λ e. IsTrue (state S.Store e.conn).is_open → IsDurable (state S.Store e.conn)) }
-    ensures survives { MatchResult result
-        (λ t. Survives (unlimited (state S.Store conn)) (state S.Store t.connection)
-        (LeavesOpening dir.now (state S.Store conn).now))
-        (λ e. Survives (unlimited (state S.Store conn)) (state S.Store e.conn)
-        (LeavesOpening dir.now (state S.Store conn).now)) }
+    ensures { Adopts S.Store dir.now (unlimited (state S.Store conn)) result
+        (OpensStore S.Store dir.now (state S.Store conn).now) (LeavesOpening dir.now (state S.Store conn).now) }
 {
     conn.set_step_limit(None);
     adopt_unlimited(alloc, conn, dir)

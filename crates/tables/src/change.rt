@@ -12,7 +12,7 @@ ghost use Rattle.tables.specs.Frames.{MayCommit, CommitsRows};
 ghost use Rattle.tables_rows.specs.Frames.{IsInside, Makes, StaysInside};
 
 use sqlite::{Alter, Connection, Transaction};
-use tables_sql::failure::Failure;
+use tables_sql::failure::Failed;
 use tables_sql::transaction;
 
 /// A change of the rows, written in a transaction.
@@ -26,7 +26,7 @@ pub(crate) trait Change {
     // The rows that the change puts.
     ghost rows: { Self → Table → Row → Type 0 };
 
-    fn write<S: Alter>(&self, tx: &mut Transaction<'_, S>) -> Result<(), Failure>
+    fn write<S: Alter>(&self, tx: &mut Transaction<'_, S>) -> Result<(), Failed>
         requires under_way { IsInside S.Store tx.old.conn }
         requires whole { HasCleanDisk (state S.Store tx.old.conn.now) → IsTrue (state S.Store tx.old.conn.now).is_open
             → IsWhole (state S.Store tx.old.conn.now).now }
@@ -41,7 +41,7 @@ pub(crate) trait Change {
 pub(crate) fn commit<S: Alter, C: Change>(
     conn: &mut Connection<S>,
     change: &C,
-) -> Result<(), Failure>
+) -> Result<(), Failed>
     requires frame { MayCommit S.Store conn.old }
     requires fits { HasCleanDisk (state S.Store conn.old) → IsTrue (state S.Store conn.old).is_open
         → C.fits change.now (contents_of (state S.Store conn.old).now) }

@@ -1,6 +1,6 @@
 //! Opening tables of an earlier schema, which migrates them to schema 3.
 
-ghost use Rattle.std.specs.Prelude.{◌≡◌, ◌≢◌, List, ℕ, false, IsTrue, IfOk, IfErr, OnOk, OnErr, MatchResult};
+ghost use Rattle.std.specs.Prelude.{◌≡◌, ◌≢◌, List, ℕ, false, IsTrue, IfOk, IfErr, OnOk, OnErr};
 ghost use Rattle.sqlite.specs.State.{HasCleanDisk, Survives};
 ghost use Rattle.sqlite.specs.Held.{state};
 ghost use Rattle.tables_sql.specs.Contents.{contents_of};
@@ -10,6 +10,7 @@ ghost use Rattle.tables_world.specs.Worlds.{IsSoundBy};
 ghost use Rattle.tables_make.specs.Migrated.{IsMigrated, LeavesMigrated};
 ghost use Rattle.tables_make.specs.Migrating.{FailsToMigrate};
 ghost use Rattle.tables.specs.Opening.{IsFoundBy, AreRead, OpensMigrated, LeavesMigration, IsCause};
+ghost use Rattle.tables.specs.Adopted.{Adopts, HasTables};
 
 use crate::keeping::Tables;
 use crate::refusing::{Cause, Unadopted};
@@ -18,10 +19,10 @@ use paths::StoreDir;
 use sqlite::{Alter, Connection};
 use std::alloc::Global;
 use tables_schema::Schema;
-use tables_sql::failure::Failure;
+use tables_sql::failure::Failed;
 
 /// Migrates the tables of a schema to schema 3. Tables of schema 3 stay as they are.
-fn bring<S: Alter>(alloc: Global, conn: &mut Connection<S>, schema: Schema) -> Result<(), Failure>
+fn bring<S: Alter>(alloc: Global, conn: &mut Connection<S>, schema: Schema) -> Result<(), Failed>
     requires idle { conn.old.in_transaction ≡ false }
     requires is_open { HasCleanDisk (state S.Store conn.old) → IsTrue (state S.Store conn.old).is_open }
     requires ready { HasCleanDisk (state S.Store conn.old) → IsReady (state S.Store conn.old) }
@@ -53,9 +54,7 @@ fn read_and_bring<S: Alter>(
     dir: &StoreDir,
     schema: Schema,
 ) -> Result<Loaded, Cause>
-    requires idle { conn.old.in_transaction ≡ false }
-    requires ready { HasCleanDisk (state S.Store conn.old) → IsReady (state S.Store conn.old) }
-    requires found { HasCleanDisk (state S.Store conn.old) → IsFoundBy schema (state S.Store conn.old).now }
+    requires { HasTables S.Store schema conn.old }
     ensures idle { conn.new.in_transaction ≡ false }
     ensures dir { IfOk result (λ r. r.dir ≡ dir.now) }
     ensures reported { HasCleanDisk (state S.Store conn.new)
@@ -81,24 +80,10 @@ pub(crate) fn open_earlier<S: Alter>(
     dir: &StoreDir,
     schema: Schema,
 ) -> Result<Tables<S>, Unadopted<S>>
-    requires idle { conn.in_transaction ≡ false }
-    requires ready { HasCleanDisk (state S.Store conn) → IsReady (state S.Store conn) }
-    requires found { HasCleanDisk (state S.Store conn) → IsFoundBy schema (state S.Store conn).now }
-    ensures dir { IfOk result (λ t. t.dir ≡ dir.now) }
-    ensures opens { IfOk result
-        (λ t. HasCleanDisk (state S.Store t.connection)
-        → OpensMigrated S.Store schema dir.now (state S.Store conn).now t) }
-    ensures idle { IfErr result (λ e. e.conn.in_transaction ≡ false) }
-    ensures cause { IfErr result
-        (λ e. HasCleanDisk (state S.Store e.conn)
-        → IsCause dir.now (state S.Store conn) (state S.Store e.conn) e.cause) }
-    ensures same { IfErr result
-        (λ e. HasCleanDisk (state S.Store e.conn) → KeepsShown (state S.Store conn) (state S.Store e.conn)) }
-    ensures survives { MatchResult result
-        (λ t. Survives (state S.Store conn) (state S.Store t.connection)
-        (LeavesMigration schema dir.now (state S.Store conn).now))
-        (λ e. Survives (state S.Store conn) (state S.Store e.conn)
-        (LeavesMigration schema dir.now (state S.Store conn).now)) }
+    requires { HasTables S.Store schema conn }
+    ensures { Adopts S.Store dir.now (state S.Store conn) result
+        (OpensMigrated S.Store schema dir.now (state S.Store conn).now)
+        (LeavesMigration schema dir.now (state S.Store conn).now) }
 {
     match read_and_bring(alloc, &mut conn, dir, schema) {
         Ok(loaded) => {

@@ -22,7 +22,7 @@ use std::collections::BTreeMap;
 use streams::Pieces;
 use tables_outline::{Profile, Summary};
 use tables_root_list::root_list;
-use tables_sql::failure::Failure;
+use tables_sql::failure::Failed;
 
 /// An object: its archive, and the summary of its other facts.
 #[derive(Drop)]
@@ -108,7 +108,7 @@ impl<S: Alter> Tables<S> {
     /// # Errors
     ///
     /// Memory was refused or the disk failed.
-    pub fn object(&mut self, path: &StorePath) -> Result<Option<Object>, Failure>
+    pub fn object(&mut self, path: &StorePath) -> Result<Option<Object>, Failed>
         ensures dir { self.new.dir ≡ self.old.dir }
         ensures found { HasCleanDisk (state S.Store self.new.connection) → IfOk result (λ o. (w : World)
             → HasWorld S.Store self.old w → option_map object_view o ≡ finite.get w.objects path.now) }

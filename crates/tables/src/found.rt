@@ -1,13 +1,11 @@
 //! Opening a database with the store's tables of schema 3, or with none of them.
 
-ghost use Rattle.std.specs.Prelude.{◌≡◌, false, IfOk, IfErr, MatchResult};
-ghost use Rattle.sqlite.specs.State.{HasCleanDisk, Survives};
+ghost use Rattle.std.specs.Prelude.{◌≡◌};
 ghost use Rattle.sqlite.specs.Held.{state};
-ghost use Rattle.tables_schema.specs.Finding.{HasNone};
-ghost use Rattle.tables_sql.specs.Calls.{KeepsShown, IsReady};
 ghost use Rattle.tables_make.specs.Making.{LeavesMade};
 ghost use Rattle.tables_schema.specs.declared.schema.Schema.TheVariants.{V3};
-ghost use Rattle.tables.specs.Opening.{IsFoundBy, OpensExisting, OpensNew, IsCause};
+ghost use Rattle.tables.specs.Opening.{OpensExisting, OpensNew};
+ghost use Rattle.tables.specs.Adopted.{Adopts, HasTables, HasNoTables};
 
 use crate::keeping::Tables;
 use crate::refusing::{Cause, Unadopted};
@@ -18,7 +16,7 @@ use std::alloc::Global;
 use tables_make::making;
 use tables_outline::Outline;
 use tables_schema::Schema;
-use tables_sql::failure::Failure;
+use tables_sql::failure::Failed;
 
 /// Opens a connection that holds all eleven tables of a store.
 pub(crate) fn open_existing<S: Alter>(
@@ -26,20 +24,9 @@ pub(crate) fn open_existing<S: Alter>(
     mut conn: Connection<S>,
     dir: &StoreDir,
 ) -> Result<Tables<S>, Unadopted<S>>
-    requires idle { conn.in_transaction ≡ false }
-    requires ready { HasCleanDisk (state S.Store conn) → IsReady (state S.Store conn) }
-    requires found { HasCleanDisk (state S.Store conn) → IsFoundBy V3 (state S.Store conn).now }
-    ensures dir { IfOk result (λ t. t.dir ≡ dir.now) }
-    ensures opens { IfOk result
-        (λ t. HasCleanDisk (state S.Store t.connection) → OpensExisting S.Store dir.now (state S.Store conn).now t) }
-    ensures idle { IfErr result (λ e. e.conn.in_transaction ≡ false) }
-    ensures cause { IfErr result
-        (λ e. HasCleanDisk (state S.Store e.conn)
-        → IsCause dir.now (state S.Store conn) (state S.Store e.conn) e.cause) }
-    ensures same { IfErr result
-        (λ e. HasCleanDisk (state S.Store e.conn) → KeepsShown (state S.Store conn) (state S.Store e.conn)) }
-    ensures survives { MatchResult result (λ t. Survives (state S.Store conn) (state S.Store t.connection) (λ _. ⊥))
-        (λ e. Survives (state S.Store conn) (state S.Store e.conn) (λ _. ⊥)) }
+    requires { HasTables S.Store V3 conn }
+    ensures { Adopts S.Store dir.now (state S.Store conn) result
+        (OpensExisting S.Store dir.now (state S.Store conn).now) (λ _. ⊥) }
 {
     match read_as(alloc, &mut conn, dir, Schema::V3) {
         Ok(loaded) => {
@@ -57,22 +44,10 @@ fn make_new<S: Alter>(
     dir: &StoreDir,
     own: StoreDir,
 ) -> Result<Tables<S>, Unadopted<S>>
-    requires idle { conn.in_transaction ≡ false }
     requires own { own ≡ dir.now }
-    requires none { HasCleanDisk (state S.Store conn) → HasNone (state S.Store conn).now.schema }
-    requires settled { HasCleanDisk (state S.Store conn) → (state S.Store conn).now ≡ (state S.Store conn).committed }
-    ensures dir { IfOk result (λ t. t.dir ≡ dir.now) }
-    ensures opens { IfOk result
-        (λ t. HasCleanDisk (state S.Store t.connection) → OpensNew S.Store (state S.Store conn).now t) }
-    ensures idle { IfErr result (λ e. e.conn.in_transaction ≡ false) }
-    ensures cause { IfErr result
-        (λ e. HasCleanDisk (state S.Store e.conn)
-        → IsCause dir.now (state S.Store conn) (state S.Store e.conn) e.cause) }
-    ensures same { IfErr result
-        (λ e. HasCleanDisk (state S.Store e.conn) → KeepsShown (state S.Store conn) (state S.Store e.conn)) }
-    ensures survives { MatchResult result
-        (λ t. Survives (state S.Store conn) (state S.Store t.connection) (LeavesMade dir.now (state S.Store conn).now))
-        (λ e. Survives (state S.Store conn) (state S.Store e.conn) (LeavesMade dir.now (state S.Store conn).now)) }
+    requires found { HasNoTables S.Store conn }
+    ensures { Adopts S.Store dir.now (state S.Store conn) result (OpensNew S.Store (state S.Store conn).now)
+        (LeavesMade dir.now (state S.Store conn).now) }
 {
     match making::make(&mut conn, dir.as_str()) {
         Ok(()) => {
@@ -92,26 +67,14 @@ pub(crate) fn open_new<S: Alter>(
     conn: Connection<S>,
     dir: &StoreDir,
 ) -> Result<Tables<S>, Unadopted<S>>
-    requires idle { conn.in_transaction ≡ false }
-    requires none { HasCleanDisk (state S.Store conn) → HasNone (state S.Store conn).now.schema }
-    requires settled { HasCleanDisk (state S.Store conn) → (state S.Store conn).now ≡ (state S.Store conn).committed }
-    ensures dir { IfOk result (λ t. t.dir ≡ dir.now) }
-    ensures opens { IfOk result
-        (λ t. HasCleanDisk (state S.Store t.connection) → OpensNew S.Store (state S.Store conn).now t) }
-    ensures idle { IfErr result (λ e. e.conn.in_transaction ≡ false) }
-    ensures cause { IfErr result
-        (λ e. HasCleanDisk (state S.Store e.conn)
-        → IsCause dir.now (state S.Store conn) (state S.Store e.conn) e.cause) }
-    ensures same { IfErr result
-        (λ e. HasCleanDisk (state S.Store e.conn) → KeepsShown (state S.Store conn) (state S.Store e.conn)) }
-    ensures survives { MatchResult result
-        (λ t. Survives (state S.Store conn) (state S.Store t.connection) (LeavesMade dir.now (state S.Store conn).now))
-        (λ e. Survives (state S.Store conn) (state S.Store e.conn) (LeavesMade dir.now (state S.Store conn).now)) }
+    requires { HasNoTables S.Store conn }
+    ensures { Adopts S.Store dir.now (state S.Store conn) result (OpensNew S.Store (state S.Store conn).now)
+        (LeavesMade dir.now (state S.Store conn).now) }
 {
     match dir.clone() {
         Ok(own) => make_new(alloc, conn, dir, own),
         Err(_) => {
-            let cause = Cause::Failed(Failure::Memory);
+            let cause = Cause::Failed(Failed::Memory);
             Err(Unadopted { conn, cause })
         }
     }

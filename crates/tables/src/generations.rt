@@ -6,7 +6,7 @@ ghost use Rattle.std.specs.FinMap as finite;
 ghost use Rattle.model.specs.Profiles.{has_generation, number_for, put_at, set_to, switched, without_generation};
 ghost use Rattle.tables_outline.specs.Outline.{profile_of};
 ghost use Rattle.tables.specs.Entries.{with_numbers, with_profile_by};
-ghost use Rattle.tables.specs.Frames.{StaysSound, CommitsChange, FailsToChange};
+ghost use Rattle.tables.specs.Frames.{StaysSound, ChangesTables};
 ghost use Rattle.tables_make.specs.Reasons.{NoRow};
 ghost use Rattle.tables.specs.RowsPut.{ProfileRow, GenerationRows, NumberedRows};
 
@@ -16,7 +16,7 @@ use crate::profiles::{DropGeneration, PutGeneration, Switch};
 use crate::user_roots::owned;
 use paths::StorePath;
 use sqlite::Alter;
-use tables_sql::failure::Failure;
+use tables_sql::failure::Failed;
 
 impl<S: Alter> Tables<S> {
     /// Sets the current generation of a profile. With `generation`, a number and a target, first sets the target of that number,
@@ -34,14 +34,13 @@ impl<S: Alter> Tables<S> {
         name: &str,
         generation: Option<(u32, &StorePath)>,
         current: u32,
-    ) -> Result<(), Failure>
+    ) -> Result<(), Failed>
         requires present { IfNone generation
             (IsTrue (finite.contains_key self.old.outline.profiles (owner.now, name.now))) }
         requires sound { StaysSound S.Store self.old
             (with_numbers (owner.now, name.now) (option_map (λ e. (e.0, e.1.now)) generation) current) }
-        ensures frame { CommitsChange S.Store self.old self.new result
-            (with_numbers (owner.now, name.now) (option_map (λ e. (e.0, e.1.now)) generation.entry) current) }
-        ensures cause { FailsToChange S.Store self.old self.new result
+        ensures { ChangesTables S.Store self.old self.new result
+            (with_numbers (owner.now, name.now) (option_map (λ e. (e.0, e.1.now)) generation.entry) current)
             (NumberedRows (owner.now, name.now) (option_map (λ e. (e.0, e.1.now)) generation.entry) current) }
     {
         match generation {
@@ -59,12 +58,11 @@ impl<S: Alter> Tables<S> {
         number: u32,
         target: &StorePath,
         current: u32,
-    ) -> Result<(), Failure>
+    ) -> Result<(), Failed>
         requires sound { StaysSound S.Store self.old
             (with_profile_by (owner.now, name.now) (λ p. switched (put_at p number target.now) current)) }
-        ensures frame { CommitsChange S.Store self.old self.new result
-            (with_profile_by (owner.now, name.now) (λ p. switched (put_at p number target.now) current)) }
-        ensures cause { FailsToChange S.Store self.old self.new result
+        ensures { ChangesTables S.Store self.old self.new result
+            (with_profile_by (owner.now, name.now) (λ p. switched (put_at p number target.now) current))
             (GenerationRows (owner.now, name.now) number target.now current) }
     {
         let key = owned(self.alloc, owner, name)?;
@@ -83,13 +81,12 @@ impl<S: Alter> Tables<S> {
         number: u32,
         target: &StorePath,
         current: u32,
-    ) -> Result<(), Failure>
+    ) -> Result<(), Failed>
         requires present { IsTrue (has_generation (profile_of self.old.outline (owner.now, name.now)) number) }
         requires sound { StaysSound S.Store self.old
             (with_profile_by (owner.now, name.now) (λ p. switched (put_at p number target.now) current)) }
-        ensures frame { CommitsChange S.Store self.old self.new result
-            (with_profile_by (owner.now, name.now) (λ p. switched (put_at p number target.now) current)) }
-        ensures cause { FailsToChange S.Store self.old self.new result
+        ensures { ChangesTables S.Store self.old self.new result
+            (with_profile_by (owner.now, name.now) (λ p. switched (put_at p number target.now) current))
             (GenerationRows (owner.now, name.now) number target.now current) }
     {
         let key = owned(self.alloc, owner, name)?;
@@ -123,13 +120,12 @@ impl<S: Alter> Tables<S> {
         number: u32,
         target: &StorePath,
         current: u32,
-    ) -> Result<(), Failure>
+    ) -> Result<(), Failed>
         requires new { finite.get (profile_of self.old.outline (owner.now, name.now)).generations number ≡ None }
         requires sound { StaysSound S.Store self.old
             (with_profile_by (owner.now, name.now) (λ p. switched (put_at p number target.now) current)) }
-        ensures frame { CommitsChange S.Store self.old self.new result
-            (with_profile_by (owner.now, name.now) (λ p. switched (put_at p number target.now) current)) }
-        ensures cause { FailsToChange S.Store self.old self.new result
+        ensures { ChangesTables S.Store self.old self.new result
+            (with_profile_by (owner.now, name.now) (λ p. switched (put_at p number target.now) current))
             (GenerationRows (owner.now, name.now) number target.now current) }
     {
         let key = owned(self.alloc, owner, name)?;
@@ -166,13 +162,12 @@ impl<S: Alter> Tables<S> {
         name: &str,
         number: u32,
         target: &StorePath,
-    ) -> Result<(), Failure>
+    ) -> Result<(), Failed>
         requires number { number ≡ number_for (profile_of self.old.outline (owner.now, name.now)) target.now }
         requires sound { StaysSound S.Store self.old
             (with_profile_by (owner.now, name.now) (λ p. set_to p target.now)) }
-        ensures frame { CommitsChange S.Store self.old self.new result
-            (with_profile_by (owner.now, name.now) (λ p. set_to p target.now)) }
-        ensures cause { FailsToChange S.Store self.old self.new result
+        ensures { ChangesTables S.Store self.old self.new result
+            (with_profile_by (owner.now, name.now) (λ p. set_to p target.now))
             (GenerationRows (owner.now, name.now) number target.now number) }
     {
         let key = owned(self.alloc, owner, name)?;
@@ -191,12 +186,12 @@ impl<S: Alter> Tables<S> {
     /// tables.switch_generation("ann", "default", 1)?;
     /// assert_eq!(rt; tables.profile("ann", "default")?.map(|profile| profile.current), Some(1));
     /// ```
-    pub fn switch_generation(&mut self, owner: &str, name: &str, number: u32) -> Result<(), Failure>
+    pub fn switch_generation(&mut self, owner: &str, name: &str, number: u32) -> Result<(), Failed>
         requires present { IsTrue (finite.contains_key self.old.outline.profiles (owner.now, name.now)) }
         requires sound { StaysSound S.Store self.old (with_profile_by (owner.now, name.now) (λ p. switched p number)) }
-        ensures frame { CommitsChange S.Store self.old self.new result
-            (with_profile_by (owner.now, name.now) (λ p. switched p number)) }
-        ensures cause { FailsToChange S.Store self.old self.new result (ProfileRow (owner.now, name.now) number) }
+        ensures { ChangesTables S.Store self.old self.new result
+            (with_profile_by (owner.now, name.now) (λ p. switched p number))
+            (ProfileRow (owner.now, name.now) number) }
     {
         let key = owned(self.alloc, owner, name)?;
         let switch = Switch {
@@ -218,21 +213,21 @@ impl<S: Alter> Tables<S> {
     /// let profile = tables.profile("ann", "default")?;
     /// assert_eq!(rt; profile.map(|profile| profile.generations.len()), Some(1));
     /// ```
-    pub fn drop_generation(&mut self, owner: &str, name: &str, number: u32) -> Result<(), Failure>
+    pub fn drop_generation(&mut self, owner: &str, name: &str, number: u32) -> Result<(), Failed>
         requires present { IsTrue (finite.contains_key self.old.outline.profiles (owner.now, name.now)) }
         requires sound { StaysSound S.Store self.old
             (with_profile_by (owner.now, name.now) (λ p. without_generation p number)) }
-        ensures frame { CommitsChange S.Store self.old self.new result
-            (with_profile_by (owner.now, name.now) (λ p. without_generation p number)) }
-        ensures cause { FailsToChange S.Store self.old self.new result NoRow }
+        ensures { ChangesTables S.Store self.old self.new result
+            (with_profile_by (owner.now, name.now) (λ p. without_generation p number))
+            NoRow }
     {
         let key = owned(self.alloc, owner, name)?;
-        let gone = DropGeneration {
+        let dropped = DropGeneration {
             owner,
             name,
             number,
         };
-        change::commit(&mut self.connection, &gone)?;
+        change::commit(&mut self.connection, &dropped)?;
         self.outline.drop_generation(&key, number);
         Ok(())
     }

@@ -16,7 +16,7 @@ use std::alloc::Global;
 use std::marker::Model;
 use streams::Pieces;
 use tables_outline::{Outline, Summary};
-use tables_sql::failure::Failure;
+use tables_sql::failure::Failed;
 
 /// The tables of a store, over a connection of their own.
 pub struct Tables<S: Alter> {
@@ -100,7 +100,7 @@ impl<S: Alter> Tables<S> {
         path: &StorePath,
         nar: &Pieces,
         object: Summary,
-    ) -> Result<(), Failure>
+    ) -> Result<(), Failed>
         requires new { finite.get self.old.outline.objects path.now ≡ None }
         requires size { object.size ≡ length nar.now }
         requires hash { object.hash ≡ sha256 nar.now }

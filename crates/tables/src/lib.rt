@@ -42,5 +42,6 @@ pub use paths::{Root, RootKind};
 pub use sqlite::{Alter, Connection, FileFrom, FileStore, MemStore, Start, Unknown};
 pub use streams::Pieces;
 pub use tables_open::Disk;
+pub use tables_open::file::{UnopenedFile, Unreadable};
 pub use tables_outline::{Outline, Profile, Summary};
-pub use tables_sql::failure::Failure as Failed;
+pub use tables_sql::failure::Failed;

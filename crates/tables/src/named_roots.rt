@@ -1,14 +1,14 @@
 //! Setting and dropping permanent and user roots by their names.
 
 ghost use Rattle.tables.specs.Entries.{with_root, without_root};
-ghost use Rattle.tables.specs.Frames.{StaysSound, CommitsChange, FailsToChange};
+ghost use Rattle.tables.specs.Frames.{StaysSound, ChangesTables};
 ghost use Rattle.tables_make.specs.Reasons.{NoRow};
 ghost use Rattle.tables.specs.RowsPut.{RootRow};
 
 use crate::keeping::Tables;
 use paths::StorePath;
 use sqlite::Alter;
-use tables_sql::failure::Failure;
+use tables_sql::failure::Failed;
 
 /// The name of a root that stays until it is dropped.
 #[derive(Clone, Copy)]
@@ -32,10 +32,11 @@ impl<S: Alter> Tables<S> {
     /// # Errors
     ///
     /// Memory was refused, a row is too large, or the disk failed, and then nothing has changed.
-    pub fn put_root(&mut self, name: RootName<'_>, target: &StorePath) -> Result<(), Failure>
+    pub fn put_root(&mut self, name: RootName<'_>, target: &StorePath) -> Result<(), Failed>
         requires { StaysSound S.Store self.old (with_root name target.now) }
-        ensures frame { CommitsChange S.Store self.old self.new result (with_root name.entry target.now) }
-        ensures cause { FailsToChange S.Store self.old self.new result (RootRow name.entry target.now) }
+        ensures { ChangesTables S.Store self.old self.new result
+            (with_root name.entry target.now)
+            (RootRow name.entry target.now) }
     {
         match name {
             RootName::Permanent(name) => self.put_permanent(name, target),
@@ -56,10 +57,9 @@ impl<S: Alter> Tables<S> {
     /// # Errors
     ///
     /// Memory was refused or the disk failed, and then nothing has changed.
-    pub fn drop_root(&mut self, name: RootName<'_>) -> Result<(), Failure>
+    pub fn drop_root(&mut self, name: RootName<'_>) -> Result<(), Failed>
         requires { StaysSound S.Store self.old (without_root name) }
-        ensures frame { CommitsChange S.Store self.old self.new result (without_root name.entry) }
-        ensures cause { FailsToChange S.Store self.old self.new result NoRow }
+        ensures { ChangesTables S.Store self.old self.new result (without_root name.entry) NoRow }
     {
         match name {
             RootName::Permanent(name) => self.drop_permanent(name),

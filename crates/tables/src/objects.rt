@@ -1,16 +1,15 @@
 //! Objects, as the rows have them.
 
-ghost use Rattle.std.specs.Prelude.{◌≡◌, IsTrue, length, map, string_bytes};
+ghost use Rattle.std.specs.Prelude.{◌≡◌, length, map, string_bytes};
 ghost use Rattle.std.specs.List.{zip};
 ghost use Rattle.std.specs.FinMap as finite;
 ghost use Rattle.sqlite.specs.State.{HasCleanDisk};
 ghost use Rattle.sqlite.specs.Held.{state};
 ghost use Rattle.tables_sql.specs.Contents.{contents_of};
-ghost use Rattle.tables_make.specs.Reasons.{HasReason};
 ghost use Rattle.tables.specs.Rewritten.{AreFree, put_references, put_outputs};
 ghost use Rattle.tables_make.specs.Reasons.{RowsOf};
 ghost use Rattle.tables.specs.RowsPut.{ReferenceRow, OutputRow};
-ghost use Rattle.tables_rows.specs.Frames.{IsInside, Makes, StaysInside};
+ghost use Rattle.tables.specs.Frames.{IsOpenInside, Writes};
 
 use crate::change::Change;
 use crate::cutting::put_pieces;
@@ -20,22 +19,19 @@ use sqlite::{Alter, Transaction};
 use streams::Pieces;
 use tables_outline::Summary;
 use tables_rows::{objects, outputs, references};
-use tables_sql::failure::Failure;
+use tables_sql::failure::Failed;
 
 /// Adds a row for each reference of a path. The references are distinct; the path has none of these rows yet.
 pub(crate) fn put_references<S: Alter>(
     tx: &mut Transaction<'_, S>,
     base: &str,
     targets: &[StorePath],
-) -> Result<(), Failure>
-    requires under_way { IsInside S.Store tx.old.conn }
-    requires is_open { HasCleanDisk (state S.Store tx.old.conn.now) → IsTrue (state S.Store tx.old.conn.now).is_open }
+) -> Result<(), Failed>
+    requires frame { IsOpenInside S.Store tx.old.conn }
     requires free { HasCleanDisk (state S.Store tx.old.conn.now)
         → AreFree (contents_of (state S.Store tx.old.conn.now).now).refs (map (λ t. (base.now, t)) targets.now) }
-    ensures frame { StaysInside S.Store tx.old.conn tx.new.conn result }
-    ensures done { Makes S.Store tx.old.conn tx.new.conn result
-        (λ c. record c { refs = put_references base.now targets.now c.refs }) }
-    ensures cause { HasReason S.Store tx.old.conn.now tx.new.conn.now result
+    ensures { Writes S.Store tx.old.conn tx.new.conn result
+        (λ c. record c { refs = put_references base.now targets.now c.refs })
         (RowsOf (ReferenceRow base.now) targets.now) }
 {
     'targets: for target in targets {
@@ -51,17 +47,14 @@ pub(crate) fn put_outputs<S: Alter>(
     base: &str,
     names: &[String],
     outputs: &[StorePath],
-) -> Result<(), Failure>
-    requires under_way { IsInside S.Store tx.old.conn }
-    requires is_open { HasCleanDisk (state S.Store tx.old.conn.now) → IsTrue (state S.Store tx.old.conn.now).is_open }
+) -> Result<(), Failed>
+    requires frame { IsOpenInside S.Store tx.old.conn }
     requires count { length outputs.now ≡ length names.now }
     requires free { HasCleanDisk (state S.Store tx.old.conn.now)
         → AreFree (contents_of (state S.Store tx.old.conn.now).now).outs
         (map (λ e. (base.now, e.0)) (zip (map string_bytes names.now) outputs.now)) }
-    ensures frame { StaysInside S.Store tx.old.conn tx.new.conn result }
-    ensures done { Makes S.Store tx.old.conn tx.new.conn result
-        (λ c. record c { outs = put_outputs base.now (zip (map string_bytes names.now) outputs.now) c.outs }) }
-    ensures cause { HasReason S.Store tx.old.conn.now tx.new.conn.now result
+    ensures { Writes S.Store tx.old.conn tx.new.conn result
+        (λ c. record c { outs = put_outputs base.now (zip (map string_bytes names.now) outputs.now) c.outs })
         (RowsOf (OutputRow base.now) (zip (map string_bytes names.now) outputs.now)) }
 {
     'outputs: for i in 0..names.len() {
@@ -91,7 +84,7 @@ impl<'a> Change for InsertObject<'a> {
 
     ghost rows = { λ o. ObjectRows o.base.now (stored (row_part o.nar.now) o.object.now.hash o.texts.now.deriver o.texts.now.ca) (finite.keys o.object.now.references) (finite.entries o.object.now.outputs) (further_pieces o.nar.now) };
 
-    fn write<S: Alter>(&self, tx: &mut Transaction<'_, S>) -> Result<(), Failure> {
+    fn write<S: Alter>(&self, tx: &mut Transaction<'_, S>) -> Result<(), Failed> {
         objects::insert(
             tx,
             self.base,

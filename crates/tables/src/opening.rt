@@ -3,7 +3,7 @@
 ghost use Rattle.std.specs.Prelude.{◌≡◌, IfErr, IfOk};
 ghost use Rattle.sqlite.specs.Steps.{over_memory};
 ghost use Rattle.model.specs.World.{no_world};
-ghost use Rattle.tables_sql.specs.declared.failure.Failure.TheVariants.{Memory};
+ghost use Rattle.tables_sql.specs.declared.failure.Failed.TheVariants.{Memory};
 ghost use Rattle.tables.specs.TablesValue.{Agrees, HasWorld};
 
 use crate::keeping::Tables;
@@ -12,11 +12,11 @@ use sqlite::{Alter, Connection, MemStore};
 use std::alloc::Global;
 use tables_make::making;
 use tables_outline::Outline;
-use tables_sql::failure::Failure;
+use tables_sql::failure::Failed;
 
 impl<S: Alter> Tables<S> {
     /// The tables over a connection whose rows are sound in a store directory, and have this outline.
-    pub fn over(
+    pub(crate) fn over(
         alloc: Global,
         connection: Connection<S>,
         dir: StoreDir,
@@ -50,7 +50,7 @@ impl Tables<MemStore> {
     /// # Errors
     ///
     /// Memory was refused.
-    pub fn open_in_memory(alloc: Global, dir: &StoreDir) -> Result<Tables<MemStore>, Failure>
+    pub fn open_in_memory(alloc: Global, dir: &StoreDir) -> Result<Tables<MemStore>, Failed>
         ensures dir { IfOk result (λ t. t.dir ≡ dir.now) }
         ensures reported { IfOk result (λ t. HasWorld over_memory t no_world) }
         // No disk is asked, and a store directory fits into a row.

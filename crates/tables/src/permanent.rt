@@ -1,22 +1,21 @@
 //! Permanent roots, as the rows have them.
 
 ghost use Rattle.std.specs.FinMap as finite;
-ghost use Rattle.tables_rows.specs.Frames.{IsInside, StaysInside, Makes};
-ghost use Rattle.tables_make.specs.Reasons.{HasReason};
+ghost use Rattle.tables_rows.specs.Frames.{IsInside};
+ghost use Rattle.tables.specs.Frames.{Writes};
 ghost use Rattle.tables.specs.RowsPut.{PermanentRow};
 
 use crate::change::Change;
 use sqlite::{Alter, Transaction};
 use tables_rows::permanent;
-use tables_sql::failure::Failure;
+use tables_sql::failure::Failed;
 
 /// Sets a permanent root, in place of that of its name, if one exists.
-fn replace<S: Alter>(tx: &mut Transaction<'_, S>, name: &str, target: &str) -> Result<(), Failure>
+fn replace<S: Alter>(tx: &mut Transaction<'_, S>, name: &str, target: &str) -> Result<(), Failed>
     requires { IsInside S.Store tx.old.conn }
-    ensures frame { StaysInside S.Store tx.old.conn tx.new.conn result }
-    ensures done { Makes S.Store tx.old.conn tx.new.conn result
-        (λ c. record c { permanent = finite.insert c.permanent name.now target.now }) }
-    ensures cause { HasReason S.Store tx.old.conn.now tx.new.conn.now result (PermanentRow name.now target.now) }
+    ensures { Writes S.Store tx.old.conn tx.new.conn result
+        (λ c. record c { permanent = finite.insert c.permanent name.now target.now })
+        (PermanentRow name.now target.now) }
 {
     permanent::delete(tx, name)?;
     permanent::insert(tx, name, target)
@@ -40,7 +39,7 @@ impl<'a> Change for PutPermanent<'a> {
 
     ghost rows = { λ p. PermanentRow p.name.now p.target.now };
 
-    fn write<S: Alter>(&self, tx: &mut Transaction<'_, S>) -> Result<(), Failure> {
+    fn write<S: Alter>(&self, tx: &mut Transaction<'_, S>) -> Result<(), Failed> {
         replace(tx, self.name, self.target)
     }
 }
@@ -62,7 +61,7 @@ impl<'a> Change for DropPermanent<'a> {
 
     ghost rows = { λ p. NoRow };
 
-    fn write<S: Alter>(&self, tx: &mut Transaction<'_, S>) -> Result<(), Failure> {
+    fn write<S: Alter>(&self, tx: &mut Transaction<'_, S>) -> Result<(), Failed> {
         permanent::delete(tx, self.name)
     }
 }

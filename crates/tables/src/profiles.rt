@@ -2,14 +2,14 @@
 
 ghost use Rattle.std.specs.Prelude.{pos};
 ghost use Rattle.std.specs.FinMap as finite;
-ghost use Rattle.tables_make.specs.Reasons.{HasReason};
 ghost use Rattle.tables.specs.RowsPut.{ProfileRow};
-ghost use Rattle.tables_rows.specs.Frames.{IsInside, Makes, StaysInside};
+ghost use Rattle.tables_rows.specs.Frames.{IsInside};
+ghost use Rattle.tables.specs.Frames.{Writes};
 
 use crate::change::Change;
 use sqlite::{Alter, Transaction};
 use tables_rows::{generations, profiles};
-use tables_sql::failure::Failure;
+use tables_sql::failure::Failed;
 
 /// Sets the current number of a profile, new or not.
 pub(crate) fn put_current<S: Alter>(
@@ -17,12 +17,10 @@ pub(crate) fn put_current<S: Alter>(
     owner: &str,
     name: &str,
     current: u32,
-) -> Result<(), Failure>
+) -> Result<(), Failed>
     requires under_way { IsInside S.Store tx.old.conn }
-    ensures frame { StaysInside S.Store tx.old.conn tx.new.conn result }
-    ensures done { Makes S.Store tx.old.conn tx.new.conn result
-        (λ c. record c { profiles = finite.insert c.profiles (owner.now, name.now) (pos current) }) }
-    ensures cause { HasReason S.Store tx.old.conn.now tx.new.conn.now result
+    ensures { Writes S.Store tx.old.conn tx.new.conn result
+        (λ c. record c { profiles = finite.insert c.profiles (owner.now, name.now) (pos current) })
         (ProfileRow (owner.now, name.now) current) }
 {
     profiles::delete(tx, owner, name)?;
@@ -47,7 +45,7 @@ impl<'a> Change for Switch<'a> {
 
     ghost rows = { λ p. ProfileRow (p.owner.now, p.name.now) p.number };
 
-    fn write<S: Alter>(&self, tx: &mut Transaction<'_, S>) -> Result<(), Failure> {
+    fn write<S: Alter>(&self, tx: &mut Transaction<'_, S>) -> Result<(), Failed> {
         put_current(tx, self.owner, self.name, self.number)
     }
 }
@@ -73,7 +71,7 @@ impl<'a> Change for DropGeneration<'a> {
 
     ghost rows = { λ p. NoRow };
 
-    fn write<S: Alter>(&self, tx: &mut Transaction<'_, S>) -> Result<(), Failure> {
+    fn write<S: Alter>(&self, tx: &mut Transaction<'_, S>) -> Result<(), Failed> {
         generations::delete(tx, self.owner, self.name, self.number)
     }
 }
@@ -100,7 +98,7 @@ impl<'a> Change for PutGeneration<'a> {
 
     ghost rows = { λ p. GenerationRows (p.owner.now, p.name.now) p.number p.target.now p.current };
 
-    fn write<S: Alter>(&self, tx: &mut Transaction<'_, S>) -> Result<(), Failure> {
+    fn write<S: Alter>(&self, tx: &mut Transaction<'_, S>) -> Result<(), Failed> {
         let number = self.number;
         put_current(tx, self.owner, self.name, self.current)?;
         generations::delete(tx, self.owner, self.name, number)?;

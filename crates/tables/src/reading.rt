@@ -1,14 +1,14 @@
 //! Reading of archives.
 
-ghost use Rattle.std.specs.Prelude.{◌≡◌, ◌++◌, false, is_some, IfOk, IsTrue, Some, length, option_map};
+ghost use Rattle.std.specs.Prelude.{◌≡◌, ◌++◌, is_some, IfOk, IsTrue, Some, length, option_map};
 ghost use Rattle.std.specs.List.{flat_map};
 ghost use Rattle.std.specs.FinMap as finite;
 ghost use Rattle.sqlite.specs.State.{HasCleanDisk, Survives, IsUnchanged};
 ghost use Rattle.sqlite.specs.Held.{state};
 ghost use Rattle.tables_schema.specs.Forms.{piece};
-ghost use Rattle.tables_rows.specs.Frames.{FailsInReads};
+ghost use Rattle.tables_rows.specs.Frames.{FailsInReads, LeftAsItWas, MayRead};
 ghost use Rattle.tables_sql.specs.Contents.{Stored, contents_of};
-ghost use Rattle.tables_sql.specs.Calls.{IsReady, HasFurther, KeepsShown};
+ghost use Rattle.tables_sql.specs.Calls.{HasFurther, KeepsShown};
 ghost use Rattle.model.specs.World.{World};
 ghost use Rattle.tables_world.specs.Pieces.{IsCut};
 ghost use Rattle.tables_world.specs.Rows.{archive_in, pieces_in};
@@ -23,7 +23,7 @@ use std::alloc::{AllocError, Global};
 use streams::{PIECE_SIZE, Pieces};
 use tables_rows::pieces::Piece;
 use tables_rows::{objects, pieces};
-use tables_sql::failure::Failure;
+use tables_sql::failure::Failed;
 
 /// Joins the part of an archive in the row with the later pieces, in their order, without a copy if each but the last has 65,536
 /// bytes.
@@ -45,10 +45,8 @@ pub(crate) fn read_archive<S: Alter>(
     conn: &mut Connection<S>,
     base: &str,
     size: usize,
-) -> Result<Option<Pieces>, Failure>
-    requires idle { conn.old.in_transaction ≡ false }
-    requires ready { HasCleanDisk (state S.Store conn.old) → IsTrue (state S.Store conn.old).is_open
-        → IsReady (state S.Store conn.old) }
+) -> Result<Option<Pieces>, Failed>
+    requires frame { MayRead S.Store conn.old }
     requires exists { HasCleanDisk (state S.Store conn.old) → IsTrue (state S.Store conn.old).is_open
         → HasFurther (state S.Store conn.old).now piece }
     requires cut { HasCleanDisk (state S.Store conn.old) → IsTrue (state S.Store conn.old).is_open
@@ -57,15 +55,12 @@ pub(crate) fn read_archive<S: Alter>(
     requires size { HasCleanDisk (state S.Store conn.old) → IsTrue (state S.Store conn.old).is_open
         → (o : Stored) → finite.get (contents_of (state S.Store conn.old).now).objects base.now ≡ Some o
         → length (archive_in (rows_of (contents_of (state S.Store conn.old).now)) base.now o) ≡ size }
-    ensures idle { conn.new.in_transaction ≡ false }
+    ensures frame { LeftAsItWas S.Store conn.old conn.new }
     ensures reads { HasCleanDisk (state S.Store conn.new)
         → IfOk result (λ nar. IsUnchanged (state S.Store conn.old) (state S.Store conn.new)
         × (nar ≡ option_map (archive_in (rows_of (contents_of (state S.Store conn.old).now)) base.now)
         (finite.get (contents_of (state S.Store conn.old).now).objects base.now))) }
-    ensures same { HasCleanDisk (state S.Store conn.new)
-        → KeepsShown (state S.Store conn.old) (state S.Store conn.new) }
     ensures cause { FailsInReads S.Store conn.old conn.new result }
-    ensures survives { Survives (state S.Store conn.old) (state S.Store conn.new) (λ _. ⊥) }
 {
     let found = objects::get(alloc, conn, base)?;
     let Some(object) = found else {
@@ -90,7 +85,7 @@ impl<S: Alter> Tables<S> {
     /// # Errors
     ///
     /// Memory was refused or the disk failed.
-    pub fn archive(&mut self, path: &StorePath) -> Result<Option<Pieces>, Failure>
+    pub fn archive(&mut self, path: &StorePath) -> Result<Option<Pieces>, Failed>
         ensures dir { self.new.dir ≡ self.old.dir }
         ensures found { HasCleanDisk (state S.Store self.new.connection) → IfOk result (λ nar. (w : World)
             → HasWorld S.Store self.old w → nar ≡ option_map (λ o. o.nar) (finite.get w.objects path.now)) }

@@ -2,11 +2,12 @@
 
 ghost use Rattle.std.specs.Prelude.{◌≡◌};
 ghost use Rattle.tables.specs.Causes.{cause_of};
-ghost use Rattle.tables.specs.declared.refusing.Cause.TheVariants.{Failed};
+ghost use Rattle.tables.specs.declared.refusing.Cause.TheVariants.{Failed as failing};
 
 use sqlite::{Alter, Connection};
-use tables_open::{Disk, file};
-use tables_sql::failure::Failure;
+use tables_open::Disk;
+use tables_open::file::UnopenedFile;
+use tables_sql::failure::Failed;
 
 /// Why a database isn't opened as a store.
 #[derive(Clone, Copy, Debug, PartialEq, Eq)]
@@ -18,13 +19,13 @@ pub enum Cause {
     /// The database is the store of another directory.
     OtherStoreDir,
     /// Memory ran out, the store directory is too large for a row, or the disk failed.
-    Failed(Failure),
+    Failed(Failed),
 }
 
-impl From<Failure> for Cause {
-    ghost from_gives = { λ failure cause. cause ≡ Failed failure };
+impl From<Failed> for Cause {
+    ghost from_gives = { λ failure cause. cause ≡ failing failure };
 
-    fn from(failure: Failure) -> Cause {
+    fn from(failure: Failed) -> Cause {
         Cause::Failed(failure)
     }
 }
@@ -42,7 +43,7 @@ pub struct Unadopted<S: Alter> {
 #[derive(Drop)]
 pub enum Unopened<S: Alter, D: Disk> {
     /// The file wasn't opened, or its database can't be read.
-    File(file::Unopened<S, D>),
+    File(UnopenedFile<S, D>),
     /// The database of the file isn't opened as a store.
     Store(Unadopted<S>),
 }
@@ -61,7 +62,7 @@ impl<S: Alter, D: Disk> Unopened<S, D> {
     {
         match self {
             Unopened::File(
-                file::Unopened::Refused {
+                UnopenedFile::Refused {
                     failure,
                     left: _left,
                 },
@@ -69,9 +70,9 @@ impl<S: Alter, D: Disk> Unopened<S, D> {
                 Some(failure) => Cause::Failed(*failure),
                 None => Cause::BadSchema,
             },
-            Unopened::File(file::Unopened::Unreadable(unreadable)) => Cause::Failed(
-                unreadable.failure,
-            ),
+            Unopened::File(UnopenedFile::Unreadable(unreadable)) => {
+                Cause::Failed(unreadable.failure)
+            }
             Unopened::Store(unadopted) => unadopted.cause,
         }
     }

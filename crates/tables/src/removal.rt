@@ -9,10 +9,11 @@ ghost use Rattle.tables_schema.specs.Forms.{piece};
 ghost use Rattle.tables_sql.specs.Calls.{HasFurther};
 ghost use Rattle.tables_sql.specs.Contents.{contents_of};
 ghost use Rattle.tables_make.specs.Reasons.{HasReason};
-ghost use Rattle.tables.specs.Frames.{CommitsRows, MayCommit};
+ghost use Rattle.tables_make.specs.Frames.{MayCut};
+ghost use Rattle.tables.specs.Frames.{CommitsRows, MayCommit, Writes};
 ghost use Rattle.tables_make.specs.Reasons.{NoRow};
 ghost use Rattle.tables.specs.Rewritten.{Covers, without_object, without_objects};
-ghost use Rattle.tables_rows.specs.Frames.{IsInside, Makes, StaysInside};
+ghost use Rattle.tables_rows.specs.Frames.{IsInside};
 
 use crate::change;
 use crate::change::Change;
@@ -22,23 +23,20 @@ use sqlite::{Alter, Connection, Transaction};
 use std::alloc::Global;
 use tables_outline::Outline;
 use tables_rows::objects;
-use tables_sql::failure::Failure;
+use tables_sql::failure::Failed;
 
 /// Deletes the rows of one object, if it exists: its own, and those of its references, outputs and pieces by the outline.
 fn delete_object<S: Alter>(
     tx: &mut Transaction<'_, S>,
     outline: &Outline,
     path: &StorePath,
-) -> Result<(), Failure>
+) -> Result<(), Failed>
     requires under_way { IsInside S.Store tx.old.conn }
     requires exists { HasCleanDisk (state S.Store tx.old.conn.now) → IsTrue (state S.Store tx.old.conn.now).is_open
         → HasFurther (state S.Store tx.old.conn.now).now piece }
     requires covers { HasCleanDisk (state S.Store tx.old.conn.now) → IsTrue (state S.Store tx.old.conn.now).is_open
         → Covers outline.now (contents_of (state S.Store tx.old.conn.now).now) }
-    ensures frame { StaysInside S.Store tx.old.conn tx.new.conn result }
-    ensures done { Makes S.Store tx.old.conn tx.new.conn result
-        (λ c. without_object path.now c) }
-    ensures cause { HasReason S.Store tx.old.conn.now tx.new.conn.now result NoRow }
+    ensures { Writes S.Store tx.old.conn tx.new.conn result (λ c. without_object path.now c) NoRow }
 {
     let base = path.as_str();
     objects::delete(tx, base)?;
@@ -55,17 +53,11 @@ fn delete_objects<S: Alter>(
     tx: &mut Transaction<'_, S>,
     outline: &Outline,
     paths: &[StorePath],
-) -> Result<(), Failure>
-    requires under_way { IsInside S.Store tx.old.conn }
-    requires is_open { HasCleanDisk (state S.Store tx.old.conn.now) → IsTrue (state S.Store tx.old.conn.now).is_open }
-    requires exists { HasCleanDisk (state S.Store tx.old.conn.now)
-        → HasFurther (state S.Store tx.old.conn.now).now piece }
+) -> Result<(), Failed>
+    requires frame { MayCut S.Store tx.old.conn }
     requires covers { HasCleanDisk (state S.Store tx.old.conn.now)
         → Covers outline.now (contents_of (state S.Store tx.old.conn.now).now) }
-    ensures frame { StaysInside S.Store tx.old.conn tx.new.conn result }
-    ensures done { Makes S.Store tx.old.conn tx.new.conn result
-        (λ c. without_objects paths.now c) }
-    ensures cause { HasReason S.Store tx.old.conn.now tx.new.conn.now result NoRow }
+    ensures { Writes S.Store tx.old.conn tx.new.conn result (λ c. without_objects paths.now c) NoRow }
 {
     'paths: for path in paths {
         delete_object(tx, outline, path)?;
@@ -100,7 +92,7 @@ impl<'a> Change for RemoveObjects<'a> {
 
     ghost rows = { λ o. NoRow };
 
-    fn write<S: Alter>(&self, tx: &mut Transaction<'_, S>) -> Result<(), Failure> {
+    fn write<S: Alter>(&self, tx: &mut Transaction<'_, S>) -> Result<(), Failed> {
         delete_object(tx, self.outline, self.first)?;
         delete_objects(tx, self.outline, self.rest)
     }
@@ -121,7 +113,7 @@ impl Change for RemoveNone {
 
     ghost rows = { λ o. NoRow };
 
-    fn write<S: Alter>(&self, tx: &mut Transaction<'_, S>) -> Result<(), Failure> {
+    fn write<S: Alter>(&self, tx: &mut Transaction<'_, S>) -> Result<(), Failed> {
         let _none = objects::get_within(self.alloc, tx, "")?;
         Ok(())
     }
@@ -133,7 +125,7 @@ pub(crate) fn delete_rows<S: Alter>(
     conn: &mut Connection<S>,
     outline: &Outline,
     paths: &[StorePath],
-) -> Result<(), Failure>
+) -> Result<(), Failed>
     requires frame { MayCommit S.Store conn.old }
     requires covers { HasCleanDisk (state S.Store conn.old) → IsTrue (state S.Store conn.old).is_open
         → Covers outline.now (contents_of (state S.Store conn.old).now) }

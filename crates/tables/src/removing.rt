@@ -3,14 +3,14 @@
 ghost use Rattle.std.specs.Prelude.{not};
 ghost use Rattle.live.specs.Graph.{holds};
 ghost use Rattle.model.specs.Effects.{keeping};
-ghost use Rattle.tables.specs.Frames.{StaysSound, CommitsChange, FailsToChange};
+ghost use Rattle.tables.specs.Frames.{StaysSound, ChangesTables};
 ghost use Rattle.tables_make.specs.Reasons.{NoRow};
 
 use crate::keeping::Tables;
 use crate::removal::{delete_rows, remove_all};
 use paths::StorePath;
 use sqlite::Alter;
-use tables_sql::failure::Failure;
+use tables_sql::failure::Failed;
 
 impl<S: Alter> Tables<S> {
     /// Deletes the objects of these paths, those that exist. The caller ensures that the world is sound afterwards: no object
@@ -25,10 +25,9 @@ impl<S: Alter> Tables<S> {
     /// # Errors
     ///
     /// Memory was refused or the disk failed, and then nothing has changed.
-    pub fn remove_objects(&mut self, paths: &[StorePath]) -> Result<(), Failure>
+    pub fn remove_objects(&mut self, paths: &[StorePath]) -> Result<(), Failed>
         requires sound { StaysSound S.Store self.old (λ w. keeping w (λ p. not (holds paths.now p))) }
-        ensures frame { CommitsChange S.Store self.old self.new result (λ w. keeping w (λ p. not (holds paths.now p))) }
-        ensures cause { FailsToChange S.Store self.old self.new result NoRow }
+        ensures { ChangesTables S.Store self.old self.new result (λ w. keeping w (λ p. not (holds paths.now p))) NoRow }
     {
         delete_rows(self.alloc, &mut self.connection, &self.outline, paths)?;
         remove_all(&mut self.outline, paths);

@@ -5,7 +5,7 @@ ghost use Rattle.std.specs.Prelude.{map};
 ghost use Rattle.model.specs.World.{pair_cmp};
 ghost use Rattle.model.specs.Effects.{with_permanent, without_permanent, with_user_root, without_user_root, with_runtime};
 ghost use Rattle.tables_outline.specs.Maps.{labelled_bytes, seen_set};
-ghost use Rattle.tables.specs.Frames.{StaysSound, CommitsChange, FailsToChange};
+ghost use Rattle.tables.specs.Frames.{StaysSound, ChangesTables};
 ghost use Rattle.tables_make.specs.Reasons.{NoRow, RowsOf};
 ghost use Rattle.tables.specs.RowsPut.{PermanentRow, UserRootRow, RuntimeRow};
 
@@ -17,7 +17,7 @@ use crate::user_roots::{DropUserRoot, PutUserRoot, owned};
 use paths::StorePath;
 use sqlite::Alter;
 use std::collections::BTreeSet;
-use tables_sql::failure::Failure;
+use tables_sql::failure::Failed;
 
 impl<S: Alter> Tables<S> {
     /// Sets a permanent root, new or not.
@@ -26,10 +26,11 @@ impl<S: Alter> Tables<S> {
     /// tables.put_permanent("system", path)?;
     /// assert_eq!(rt; tables.outline().permanent_roots().get("system"), Some(path));
     /// ```
-    pub fn put_permanent(&mut self, name: &str, target: &StorePath) -> Result<(), Failure>
+    pub fn put_permanent(&mut self, name: &str, target: &StorePath) -> Result<(), Failed>
         requires sound { StaysSound S.Store self.old (λ w. with_permanent w name.now target.now) }
-        ensures frame { CommitsChange S.Store self.old self.new result (λ w. with_permanent w name.now target.now) }
-        ensures cause { FailsToChange S.Store self.old self.new result (PermanentRow name.now target.now) }
+        ensures { ChangesTables S.Store self.old self.new result
+            (λ w. with_permanent w name.now target.now)
+            (PermanentRow name.now target.now) }
     {
         let key = String::from_str(self.alloc, name)?;
         let value = target.clone()?;
@@ -57,10 +58,9 @@ impl<S: Alter> Tables<S> {
     /// tables.drop_permanent("system")?;
     /// assert!(rt; tables.outline().permanent_roots().is_empty());
     /// ```
-    pub fn drop_permanent(&mut self, name: &str) -> Result<(), Failure>
+    pub fn drop_permanent(&mut self, name: &str) -> Result<(), Failed>
         requires sound { StaysSound S.Store self.old (λ w. without_permanent w name.now) }
-        ensures frame { CommitsChange S.Store self.old self.new result (λ w. without_permanent w name.now) }
-        ensures cause { FailsToChange S.Store self.old self.new result NoRow }
+        ensures { ChangesTables S.Store self.old self.new result (λ w. without_permanent w name.now) NoRow }
     {
         change::commit(&mut self.connection, &DropPermanent { name })?;
         self.outline.drop_permanent(name);
@@ -78,11 +78,11 @@ impl<S: Alter> Tables<S> {
         owner: &str,
         name: &str,
         target: &StorePath,
-    ) -> Result<(), Failure>
+    ) -> Result<(), Failed>
         requires sound { StaysSound S.Store self.old (λ w. with_user_root w (owner.now, name.now) target.now) }
-        ensures frame { CommitsChange S.Store self.old self.new result
-            (λ w. with_user_root w (owner.now, name.now) target.now) }
-        ensures cause { FailsToChange S.Store self.old self.new result (UserRootRow (owner.now, name.now) target.now) }
+        ensures { ChangesTables S.Store self.old self.new result
+            (λ w. with_user_root w (owner.now, name.now) target.now)
+            (UserRootRow (owner.now, name.now) target.now) }
     {
         let key = owned(self.alloc, owner, name)?;
         let again = owned(self.alloc, owner, name)?;
@@ -112,11 +112,11 @@ impl<S: Alter> Tables<S> {
     /// tables.drop_user_root("ann", "editor")?;
     /// assert!(rt; tables.outline().user_roots().is_empty());
     /// ```
-    pub fn drop_user_root(&mut self, owner: &str, name: &str) -> Result<(), Failure>
+    pub fn drop_user_root(&mut self, owner: &str, name: &str) -> Result<(), Failed>
         requires sound { StaysSound S.Store self.old (λ w. without_user_root w (owner.now, name.now)) }
-        ensures frame { CommitsChange S.Store self.old self.new result
-            (λ w. without_user_root w (owner.now, name.now)) }
-        ensures cause { FailsToChange S.Store self.old self.new result NoRow }
+        ensures { ChangesTables S.Store self.old self.new result
+            (λ w. without_user_root w (owner.now, name.now))
+            NoRow }
     {
         let key = owned(self.alloc, owner, name)?;
         change::commit(&mut self.connection, &DropUserRoot { owner, name })?;
@@ -134,12 +134,11 @@ impl<S: Alter> Tables<S> {
     /// tables.replace_runtime(roots)?;
     /// assert_eq!(rt; tables.outline().runtime_roots().len(), 1);
     /// ```
-    pub fn replace_runtime(&mut self, roots: BTreeSet<(String, StorePath)>) -> Result<(), Failure>
+    pub fn replace_runtime(&mut self, roots: BTreeSet<(String, StorePath)>) -> Result<(), Failed>
         requires sound { StaysSound S.Store self.old
             (λ w. with_runtime w (seen_set pair_cmp labelled_bytes roots.keys)) }
-        ensures frame { CommitsChange S.Store self.old self.new result
-            (λ w. with_runtime w (seen_set pair_cmp labelled_bytes roots.keys)) }
-        ensures cause { FailsToChange S.Store self.old self.new result
+        ensures { ChangesTables S.Store self.old self.new result
+            (λ w. with_runtime w (seen_set pair_cmp labelled_bytes roots.keys))
             (RowsOf RuntimeRow (map labelled_bytes roots.keys)) }
     {
         match change::commit(&mut self.connection, &ReplaceRuntime { roots: &roots }) {

@@ -1,14 +1,14 @@
 //! Reading and testing of all rows, and the comparison of the directory.
 
-ghost use Rattle.std.specs.Prelude.{◌≡◌, ◌↔◌, List, ℕ, false, IsTrue, IfOk, IfErr, OnOk, MatchOption};
-ghost use Rattle.sqlite.specs.State.{HasCleanDisk, IsUnchanged, Survives};
+ghost use Rattle.std.specs.Prelude.{◌≡◌, ◌↔◌, List, ℕ, IsTrue, IfOk, IfErr, OnOk, MatchOption};
+ghost use Rattle.sqlite.specs.State.{HasCleanDisk, IsUnchanged};
 ghost use Rattle.sqlite.specs.Held.{state};
 ghost use Rattle.tables_sql.specs.Contents.{contents_of};
-ghost use Rattle.tables_sql.specs.Calls.{IsReady, KeepsShown};
 ghost use Rattle.tables_world.specs.Worlds.{IsSoundBy, world_in};
 ghost use Rattle.tables_outline.specs.Outline.{outline_of};
-ghost use Rattle.tables_rows.specs.Frames.{FailsInReads};
-ghost use Rattle.tables.specs.Opening.{HasFurtherOf, IsFoundBy, AreRead, IsCause};
+ghost use Rattle.tables.specs.Opening.{HasFurtherOf, AreRead, IsCause};
+ghost use Rattle.tables_rows.specs.Frames.{LeftAsItWas, MayRead, ReadsOnly};
+ghost use Rattle.tables.specs.Adopted.{HasTables};
 
 use crate::refusing::Cause;
 use paths::StoreDir;
@@ -18,7 +18,7 @@ use tables_objects::load_objects;
 use tables_outline::Outline;
 use tables_roots::{load_roots, settings};
 use tables_schema::Schema;
-use tables_sql::failure::Failure;
+use tables_sql::failure::Failed;
 
 /// The contents of a store's rows: the directory, and the outline, which stays in memory.
 #[derive(Drop)]
@@ -32,25 +32,15 @@ fn read<S: Alter>(
     alloc: Global,
     conn: &mut Connection<S>,
     schema: Schema,
-) -> Result<Option<Loaded>, Failure>
-    requires idle { conn.old.in_transaction ≡ false }
-    requires ready { HasCleanDisk (state S.Store conn.old) → IsTrue (state S.Store conn.old).is_open
-        → IsReady (state S.Store conn.old) }
+) -> Result<Option<Loaded>, Failed>
+    requires frame { MayRead S.Store conn.old }
     requires further { HasCleanDisk (state S.Store conn.old) → IsTrue (state S.Store conn.old).is_open
         → HasFurtherOf schema (state S.Store conn.old).now }
-    ensures idle { conn.new.in_transaction ≡ false }
+    ensures read { ReadsOnly S.Store conn.old conn.new result }
     ensures reported { HasCleanDisk (state S.Store conn.new) → IfOk result (λ o. MatchOption o
         ((dir : List ℕ) → ¬ IsSoundBy schema dir (contents_of (state S.Store conn.old).now))
         (λ r. IsSoundBy schema r.dir (contents_of (state S.Store conn.old).now)
         × (outline_of (world_in (contents_of (state S.Store conn.old).now)) ≡ r.outline))) }
-    ensures unchanged { HasCleanDisk (state S.Store conn.new)
-        → OnOk result (IsUnchanged (state S.Store conn.old) (state S.Store conn.new)) }
-    ensures same { HasCleanDisk (state S.Store conn.new)
-        → KeepsShown (state S.Store conn.old) (state S.Store conn.new) }
-    ensures ready { HasCleanDisk (state S.Store conn.new) → IsTrue (state S.Store conn.new).is_open
-        → IsReady (state S.Store conn.new) }
-    ensures cause { FailsInReads S.Store conn.old conn.new result }
-    ensures survives { Survives (state S.Store conn.old) (state S.Store conn.new) (λ _. ⊥) }
 {
     let Some(dir) = settings::read(alloc, conn, schema)? else {
         return Ok(None);
@@ -79,10 +69,8 @@ pub(crate) fn read_as<S: Alter>(
     dir: &StoreDir,
     schema: Schema,
 ) -> Result<Loaded, Cause>
-    requires idle { conn.old.in_transaction ≡ false }
-    requires ready { HasCleanDisk (state S.Store conn.old) → IsReady (state S.Store conn.old) }
-    requires found { HasCleanDisk (state S.Store conn.old) → IsFoundBy schema (state S.Store conn.old).now }
-    ensures idle { conn.new.in_transaction ≡ false }
+    requires { HasTables S.Store schema conn.old }
+    ensures frame { LeftAsItWas S.Store conn.old conn.new }
     ensures dir { IfOk result (λ r. r.dir ≡ dir.now) }
     ensures reported { HasCleanDisk (state S.Store conn.new)
         → IfOk result (λ r. AreRead schema r.dir (state S.Store conn.old).now r.outline) }
@@ -90,11 +78,6 @@ pub(crate) fn read_as<S: Alter>(
         → OnOk result (IsUnchanged (state S.Store conn.old) (state S.Store conn.new)) }
     ensures cause { HasCleanDisk (state S.Store conn.new)
         → IfErr result (IsCause dir.now (state S.Store conn.old) (state S.Store conn.new)) }
-    ensures same { HasCleanDisk (state S.Store conn.new)
-        → KeepsShown (state S.Store conn.old) (state S.Store conn.new) }
-    ensures ready { HasCleanDisk (state S.Store conn.new) → IsTrue (state S.Store conn.new).is_open
-        → IsReady (state S.Store conn.new) }
-    ensures survives { Survives (state S.Store conn.old) (state S.Store conn.new) (λ _. ⊥) }
 {
     let Some(loaded) = read(alloc, conn, schema)? else {
         return Err(Cause::BadSchema);

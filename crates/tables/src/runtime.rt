@@ -1,37 +1,33 @@
 //! Runtime roots, as the rows have them.
 
-ghost use Rattle.std.specs.Prelude.{◌≡◌, IsTrue, map};
+ghost use Rattle.std.specs.Prelude.{◌≡◌, map};
 ghost use Rattle.std.specs.FinMap as finite;
 ghost use Rattle.sqlite.specs.State.{HasCleanDisk};
 ghost use Rattle.sqlite.specs.Held.{state};
 ghost use Rattle.tables_sql.specs.Contents.{contents_of};
 ghost use Rattle.tables_outline.specs.Maps.{labelled_bytes};
-ghost use Rattle.tables_make.specs.Reasons.{HasReason};
 ghost use Rattle.tables.specs.Rewritten.{put_pairs};
 ghost use Rattle.tables_make.specs.Reasons.{RowsOf};
 ghost use Rattle.tables.specs.RowsPut.{RuntimeRow};
-ghost use Rattle.tables_rows.specs.Frames.{IsInside, Makes, StaysInside};
+ghost use Rattle.tables.specs.Frames.{IsOpenInside, Writes};
 
 use crate::change::Change;
 use paths::StorePath;
 use sqlite::{Alter, Transaction};
 use std::collections::BTreeSet;
 use tables_rows::runtime;
-use tables_sql::failure::Failure;
+use tables_sql::failure::Failed;
 
 /// Adds a row for each runtime root of `roots`. The table has no rows yet.
 pub(crate) fn put_runtime<S: Alter>(
     tx: &mut Transaction<'_, S>,
     roots: &BTreeSet<(String, StorePath)>,
-) -> Result<(), Failure>
-    requires under_way { IsInside S.Store tx.old.conn }
-    requires is_open { HasCleanDisk (state S.Store tx.old.conn.now) → IsTrue (state S.Store tx.old.conn.now).is_open }
+) -> Result<(), Failed>
+    requires frame { IsOpenInside S.Store tx.old.conn }
     requires none { HasCleanDisk (state S.Store tx.old.conn.now)
         → (contents_of (state S.Store tx.old.conn.now).now).runtime ≡ finite.empty }
-    ensures frame { StaysInside S.Store tx.old.conn tx.new.conn result }
-    ensures done { Makes S.Store tx.old.conn tx.new.conn result
-        (λ c. record c { runtime = put_pairs (map labelled_bytes roots.now.keys) c.runtime }) }
-    ensures cause { HasReason S.Store tx.old.conn.now tx.new.conn.now result
+    ensures { Writes S.Store tx.old.conn tx.new.conn result
+        (λ c. record c { runtime = put_pairs (map labelled_bytes roots.now.keys) c.runtime })
         (RowsOf RuntimeRow (map labelled_bytes roots.now.keys)) }
 {
     // Labels and targets rise.
@@ -59,7 +55,7 @@ impl<'a> Change for ReplaceRuntime<'a> {
 
     ghost rows = { λ p. RowsOf RuntimeRow (map labelled_bytes p.roots.now.keys) };
 
-    fn write<S: Alter>(&self, tx: &mut Transaction<'_, S>) -> Result<(), Failure> {
+    fn write<S: Alter>(&self, tx: &mut Transaction<'_, S>) -> Result<(), Failed> {
         runtime::delete_all(tx)?;
         put_runtime(tx, self.roots)
     }

@@ -5,7 +5,7 @@ ghost use Rattle.std.specs.Prelude.{◌≡◌, IfOk};
 ghost use Rattle.std.specs.FinMap as finite;
 ghost use Rattle.model.specs.Effects.{with_temporary};
 ghost use Rattle.tables_outline.specs.Temporary.{entries_of_session, entries_without_session};
-ghost use Rattle.tables.specs.Frames.{StaysSound, CommitsChange, FailsToChange};
+ghost use Rattle.tables.specs.Frames.{StaysSound, ChangesTables, CommitsChange, FailsToChange};
 ghost use Rattle.tables_make.specs.Reasons.{NoRow};
 ghost use Rattle.tables.specs.RowsPut.{TemporaryRow};
 ghost use Rattle.tables.specs.Temporary.{keeps};
@@ -15,7 +15,7 @@ use crate::keeping::Tables;
 use crate::temporary::{EndSession, PutTemporary, temporary_entry};
 use paths::StorePath;
 use sqlite::Alter;
-use tables_sql::failure::Failure;
+use tables_sql::failure::Failed;
 
 impl<S: Alter> Tables<S> {
     /// Adds a path to those that a session of an owner keeps. It may be one of them already.
@@ -24,11 +24,10 @@ impl<S: Alter> Tables<S> {
     /// tables.add_temp("ann", 7, path)?;
     /// assert_eq!(rt; tables.outline().temporary_roots().len(), 1);
     /// ```
-    pub fn add_temp(&mut self, owner: &str, session: u32, target: &StorePath) -> Result<(), Failure>
+    pub fn add_temp(&mut self, owner: &str, session: u32, target: &StorePath) -> Result<(), Failed>
         requires sound { StaysSound S.Store self.old (λ w. with_temporary w (keeps owner.now session target.now)) }
-        ensures frame { CommitsChange S.Store self.old self.new result
-            (λ w. with_temporary w (keeps owner.now session target.now)) }
-        ensures cause { FailsToChange S.Store self.old self.new result
+        ensures { ChangesTables S.Store self.old self.new result
+            (λ w. with_temporary w (keeps owner.now session target.now))
             (TemporaryRow (keeps owner.now session target.now)) }
     {
         let key = temporary_entry(self.alloc, owner, session, target)?;
@@ -56,7 +55,7 @@ impl<S: Alter> Tables<S> {
     /// assert_eq!(rt; tables.end_session("ann", 7)?, 1);
     /// assert_eq!(rt; tables.end_session("ann", 7)?, 0);
     /// ```
-    pub fn end_session(&mut self, owner: &str, session: u32) -> Result<usize, Failure>
+    pub fn end_session(&mut self, owner: &str, session: u32) -> Result<usize, Failed>
         requires sound { StaysSound S.Store self.old
             (λ w. record w { temporary = entries_without_session owner.now session w.temporary }) }
         ensures count { IfOk result

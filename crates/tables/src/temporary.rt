@@ -9,7 +9,7 @@ use paths::StorePath;
 use sqlite::{Alter, Transaction};
 use std::alloc::{AllocError, Global};
 use tables_rows::temp_roots;
-use tables_sql::failure::Failure;
+use tables_sql::failure::Failed;
 
 /// Owned copies of an owner and a target, with the session's number: the form of the outline.
 pub(crate) fn temporary_entry(
@@ -44,7 +44,7 @@ impl<'a> Change for PutTemporary<'a> {
 
     ghost rows = { λ p. TemporaryRow (keeps p.owner.now p.session p.target.now) };
 
-    fn write<S: Alter>(&self, tx: &mut Transaction<'_, S>) -> Result<(), Failure> {
+    fn write<S: Alter>(&self, tx: &mut Transaction<'_, S>) -> Result<(), Failed> {
         temp_roots::delete(tx, self.owner, self.session, self.target)?;
         temp_roots::insert(tx, self.owner, self.session, self.target)
     }
@@ -70,7 +70,7 @@ impl<'a> Change for EndSession<'a> {
 
     ghost rows = { λ p. NoRow };
 
-    fn write<S: Alter>(&self, tx: &mut Transaction<'_, S>) -> Result<(), Failure> {
+    fn write<S: Alter>(&self, tx: &mut Transaction<'_, S>) -> Result<(), Failed> {
         temp_roots::delete_of(tx, self.owner, self.session)
     }
 }

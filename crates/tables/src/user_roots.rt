@@ -7,7 +7,7 @@ use crate::change::Change;
 use sqlite::{Alter, Transaction};
 use std::alloc::{AllocError, Global};
 use tables_rows::user_roots;
-use tables_sql::failure::Failure;
+use tables_sql::failure::Failed;
 
 /// Owned copies of an owner and a name.
 pub(crate) fn owned(alloc: Global, owner: &str, name: &str) -> Result<(String, String), AllocError>
@@ -37,7 +37,7 @@ impl<'a> Change for PutUserRoot<'a> {
 
     ghost rows = { λ p. UserRootRow (p.owner.now, p.name.now) p.target.now };
 
-    fn write<S: Alter>(&self, tx: &mut Transaction<'_, S>) -> Result<(), Failure> {
+    fn write<S: Alter>(&self, tx: &mut Transaction<'_, S>) -> Result<(), Failed> {
         user_roots::delete(tx, self.owner, self.name)?;
         user_roots::insert(tx, self.owner, self.name, self.target)
     }
@@ -61,7 +61,7 @@ impl<'a> Change for DropUserRoot<'a> {
 
     ghost rows = { λ p. NoRow };
 
-    fn write<S: Alter>(&self, tx: &mut Transaction<'_, S>) -> Result<(), Failure> {
+    fn write<S: Alter>(&self, tx: &mut Transaction<'_, S>) -> Result<(), Failed> {
         user_roots::delete(tx, self.owner, self.name)
     }
 }

@@ -36,8 +36,8 @@ module _ (a b : Database) (sound : IsDatabase b) (fs : List Parts) (made : b.sch
       let t : Table = record (table_of f) { tree = tree_named a.schema f.0 } in
       subst (λ (s : Schema). ExistsAs s t) (sym made) (all_still a.schema fs t (as_it_exists a.schema (table_of f) it))
 
-  still_stands : (f : Parts) → IsIntact a.schema (table_of f) → IsIntact b.schema (table_of f)
-  still_stands f it = one_exists b sound f (tree_named a.schema f.0) (stays f it)
+  still_exists : (f : Parts) → IsIntact a.schema (table_of f) → IsIntact b.schema (table_of f)
+  still_exists f it = one_exists b sound f (tree_named a.schema f.0) (stays f it)
 
   rows_still : (f : Parts) → IsIntact a.schema (table_of f) → rows_named b f.0 ≡ rows_named a f.0
   rows_still f it =
@@ -49,21 +49,21 @@ module _ (a b : Database) (sound : IsDatabase b) (fs : List Parts) (made : b.sch
   same_rows has = all-map (λ (t : Table). rows_named b t.name ≡ rows_named a t.name) table_of nine
       (all_weaker (λ f. IsIntact a.schema (table_of f)) (λ f. rows_named b f.0 ≡ rows_named a f.0) rows_still nine (all_from_map (IsIntact a.schema) table_of nine has))
 
-  ours_still : IsStoreDatabase a → IsStoreDatabase b
+  store_still : IsStoreDatabase a → IsStoreDatabase b
   unfolding HasReadableRows
-  ours_still of_store =
+  store_still of_store =
       let Same = λ (t : Table). rows_named b t.name ≡ rows_named a t.name in
       let same = same_rows of_store.has in
       record {
         sound = sound;
-        has = all-map (IsIntact b.schema) table_of nine (all_weaker (λ f. IsIntact a.schema (table_of f)) (λ f. IsIntact b.schema (table_of f)) still_stands nine (all_from_map (IsIntact a.schema) table_of nine of_store.has));
+        has = all-map (IsIntact b.schema) table_of nine (all_weaker (λ f. IsIntact a.schema (table_of f)) (λ f. IsIntact b.schema (table_of f)) still_exists nine (all_from_map (IsIntact a.schema) table_of nine of_store.has));
         keyed = all_both Same (λ t. IsKeyed (rows_named a t.name)) (λ t. IsKeyed (rows_named b t.name)) (λ t is. subst IsKeyed (sym is)) store_tables same of_store.keyed;
         readable = all_both Same (λ t. AreReadableRows t (rows_named a t.name)) (λ t. AreReadableRows t (rows_named b t.name)) (λ t is. subst (AreReadableRows t) (sym is)) store_tables same of_store.readable;
       }
 
   further_still : (f : Parts) → HasFurther a (table_of f) → HasFurther b (table_of f)
   further_still f it = record {
-    exists = still_stands f it.exists;
+    exists = still_exists f it.exists;
     keyed = subst IsKeyed (sym (rows_still f it.exists)) it.keyed;
     readable = subst (AreReadableRows (table_of f)) (sym (rows_still f it.exists)) it.readable;
   }
@@ -93,7 +93,7 @@ module _ (fs : List Parts) (apart : have_distinct_names (map table_of fs) ≡ tr
 
   pub old_kept : (f : Parts) → IsIntact a.now.schema (table_of f) → IsKept a.now b.now (table_of f)
   old_kept f exists = record {
-    rows = if_any_named b.now (table_of f) (still_stands a.now b.now h.sound fs h.schema h.kept f exists) ∙ rows_still a.now b.now h.sound fs h.schema h.kept f exists ∙ sym (if_any_named a.now (table_of f) exists);
+    rows = if_any_named b.now (table_of f) (still_exists a.now b.now h.sound fs h.schema h.kept f exists) ∙ rows_still a.now b.now h.sound fs h.schema h.kept f exists ∙ sym (if_any_named a.now (table_of f) exists);
     exists = further_still a.now b.now h.sound fs h.schema h.kept f;
   }
 
@@ -106,7 +106,7 @@ module _ (fs : List Parts) (apart : have_distinct_names (map table_of fs) ≡ tr
     contents = contents_alike (rows_named b.now) (rows_named a.now) _ _ _ _ (same_rows a.now b.now h.sound fs h.schema h.kept of_store.has) pieces.rows temp_roots.rows;
     foreign_rows = foreign_of a.now b.now.trees a.now.schema.tables h.kept;
     frozen = h.frozen of_store.sound;
-    of_store = ours_still a.now b.now h.sound fs h.schema h.kept of_store;
+    of_store = store_still a.now b.now h.sound fs h.schema h.kept of_store;
     exist = all_weaker (λ (t : Table). HasFurther b.now t × (rows_named b.now t.name ≡ [])) (HasFurther b.now) (λ t it. it.0) (map table_of fs) these;
     further = (pieces.exists, (temp_roots.exists, tt));
     committed = h.committed;

@@ -29,8 +29,8 @@ use Rattle.tables_make.specs.Migrated.{Grows, IsGrown}
 -- ---- inside the transaction
 
 module _ (tables : List Table) (a b c : State) (f : Contents → Contents) (made : MakesFurther tables a b) (changed : Changes b c f) where
-  theirs_still : KeepsForeignRows a.now c.now
-  theirs_still =
+  foreign_still : KeepsForeignRows a.now c.now
+  foreign_still =
       let P : Table → Type 0 = λ t. is_our_name t.name ≡ false → c.now.trees t.tree ≡ b.now.trees t.tree in
       let all = subst (λ (ts : List Table). AllByRecursion P ts) (ap (λ (s : Schema). s.tables) made.schema ∙ tables_after a.now.schema tables) changed.foreign_rows in
       foreign_then a.now (record b.now { schema = a.now.schema }) c.now refl made.foreign_rows (one_list P a.now.schema.tables (placed a.now.schema tables) all).0
@@ -41,7 +41,7 @@ module _ (tables : List Table) (a b c : State) (f : Contents → Contents) (made
     is_open = changed.is_open;
     schema = changed.schema ∙ made.schema;
     contents_are = changed.contents ∙ ap f made.contents;
-    foreign_rows = theirs_still;
+    foreign_rows = foreign_still;
     frozen = frozen_then a.now b.now c.now.trees tables made.schema made.frozen (frozen_of b.now c.now.trees made.of_store.sound changed.unshown);
     whole = record { of_store = changed.of_store; pieces = piece_after b c f changed pieces; temp_roots = temp_root_after b c f changed temp_roots };
     committed = changed.committed ∙ made.committed;

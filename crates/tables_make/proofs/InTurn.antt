@@ -11,8 +11,8 @@ use Rattle.tables_schema.specs.Forms.{strict, meta}
 use Rattle.tables_schema.specs.OurTables.{form}
 use Rattle.tables_schema.specs.declared.our_table.StoreTable.{StoreTable}
 use Rattle.tables_schema.specs.declared.our_table.StoreTable.TheVariants.{Meta}
-use Rattle.tables_sql.specs.declared.failure.Failure.{Failure}
-use Rattle.tables_sql.specs.declared.failure.Failure.TheVariants.{Memory, Size, Disk}
+use Rattle.tables_sql.specs.declared.failure.Failed.{Failed}
+use Rattle.tables_sql.specs.declared.failure.Failed.TheVariants.{Memory, Size, Disk}
 use Rattle.tables_sql.specs.Failures.{without_size, IsWriteFailure}
 use Rattle.tables_sql.proofs.Lists.{one_left}
 use Rattle.tables_sql.proofs.Truths.{and_so}
@@ -35,7 +35,7 @@ one_made t old new count under ran =
     of_form (λ f. IsCreating (making_text t) f → IsMaking (f ∷ []) old → Makes (f ∷ []) old new)
     (λ title cs key it under. makes_in (making_text t) title cs key old new count (it.makes old.now.schema (under.free ran.1.was_open).0) (under.counted ran.1.was_open) under.mode ran.0) t (texts_are t) under
 
-pub one_fails : (t : StoreTable) (old new : State) → IsMaking (form t ∷ []) old → (f : Failure) → (g : Failure) × (f ≡ without_size g) × IsWriteFailure (making_text t) [] old new g → FailsToMakeThese (form t ∷ []) ⊥ ⊥ old new f
+pub one_fails : (t : StoreTable) (old new : State) → IsMaking (form t ∷ []) old → (f : Failed) → (g : Failed) × (f ≡ without_size g) × IsWriteFailure (making_text t) [] old new g → FailsToMakeThese (form t ∷ []) ⊥ ⊥ old new f
 one_fails t old new under f h =
     of_form (λ u. IsCreating (making_text t) u → IsMaking (u ∷ []) old → FailsToMakeThese (u ∷ []) ⊥ ⊥ old new f)
     (λ title cs key it under. create_fails (making_text t) title cs key it.accepted old new (λ up. it.makes old.now.schema (under.free up).0) (λ up. (under.free up).0) under.counted f h) t (texts_are t) under
@@ -75,7 +75,7 @@ parts_are [] = refl
 parts_are (t ∷ ts) = ap (λ u. u ∷ map table_of (map (λ t. part (form t)) ts)) (of_form (λ u. table_of (part u) ≡ u) (λ title cs key. refl) t) ∙ ap (λ l. form t ∷ l) (parts_are ts)
 
 -- a connection that a fault had shut
-fails_shut : (ts us : List Table) (a b c : State) → a.is_open ≡ false → (f : Failure) → FailsToMakeThese us ⊥ ⊥ b c f → FailsToMakeThese ts ⊥ ⊥ a c f
+fails_shut : (ts us : List Table) (a b c : State) → a.is_open ≡ false → (f : Failed) → FailsToMakeThese us ⊥ ⊥ b c f → FailsToMakeThese ts ⊥ ⊥ a c f
 fails_shut ts us a b c shut Memory h = tt
 fails_shut ts us a b c shut Size h = absurd h.0
 fails_shut ts us a b c shut Disk h = inl (inr shut)
@@ -102,7 +102,7 @@ module _ (ts : List StoreTable) (n : ℕ) (low : n < length ts) (a b c : State) 
       }
 
   -- or not
-  pub next_fails : have_distinct_names (map form ts) ≡ true → AreMade ts n a b → a.faults ≤ b.faults → (f : Failure) → FailsToMakeThese (form next ∷ []) ⊥ ⊥ b c f → FailsToMakeThese (map form ts) ⊥ ⊥ a c f
+  pub next_fails : have_distinct_names (map form ts) ≡ true → AreMade ts n a b → a.faults ≤ b.faults → (f : Failed) → FailsToMakeThese (form next ∷ []) ⊥ ⊥ b c f → FailsToMakeThese (map form ts) ⊥ ⊥ a c f
   next_fails apart it rise f h =
       let rest = map form (drop (n + 1) ts) in
       let whole : map form (take n ts) ++ (form next ∷ rest) ≡ map form ts = ap (λ l. map form (take n ts) ++ map form l) (sym (one_left ts n Meta low)) ∙ sym (map-append form (take n ts) (drop n ts)) ∙ ap (map form) (take-append-drop n ts) in

@@ -24,13 +24,13 @@ use Rattle.sqlite.specs.Rows.{Then}
 use Rattle.sqlite.specs.Does.{Does, MakesTable, MakesSequence, lacks_sequence}
 use Rattle.sqlite.proofs.Callers.{statement_of}
 use Rattle.sqlite.specs.State.{State, mode_of}
-use Rattle.tables_sql.specs.declared.failure.Failure.{Failure}
-use Rattle.tables_sql.specs.declared.failure.Failure.TheVariants.{Memory, Size, Disk}
+use Rattle.tables_sql.specs.declared.failure.Failed.{Failed}
+use Rattle.tables_sql.specs.declared.failure.Failed.TheVariants.{Memory, Size, Disk}
 use Rattle.tables_schema.specs.Forms.{strict}
 use Rattle.tables_schema.specs.Finding.{IsFree}
 use Rattle.tables_sql.specs.Contents.{Bytes}
 use Rattle.tables_sql.specs.Failures.{failure_of, without_size, FailsWith, IsWriteFailure}
-use Rattle.tables_make.specs.Making.{RunsOutOfTrees, LacksNames, FailsToMakeThese}
+use Rattle.tables_make.specs.Making.{RunsOutOfTrees, IsIndexNameUsed, FailsToMakeThese}
 use Rattle.tables_make.proofs.Creates.{IsUnused, IsMakingIn, counted_after}
 use Rattle.tables_sql.proofs.Writes.{same_value}
 use Rattle.tables_sql.proofs.WriteFailures.{MayStop, OrShut, is_write, write_fails, fails_wider, fails_unsized}
@@ -58,7 +58,7 @@ module _ (s : Schema) (text : List ℕ) (title : Bytes) (cs : List Column) (key 
   its : (t : Table) → table_defined_by text ≡ Ok t → t ≡ form
   its t is = same_value (sym is ∙ accepted.defined)
 
-  loaded_outline : (index : Index) × Has (automatics form 0 0 form.uniques) index × (is_used s index.name ≡ true) → LacksNames s (form ∷ [])
+  loaded_outline : (index : Index) × Has (automatics form 0 0 form.uniques) index × (is_used s index.name ≡ true) → IsIndexNameUsed s (form ∷ [])
   loaded_outline (index, inl same, used) = ap (λ b. b || false) (ap (λ (x : Index). is_used s x.name) (sym same) ∙ used)
   loaded_outline (index, inr none, used) = absurd none
 
@@ -67,7 +67,7 @@ module _ (s : Schema) (text : List ℕ) (title : Bytes) (cs : List Column) (key 
   not_wide (k, inr none, wide) = none
 
   -- what is left of the reasons to refuse it
-  refused_table : IsFree s title → (why : Refusal) → RefusesTable s text why → RunsOutOfTrees s (form ∷ []) ⊎ LacksNames s (form ∷ [])
+  refused_table : IsFree s title → (why : Refusal) → RefusesTable s text why → RunsOutOfTrees s (form ∷ []) ⊎ IsIndexNameUsed s (form ∷ [])
   refused_table free (Invalid e) h = absurd (let no = sym accepted.defined ∙ h in cc)
   refused_table free NameTaken (t, is, inl used) = absurd (let no = sym (none_used s title (free.table, free.index, free.view)) ∙ ap (λ (x : Table). is_used s x.name) (sym (its t is)) ∙ used in cc)
   refused_table free NameTaken (t, is, inr loaded) = inr (loaded_outline (subst (λ (x : Table). (index : Index) × Has (automatics x 0 0 x.uniques) index × (is_used s index.name ≡ true)) (its t is) loaded))
@@ -97,7 +97,7 @@ module _ (s : Schema) (text : List ℕ) (title : Bytes) (cs : List Column) (key 
 -- ---- what the failure is
 
 -- a write that failed
-pub reported : (tables : List Table) (large refused : Type 0) (old new : State) → (large → IsTrue old.is_open) → (f : Failure) → FailsWith old new large (refused ⊎ (RunsOutOfTrees old.now.schema tables ⊎ LacksNames old.now.schema tables)) f → FailsToMakeThese tables large refused old new f
+pub reported : (tables : List Table) (large refused : Type 0) (old new : State) → (large → IsTrue old.is_open) → (f : Failed) → FailsWith old new large (refused ⊎ (RunsOutOfTrees old.now.schema tables ⊎ IsIndexNameUsed old.now.schema tables)) f → FailsToMakeThese tables large refused old new f
 reported tables large refused old new up Memory h = tt
 reported tables large refused old new up Size h = (h.0, up h.0)
 reported tables large refused old new up Disk (inl h) = inl h.0
@@ -112,7 +112,7 @@ module _ (text : List ℕ) (title : Bytes) (cs : List Column) (key : List ℕ) (
   these = strict title cs key ∷ []
 
   abbrev Refused : Type 0
-  Refused = ⊥ ⊎ (RunsOutOfTrees old.now.schema these ⊎ LacksNames old.now.schema these)
+  Refused = ⊥ ⊎ (RunsOutOfTrees old.now.schema these ⊎ IsIndexNameUsed old.now.schema these)
 
   table_may_stop : IsFree old.now.schema title → (stop : Option Error) → MakesTable text old.now (Err stop) → MayStop ⊥ Refused stop
   table_may_stop free None h = not_long old.now.schema text title cs key accepted h
@@ -121,7 +121,7 @@ module _ (text : List ℕ) (title : Bytes) (cs : List Column) (key : List ℕ) (
 
   -- a CREATE TABLE of the store
   pub create_fails : (IsTrue old.is_open → IsMakingIn old.now.schema text (strict title cs key)) → (IsTrue old.is_open → IsFree old.now.schema title) → (IsTrue old.is_open → lacks_sequence old.now.schema ≡ false)
-      → (f : Failure) → (g : Failure) × (f ≡ without_size g) × IsWriteFailure text [] old new g → FailsToMakeThese these ⊥ ⊥ old new f
+      → (f : Failed) → (g : Failed) × (f ≡ without_size g) × IsWriteFailure text [] old new g → FailsToMakeThese these ⊥ ⊥ old new f
   create_fails making free lacks f h =
       let it = write_fails old new text [] CreateTable refl ⊥ Refused (λ up. is_write old text [] CreateTable refl (making up).meant)
       (λ up st its stop does. let whole : st ≡ text = its ∙ ap (statement_of text) (sym (making up).meant.1.0) ∙ (making up).statement in

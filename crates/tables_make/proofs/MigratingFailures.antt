@@ -13,10 +13,10 @@ use Rattle.tables_schema.specs.Forms.{is_our_name}
 use Rattle.tables_schema.specs.declared.schema.Schema.{Schema}
 use Rattle.tables_sql.specs.Contents.{Contents, contents_of}
 use Rattle.tables_sql.specs.Failures.{HasDiskCause, FailsFor, FailsToCommit}
-use Rattle.tables_sql.specs.declared.failure.Failure.{Failure}
-use Rattle.tables_sql.specs.declared.failure.Failure.TheVariants.{Memory, Size, Disk}
+use Rattle.tables_sql.specs.declared.failure.Failed.{Failed}
+use Rattle.tables_sql.specs.declared.failure.Failed.TheVariants.{Memory, Size, Disk}
 use Rattle.tables_make.specs.Further.{MakesFurther, grown}
-use Rattle.tables_make.specs.Making.{FailsToMakeThese, LacksNames, RunsOutOfTrees, placed}
+use Rattle.tables_make.specs.Making.{FailsToMakeThese, IsIndexNameUsed, RunsOutOfTrees, placed}
 use Rattle.tables_make.specs.Migrated.{Grows, missing_tables}
 use Rattle.tables_make.specs.Migrating.{FailsToMigrate, MigratedRows, with_missing}
 use Rattle.tables_make.specs.Reasons.{IsReason, IsWithin, RunsOutOfRowids, Rows}
@@ -33,7 +33,7 @@ module _ (from : Schema) (of_store : AreOwn from) (a b c : State) (made : MakesF
   grown_within : IsWithin (grown (missing_tables from) a.now) b.now
   grown_within = record { schema = made.schema; foreign_rows = foreign_grown (missing_tables from) of_store a b made }
 
-  reason_before : (rows : Rows) (f : Failure) → IsReason rows b c f → IsReason rows (with_missing from a) c f
+  reason_before : (rows : Rows) (f : Failed) → IsReason rows b c f → IsReason rows (with_missing from a) c f
   reason_before rows Memory h = tt
   reason_before rows Size h = let it = h.1 in (made.was_open, (it.0, within_then (grown (missing_tables from) a.now) b.now it.0 grown_within it.1, it.2, it.3, it.4, it.5))
   reason_before rows Disk (inl (inl more)) = inl (inl (omega (arith, more, before.counts)))
@@ -41,14 +41,14 @@ module _ (from : Schema) (of_store : AreOwn from) (a b c : State) (made : MakesF
   reason_before rows Disk (inr (inl limit)) = inr (inl (subst IsSome before.limit limit))
   reason_before rows Disk (inr (inr it)) = inr (inr (it.0, within_then (grown (missing_tables from) a.now) b.now it.0 grown_within it.1, it.2, it.3, it.4, it.5))
 
-  pub rows_fail : (f : Failure) → IsReason (MigratedRows from (contents_of b.now)) b c f → FailsToMigrate from a c f
+  pub rows_fail : (f : Failed) → IsReason (MigratedRows from (contents_of b.now)) b c f → FailsToMigrate from a c f
   rows_fail f h = inr (subst (λ (x : Contents). IsReason (MigratedRows from x) (with_missing from a) c f) made.contents (reason_before (MigratedRows from (contents_of b.now)) f h))
 
 -- ---- the transaction
 
 module _ (from : Schema) (a b c : State) where
   -- what came after it, as a rollback, forgets no fault
-  pub migrating_later : (P : Trees → Type 0) → Survives b c P → (f : Failure) → FailsToMigrate from a b f → FailsToMigrate from a c f
+  pub migrating_later : (P : Trees → Type 0) → Survives b c P → (f : Failed) → FailsToMigrate from a b f → FailsToMigrate from a c f
   migrating_later P after Memory h = inl tt
   migrating_later P after Size (inl h) = inl h
   migrating_later P after Size (inr h) = inr h
@@ -60,17 +60,17 @@ module _ (from : Schema) (a b c : State) where
   migrating_later P after Disk (inr (inr h)) = inr (inr h)
 
   -- a commit that failed after all was written
-  pub migrating_commit : (contents : Contents) → Grows (missing_tables from) contents a b → Survives a b (λ _. ⊥) → (f : Failure) → FailsToCommit b c f → FailsToMigrate from a c f
+  pub migrating_commit : (contents : Contents) → Grows (missing_tables from) contents a b → Survives a b (λ _. ⊥) → (f : Failed) → FailsToCommit b c f → FailsToMigrate from a c f
   migrating_commit contents grew before Memory h = inl tt
   migrating_commit contents grew before Size h = absurd h
   migrating_commit contents grew before Disk (inl more, undone) = inl (inl (inl (omega (arith, more, before.counts))))
   migrating_commit contents grew before Disk (inr shut, undone) = absurd (let no = sym grew.is_open ∙ shut in cc)
 
 -- seen from before the transaction was begun
-pub migrating_begun : {S : Type 0} (g : Ghosts S) (conn start : Held S) (from : Schema) (b : State) → start ≡ record conn { in_transaction = true } → (f : Failure) → FailsToMigrate from (state g start) b f → FailsToMigrate from (state g conn) b f
+pub migrating_begun : {S : Type 0} (g : Ghosts S) (conn start : Held S) (from : Schema) (b : State) → start ≡ record conn { in_transaction = true } → (f : Failed) → FailsToMigrate from (state g start) b f → FailsToMigrate from (state g conn) b f
 migrating_begun {S} g conn start from b is f h = same f (subst (λ (s : Held S). FailsToMigrate from (state g s) b f) is h)
   where
-    same : (f : Failure) → FailsToMigrate from (state g (record conn { in_transaction = true })) b f → FailsToMigrate from (state g conn) b f
+    same : (f : Failed) → FailsToMigrate from (state g (record conn { in_transaction = true })) b f → FailsToMigrate from (state g conn) b f
     same Memory h = inl tt
     same Size h = h
     same Disk h = h
@@ -78,7 +78,7 @@ migrating_begun {S} g conn start from b is f h = same f (subst (λ (s : Held S).
 -- ---- a read before it
 
 -- the read failed
-pub keys_fail : (from : Schema) (a b : State) (f : Failure) → FailsFor a b f → FailsToMigrate from a b f
+pub keys_fail : (from : Schema) (a b : State) (f : Failed) → FailsFor a b f → FailsToMigrate from a b f
 keys_fail from a b Memory h = inl tt
 keys_fail from a b Size h = absurd h.0
 keys_fail from a b Disk (inl h) = inl (inl h.0)
@@ -91,7 +91,7 @@ module _ (from : Schema) (a b c : State) (same : IsUnchanged a b) (first : Survi
   disk_before (inr shut) = absurd (let no = sym same.0.is_open ∙ shut in cc)
 
   abbrev Lacks : Database → Type 0
-  Lacks db = RunsOutOfTrees db.schema (missing_tables from) ⊎ LacksNames db.schema (missing_tables from)
+  Lacks db = RunsOutOfTrees db.schema (missing_tables from) ⊎ IsIndexNameUsed db.schema (missing_tables from)
 
   abbrev Large : Database → Type 0
   Large db = IsReason (MigratedRows from (contents_of db)) (with_missing from (record a { now = db })) c Size
@@ -99,7 +99,7 @@ module _ (from : Schema) (a b c : State) (same : IsUnchanged a b) (first : Survi
   abbrev Full : Database → Type 0
   Full db = RunsOutOfRowids (MigratedRows from (contents_of db)) (grown (missing_tables from) db)
 
-  pub migrating_before : (f : Failure) → FailsToMigrate from b c f → FailsToMigrate from a c f
+  pub migrating_before : (f : Failed) → FailsToMigrate from b c f → FailsToMigrate from a c f
   migrating_before Memory h = inl tt
   migrating_before Size (inl h) = absurd h.0
   migrating_before Size (inr h) = inr (same.0.was_open, (subst Large same.0.now_is (same.0.was_open, h.1)).1)

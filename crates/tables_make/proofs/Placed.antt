@@ -121,8 +121,8 @@ module _ (s : Schema) (title : Bytes) (cs : List Column) (key : List ℕ) where
   low_after low = all-append (λ (i : Index). i.table < next_tree after) s.indexes _ (all_weaker (λ (i : Index). i.table < next_tree s) (λ i. i.table < next_tree after) (λ i k. omega (arith, new_below, k)) s.indexes low) (new_below, tt)
 
   -- the one that was made stands
-  new_stands : IsFree s title → AreLow s → ExistsAs after new
-  new_stands free low = record {
+  new_exists : IsFree s title → AreLow s → ExistsAs after new
+  new_exists free low = record {
     at = length s.tables;
     named = new_named s title cs key free.table;
     by_tree = found_last (λ (u : Table). u.tree == next_tree s) s.tables new (others_off s) (eq-eqb (next_tree s) (next_tree s) refl);
@@ -137,8 +137,8 @@ module _ (s : Schema) (title : Bytes) (cs : List Column) (key : List ℕ) where
   }
 
   -- the others stand yet
-  stands_still : (t : Table) → ExistsAs s t → ExistsAs after t
-  stands_still t it =
+  exists_still : (t : Table) → ExistsAs s t → ExistsAs after t
+  exists_still t it =
       let below : t.tree < next_tree s = all-slice_get (λ (u : Table). u.tree < next_tree s) s.tables it.at t it.named.1 (trees_below s) in
       let off : (next_tree s == t.tree) ≡ false = ne_eqb (next_tree s) t.tree (λ e. absurd (omega (arith, below, e))) in
       record {
@@ -165,14 +165,14 @@ table_of f = strict f.0 f.1.0 f.1.1
 -- a table that stood stands yet
 pub all_still : (s : Schema) (fs : List Parts) (t : Table) → ExistsAs s t → ExistsAs (all_created s (map table_of fs)) t
 all_still s [] t it = it
-all_still s (f ∷ fs) t it = all_still (created s (table_of f)) fs t (stands_still s f.0 f.1.0 f.1.1 t it)
+all_still s (f ∷ fs) t it = all_still (created s (table_of f)) fs t (exists_still s f.0 f.1.0 f.1.1 t it)
 
 -- each that was made stands in the end
 pub all_exist : (s : Schema) (fs : List Parts) → have_distinct_names (map table_of fs) ≡ true → AllByRecursion (λ t. IsFree s t.name) (map table_of fs) → AreLow s → AllByRecursion (ExistsAs (all_created s (map table_of fs))) (placed s (map table_of fs))
 all_exist s [] clear free low = tt
 all_exist s (f ∷ fs) clear free low =
     let b = and_so _ _ clear in (
-      all_still (created s (table_of f)) fs (record (table_of f) { tree = next_tree s }) (new_stands s f.0 f.1.0 f.1.1 free.0 low),
+      all_still (created s (table_of f)) fs (record (table_of f) { tree = next_tree s }) (new_exists s f.0 f.1.0 f.1.1 free.0 low),
       all_exist (created s (table_of f)) fs b.1 (all_free_after s f.0 f.1.0 f.1.1 (map table_of fs) b.0 free.1) (low_after s f.0 f.1.0 f.1.1 low),
     )
 

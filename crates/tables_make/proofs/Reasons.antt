@@ -16,8 +16,8 @@ use Rattle.tables_sql.specs.Contents.{Contents}
 use Rattle.tables_sql.specs.Entries.{text_or_null}
 use Rattle.tables_sql.specs.Calls.{Changes}
 use Rattle.tables_sql.specs.Failures.{FailsFor, FailsToInsert, FailsToCommit}
-use Rattle.tables_sql.specs.declared.failure.Failure.{Failure}
-use Rattle.tables_sql.specs.declared.failure.Failure.TheVariants.{Memory, Size, Disk}
+use Rattle.tables_sql.specs.declared.failure.Failed.{Failed}
+use Rattle.tables_sql.specs.declared.failure.Failed.TheVariants.{Memory, Size, Disk}
 use Rattle.tables_sql.proofs.Steps.{foreign_then}
 use Rattle.tables_make.specs.Reasons.{Rows, RowsOf, IsWithin, IsReason}
 
@@ -28,14 +28,14 @@ here : (db : Database) → IsWithin db db
 here db = record { schema = refl; foreign_rows = all_of (λ (t : Table). is_our_name t.name ≡ false → db.trees t.tree ≡ db.trees t.tree) (λ t other. refl) db.schema.tables }
 
 -- a call that puts no row
-pub removal_reason : (rows : Rows) (a b : State) (f : Failure) → FailsFor a b f → IsReason rows a b f
+pub removal_reason : (rows : Rows) (a b : State) (f : Failed) → FailsFor a b f → IsReason rows a b f
 removal_reason rows a b Memory h = tt
 removal_reason rows a b Size h = absurd h.0
 removal_reason rows a b Disk (inl h) = inl h.0
 removal_reason rows a b Disk (inr h) = inr (inl h.0)
 
 -- one that puts a row where none is, unless a fault had shut the connection
-pub put_open : (rows : Rows) (a b : State) (t : Table) (values : Row) (Taken : Type 0) → rows t values → (IsTrue a.is_open → Taken → ⊥) → (f : Failure) → FailsToInsert t values Taken a b f → IsReason rows a b f
+pub put_open : (rows : Rows) (a b : State) (t : Table) (values : Row) (Taken : Type 0) → rows t values → (IsTrue a.is_open → Taken → ⊥) → (f : Failed) → FailsToInsert t values Taken a b f → IsReason rows a b f
 put_open rows a b t values Taken in_rows free Memory h = tt
 put_open rows a b t values Taken in_rows free Size h = (h.0.1, (a.now, here a.now, t, values, in_rows, h.0.0))
 put_open rows a b t values Taken in_rows free Disk (inl h) = inl h.0
@@ -44,11 +44,11 @@ put_open rows a b t values Taken in_rows free Disk (inr (inr (inl full), same)) 
 put_open rows a b t values Taken in_rows free Disk (inr (inr (inr loaded), same)) = absurd (free same.0.was_open loaded)
 
 -- one that puts a row where none is
-pub put_reason : (rows : Rows) (a b : State) (t : Table) (values : Row) (Taken : Type 0) → rows t values → (Taken → ⊥) → (f : Failure) → FailsToInsert t values Taken a b f → IsReason rows a b f
+pub put_reason : (rows : Rows) (a b : State) (t : Table) (values : Row) (Taken : Type 0) → rows t values → (Taken → ⊥) → (f : Failed) → FailsToInsert t values Taken a b f → IsReason rows a b f
 put_reason rows a b t values Taken in_rows free = put_open rows a b t values Taken in_rows (λ up. free)
 
 -- more rows
-pub more_reason : (rows more : Rows) → ((t : Table) (values : Row) → rows t values → more t values) → (a b : State) (f : Failure) → IsReason rows a b f → IsReason more a b f
+pub more_reason : (rows more : Rows) → ((t : Table) (values : Row) → rows t values → more t values) → (a b : State) (f : Failed) → IsReason rows a b f → IsReason more a b f
 more_reason rows more into a b Memory h = tt
 more_reason rows more into a b Size h = let it = h.1 in (h.0, (it.0, it.1, it.2, it.3, into it.2 it.3 it.4, it.5))
 more_reason rows more into a b Disk (inl h) = inl h
@@ -65,7 +65,7 @@ changed_within h = record { schema = h.schema; foreign_rows = h.foreign_rows }
 
 module _ (rows : Rows) (a b c : State) (f : Contents → Contents) (done : Changes a b f) (before : Survives a b (λ _. ⊥)) where
   -- a call that failed after a change that was done
-  pub next_reason : (e : Failure) → IsReason rows b c e → IsReason rows a c e
+  pub next_reason : (e : Failed) → IsReason rows b c e → IsReason rows a c e
   next_reason Memory h = tt
   next_reason Size h = let it = h.1 in (done.was_open, (it.0, within_then a.now b.now it.0 (changed_within done) it.1, it.2, it.3, it.4, it.5))
   next_reason Disk (inl (inl more)) = inl (inl (omega (arith, more, before.counts)))
@@ -74,13 +74,13 @@ module _ (rows : Rows) (a b c : State) (f : Contents → Contents) (done : Chang
   next_reason Disk (inr (inr it)) = inr (inr (it.0, within_then a.now b.now it.0 (changed_within done) it.1, it.2, it.3, it.4, it.5))
 
   -- a commit that failed after it
-  pub commit_reason : (e : Failure) → FailsToCommit b c e → IsReason rows a c e
+  pub commit_reason : (e : Failed) → FailsToCommit b c e → IsReason rows a c e
   commit_reason Memory h = tt
   commit_reason Size h = absurd h
   commit_reason Disk h = next_reason Disk (inl h.0)
 
 -- what came after it, as a rollback, forgets no fault
-pub later_reason : (rows : Rows) (a b c : State) (P : Trees → Type 0) → Survives b c P → (e : Failure) → IsReason rows a b e → IsReason rows a c e
+pub later_reason : (rows : Rows) (a b c : State) (P : Trees → Type 0) → Survives b c P → (e : Failed) → IsReason rows a b e → IsReason rows a c e
 later_reason rows a b c P after Memory h = tt
 later_reason rows a b c P after Size h = h
 later_reason rows a b c P after Disk (inl (inl more)) = inl (inl (omega (arith, more, after.counts)))
@@ -88,10 +88,10 @@ later_reason rows a b c P after Disk (inl (inr shut)) = inl (inr shut)
 later_reason rows a b c P after Disk (inr h) = inr h
 
 -- seen from before the transaction was begun
-pub begun_reason : {S : Type 0} (g : Ghosts S) (conn start : Held S) (rows : Rows) (b : State) → start ≡ record conn { in_transaction = true } → (e : Failure) → IsReason rows (state g start) b e → IsReason rows (state g conn) b e
+pub begun_reason : {S : Type 0} (g : Ghosts S) (conn start : Held S) (rows : Rows) (b : State) → start ≡ record conn { in_transaction = true } → (e : Failed) → IsReason rows (state g start) b e → IsReason rows (state g conn) b e
 begun_reason {S} g conn start rows b is e h = same e (subst (λ (s : Held S). IsReason rows (state g s) b e) is h)
   where
-    same : (e : Failure) → IsReason rows (state g (record conn { in_transaction = true })) b e → IsReason rows (state g conn) b e
+    same : (e : Failed) → IsReason rows (state g (record conn { in_transaction = true })) b e → IsReason rows (state g conn) b e
     same Memory h = tt
     same Size h = h
     same Disk h = h
@@ -99,7 +99,7 @@ begun_reason {S} g conn start rows b is e h = same e (subst (λ (s : Held S). Is
 -- ---- of a result
 
 module _ {T : Type 0} where
-  pub as_reason : (P Q : Failure → Type 0) → ((f : Failure) → P f → Q f) → (r : Result T Failure) → IfErr r P → IfErr r Q
+  pub as_reason : (P Q : Failed → Type 0) → ((f : Failed) → P f → Q f) → (r : Result T Failed) → IfErr r P → IfErr r Q
   as_reason P Q leads (Ok v) h = tt
   as_reason P Q leads (Err f) h = leads f h
 

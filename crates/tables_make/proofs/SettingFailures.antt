@@ -26,13 +26,13 @@ use Rattle.sqlite_catalog.specs.Change.{created, next_tree}
 use Rattle.sqlite_tied.specs.Compute.{everything}
 use Rattle.sqlite.specs.Effect.{Database, IsDatabase}
 use Rattle.sqlite.specs.State.{State}
-use Rattle.tables_sql.specs.declared.failure.Failure.{Failure}
+use Rattle.tables_sql.specs.declared.failure.Failed.{Failed}
 use Rattle.tables_schema.specs.Forms.{meta}
 use Rattle.tables_schema.specs.Intact.{IsIntact, tree_named}
 use Rattle.tables_schema.specs.Finding.{IsFree}
 use Rattle.tables_sql.specs.Contents.{Bytes, rows_named}
 use Rattle.tables_sql.specs.Failures.{FailsWith, IsWriteFailure, IsTooLarge, HasNoRowidLeft}
-use Rattle.tables_make.specs.Making.{Makes, Puts, placed, IsTooLong, RunsOutOfTrees, LacksNames, FailsToMakeThese}
+use Rattle.tables_make.specs.Making.{Makes, Puts, placed, IsTooLong, RunsOutOfTrees, IsIndexNameUsed, FailsToMakeThese}
 use Rattle.tables_sql.proofs.Truths.{cast_null}
 use Rattle.tables_sql.proofs.Description.{terms_of}
 use Rattle.tables_sql.proofs.SettingLemmas.{insert_text, insert_is, table as settings}
@@ -123,23 +123,23 @@ unfolding IsTooLarge
 too_long db word value own short large = oversized db.schema (tree_named db.schema meta.name) (next_rowid (rows_named db meta.name)) word value own short large
 
 module _ (a : State) (free : IsFree a.now.schema (codes "meta")) (sound : IsDatabase a.now) where
-  stands_in : (db : Database) → IsDatabase db → db.schema ≡ created a.now.schema meta → IsIntact db.schema meta
+  exists_in : (db : Database) → IsDatabase db → db.schema ≡ created a.now.schema meta → IsIntact db.schema meta
   unfolding everything
-  stands_in db sound_there made =
+  exists_in db sound_there made =
       (each_exists db sound_there a.now.schema (part meta ∷ []) (subst (λ s. AllByRecursion (ExistsAs s) (placed a.now.schema (meta ∷ []))) (sym made) (all_exist a.now.schema (part meta ∷ []) refl (free, tt) (are_low a.now sound)))).0
 
   -- `meta` stands with these rows, and gets one more
   in_meta : (b c : State) (rows : List Row) (word value : Bytes) (large : Type 0) → IsTrue a.is_open → b.now.schema ≡ created a.now.schema meta → IsTrue b.is_open → IsDatabase b.now → rows_named b.now meta.name ≡ rows → IsNew rows word value → length word + 36 ≤ 10 ^ 9
-      → (10 ^ 9 < length word + length value + 54 → large) → a.faults ≤ b.faults → b.step_limit ≡ a.step_limit → (f : Failure) → IsWriteFailure insert_text (Text word ∷ Text value ∷ []) b c f → FailsToMakeThese (meta ∷ []) large (IsSome a.step_limit) a c f
+      → (10 ^ 9 < length word + length value + 54 → large) → a.faults ≤ b.faults → b.step_limit ≡ a.step_limit → (f : Failed) → IsWriteFailure insert_text (Text word ∷ Text value ∷ []) b c f → FailsToMakeThese (meta ∷ []) large (IsSome a.step_limit) a c f
   in_meta b c rows word value large was_open made is_open sound_b has new short grows rise limit f h =
-      let exists = stands_in b.now sound_b made in
+      let exists = exists_in b.now sound_b made in
       let values = Text word ∷ Text value ∷ [] in
       let tree : tree_named b.now.schema meta.name ≡ next_tree a.now.schema = ap (λ (s : Schema). tree_named s meta.name) made ∙ meta_tree a.now.schema free in
       let own = subst (λ n. HasOwnIndex b.now.schema n) (sym tree) (subst (λ s. HasOwnIndex s (next_tree a.now.schema)) (sym made) (own_index a.now.schema (are_low a.now sound))) in
       let Refused = IsSome b.step_limit ⊎ (HasNoRowidLeft b.now meta ⊎ ⊥) in
       let it = write.write_fails b c insert_text values (Insert exists.at (Values (terms_of settings) 3)) refl (IsTooLarge b.now meta values) Refused (λ up. write.is_write b insert_text values _ refl (insert_is b.now.schema exists.at _ exists.known.named))
       (λ up st its. insert_stops meta.name meta.columns meta.primary b.now sound_b exists values refl refl ⊥ (inl (new_key b.now rows word value has new)) b.step_limit values (terms_of settings) 3 refl (rw cast_null refl) st) h.0 h.2 in
-      let Lacks = RunsOutOfTrees b.now.schema [] ⊎ LacksNames b.now.schema [] in
+      let Lacks = RunsOutOfTrees b.now.schema [] ⊎ IsIndexNameUsed b.now.schema [] in
       let big : write.OrShut b (IsTooLarge b.now meta values) → large = λ x. elim x [ inl long ↦ grows (too_long b.now word value own short long) | inr shut ↦ absurd (both_ways _ shut is_open) ] in
       let why : Refused → IsSome a.step_limit ⊎ Lacks = λ x. elim x [ inl limited ↦ inl (subst IsSome limit limited) | inr more ↦ elim more [ inl full ↦ absurd (no_rowid_misses b.now rows word value has new full) | inr none ↦ absurd none ] ] in
       fails_then large (IsSome a.step_limit) a b c (part meta ∷ []) [] refl was_open made is_open rise f
@@ -152,10 +152,10 @@ module _ (a : State) (free : IsFree a.now.schema (codes "meta")) (sound : IsData
     rows_b : rows_named b.now meta.name ≡ []
     rows_b = ap b.now.trees tree_b ∙ made.empty.0
 
-    pub first_fails : (dir : Bytes) (c : State) (f : Failure) → IsWriteFailure insert_text (Text (codes "schema") ∷ Text (codes "3") ∷ []) b c f → FailsToMakeThese (meta ∷ []) (IsTooLong dir) (IsSome a.step_limit) a c f
+    pub first_fails : (dir : Bytes) (c : State) (f : Failed) → IsWriteFailure insert_text (Text (codes "schema") ∷ Text (codes "3") ∷ []) b c f → FailsToMakeThese (meta ∷ []) (IsTooLong dir) (IsSome a.step_limit) a c f
     first_fails dir c f h = in_meta b c [] (codes "schema") (codes "3") (IsTooLong dir) made.was_open made.schema made.is_open made.sound rows_b first_new (omega arith) (λ big. absurd (omega (arith, big))) rise limit f h
 
-    pub second_fails : (dir : Bytes) (c d : State) → Puts (codes "schema") (codes "3") b c → b.faults ≤ c.faults → c.step_limit ≡ b.step_limit → (f : Failure) → IsWriteFailure insert_text (Text (codes "store-dir") ∷ Text dir ∷ []) c d f → FailsToMakeThese (meta ∷ []) (IsTooLong dir) (IsSome a.step_limit) a d f
+    pub second_fails : (dir : Bytes) (c d : State) → Puts (codes "schema") (codes "3") b c → b.faults ≤ c.faults → c.step_limit ≡ b.step_limit → (f : Failed) → IsWriteFailure insert_text (Text (codes "store-dir") ∷ Text dir ∷ []) c d f → FailsToMakeThese (meta ∷ []) (IsTooLong dir) (IsSome a.step_limit) a d f
     second_fails dir c d p more still f h =
         let rows_c : rows_named c.now meta.name ≡ first_row ∷ [] = p.rows.is ∙ ap (λ rows. put_row (row_of rows (codes "schema") (codes "3")) rows) rows_b in
         in_meta c d (first_row ∷ []) (codes "store-dir") dir (IsTooLong dir) made.was_open (p.schema ∙ made.schema) p.is_open p.sound rows_c (second_new dir) (omega arith) (λ big. omega (arith, big)) (omega (arith, rise, more)) (still ∙ limit) f h

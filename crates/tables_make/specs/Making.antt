@@ -25,8 +25,8 @@ use Rattle.tables_sql.specs.Frozen.{KeepsFrozen, SparesFrozen}
 use Rattle.tables_sql.specs.Texts.{AreReadable, AreReadableRows}
 use Rattle.tables_sql.specs.Calls.{IsKeyed, IsWhole, IsReady, KeepsForeignRows, Leaves}
 use Rattle.tables_sql.specs.Failures.{HasDiskCause}
-use Rattle.tables_sql.specs.declared.failure.Failure.{Failure}
-use Rattle.tables_sql.specs.declared.failure.Failure.TheVariants.{Memory, Size, Disk}
+use Rattle.tables_sql.specs.declared.failure.Failed.{Failed}
+use Rattle.tables_sql.specs.declared.failure.Failed.TheVariants.{Memory, Size, Disk}
 
 -- the text that makes a table
 abbrev pub making_text : StoreTable → List ℕ
@@ -235,19 +235,19 @@ abbrev pub RunsOutOfTrees : Schema → List Table → Type 0
 RunsOutOfTrees s tables = 65536 < next_tree s + 2 * length tables
 
 -- something of the schema has the name that the index of one of these tables would have
-abbrev pub LacksNames : Schema → List Table → Type 0
-LacksNames s tables = list_any (λ t. is_used s (index_of t.name)) tables ≡ true
+abbrev pub IsIndexNameUsed : Schema → List Table → Type 0
+IsIndexNameUsed s tables = list_any (λ t. is_used s (index_of t.name)) tables ≡ true
 
 -- Why these tables aren't made. A size is named for a row too large, where there may be one, and never of a connection
 -- that an earlier fault had shut. The disk is named for a fault in this call, or that earlier one, and where a
 -- statement is refused: for lack of numbers or names, or for a further reason, if there is one.
-abbrev pub FailsToMakeThese : List Table → (large refused : Type 0) → State → State → Failure → Type 0
+abbrev pub FailsToMakeThese : List Table → (large refused : Type 0) → State → State → Failed → Type 0
 FailsToMakeThese tables large refused old new Memory = ⊤
 FailsToMakeThese tables large refused old new Size = large × IsTrue old.is_open
 FailsToMakeThese tables large refused old new Disk =
-    HasDiskCause old new ⊎ (refused ⊎ (RunsOutOfTrees old.now.schema tables ⊎ LacksNames old.now.schema tables))
+    HasDiskCause old new ⊎ (refused ⊎ (RunsOutOfTrees old.now.schema tables ⊎ IsIndexNameUsed old.now.schema tables))
 
 -- Why all eleven aren't made: the store directory may be too long, and a limit on steps may stop the statement that
 -- stores a setting.
-abbrev pub FailsToMake : Bytes → State → State → Failure → Type 0
+abbrev pub FailsToMake : Bytes → State → State → Failed → Type 0
 FailsToMake dir old new = FailsToMakeThese all_tables (IsTooLong dir) (IsSome old.step_limit) old new

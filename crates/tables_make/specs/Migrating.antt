@@ -9,7 +9,7 @@ use Rattle.tables_schema.specs.declared.schema.Schema.{Schema}
 use Rattle.tables_schema.specs.declared.schema.Schema.TheVariants.{V1, V3}
 use Rattle.tables_schema.specs.Schemas.{schema_text}
 use Rattle.tables_sql.specs.Contents.{Stored, Contents, contents_of}
-use Rattle.tables_sql.specs.declared.failure.Failure.{Failure}
+use Rattle.tables_sql.specs.declared.failure.Failed.{Failed}
 use Rattle.model.specs.World.{Path}
 use Rattle.tables_world.specs.Pieces.{piece_size, row_part, further_pieces}
 use Rattle.tables_make.specs.Reasons.{Rows, IsRow, RowsOf, IsReason}
@@ -63,7 +63,7 @@ with_missing from s = record s { now = grown (missing_tables from) s.now }
 
 -- Why the tables of a schema aren't brought to the third: those that it lacks aren't made, or next to them the rows
 -- aren't put.
-abbrev pub FailsToMigrate : Schema → State → State → Failure → Type 0
+abbrev pub FailsToMigrate : Schema → State → State → Failed → Type 0
 FailsToMigrate from old new f =
     FailsToMakeThese (missing_tables from) ⊥ ⊥ old new f
     ⊎ IsReason (MigratedRows from (contents_of old.now)) (with_missing from old) new f

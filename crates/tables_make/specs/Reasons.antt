@@ -8,8 +8,8 @@ use Rattle.sqlite.specs.State.{State, HasCleanDisk}
 use Rattle.sqlite.specs.Held.{Held, state}
 use Rattle.tables_sql.specs.Calls.{KeepsForeignRows}
 use Rattle.tables_sql.specs.Failures.{HasDiskCause, HasNoRowidLeft, IsTooLarge}
-use Rattle.tables_sql.specs.declared.failure.Failure.{Failure}
-use Rattle.tables_sql.specs.declared.failure.Failure.TheVariants.{Memory, Size, Disk}
+use Rattle.tables_sql.specs.declared.failure.Failed.{Failed}
+use Rattle.tables_sql.specs.declared.failure.Failed.TheVariants.{Memory, Size, Disk}
 
 -- some rows of the store's tables: of which table, and with which values after the rowid
 abbrev pub Rows : Type 1
@@ -47,11 +47,11 @@ RunsOutOfRowids rows old =
 -- Why a call that puts these rows failed. A size is named for one of them alone, over an open connection. The disk is
 -- named for a fault of it in this call, for an earlier one that had shut the connection, for a limit on steps, or where
 -- no rowid is left; never since an entry was there already.
-abbrev pub IsReason : Rows → State → State → Failure → Type 0
+abbrev pub IsReason : Rows → State → State → Failed → Type 0
 IsReason rows old new Memory = ⊤
 IsReason rows old new Size = IsTrue old.is_open × HasLargeRow rows old.now
 IsReason rows old new Disk = HasDiskCause old new ⊎ (IsSome old.step_limit ⊎ RunsOutOfRowids rows old.now)
 
 -- a failed result has a reason among some rows
-abbrev pub HasReason : {S T : Type 0} → Ghosts S → Held S → Held S → Result T Failure → Rows → Type 0
+abbrev pub HasReason : {S T : Type 0} → Ghosts S → Held S → Held S → Result T Failed → Rows → Type 0
 HasReason g old new result rows = HasCleanDisk (state g new) → IfErr result (IsReason rows (state g old) (state g new))

@@ -4,14 +4,14 @@ ghost use Rattle.std.specs.Prelude.{◌≡◌, ◌<◌, true, map, length, [], �
 ghost use Rattle.sqlite.specs.State.{HasCleanDisk, ExecutesInside};
 ghost use Rattle.sqlite.specs.Held.{state};
 ghost use Rattle.tables_schema.specs.OurTables.{form};
-ghost use Rattle.tables_sql.specs.declared.failure.Failure.{Failure};
+ghost use Rattle.tables_sql.specs.declared.failure.Failed.{Failed};
 ghost use Rattle.tables_sql.specs.Failures.{IsWriteFailure, without_size};
 ghost use Rattle.tables_make.specs.Making.{making_text, have_distinct_names, IsMaking, Makes, FailsToMakeThese};
 ghost use Rattle.tables_make.specs.Frames.{IfFailed, KeepsInside, OnDone};
 
 use sqlite::{Alter, Transaction};
 use tables_schema::our_table::StoreTable;
-use tables_sql::failure::Failure;
+use tables_sql::failure::Failed;
 use tables_sql::statement::without_size;
 
 /// The text that makes the table.
@@ -55,7 +55,7 @@ fn text(table: StoreTable) -> &'static str
     }
 }
 
-fn create<S: Alter>(tx: &mut Transaction<'_, S>, text: &str) -> Result<(), Failure>
+fn create<S: Alter>(tx: &mut Transaction<'_, S>, text: &str) -> Result<(), Failed>
     requires { HasCleanDisk (state S.Store tx.old.conn.now) → (state S.Store tx.old.conn.now).in_transaction ≡ true }
     ensures frame { KeepsInside S.Store tx.old.conn tx.new.conn }
     ensures ran { HasCleanDisk (state S.Store tx.new.conn.now)
@@ -63,17 +63,17 @@ fn create<S: Alter>(tx: &mut Transaction<'_, S>, text: &str) -> Result<(), Failu
         × ExecutesInside 0 text.now [] (state S.Store tx.old.conn.now) (state S.Store tx.new.conn.now) (Ok count)) }
     ensures cause { HasCleanDisk (state S.Store tx.new.conn.now)
         → IfErr result
-        (λ f. (g : Failure) × (f ≡ without_size g)
+        (λ f. (g : Failed) × (f ≡ without_size g)
         × IsWriteFailure text.now [] (state S.Store tx.old.conn.now) (state S.Store tx.new.conn.now) g) }
 {
     match tx.execute(text, &[]) {
         Ok(_) => Ok(()),
-        Err(error) => Err(without_size(Failure::from(error))),
+        Err(error) => Err(without_size(Failed::from(error))),
     }
 }
 
 /// The table, with no row.
-pub(crate) fn one<S: Alter>(tx: &mut Transaction<'_, S>, table: StoreTable) -> Result<(), Failure>
+pub(crate) fn one<S: Alter>(tx: &mut Transaction<'_, S>, table: StoreTable) -> Result<(), Failed>
     requires { HasCleanDisk (state S.Store tx.old.conn.now)
         → IsMaking (form table ∷ []) (state S.Store tx.old.conn.now) }
     ensures frame { KeepsInside S.Store tx.old.conn tx.new.conn }
@@ -87,9 +87,9 @@ pub(crate) fn one<S: Alter>(tx: &mut Transaction<'_, S>, table: StoreTable) -> R
 pub(crate) fn all<S: Alter>(
     tx: &mut Transaction<'_, S>,
     tables: &[StoreTable],
-) -> Result<(), Failure>
+) -> Result<(), Failed>
     requires some { 0 < length tables.now }
-    requires apart { have_distinct_names (map form tables.now) ≡ true }
+    requires distinct { have_distinct_names (map form tables.now) ≡ true }
     requires making { HasCleanDisk (state S.Store tx.old.conn.now)
         → IsMaking (map form tables.now) (state S.Store tx.old.conn.now) }
     ensures frame { KeepsInside S.Store tx.old.conn tx.new.conn }

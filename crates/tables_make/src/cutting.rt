@@ -19,14 +19,14 @@ use std::alloc::Global;
 use streams::PIECE_SIZE;
 use tables_rows::objects::Object;
 use tables_rows::{objects, pieces};
-use tables_sql::failure::Failure;
+use tables_sql::failure::Failed;
 
 /// Adds the pieces of what is left of an archive, numbered from 1.
 pub(crate) fn put_pieces<S: Alter>(
     tx: &mut Transaction<'_, S>,
     base: &str,
     bytes: &[u8],
-) -> Result<(), Failure>
+) -> Result<(), Failed>
     requires frame { MayCut S.Store tx.old.conn }
     requires free { HasCleanDisk (state S.Store tx.old.conn.now) → (n : ℤ)
         → finite.get (contents_of (state S.Store tx.old.conn.now).now).pieces (base.now, n) ≡ None }
@@ -46,11 +46,11 @@ pub(crate) fn put_pieces<S: Alter>(
         rest = after;
     }
     // No memory holds that many.
-    Err(Failure::Memory)
+    Err(Failed::Memory)
 }
 
 /// Puts an object again whose archive is longer than a row takes: its first part, and the pieces of the rest.
-pub(crate) fn put_cut<S: Alter>(tx: &mut Transaction<'_, S>, object: &Object) -> Result<(), Failure>
+pub(crate) fn put_cut<S: Alter>(tx: &mut Transaction<'_, S>, object: &Object) -> Result<(), Failed>
     requires frame { MayCut S.Store tx.old.conn }
     requires long { 65536 < length object.now.nar.items }
     requires free { HasCleanDisk (state S.Store tx.old.conn.now) → (n : ℤ)
@@ -72,7 +72,7 @@ pub(crate) fn put_cut<S: Alter>(tx: &mut Transaction<'_, S>, object: &Object) ->
 pub(crate) fn cut_found<S: Alter>(
     tx: &mut Transaction<'_, S>,
     object: &Object,
-) -> Result<(), Failure>
+) -> Result<(), Failed>
     requires frame { MayCut S.Store tx.old.conn }
     requires present { HasCleanDisk (state S.Store tx.old.conn.now)
         → finite.get (contents_of (state S.Store tx.old.conn.now).now).objects (stored_of object.now).0
@@ -97,7 +97,7 @@ pub(crate) fn cut<S: Alter>(
     alloc: Global,
     tx: &mut Transaction<'_, S>,
     base: &str,
-) -> Result<(), Failure>
+) -> Result<(), Failed>
     requires under_way { IsInside S.Store tx.old.conn }
     requires exists { HasTable S.Store tx.old.conn.now piece }
     requires uncut { HasCleanDisk (state S.Store tx.old.conn.now) → IsTrue (state S.Store tx.old.conn.now).is_open
@@ -119,7 +119,7 @@ pub(crate) fn cut_all<S: Alter>(
     alloc: Global,
     tx: &mut Transaction<'_, S>,
     bases: &[String],
-) -> Result<(), Failure>
+) -> Result<(), Failed>
     requires frame { MayCut S.Store tx.old.conn }
     requires uncut { HasCleanDisk (state S.Store tx.old.conn.now)
         → IsUncut (contents_of (state S.Store tx.old.conn.now).now) }

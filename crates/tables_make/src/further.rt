@@ -13,11 +13,11 @@ ghost use Rattle.tables_make.specs.Frames.{IfFailed, KeepsInside, OnDone};
 use crate::creating;
 use sqlite::{Alter, Transaction};
 use tables_schema::our_table::StoreTable;
-use tables_sql::failure::Failure;
+use tables_sql::failure::Failed;
 
 /// Makes the table of pieces and that of temporary roots next to the nine of the first schema, with no row. What the tables hold is as
 /// it was, and the transaction goes on.
-pub fn make_both<S: Alter>(tx: &mut Transaction<'_, S>) -> Result<(), Failure>
+pub fn make_both<S: Alter>(tx: &mut Transaction<'_, S>) -> Result<(), Failed>
     requires under { IsInside S.Store tx.old.conn }
     requires first { HasCleanDisk (state S.Store tx.old.conn.now) → IsTrue (state S.Store tx.old.conn.now).is_open
         → HasFirst (state S.Store tx.old.conn.now).now.schema }
@@ -31,7 +31,7 @@ pub fn make_both<S: Alter>(tx: &mut Transaction<'_, S>) -> Result<(), Failure>
 
 /// Makes the table of temporary roots next to the ten of the second schema, with no row. What the tables hold is as it was, and the
 /// transaction goes on.
-pub fn make_temp_root<S: Alter>(tx: &mut Transaction<'_, S>) -> Result<(), Failure>
+pub fn make_temp_root<S: Alter>(tx: &mut Transaction<'_, S>) -> Result<(), Failed>
     requires under { IsInside S.Store tx.old.conn }
     requires second { HasCleanDisk (state S.Store tx.old.conn.now) → IsTrue (state S.Store tx.old.conn.now).is_open
         → HasSecond (state S.Store tx.old.conn.now).now.schema }

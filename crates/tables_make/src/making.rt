@@ -16,9 +16,9 @@ use crate::creating;
 use sqlite::{Alter, Connection, Transaction, params};
 use tables_schema::Schema;
 use tables_schema::our_table::{StoreTable, schema_tables};
-use tables_sql::failure::Failure;
+use tables_sql::failure::Failed;
 
-fn put<S: Alter>(tx: &mut Transaction<'_, S>, word: &str, value: &str) -> Result<(), Failure>
+fn put<S: Alter>(tx: &mut Transaction<'_, S>, word: &str, value: &str) -> Result<(), Failed>
     requires { HasCleanDisk (state S.Store tx.old.conn.now) → HasMeta (state S.Store tx.old.conn.now) }
     ensures frame { KeepsInside S.Store tx.old.conn tx.new.conn }
     ensures puts { OnDone S.Store tx.old.conn.now tx.new.conn.now result (Puts word.now value.now) }
@@ -33,7 +33,7 @@ fn put<S: Alter>(tx: &mut Transaction<'_, S>, word: &str, value: &str) -> Result
 }
 
 /// `meta` with its two settings.
-fn settle<S: Alter>(tx: &mut Transaction<'_, S>, store_dir: &str) -> Result<(), Failure>
+fn settle<S: Alter>(tx: &mut Transaction<'_, S>, store_dir: &str) -> Result<(), Failed>
     requires { HasCleanDisk (state S.Store tx.old.conn.now)
         → IsMaking (meta ∷ other_tables) (state S.Store tx.old.conn.now) }
     ensures frame { KeepsInside S.Store tx.old.conn tx.new.conn }
@@ -46,7 +46,7 @@ fn settle<S: Alter>(tx: &mut Transaction<'_, S>, store_dir: &str) -> Result<(), 
     put(tx, "store-dir", store_dir)
 }
 
-fn make_all<S: Alter>(tx: &mut Transaction<'_, S>, store_dir: &str) -> Result<(), Failure>
+fn make_all<S: Alter>(tx: &mut Transaction<'_, S>, store_dir: &str) -> Result<(), Failed>
     requires { HasCleanDisk (state S.Store tx.old.conn.now)
         → IsMaking (meta ∷ other_tables) (state S.Store tx.old.conn.now) }
     ensures same_reference { tx.new.conn.ghost_name ≡ tx.old.conn.ghost_name }
@@ -63,7 +63,7 @@ fn make_all<S: Alter>(tx: &mut Transaction<'_, S>, store_dir: &str) -> Result<()
 }
 
 #[tactic(auto, using(crate::proofs::Settles::committed_made))]
-fn make_and_commit<S: Alter>(conn: &mut Connection<S>, store_dir: &str) -> Result<(), Failure>
+fn make_and_commit<S: Alter>(conn: &mut Connection<S>, store_dir: &str) -> Result<(), Failed>
     requires idle { conn.old.in_transaction ≡ false }
     requires sound { HasCleanDisk (state S.Store conn.old) → IsTrue (state S.Store conn.old).is_open
         → IsDatabase (state S.Store conn.old).now }
@@ -90,7 +90,7 @@ fn make_and_commit<S: Alter>(conn: &mut Connection<S>, store_dir: &str) -> Resul
 
 /// Makes the store's eleven tables next to whatever tables there are, `meta` with the settings `schema` = `3` and `store-dir`,
 /// the others with no row: all at once, or nothing. Then the connection is ready for transactions.
-pub fn make<S: Alter>(conn: &mut Connection<S>, store_dir: &str) -> Result<(), Failure>
+pub fn make<S: Alter>(conn: &mut Connection<S>, store_dir: &str) -> Result<(), Failed>
     requires idle { conn.old.in_transaction ≡ false }
     requires none { HasCleanDisk (state S.Store conn.old) → IsTrue (state S.Store conn.old).is_open
         → HasNone (state S.Store conn.old).now.schema }

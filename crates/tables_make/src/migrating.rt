@@ -23,7 +23,7 @@ use crate::settling::renumber;
 use sqlite::{Alter, Connection, Transaction};
 use std::alloc::Global;
 use tables_rows::objects;
-use tables_sql::failure::Failure;
+use tables_sql::failure::Failed;
 use tables_sql::transaction;
 
 /// Cuts the archives of these objects, and makes the setting that of the third schema.
@@ -31,7 +31,7 @@ fn rewrite<S: Alter>(
     alloc: Global,
     tx: &mut Transaction<'_, S>,
     bases: &[String],
-) -> Result<(), Failure>
+) -> Result<(), Failed>
     requires frame { MayCut S.Store tx.old.conn }
     requires uncut { HasCleanDisk (state S.Store tx.old.conn.now)
         → IsUncut (contents_of (state S.Store tx.old.conn.now).now) }
@@ -50,7 +50,7 @@ fn write_first<S: Alter>(
     alloc: Global,
     tx: &mut Transaction<'_, S>,
     bases: &[String],
-) -> Result<(), Failure>
+) -> Result<(), Failed>
     requires under_way { HasCleanDisk (state S.Store tx.old.conn.now) → IsUnderWay (state S.Store tx.old.conn.now) }
     requires first { HasCleanDisk (state S.Store tx.old.conn.now) → IsTrue (state S.Store tx.old.conn.now).is_open
         → HasFirst (state S.Store tx.old.conn.now).now.schema }
@@ -75,7 +75,7 @@ fn commit_first<S: Alter>(
     alloc: Global,
     conn: &mut Connection<S>,
     bases: &[String],
-) -> Result<(), Failure>
+) -> Result<(), Failed>
     requires idle { conn.old.in_transaction ≡ false }
     requires ready { HasCleanDisk (state S.Store conn.old) → IsTrue (state S.Store conn.old).is_open
         → IsReady (state S.Store conn.old) }
@@ -107,7 +107,7 @@ fn commit_first<S: Alter>(
 /// # Errors
 ///
 /// Memory was refused, a row is too large, the disk failed, or no number or name is left for a table; then the tables hold what they held.
-pub fn from_first<S: Alter>(alloc: Global, conn: &mut Connection<S>) -> Result<(), Failure>
+pub fn from_first<S: Alter>(alloc: Global, conn: &mut Connection<S>) -> Result<(), Failed>
     requires idle { conn.old.in_transaction ≡ false }
     requires ready { HasCleanDisk (state S.Store conn.old) → IsTrue (state S.Store conn.old).is_open
         → IsReady (state S.Store conn.old) }
@@ -131,7 +131,7 @@ pub fn from_first<S: Alter>(alloc: Global, conn: &mut Connection<S>) -> Result<(
 }
 
 /// What a migration from the second schema writes: the table of temporary roots, and the setting.
-fn write_second<S: Alter>(tx: &mut Transaction<'_, S>) -> Result<(), Failure>
+fn write_second<S: Alter>(tx: &mut Transaction<'_, S>) -> Result<(), Failed>
     requires under_way { HasCleanDisk (state S.Store tx.old.conn.now) → IsUnderWay (state S.Store tx.old.conn.now) }
     requires second { HasCleanDisk (state S.Store tx.old.conn.now) → IsTrue (state S.Store tx.old.conn.now).is_open
         → HasSecond (state S.Store tx.old.conn.now).now.schema }
@@ -158,7 +158,7 @@ fn write_second<S: Alter>(tx: &mut Transaction<'_, S>) -> Result<(), Failure>
 /// # Errors
 ///
 /// Memory was refused, the disk failed, or no number or name is left for a table; then the tables hold what they held.
-pub fn from_second<S: Alter>(conn: &mut Connection<S>) -> Result<(), Failure>
+pub fn from_second<S: Alter>(conn: &mut Connection<S>) -> Result<(), Failed>
     requires idle { conn.old.in_transaction ≡ false }
     requires ready { HasCleanDisk (state S.Store conn.old) → IsTrue (state S.Store conn.old).is_open
         → IsReady (state S.Store conn.old) }

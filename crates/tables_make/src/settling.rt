@@ -8,10 +8,10 @@ ghost use Rattle.tables_rows.specs.Frames.{IsInside, Makes, StaysInside};
 use sqlite::{Alter, Transaction};
 use tables_rows::meta;
 use tables_schema::Schema;
-use tables_sql::failure::Failure;
+use tables_sql::failure::Failed;
 
 /// Makes the setting of the schema that of the third, whatever it was.
-pub(crate) fn renumber<S: Alter>(tx: &mut Transaction<'_, S>) -> Result<(), Failure>
+pub(crate) fn renumber<S: Alter>(tx: &mut Transaction<'_, S>) -> Result<(), Failed>
     requires { IsInside S.Store tx.old.conn }
     ensures frame { StaysInside S.Store tx.old.conn tx.new.conn result }
     ensures done { Makes S.Store tx.old.conn tx.new.conn result renumbered }

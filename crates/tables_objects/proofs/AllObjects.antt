@@ -57,8 +57,8 @@ module _ (c : Contents) where
       by false true = refl
       by false false = refl
 
-  told_here : (q : Path) → finite.get (outline_of (world_in c)).objects q ≡ here q
-  told_here q =
+  reported_here : (q : Path) → finite.get (outline_of (world_in c)).objects q ≡ here q
+  reported_here q =
       get-reported bytes_total bytes_antisymmetric (λ (k : Path) (o : Object). outlined o) (world_in c).objects q
       ∙ ap (option_map outlined) (object_at (rows_of c) q)
       ∙ both (finite.get c.objects q)
@@ -74,7 +74,7 @@ module _ (c : Contents) where
       ∙ ap (λ (g : Option Outlined). cond (list_any (eq_by_cmp bytes_cmp q) (finite.keys c.objects)) (either (here q) g) g) (finite.get-empty bytes_cmp q)
       ∙ ap (λ b. cond b (either (here q) None) None) (sym (finite.contains_key-keys c.objects q))
       ∙ by (finite.get c.objects q) q
-      ∙ sym (told_here q))
+      ∙ sym (reported_here q))
     where
       by : (g : Option Stored) (q : Path) → cond (is_some g) (either (option_map (λ (o : Stored). outlined (object_in (rows_of c) q o)) g) None) None ≡ option_map (λ (o : Stored). outlined (object_in (rows_of c) q o)) g
       by None q = refl
@@ -82,7 +82,7 @@ module _ (c : Contents) where
 
   -- and they have the paths of the rows
   pub has_here : (q : Path) → finite.contains_key (outline_of (world_in c)).objects q ≡ finite.contains_key c.objects q
-  has_here q = ap is_some (told_here q) ∙ by (finite.get c.objects q)
+  has_here q = ap is_some (reported_here q) ∙ by (finite.get c.objects q)
     where
       by : (g : Option Stored) → is_some (option_map (λ (o : Stored). outlined (object_in (rows_of c) q o)) g) ≡ is_some g
       by None = refl

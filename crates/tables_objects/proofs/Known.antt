@@ -35,16 +35,16 @@ module _ (objects : Objects) (paths : List Path) (all : paths ≡ finite.keys ob
   known_is : is_known paths ≡ is_object objects
   known_is i p = is_base_name p && (ap (list_any (λ q. eq_by_cmp bytes_cmp p q)) all ∙ sym (finite.contains_key-keys objects p)) i
 
-  pub references_told : (rows same : List Reference) → rows ≡ same → (b : Bool) → b ≡ list_all (is_known_reference paths) (map reference_of rows) → b ≡ list_all (is_reference objects) (map reference_of same)
-  references_told rows same is b h =
+  pub references_reported : (rows same : List Reference) → rows ≡ same → (b : Bool) → b ≡ list_all (is_known_reference paths) (map reference_of rows) → b ≡ list_all (is_reference objects) (map reference_of same)
+  references_reported rows same is b h =
       h ∙ (λ i. list_all (λ (e : Pair × Unit {0}). known_is i e.0.0 && known_is i e.0.1) (map reference_of rows)) ∙ ap (λ l. list_all (is_reference objects) (map reference_of l)) is
 
-  pub outputs_told : (rows same : List Output) → rows ≡ same → (b : Bool) → b ≡ list_all (is_known_output paths) (map output_of rows) → b ≡ list_all (is_output objects) (map output_of same)
-  outputs_told rows same is b h =
+  pub outputs_reported : (rows same : List Output) → rows ≡ same → (b : Bool) → b ≡ list_all (is_known_output paths) (map output_of rows) → b ≡ list_all (is_output objects) (map output_of same)
+  outputs_reported rows same is b h =
       h ∙ (λ i. list_all (λ (e : Pair × Path). known_is i e.0.0) (map output_of rows)) ∙ ap (λ l. list_all (is_output objects) (map output_of l)) is
 
-  pub pieces_told : (rows same : List PieceKey) → rows ≡ same → (b : Bool) → b ≡ list_all (is_known_piece paths) (map numbered_in rows) → b ≡ list_all (is_owned objects) (map numbered_in same)
-  pieces_told rows same is b h =
+  pub pieces_reported : (rows same : List PieceKey) → rows ≡ same → (b : Bool) → b ≡ list_all (is_known_piece paths) (map numbered_in rows) → b ≡ list_all (is_owned objects) (map numbered_in same)
+  pieces_reported rows same is b h =
       h ∙ (λ i. list_all (λ (k : Numbered). known_is i k.0) (map numbered_in rows)) ∙ ap (λ l. list_all (is_owned objects) (map numbered_in l)) is
 
 -- ---- tests one after another

@@ -110,9 +110,9 @@ module _ {X : Type 0} (key : X → Path) (p : Path) where
   later_above x [] h t = tt
   later_above x (y ∷ ys) h t = (not_below (key y) (key x) p h.0 t, later_above x ys h.1 t)
 
-  later_apart : (x : X) (xs : List X) → Later x xs → below x ≡ false → own x ≡ false → AllByRecursion (λ y. own y ≡ false) xs
-  later_apart x [] h t k = tt
-  later_apart x (y ∷ ys) h t k = (unzipped (key y) (key x) p h.0 t k, later_apart x ys h.1 t k)
+  later_differ : (x : X) (xs : List X) → Later x xs → below x ≡ false → own x ≡ false → AllByRecursion (λ y. own y ≡ false) xs
+  later_differ x [] h t k = tt
+  later_differ x (y ∷ ys) h t k = (unzipped (key y) (key x) p h.0 t k, later_differ x ys h.1 t k)
 
   below_down : (xs : List X) → Rises (map key xs) → Down below xs
   below_down [] up = tt
@@ -126,7 +126,7 @@ module _ {X : Type 0} (key : X → Path) (p : Path) where
 
   own_down : (xs : List X) → Rises (map key xs) → Above xs → Down own xs
   own_down [] up h = tt
-  own_down (x ∷ xs) up h = (later_apart x xs up.0 h.0, own_down xs up.1 h.1)
+  own_down (x ∷ xs) up h = (later_differ x xs up.0 h.0, own_down xs up.1 h.1)
 
   front_own : (xs : List X) → Rises (map key xs) → Above xs → filter own xs ≡ take (prefix_len own xs) xs
   front_own [] up h = refl
@@ -136,7 +136,7 @@ module _ {X : Type 0} (key : X → Path) (p : Path) where
       by true t rest =
           let one : suc (prefix_len own xs) ≡ 1 + prefix_len own xs = omega arith in
           ap (λ (l : List X). x ∷ l) rest ∙ ap (λ n. take n (x ∷ xs)) one
-      by false t rest = none_pass own xs (later_apart x xs up.0 h.0 t)
+      by false t rest = none_pass own xs (later_differ x xs up.0 h.0 t)
 
   none_own : (xs : List X) → AllByRecursion (λ y. own y ≡ false) xs → list_any own xs ≡ false
   none_own [] h = refl
@@ -147,7 +147,7 @@ module _ {X : Type 0} (key : X → Path) (p : Path) where
     where
       by : (b : Bool) → own x ≡ b → (b || list_any own xs) ≡ b
       by true k = refl
-      by false k = none_own xs (later_apart x xs later t k)
+      by false k = none_own xs (later_differ x xs later t k)
 
   -- a row, if there is one, is the path's
   abbrev pub is_own : Option X → Bool

@@ -16,7 +16,8 @@ use Rattle.model.specs.World.{Path}
 use Rattle.tables_outline.proofs.Orders.{bytes_total, bytes_antisymmetric}
 use Rattle.tables_outline.proofs.Trees.{cmp, listed, sorted_seen}
 use Rattle.intake.specs.Recorded.{outputs_view}
-use Rattle.tables_objects.specs.Tested.{named_view, same_outputs, IsListed, IfDerivation, outputs_in}
+use Rattle.drv.specs.View.{pairs}
+use Rattle.tables_objects.specs.Tested.{same_outputs, IsListed, IfDerivation, outputs_in}
 use Rattle.tables_objects.proofs.Lists.{both_so, and_so, to_true}
 
 abbrev Named : Type 0
@@ -43,18 +44,18 @@ itself [] = refl
 itself (x ∷ xs) = and_so (bytes_eq x.0 x.0 && bytes_eq x.1 x.1) (same_outputs xs xs) (and_so (bytes_eq x.0 x.0) (bytes_eq x.1 x.1) (nat_list_eq_equiv.refl x.0) (nat_list_eq_equiv.refl x.1)) (itself xs)
 
 -- what a tree lists
-pub view_listed : (es : Entries) → AreOrdered es → finite.entries (outputs_view es) ≡ named_view es
+pub view_listed : (es : Entries) → AreOrdered es → finite.entries (outputs_view es) ≡ pairs es
 view_listed es up = listed bytes_cmp string_bytes (λ (p : Path). p) bytes_total bytes_antisymmetric es up
 
 module _ (rows : List Named) (es : Entries) (m : finite.FinMap bytes_cmp Path) (up : AreOrdered es) (is : outputs_view es ≡ m) where
   -- rows that were compared are what is recorded, and others aren't
-  pub rows_are : same_outputs rows (named_view es) ≡ true → rows ≡ finite.entries m
-  rows_are h = equal rows (named_view es) h ∙ sym (view_listed es up) ∙ ap finite.entries is
+  pub rows_are : same_outputs rows (pairs es) ≡ true → rows ≡ finite.entries m
+  rows_are h = equal rows (pairs es) h ∙ sym (view_listed es up) ∙ ap finite.entries is
 
-  pub rows_differ : same_outputs rows (named_view es) ≡ false → rows ≡ finite.entries m → ⊥
+  pub rows_differ : same_outputs rows (pairs es) ≡ false → rows ≡ finite.entries m → ⊥
   rows_differ h e =
-      let same : rows ≡ named_view es = e ∙ ap finite.entries (sym is) ∙ view_listed es up in
-      false≢true (sym h ∙ ap (λ r. same_outputs r (named_view es)) same ∙ itself (named_view es))
+      let same : rows ≡ pairs es = e ∙ ap finite.entries (sym is) ∙ view_listed es up in
+      false≢true (sym h ∙ ap (λ r. same_outputs r (pairs es)) same ∙ itself (pairs es))
 
 -- ---- in two lists
 
@@ -64,7 +65,7 @@ name e = string_bytes e.0
 abbrev pub path : String Global × Path → Path
 path e = e.1
 
-zipped : (es : Entries) → zip (map name es) (map path es) ≡ named_view es
+zipped : (es : Entries) → zip (map name es) (map path es) ≡ pairs es
 zipped [] = refl
 zipped (e ∷ es) = ap (λ (l : List Named). (string_bytes e.0, e.1) ∷ l) (zipped es)
 

@@ -75,10 +75,6 @@ pub record IsRecorded (dir : List ℕ) (p : Path) (nar : List ℕ) : Type 0 wher
   pub archive : IsArchive tree nar
   pub derivation : IsTrue (is_derivation p) → IsDerivation dir nar
 
--- outputs in memory
-abbrev pub named_view : List (String Global × Path) → List (List ℕ × Path)
-named_view entries = map (λ e. (string_bytes e.0, e.1)) entries
-
 -- two lists have the same names with the same paths, in the same order
 abbrev pub same_outputs : List (List ℕ × Path) → List (List ℕ × Path) → Bool
 same_outputs [] [] = true

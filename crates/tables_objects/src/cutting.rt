@@ -17,7 +17,7 @@ fn is_number(value: i64, number: u64) -> bool
     }
 }
 
-/// Whether a part of `length` bytes may be followed by a piece, which has this number.
+/// Whether a part of `size` bytes may be followed by this piece, with this number.
 fn is_next(size: usize, number: u64, piece: &Piece) -> bool
     ensures { result ≡ cut.is_next size number (part_of piece.now) }
 {

@@ -17,7 +17,7 @@ use std::alloc::{AllocError, Global};
 use tables_outline::Outline;
 use tables_rows::{outputs, pieces, references};
 use tables_schema::Schema;
-use tables_sql::failure::Failure;
+use tables_sql::failure::Failed;
 use tables_sql::outputs::Output;
 use tables_sql::pieces::PieceKey;
 use tables_sql::references::Reference;
@@ -35,7 +35,7 @@ fn keys_of<S: Alter>(
     alloc: Global,
     conn: &mut Connection<S>,
     schema: Schema,
-) -> Result<Vec<PieceKey>, Failure>
+) -> Result<Vec<PieceKey>, Failed>
     requires frame { MayRead S.Store conn.old }
     requires opened { HasCleanDisk (state S.Store conn.old) → IsTrue (state S.Store conn.old).is_open }
     requires pieces { HasPiecesBy S.Store schema conn.old }
@@ -53,7 +53,7 @@ pub(crate) fn read_joined<S: Alter>(
     alloc: Global,
     conn: &mut Connection<S>,
     schema: Schema,
-) -> Result<Joined, Failure>
+) -> Result<Joined, Failed>
     requires frame { MayRead S.Store conn.old }
     requires pieces { HasPiecesBy S.Store schema conn.old }
     ensures { FindsInReads S.Store conn.old conn.new result AreJoined }

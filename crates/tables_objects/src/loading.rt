@@ -5,7 +5,7 @@ ghost use Rattle.std.specs.FinMap as finite;
 ghost use Rattle.sqlite.specs.State.{HasCleanDisk};
 ghost use Rattle.sqlite.specs.Held.{state};
 ghost use Rattle.tables_sql.specs.Contents.{contents_of};
-ghost use Rattle.tables_rows.specs.Frames.{MayRead, ReadsAlone};
+ghost use Rattle.tables_rows.specs.Frames.{MayRead, ReadsOnly};
 ghost use Rattle.tables_objects.specs.Pieces.{HasPiecesBy};
 ghost use Rattle.tables_world.specs.Worlds.{rows_of, world_in};
 ghost use Rattle.tables_outline.specs.Outline.{outline_of};
@@ -18,7 +18,7 @@ use sqlite::{Alter, Connection};
 use std::alloc::Global;
 use tables_outline::Outline;
 use tables_schema::Schema;
-use tables_sql::failure::Failure;
+use tables_sql::failure::Failed;
 
 /// Whether the objects of the rows are sound in a store directory, by their schema: each archive cut the right way, each object with
 /// its whole archive, its references and its outputs, each reference one of an object to an object, and each output and each piece one
@@ -34,11 +34,11 @@ pub fn load_objects<S: Alter>(
     schema: Schema,
     dir: &StoreDir,
     outline: &mut Outline,
-) -> Result<bool, Failure>
+) -> Result<bool, Failed>
     requires frame { MayRead S.Store conn.old }
     requires pieces { HasPiecesBy S.Store schema conn.old }
     requires empty { outline.old.objects ≡ finite.empty }
-    ensures read { ReadsAlone S.Store conn.old conn.new result }
+    ensures read { ReadsOnly S.Store conn.old conn.new result }
     ensures reported { HasCleanDisk (state S.Store conn.new)
         → IfOk result
         (λ ok. IsTrue ok ↔ AreSoundInPieces schema dir.now (rows_of (contents_of (state S.Store conn.old).now))) }

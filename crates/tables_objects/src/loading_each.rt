@@ -6,7 +6,7 @@ ghost use Rattle.std.specs.FinMap as finite;
 ghost use Rattle.sqlite.specs.State.{HasCleanDisk};
 ghost use Rattle.sqlite.specs.Held.{state};
 ghost use Rattle.tables_sql.specs.Contents.{contents_of};
-ghost use Rattle.tables_rows.specs.Frames.{MayRead, ReadsAlone};
+ghost use Rattle.tables_rows.specs.Frames.{MayRead, ReadsOnly};
 ghost use Rattle.tables_objects.specs.Pieces.{HasPiecesBy};
 ghost use Rattle.tables_sql.specs.Entries.{stored_of};
 ghost use Rattle.tables_objects.specs.Cut.{parts_of, whole_of};
@@ -25,7 +25,7 @@ use std::alloc::{AllocError, Global};
 use tables_outline::Outline;
 use tables_rows::objects;
 use tables_schema::Schema;
-use tables_sql::failure::Failure;
+use tables_sql::failure::Failed;
 use tables_sql::outputs::Output;
 use tables_sql::pieces::Piece;
 use tables_sql::references::Reference;
@@ -81,12 +81,12 @@ fn load_object<S: Alter>(
     outline: &mut Outline,
     joined: &Joined,
     base: &str,
-) -> Result<bool, Failure>
+) -> Result<bool, Failed>
     requires frame { MayRead S.Store conn.old }
     requires pieces { HasPiecesBy S.Store schema conn.old }
     requires joined { HasCleanDisk (state S.Store conn.old)
         → AreJoined (contents_of (state S.Store conn.old).now) joined.now }
-    ensures read { ReadsAlone S.Store conn.old conn.new result }
+    ensures read { ReadsOnly S.Store conn.old conn.new result }
     ensures reported { HasCleanDisk (state S.Store conn.new)
         → IfOk result
         (λ ok. IsTrue ok ↔ IsSoundOne schema dir.now (contents_of (state S.Store conn.old).now) base.now) }
@@ -114,13 +114,13 @@ fn load_each<S: Alter>(
     outline: &mut Outline,
     joined: &Joined,
     bases: &[String],
-) -> Result<bool, Failure>
+) -> Result<bool, Failed>
     requires frame { MayRead S.Store conn.old }
     requires opened { HasCleanDisk (state S.Store conn.old) → IsTrue (state S.Store conn.old).is_open }
     requires pieces { HasPiecesBy S.Store schema conn.old }
     requires joined { HasCleanDisk (state S.Store conn.old)
         → AreJoined (contents_of (state S.Store conn.old).now) joined.now }
-    ensures read { ReadsAlone S.Store conn.old conn.new result }
+    ensures read { ReadsOnly S.Store conn.old conn.new result }
     ensures reported { HasCleanDisk (state S.Store conn.new)
         → IfOk result
         (λ ok. IsTrue ok
@@ -151,12 +151,12 @@ pub(crate) fn load_all<S: Alter>(
     dir: &StoreDir,
     outline: &mut Outline,
     joined: &Joined,
-) -> Result<bool, Failure>
+) -> Result<bool, Failed>
     requires frame { MayRead S.Store conn.old }
     requires pieces { HasPiecesBy S.Store schema conn.old }
     requires joined { HasCleanDisk (state S.Store conn.old)
         → AreJoined (contents_of (state S.Store conn.old).now) joined.now }
-    ensures read { ReadsAlone S.Store conn.old conn.new result }
+    ensures read { ReadsOnly S.Store conn.old conn.new result }
     ensures reported { HasCleanDisk (state S.Store conn.new)
         → IfOk result
         (λ ok. IsTrue ok

@@ -6,7 +6,8 @@ ghost use Rattle.std.specs.Str.{bytes_eq};
 ghost use Rattle.nar.specs.Tree.{Tree};
 ghost use Rattle.nar.specs.Outcome.{outcome_of};
 ghost use Rattle.intake.specs.Recorded.{outputs_view};
-ghost use Rattle.tables_objects.specs.Tested.{IfDerivation, IsListed, outputs_in, named_view, same_outputs, named_of};
+ghost use Rattle.drv.specs.View.{pairs};
+ghost use Rattle.tables_objects.specs.Tested.{IfDerivation, IsListed, outputs_in, same_outputs, named_of};
 
 use crate::recorded::found_in;
 use paths::{StoreDir, StorePath};
@@ -31,7 +32,7 @@ fn is_same(row: &Output, name: &str, path: &str) -> bool
 
 /// Whether the rows are these outputs, in the order of their names.
 fn are_recorded(rows: &[Output], found: &BTreeMap<String, StorePath>) -> bool
-    ensures { result ≡ same_outputs (named_of rows.now) (named_view found.now.entries) }
+    ensures { result ≡ same_outputs (named_of rows.now) (pairs found.now.entries) }
 {
     let mut left = found.iter();
     'rows: for row in rows {

@@ -16,7 +16,7 @@ use sqlite::{Alter, Connection};
 use std::alloc::Global;
 use tables_rows::{objects, pieces};
 use tables_schema::Schema;
-use tables_sql::failure::Failure;
+use tables_sql::failure::Failed;
 use tables_sql::objects::Object;
 use tables_sql::pieces::{Piece, PieceKey};
 
@@ -34,7 +34,7 @@ fn pieces_of<S: Alter>(
     schema: Schema,
     keys: &[PieceKey],
     base: &str,
-) -> Result<Vec<Piece>, Failure>
+) -> Result<Vec<Piece>, Failed>
     requires frame { MayRead S.Store conn.old }
     requires opened { HasCleanDisk (state S.Store conn.old) → IsTrue (state S.Store conn.old).is_open }
     requires pieces { HasPiecesBy S.Store schema conn.old }
@@ -59,7 +59,7 @@ pub(crate) fn rows_at<S: Alter>(
     schema: Schema,
     keys: &[PieceKey],
     base: &str,
-) -> Result<Option<ObjectRows>, Failure>
+) -> Result<Option<ObjectRows>, Failed>
     requires frame { MayRead S.Store conn.old }
     requires pieces { HasPiecesBy S.Store schema conn.old }
     requires listed { HasCleanDisk (state S.Store conn.old)

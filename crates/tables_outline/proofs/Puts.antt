@@ -51,8 +51,8 @@ option_same (Some x) = refl
 
 module _ {K X : Type 0} {R : K → K → Ordering} (o : IsTotalOrder R) (same : finite.IsAntisymmetric R) where
   -- a key that was taken away isn't there
-  pub get-gone : (m : finite.FinMap R X) (k : K) → finite.get (finite.retain_keys m (λ x. not (eq_by_cmp R x k))) k ≡ None
-  get-gone m k = get-kept o same m (λ x. not (eq_by_cmp R x k)) k ∙ ap (λ b. cond (not b) (finite.get m k) None) ((eq_by_cmp_equiv o).refl k)
+  pub get-removed : (m : finite.FinMap R X) (k : K) → finite.get (finite.retain_keys m (λ x. not (eq_by_cmp R x k))) k ≡ None
+  get-removed m k = get-kept o same m (λ x. not (eq_by_cmp R x k)) k ∙ ap (λ b. cond (not b) (finite.get m k) None) ((eq_by_cmp_equiv o).refl k)
 
   -- a key is taken away by a test of the others
   pub retained : (m : finite.FinMap R X) (k : K) → finite.retain_keys m (λ x. not (eq_by_cmp R x k)) ≡ finite.remove m k

@@ -2,7 +2,8 @@
 
 ghost use Rattle.std.specs.Prelude.{◌≡◌, nat_le, is_some, map, option_map, IfOk, IfSome, IsFalse, IsTrue, OnErr, OnOk};
 ghost use Rattle.std.specs.FinMap as finite;
-ghost use Rattle.model.specs.Profiles.{has_generation, last_number, number_for, previous, put_at, switched, without_generation};
+ghost use Rattle.model.specs.Profiles.{has_generation, number_for, previous, put_at, switched, without_generation};
+ghost use Rattle.paths.specs.Decimal.{max_generation};
 ghost use Rattle.tables_outline.specs.Maps.{pair_bytes};
 ghost use Rattle.tables_outline.specs.View.{profile_view};
 ghost use Rattle.tables_outline.specs.Outline.{with_profile, profile_of, current_of, without_added};
@@ -75,7 +76,7 @@ impl Outline {
     /// The number that a path gets in a profile, if one is left.
     pub fn number_left(&self, owned: &(String, String), target: &StorePath) -> Option<u32>
         ensures fits { is_some result
-            ≡ nat_le (number_for (profile_of self.now (pair_bytes owned.now)) target.now) last_number }
+            ≡ nat_le (number_for (profile_of self.now (pair_bytes owned.now)) target.now) max_generation }
         ensures number { IfSome result (λ n. n ≡ number_for (profile_of self.now (pair_bytes owned.now)) target.now) }
     {
         match self.profile(owned) {

@@ -2,7 +2,8 @@
 
 ghost use Rattle.std.specs.Prelude.{◌≡◌, nat_le, is_some, IfSome, IsTrue, OnOk, OnErr};
 ghost use Rattle.std.specs.FinMap as finite;
-ghost use Rattle.model.specs.Profiles.{has_generation, highest, is_highest, last_number, number_for, previous, put_at, switched, without_generation};
+ghost use Rattle.model.specs.Profiles.{has_generation, highest, is_highest, number_for, previous, put_at, switched, without_generation};
+ghost use Rattle.paths.specs.Decimal.{max_generation};
 ghost use Rattle.tables_outline.specs.View.{profile_view};
 
 use paths::StorePath;
@@ -54,7 +55,7 @@ impl Profile {
     /// assert_eq!(rt; number, Some(9999));
     /// ```
     pub fn number_left(&self, target: &StorePath) -> Option<u32>
-        ensures fits { is_some result ≡ nat_le (number_for (profile_view self.now) target.now) last_number }
+        ensures fits { is_some result ≡ nat_le (number_for (profile_view self.now) target.now) max_generation }
         ensures number { IfSome result (λ n. n ≡ number_for (profile_view self.now) target.now) }
     {
         let highest = self.highest();

@@ -77,7 +77,7 @@ impl Outline {
         Ok(had)
     }
 
-    /// Gives a user root the target that it had, or takes it away where it had none. It takes no memory.
+    /// Gives a user root its former target, or removes the root if it had none. It takes no memory.
     pub fn undo_user_root(&mut self, owned: &(String, String), had: Option<StorePath>)
         requires { IsTrue (finite.contains_key self.old.user_roots (pair_bytes owned.now)) }
         ensures { self.new ≡ record self.old { user_roots = unput self.old.user_roots (pair_bytes owned.now) had } }

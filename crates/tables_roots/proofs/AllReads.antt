@@ -3,7 +3,7 @@ use Rattle.std.proofs.Common.{◌≡◌, Bool, true, false, Result, Ok, Err, IfO
 use Rattle.std.specs.Prelude.{◌↔◌}
 use Rattle.std.specs.FinMap as finite
 use Rattle.std.proofs.lemmas.Bool.{false≢true}
-use Rattle.tables_sql.specs.declared.failure.Failure.{Failure}
+use Rattle.tables_sql.specs.declared.failure.Failed.{Failed}
 use Rattle.tables_sql.specs.Contents.{Contents}
 use Rattle.tables_world.specs.Worlds.{rows_of}
 use Rattle.tables_world.specs.Parts.{AreSoundRoots}
@@ -37,6 +37,6 @@ module _ (objects : Objects) (c : Contents) where
     λ all. is ∙ (sessions_sound objects c are).1 all.sessions,
   )
 
-  pub sessions_reported : (r : Result Bool Failure) (ok : Bool) → ok ≡ true → Reported ok → (y : Bool) → y ≡ are_temporary objects c → IfOk r (λ last. last ≡ y) → IfOk r ToldAll
+  pub sessions_reported : (r : Result Bool Failed) (ok : Bool) → ok ≡ true → Reported ok → (y : Bool) → y ≡ are_temporary objects c → IfOk r (λ last. last ≡ y) → IfOk r ToldAll
   sessions_reported (Ok last) ok passed reported y same h = sessions_decide ok passed reported last (h ∙ same)
   sessions_reported (Err e) ok passed reported y same h = tt

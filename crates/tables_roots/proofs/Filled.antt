@@ -33,17 +33,17 @@ abbrev pub bare_of : Pair × ℤ → Pair × Profile
 bare_of e = (e.0, bare e.1)
 
 module _ {K X Y : Type 0} {R : K → K → Ordering} (o : IsTotalOrder R) (alike : finite.IsAntisymmetric R) (f : K → X → Y) where
-  told_each : (es : List (K × X)) (m : finite.FinMap R X) → put_all (map (λ e. (e.0, f e.0 e.1)) es) (reported o alike f m) ≡ reported o alike f (put_all es m)
-  told_each [] m = refl
-  told_each (e ∷ es) m = ap (put_all (map (λ d. (d.0, f d.0 d.1)) es)) (sym (reported_insert o alike f m e.0 e.1)) ∙ told_each es (finite.insert m e.0 e.1)
+  reported_each : (es : List (K × X)) (m : finite.FinMap R X) → put_all (map (λ e. (e.0, f e.0 e.1)) es) (reported o alike f m) ≡ reported o alike f (put_all es m)
+  reported_each [] m = refl
+  reported_each (e ∷ es) m = ap (put_all (map (λ d. (d.0, f d.0 d.1)) es)) (sym (reported_insert o alike f m e.0 e.1)) ∙ reported_each es (finite.insert m e.0 e.1)
 
-  told_none : reported o alike f finite.empty ≡ finite.empty
-  told_none = finite.same_map o alike _ _ (λ q. get-reported o alike f finite.empty q ∙ ap (option_map (f q)) (finite.get-empty R q) ∙ sym (finite.get-empty R q))
+  reported_none : reported o alike f finite.empty ≡ finite.empty
+  reported_none = finite.same_map o alike _ _ (λ q. get-reported o alike f finite.empty q ∙ ap (option_map (f q)) (finite.get-empty R q) ∙ sym (finite.get-empty R q))
 
   -- entries whose values are changed make the map with its values changed
   pub reported_again : (m : finite.FinMap R X) → put_all (map (λ e. (e.0, f e.0 e.1)) (finite.entries m)) finite.empty ≡ reported o alike f m
   reported_again m =
-      ap (put_all (map (λ e. (e.0, f e.0 e.1)) (finite.entries m))) (sym told_none) ∙ told_each (finite.entries m) finite.empty
+      ap (put_all (map (λ e. (e.0, f e.0 e.1)) (finite.entries m))) (sym reported_none) ∙ reported_each (finite.entries m) finite.empty
       ∙ ap (reported o alike f) (all_put_again o alike m)
 
 pub bare_again : (m : finite.FinMap pair_cmp ℤ) → put_all (map bare_of (finite.entries m)) finite.empty ≡ bare_profiles m
@@ -229,13 +229,13 @@ next_to_bare objects m [] = refl
 next_to_bare objects m (e ∷ es) = ap₂ (λ a b. (is_number e.0.2 && (is_target objects e.1 && a)) && b) (bare_has m (e.0.0, e.0.1)) (next_to_bare objects m es)
 
 module _ (xs : List Generation) (o : OutlineValue) (c : Contents) (reads : map generation_in xs ≡ finite.entries c.generations) (profiles : o.profiles ≡ bare_profiles c.profiles) where
-  generations_told : all_pass (λ r (p : OutlineValue). is_generation p.objects p.profiles (generation_in r)) put_generation xs o ≡ list_all (is_generation o.objects c.profiles) (finite.entries c.generations)
-  generations_told =
+  generations_reported : all_pass (λ r (p : OutlineValue). is_generation p.objects p.profiles (generation_in r)) put_generation xs o ≡ list_all (is_generation o.objects c.profiles) (finite.entries c.generations)
+  generations_reported =
       generation_pass xs o ∙ ap₂ (λ (m : finite.FinMap pair_cmp Profile) es. list_all (is_generation o.objects m) es) profiles reads
       ∙ next_to_bare o.objects c.profiles (finite.entries c.generations)
 
   pub load_generations : LoadAs (λ r (p : OutlineValue). is_generation p.objects p.profiles (generation_in r)) put_generation xs o (list_all (is_generation o.objects c.profiles) (finite.entries c.generations)) (record o { profiles = (world_in c).profiles })
   load_generations = record {
-    reported = generations_told;
+    reported = generations_reported;
     loaded = λ sound. generation_put xs o ∙ ap (λ m. record o { profiles = m }) (ap₂ with_all reads profiles ∙ profiles_filled o.objects c sound);
   }

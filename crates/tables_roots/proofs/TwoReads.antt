@@ -2,7 +2,7 @@
 use Rattle.std.proofs.Common.{◌≡◌, Bool, true, false, ◌&&◌, Result, Ok, Err, IfOk, sym, ap, ◌∙◌, IsTrue}
 use Rattle.std.specs.Prelude.{◌↔◌}
 use Rattle.std.proofs.lemmas.Bool.{false≢true}
-use Rattle.tables_sql.specs.declared.failure.Failure.{Failure}
+use Rattle.tables_sql.specs.declared.failure.Failed.{Failed}
 use Rattle.tables_sql.specs.Contents.{Contents}
 use Rattle.tables_world.specs.Worlds.{rows_of}
 use Rattle.tables_world.specs.Parts.{AreSoundRoots}
@@ -11,11 +11,11 @@ use Rattle.tables_roots.specs.Loaded.{Objects, are_fixed, are_moving, AreObjects
 use Rattle.tables_roots.proofs.SoundRoots.{roots_sound}
 
 -- the first passed, so the second decides
-pub reported_next : (r : Result Bool Failure) (x y z : Bool) → x ≡ true → y ≡ z → IfOk r (λ ok. ok ≡ y) → IfOk r (λ ok. ok ≡ (x && z))
+pub reported_next : (r : Result Bool Failed) (x y z : Bool) → x ≡ true → y ≡ z → IfOk r (λ ok. ok ≡ y) → IfOk r (λ ok. ok ≡ (x && z))
 reported_next (Ok v) x y z first same h = h ∙ same ∙ sym (ap (λ b. b && z) first)
 reported_next (Err e) x y z first same h = tt
 
-pub read_next : (r : Result Bool Failure) (o x y : OutlineValue) → x ≡ y → IfOk r (λ ok. IsTrue ok → o ≡ x) → IfOk r (λ ok. IsTrue ok → o ≡ y)
+pub read_next : (r : Result Bool Failed) (o x y : OutlineValue) → x ≡ y → IfOk r (λ ok. IsTrue ok → o ≡ x) → IfOk r (λ ok. IsTrue ok → o ≡ y)
 read_next (Ok v) o x y same h = λ ok. h ok ∙ same
 read_next (Err e) o x y same h = tt
 
@@ -35,6 +35,6 @@ module _ (objects : Objects) (c : Contents) where
         λ sound. all ∙ (roots_sound objects c are).1 sound,
       )
 
-  pub roots_reported_next : (r : Result Bool Failure) → are_fixed objects c ≡ true → (y : Bool) → y ≡ are_moving objects c → IfOk r (λ ok. ok ≡ y) → IfOk r (λ ok. AreObjects objects c → (IsTrue ok ↔ AreSoundRoots (rows_of c)))
+  pub roots_reported_next : (r : Result Bool Failed) → are_fixed objects c ≡ true → (y : Bool) → y ≡ are_moving objects c → IfOk r (λ ok. ok ≡ y) → IfOk r (λ ok. AreObjects objects c → (IsTrue ok ↔ AreSoundRoots (rows_of c)))
   roots_reported_next (Ok v) passed y same h = roots_reported passed v (h ∙ same)
   roots_reported_next (Err e) passed y same h = tt

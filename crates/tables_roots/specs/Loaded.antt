@@ -7,7 +7,7 @@ use Rattle.paths.specs.Names.{is_plain_name}
 use Rattle.paths.specs.StorePath.{is_base_name}
 use Rattle.paths.specs.Root.{bytes_cmp, is_runtime_label, is_session}
 use Rattle.model.specs.World.{Path, Pair, pair_cmp, Profile}
-use Rattle.model.specs.Profiles.{last_number}
+use Rattle.paths.specs.Decimal.{max_generation}
 use Rattle.tables_world.specs.Rows.{Rows, number_in}
 use Rattle.tables_world.specs.Parts.{IsSoundSession, AreSoundRoots}
 use Rattle.tables_world.specs.Worlds.{world_in}
@@ -43,7 +43,7 @@ is_target objects p = is_base_name p && finite.contains_key objects p
 abbrev pub is_permanent_root : Objects → List ℕ × Path → Bool
 is_permanent_root objects e = is_plain_name e.0 && is_target objects e.1
 
--- so does a user root, and its owner
+-- a user root has a plain name and a plain owner, and its target is an object
 abbrev pub is_user_root : Objects → Pair × Path → Bool
 is_user_root objects e = is_plain_name e.0.0 && (is_plain_name e.0.1 && is_target objects e.1)
 
@@ -66,7 +66,7 @@ is_temporary_root objects e = is_plain_name e.0.0 && (is_session_number e.0.1 &&
 
 -- a number of a generation: 1 to 9,999
 abbrev pub is_number : ℤ → Bool
-is_number (pos n) = nat_le 1 n && nat_le n last_number
+is_number (pos n) = nat_le 1 n && nat_le n max_generation
 is_number (negsuc n) = false
 
 -- a profile has an owner and a name, both plain, and its current number is one of a generation
@@ -101,7 +101,7 @@ are_fixed objects c =
     list_all (is_permanent_root objects) (finite.entries c.permanent)
     && list_all (is_user_root objects) (finite.entries c.user_roots)
 
--- so are the profiles and the runtime roots
+-- profiles and runtime roots are sound with these objects
 abbrev pub are_moving : Objects → Contents → Bool
 are_moving objects c = are_profiles objects c && list_all (is_runtime_root objects) (finite.entries c.runtime)
 

@@ -8,7 +8,7 @@ use std::alloc::{AllocError, Global};
 use tables_outline::Outline;
 use tables_rows::generations as stored;
 use tables_rows::generations::Generation;
-use tables_sql::failure::Failure;
+use tables_sql::failure::Failed;
 
 impl RootTable for Generation {
     ghost use Rattle.std.specs.Prelude.{◌≡◌};
@@ -31,7 +31,7 @@ impl RootTable for Generation {
 
     ghost with_rows = { λ o c. record o { profiles = (world_in c).profiles } };
 
-    fn all<S: Alter>(alloc: Global, conn: &mut Connection<S>) -> Result<Vec<Generation>, Failure> {
+    fn all<S: Alter>(alloc: Global, conn: &mut Connection<S>) -> Result<Vec<Generation>, Failed> {
         stored::all(alloc, conn)
     }
 

@@ -8,7 +8,7 @@ use std::alloc::{AllocError, Global};
 use tables_outline::Outline;
 use tables_rows::permanent as stored;
 use tables_rows::permanent::PermanentRoot;
-use tables_sql::failure::Failure;
+use tables_sql::failure::Failed;
 
 impl RootTable for PermanentRoot {
     ghost use Rattle.std.specs.Prelude.{◌≡◌};
@@ -30,7 +30,7 @@ impl RootTable for PermanentRoot {
     fn all<S: Alter>(
         alloc: Global,
         conn: &mut Connection<S>,
-    ) -> Result<Vec<PermanentRoot>, Failure> {
+    ) -> Result<Vec<PermanentRoot>, Failed> {
         stored::all(alloc, conn)
     }
 

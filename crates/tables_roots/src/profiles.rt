@@ -7,7 +7,7 @@ ghost use Rattle.sqlite.specs.Held.{state};
 ghost use Rattle.tables_sql.specs.Contents.{contents_of};
 ghost use Rattle.tables_world.specs.Worlds.{world_in};
 ghost use Rattle.tables_roots.specs.Loaded.{are_profiles};
-ghost use Rattle.tables_rows.specs.Frames.{MayRead, ReadsAlone};
+ghost use Rattle.tables_rows.specs.Frames.{MayRead, ReadsOnly};
 
 use crate::numbers::number_of;
 use crate::table::{RootTable, load_table};
@@ -18,7 +18,7 @@ use tables_outline::Outline;
 use tables_rows::generations::Generation;
 use tables_rows::profiles as stored;
 use tables_rows::profiles::Profile;
-use tables_sql::failure::Failure;
+use tables_sql::failure::Failed;
 
 /// The rows of profiles by themselves: each is put into the outline without generations.
 impl RootTable for Profile {
@@ -38,7 +38,7 @@ impl RootTable for Profile {
 
     ghost with_rows = { λ o c. record o { profiles = bare_profiles c.profiles } };
 
-    fn all<S: Alter>(alloc: Global, conn: &mut Connection<S>) -> Result<Vec<Profile>, Failure> {
+    fn all<S: Alter>(alloc: Global, conn: &mut Connection<S>) -> Result<Vec<Profile>, Failed> {
         stored::all(alloc, conn)
     }
 
@@ -65,10 +65,10 @@ pub fn read<S: Alter>(
     alloc: Global,
     conn: &mut Connection<S>,
     outline: &mut Outline,
-) -> Result<bool, Failure>
+) -> Result<bool, Failed>
     requires frame { MayRead S.Store conn.old }
     requires empty { HasCleanDisk (state S.Store conn.old) → outline.old.profiles ≡ finite.empty }
-    ensures read { ReadsAlone S.Store conn.old conn.new result }
+    ensures read { ReadsOnly S.Store conn.old conn.new result }
     ensures reported { HasCleanDisk (state S.Store conn.new) → IfOk result
         (λ ok. ok ≡ are_profiles outline.old.objects (contents_of (state S.Store conn.old).now)) }
     ensures loaded { HasCleanDisk (state S.Store conn.new) → IfOk result

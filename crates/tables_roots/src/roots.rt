@@ -11,7 +11,7 @@ ghost use Rattle.tables_schema.specs.Schemas.{has_temporary};
 ghost use Rattle.tables_world.specs.Worlds.{rows_of, world_in};
 ghost use Rattle.tables_world.specs.Parts.{AreSoundRoots};
 ghost use Rattle.tables_roots.specs.Loaded.{are_fixed, are_moving, with_explicit, with_roots, AreAllSound, AreObjects};
-ghost use Rattle.tables_rows.specs.Frames.{MayRead, ReadsAlone};
+ghost use Rattle.tables_rows.specs.Frames.{MayRead, ReadsOnly};
 
 use crate::profiles;
 use crate::table::load_table;
@@ -23,18 +23,18 @@ use tables_rows::runtime::RuntimeRoot;
 use tables_rows::temp_roots::TempRoot;
 use tables_rows::user_roots::UserRoot;
 use tables_schema::Schema;
-use tables_sql::failure::Failure;
+use tables_sql::failure::Failed;
 
 /// Permanent roots and user roots.
 fn load_fixed<S: Alter>(
     alloc: Global,
     conn: &mut Connection<S>,
     outline: &mut Outline,
-) -> Result<bool, Failure>
+) -> Result<bool, Failed>
     requires frame { MayRead S.Store conn.old }
     requires permanent { HasCleanDisk (state S.Store conn.old) → outline.old.permanent ≡ finite.empty }
     requires user_roots { HasCleanDisk (state S.Store conn.old) → outline.old.user_roots ≡ finite.empty }
-    ensures read { ReadsAlone S.Store conn.old conn.new result }
+    ensures read { ReadsOnly S.Store conn.old conn.new result }
     ensures reported { HasCleanDisk (state S.Store conn.new) → IfOk result
         (λ ok. ok ≡ are_fixed outline.old.objects (contents_of (state S.Store conn.old).now)) }
     ensures loaded { HasCleanDisk (state S.Store conn.new) → IfOk result
@@ -55,11 +55,11 @@ fn load_moving<S: Alter>(
     alloc: Global,
     conn: &mut Connection<S>,
     outline: &mut Outline,
-) -> Result<bool, Failure>
+) -> Result<bool, Failed>
     requires frame { MayRead S.Store conn.old }
     requires profiles { HasCleanDisk (state S.Store conn.old) → outline.old.profiles ≡ finite.empty }
     requires runtime { HasCleanDisk (state S.Store conn.old) → outline.old.runtime ≡ finite.empty }
-    ensures read { ReadsAlone S.Store conn.old conn.new result }
+    ensures read { ReadsOnly S.Store conn.old conn.new result }
     ensures reported { HasCleanDisk (state S.Store conn.new) → IfOk result
         (λ ok. ok ≡ are_moving outline.old.objects (contents_of (state S.Store conn.old).now)) }
     ensures loaded { HasCleanDisk (state S.Store conn.new) → IfOk result
@@ -80,13 +80,13 @@ fn load_explicit<S: Alter>(
     alloc: Global,
     conn: &mut Connection<S>,
     outline: &mut Outline,
-) -> Result<bool, Failure>
+) -> Result<bool, Failed>
     requires frame { MayRead S.Store conn.old }
     requires permanent { HasCleanDisk (state S.Store conn.old) → outline.old.permanent ≡ finite.empty }
     requires user_roots { HasCleanDisk (state S.Store conn.old) → outline.old.user_roots ≡ finite.empty }
     requires profiles { HasCleanDisk (state S.Store conn.old) → outline.old.profiles ≡ finite.empty }
     requires runtime { HasCleanDisk (state S.Store conn.old) → outline.old.runtime ≡ finite.empty }
-    ensures read { ReadsAlone S.Store conn.old conn.new result }
+    ensures read { ReadsOnly S.Store conn.old conn.new result }
     ensures reported { HasCleanDisk (state S.Store conn.new) → IfOk result
         (λ ok. AreObjects outline.old.objects (contents_of (state S.Store conn.old).now)
         → (IsTrue ok ↔ AreSoundRoots (rows_of (contents_of (state S.Store conn.old).now)))) }
@@ -110,7 +110,7 @@ pub fn load_roots<S: Alter>(
     conn: &mut Connection<S>,
     schema: Schema,
     outline: &mut Outline,
-) -> Result<bool, Failure>
+) -> Result<bool, Failed>
     requires frame { MayRead S.Store conn.old }
     requires exists { HasCleanDisk (state S.Store conn.old) → IsTrue (has_temporary schema)
         → IsTrue (state S.Store conn.old).is_open → HasFurther (state S.Store conn.old).now temp_root }
@@ -122,7 +122,7 @@ pub fn load_roots<S: Alter>(
     requires profiles { HasCleanDisk (state S.Store conn.old) → outline.old.profiles ≡ finite.empty }
     requires runtime { HasCleanDisk (state S.Store conn.old) → outline.old.runtime ≡ finite.empty }
     requires temporary { HasCleanDisk (state S.Store conn.old) → outline.old.temporary ≡ finite.empty }
-    ensures read { ReadsAlone S.Store conn.old conn.new result }
+    ensures read { ReadsOnly S.Store conn.old conn.new result }
     ensures reported { HasCleanDisk (state S.Store conn.new) → IfOk result
         (λ ok. AreObjects outline.old.objects (contents_of (state S.Store conn.old).now)
         → (IsTrue ok ↔ AreAllSound (rows_of (contents_of (state S.Store conn.old).now)))) }

@@ -8,7 +8,7 @@ use std::alloc::{AllocError, Global};
 use tables_outline::Outline;
 use tables_rows::runtime as stored;
 use tables_rows::runtime::RuntimeRoot;
-use tables_sql::failure::Failure;
+use tables_sql::failure::Failed;
 
 impl RootTable for RuntimeRoot {
     ghost use Rattle.std.specs.Prelude.{◌≡◌};
@@ -27,7 +27,7 @@ impl RootTable for RuntimeRoot {
 
     ghost with_rows = { λ o c. record o { runtime = c.runtime } };
 
-    fn all<S: Alter>(alloc: Global, conn: &mut Connection<S>) -> Result<Vec<RuntimeRoot>, Failure> {
+    fn all<S: Alter>(alloc: Global, conn: &mut Connection<S>) -> Result<Vec<RuntimeRoot>, Failed> {
         stored::all(alloc, conn)
     }
 

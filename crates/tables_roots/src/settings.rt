@@ -8,7 +8,7 @@ ghost use Rattle.tables_sql.specs.Entries.{setting_of};
 ghost use Rattle.paths.specs.Names.{is_store_dir};
 ghost use Rattle.tables_world.specs.Rows.{settings};
 ghost use Rattle.tables_roots.specs.Settings.{two_settings};
-ghost use Rattle.tables_rows.specs.Frames.{MayRead, ReadsAlone};
+ghost use Rattle.tables_rows.specs.Frames.{MayRead, ReadsOnly};
 
 use paths::{StoreDir, StoreDirError};
 use sqlite::{Alter, Connection};
@@ -16,7 +16,7 @@ use std::alloc::{AllocError, Global};
 use tables_rows::meta as stored;
 use tables_rows::meta::Setting;
 use tables_schema::Schema;
-use tables_sql::failure::Failure;
+use tables_sql::failure::Failed;
 
 /// The store directory of these settings, if they are the two of a database of a schema.
 fn directory_of(
@@ -50,9 +50,9 @@ pub fn read<S: Alter>(
     alloc: Global,
     conn: &mut Connection<S>,
     schema: Schema,
-) -> Result<Option<StoreDir>, Failure>
+) -> Result<Option<StoreDir>, Failed>
     requires frame { MayRead S.Store conn.old }
-    ensures read { ReadsAlone S.Store conn.old conn.new result }
+    ensures read { ReadsOnly S.Store conn.old conn.new result }
     ensures reported { HasCleanDisk (state S.Store conn.new) → IfOk result
         (λ o. MatchOption o ((dir : List ℕ) → IsTrue (is_store_dir dir)
         → ¬ ((contents_of (state S.Store conn.old).now).meta ≡ settings schema dir))

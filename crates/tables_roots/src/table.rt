@@ -5,14 +5,14 @@ ghost use Rattle.sqlite.specs.Effect.{Database};
 ghost use Rattle.sqlite.specs.State.{HasCleanDisk};
 ghost use Rattle.sqlite.specs.Held.{state};
 ghost use Rattle.tables_sql.specs.Contents.{Contents, contents_of};
-ghost use Rattle.tables_rows.specs.Frames.{MayRead, LeftAsItWas, Reads, FailsWithCause, ReadsAlone};
+ghost use Rattle.tables_rows.specs.Frames.{MayRead, LeftAsItWas, Reads, FailsWithCause, ReadsOnly};
 ghost use Rattle.tables_outline.specs.Outline.{OutlineValue};
 ghost use Rattle.tables_roots.specs.Loaded.{Objects, all_pass, all_put, LoadAs};
 
 use sqlite::{Alter, Connection};
 use std::alloc::{AllocError, Global};
 use tables_outline::Outline;
-use tables_sql::failure::Failure;
+use tables_sql::failure::Failed;
 
 /// A table of roots, by its rows.
 pub trait RootTable: Sized + Drop {
@@ -35,7 +35,7 @@ pub trait RootTable: Sized + Drop {
     ghost with_rows: { OutlineValue → Contents → OutlineValue };
 
     /// All rows, in order.
-    fn all<S: Alter>(alloc: Global, conn: &mut Connection<S>) -> Result<Vec<Self>, Failure>
+    fn all<S: Alter>(alloc: Global, conn: &mut Connection<S>) -> Result<Vec<Self>, Failed>
         requires frame { MayRead S.Store conn.old }
         requires exists { HasCleanDisk (state S.Store conn.old) → IsTrue (state S.Store conn.old).is_open
             → needs (state S.Store conn.old).now }
@@ -76,13 +76,13 @@ pub fn load_table<T: RootTable, S: Alter>(
     alloc: Global,
     conn: &mut Connection<S>,
     outline: &mut Outline,
-) -> Result<bool, Failure>
+) -> Result<bool, Failed>
     requires frame { MayRead S.Store conn.old }
     requires exists { HasCleanDisk (state S.Store conn.old) → IsTrue (state S.Store conn.old).is_open
         → T.needs (state S.Store conn.old).now }
     requires fits { HasCleanDisk (state S.Store conn.old)
         → T.fits outline.old (contents_of (state S.Store conn.old).now) }
-    ensures read { ReadsAlone S.Store conn.old conn.new result }
+    ensures read { ReadsOnly S.Store conn.old conn.new result }
     ensures reported { HasCleanDisk (state S.Store conn.new) → IfOk result
         (λ ok. ok ≡ T.are_sound outline.old.objects (contents_of (state S.Store conn.old).now)) }
     ensures loaded { HasCleanDisk (state S.Store conn.new) → IfOk result

@@ -9,7 +9,7 @@ use std::alloc::{AllocError, Global};
 use tables_outline::Outline;
 use tables_rows::temp_roots as stored;
 use tables_rows::temp_roots::TempRoot;
-use tables_sql::failure::Failure;
+use tables_sql::failure::Failed;
 
 impl RootTable for TempRoot {
     ghost use Rattle.std.specs.Prelude.{◌≡◌};
@@ -34,7 +34,7 @@ impl RootTable for TempRoot {
 
     ghost with_rows = { λ o c. record o { temporary = (world_in c).temporary } };
 
-    fn all<S: Alter>(alloc: Global, conn: &mut Connection<S>) -> Result<Vec<TempRoot>, Failure> {
+    fn all<S: Alter>(alloc: Global, conn: &mut Connection<S>) -> Result<Vec<TempRoot>, Failed> {
         stored::all(alloc, conn)
     }
 

@@ -8,7 +8,7 @@ use std::alloc::{AllocError, Global};
 use tables_outline::Outline;
 use tables_rows::user_roots as stored;
 use tables_rows::user_roots::UserRoot;
-use tables_sql::failure::Failure;
+use tables_sql::failure::Failed;
 
 impl RootTable for UserRoot {
     ghost use Rattle.std.specs.Prelude.{◌≡◌};
@@ -27,7 +27,7 @@ impl RootTable for UserRoot {
 
     ghost with_rows = { λ o c. record o { user_roots = c.user_roots } };
 
-    fn all<S: Alter>(alloc: Global, conn: &mut Connection<S>) -> Result<Vec<UserRoot>, Failure> {
+    fn all<S: Alter>(alloc: Global, conn: &mut Connection<S>) -> Result<Vec<UserRoot>, Failed> {
         stored::all(alloc, conn)
     }
 

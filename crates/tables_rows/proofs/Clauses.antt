@@ -8,8 +8,8 @@ use Rattle.sqlite_value.specs.Order.{Row}
 use Rattle.sqlite_schema.specs.declared.schema.Table.{Table}
 use Rattle.sqlite.specs.Effect.{Database}
 use Rattle.sqlite.specs.State.{State, HasCleanDisk, Survives, ExecutesInside, IsUnchanged}
-use Rattle.tables_sql.specs.declared.failure.Failure.{Failure}
-use Rattle.tables_sql.specs.declared.failure.Failure.TheVariants.{Memory, Disk}
+use Rattle.tables_sql.specs.declared.failure.Failed.{Failed}
+use Rattle.tables_sql.specs.declared.failure.Failed.TheVariants.{Memory, Disk}
 use Rattle.tables_sql.specs.Calls.{IsReady, IsUnderWay, Changes, KeepsShown, HasFurther}
 use Rattle.tables_sql.specs.Contents.{contents_of}
 use Rattle.tables_sql.specs.Texts.{IsReadable}
@@ -38,7 +38,7 @@ WasOwn d old = HasCleanDisk old → IsTrue old.is_open → d.IsOwn old.now
 -- ---- reading
 
 -- the keys of what was read rise
-abbrev pub Rises : {K X Y T : Type 0} → Description K X → (T → K × Y) → Result (Vec T Global) Failure → Type 0
+abbrev pub Rises : {K X Y T : Type 0} → Description K X → (T → K × Y) → Result (Vec T Global) Failed → Type 0
 Rises d item r = IfOk r (λ all. AllAdjacentBelow (λ x y. true ≡ is_lt (d.order (item x).0 (item y).0)) all.items (length all.items))
 
 -- what is amiss with the rows that were shown: one can't be read, or their keys don't rise
@@ -46,32 +46,32 @@ abbrev pub Amiss : {K X Y T : Type 0} → Description K X → (Row → T → Typ
 Amiss d ShowsItem item IsLegible = IsAmiss IsLegible ShowsItem (λ x y. is_lt (d.order (item x).0 (item y).0))
 
 -- why there is no answer
-abbrev pub IsReadFailure : State → State → List ℕ → Row → (List Row → Type 0) → Failure → Type 0
+abbrev pub IsReadFailure : State → State → List ℕ → Row → (List Row → Type 0) → Failed → Type 0
 IsReadFailure old new text params Bad f = IsQueryFailure text params old new f ⊎ ((rows : List Row) × HasBegunWith text params old new rows × ((f ≡ Memory) ⊎ ((f ≡ Disk) × Bad rows)))
 
 module _ {K X Y T : Type 0} {d : Description K X} {p : Part d Y} {ShowsItem : Row → T → Type 0} {item : T → K × Y} {IsLegible : Row → Type 0}
     {q : PartReading d p ShowsItem item IsLegible} {old new : State} {text : List ℕ} {params : Row} where
   -- what a read of some of the keys, or of all, answers of the part that it shows
   pub reads_part : {test : K → Bool} → Selection d q text params test → Survives old new (λ _. ⊥) → WasReady old → WasOwn d old → HasCleanDisk new
-      → (r : Result (Vec T Global) Failure) → Selects ShowsItem old new text params r → Rises d item r
+      → (r : Result (Vec T Global) Failed) → Selects ShowsItem old new text params r → Rises d item r
       → IfOk r (λ all. IsUnchanged old new × (map item all.items ≡ map (made d.order p.of) (finite.entries (finite.retain_keys (d.of (contents_of old.now)) test))))
   reads_part s survives ready own clean = selects d q old new s (ready (early survives clean)) (own (early survives clean))
 
   pub reads_all_parts : Selection d q text params (λ _. true) → Survives old new (λ _. ⊥) → WasReady old → WasOwn d old → HasCleanDisk new
-      → (r : Result (Vec T Global) Failure) → Selects ShowsItem old new text params r → Rises d item r
+      → (r : Result (Vec T Global) Failed) → Selects ShowsItem old new text params r → Rises d item r
       → IfOk r (λ all. IsUnchanged old new × (map item all.items ≡ map (made d.order p.of) (finite.entries (d.of (contents_of old.now)))))
   reads_all_parts s survives ready own clean r got up = reported_as r _ item item _ _ (λ ts is. is ∙ with_all d (d.of (contents_of old.now)) p.of) (reads_part s survives ready own clean r got up)
 
   -- of the keys alone
   pub reads_keys : Selection d q text params (λ _. true) → Survives old new (λ _. ⊥) → WasReady old → WasOwn d old → HasCleanDisk new
-      → (r : Result (Vec T Global) Failure) → Selects ShowsItem old new text params r → Rises d item r
+      → (r : Result (Vec T Global) Failed) → Selects ShowsItem old new text params r → Rises d item r
       → IfOk r (λ all. IsUnchanged old new × (map (λ t. (item t).0) all.items ≡ finite.keys (d.of (contents_of old.now))))
   reads_keys s survives ready own clean r got up =
       reported_as r _ item (λ t. (item t).0) _ _ (keys_of d (d.of (contents_of old.now)) p.of item) (reads_all_parts s survives ready own clean r got up)
 
   -- why it fails
   pub fails_to_read : {test : K → Bool} → Selection d q text params test → Survives old new (λ _. ⊥) → WasReady old → WasOwn d old → HasCleanDisk new
-      → (r : Result (Vec T Global) Failure) → IfErr r (IsReadFailure old new text params (Amiss d ShowsItem item IsLegible)) → IfErr r (FailsFor old new)
+      → (r : Result (Vec T Global) Failed) → IfErr r (IsReadFailure old new text params (Amiss d ShowsItem item IsLegible)) → IfErr r (FailsFor old new)
   fails_to_read s survives ready own clean r =
       let before = early survives clean in
       select_fails r old new text params _ (selects_not d q old new s (λ up. d.within old.now (ready before up).of_store (own before up))) (never_amiss d q old new s (ready before) (own before))
@@ -80,12 +80,12 @@ module _ {K X Y T : Type 0} {d : Description K X} {p : Part d Y} {ShowsItem : Ro
 module _ {K X T : Type 0} {d : Description K X} {ShowsItem : Row → T → Type 0} {item : T → K × X} {IsLegible : Row → Type 0}
     {q : Reading d ShowsItem item IsLegible} {old new : State} {text : List ℕ} {params : Row} where
   pub reads : {test : K → Bool} → Selection d q text params test → Survives old new (λ _. ⊥) → WasReady old → WasOwn d old → HasCleanDisk new
-      → (r : Result (Vec T Global) Failure) → Selects ShowsItem old new text params r → Rises d item r
+      → (r : Result (Vec T Global) Failed) → Selects ShowsItem old new text params r → Rises d item r
       → IfOk r (λ all. IsUnchanged old new × (map item all.items ≡ finite.entries (finite.retain_keys (d.of (contents_of old.now)) test)))
   reads s survives ready own clean r got up = reported_as r _ item item _ _ (λ ts is. is ∙ all_made d.order _) (reads_part s survives ready own clean r got up)
 
   pub reads_all : Selection d q text params (λ _. true) → Survives old new (λ _. ⊥) → WasReady old → WasOwn d old → HasCleanDisk new
-      → (r : Result (Vec T Global) Failure) → Selects ShowsItem old new text params r → Rises d item r
+      → (r : Result (Vec T Global) Failed) → Selects ShowsItem old new text params r → Rises d item r
       → IfOk r (λ all. IsUnchanged old new × (map item all.items ≡ finite.entries (d.of (contents_of old.now))))
   reads_all s survives ready own clean r got up = reported_as r _ item item _ _ (λ ts is. is ∙ all_made d.order _) (reads_all_parts s survives ready own clean r got up)
 
@@ -97,31 +97,31 @@ module _ {old new : State} (survives : Survives old new (λ _. ⊥)) (ready : Wa
   pub still_ready : IsTrue new.is_open → IsReady new
   still_ready = ready_after old new (ready (early survives clean)) shows_same
 
-  pub still_stands : (t : Table) → (HasCleanDisk old → IsTrue old.is_open → HasFurther old.now t) → IsTrue new.is_open → HasFurther new.now t
-  still_stands t exists up = subst (λ (db : Database). HasFurther db t) (sym (shows_same.now up)) (exists (early survives clean) (shows_same.was_open up))
+  pub still_exists : (t : Table) → (HasCleanDisk old → IsTrue old.is_open → HasFurther old.now t) → IsTrue new.is_open → HasFurther new.now t
+  still_exists t exists up = subst (λ (db : Database). HasFurther db t) (sym (shows_same.now up)) (exists (early survives clean) (shows_same.was_open up))
 
 -- ---- one entry more
 
 module _ {K X : Type 0} {d : Description K X} {old new : State} {text : List ℕ} {params values : Row} {k : K} {x : X} (a : Addition d text params values k x)
     (survives : Survives old new (λ _. ⊥)) (under : HasCleanDisk old → IsUnderWay old) (own : WasOwn d old) (clean : HasCleanDisk new) where
-  abbrev Ran : Result (Unit {0}) Failure → Type 0
+  abbrev Ran : Result (Unit {0}) Failed → Type 0
   Ran r = OnOk r ((count : ℕ) × ExecutesInside 0 text params old new (Ok count))
 
-  pub puts : (r : Result (Unit {0}) Failure) → AllByRecursion IsReadable values → Ran r → OnOk r (Changes old new (λ c. d.put c (finite.insert (d.of c) k x)))
+  pub puts : (r : Result (Unit {0}) Failed) → AllByRecursion IsReadable values → Ran r → OnOk r (Changes old new (λ c. d.put c (finite.insert (d.of c) k x)))
   puts r texts = on_ok r _ _ (λ ran. (adds d old new (under (early survives clean)) (own (early survives clean)) a ran.0 texts ran.1).1)
 
-  pub puts_new : (r : Result (Unit {0}) Failure) → AllByRecursion IsReadable values → Ran r → OnOk r (finite.get (d.of (contents_of old.now)) k ≡ None)
+  pub puts_new : (r : Result (Unit {0}) Failed) → AllByRecursion IsReadable values → Ran r → OnOk r (finite.get (d.of (contents_of old.now)) k ≡ None)
   puts_new r texts = on_ok r _ _ (λ ran. (adds d old new (under (early survives clean)) (own (early survives clean)) a ran.0 texts ran.1).0)
 
-  pub fails_to_put : (r : Result (Unit {0}) Failure) → IfErr r (IsAdditionFailure text params old new) → IfErr r (FailsToInsert (form d) values (IsSome (finite.get (d.of (contents_of old.now)) k)) old new)
+  pub fails_to_put : (r : Result (Unit {0}) Failed) → IfErr r (IsAdditionFailure text params old new) → IfErr r (FailsToInsert (form d) values (IsSome (finite.get (d.of (contents_of old.now)) k)) old new)
   fails_to_put r cause = addition_failed r old new _ _ _ _ cause (λ e h. adds_not d old new (under (early survives clean)) (own (early survives clean)) a e h)
 
 -- ---- those of a part of the keys gone
 
 module _ {K X : Type 0} {d : Description K X} {old new : State} {text : List ℕ} {params : Row} {test : K → Bool} (r : Removal d text params test)
     (survives : Survives old new (λ _. ⊥)) (under : HasCleanDisk old → IsUnderWay old) (own : WasOwn d old) (clean : HasCleanDisk new) where
-  pub takes : (result : Result (Unit {0}) Failure) → OnOk result ((count : ℕ) × ExecutesInside 0 text params old new (Ok count)) → OnOk result (Changes old new (λ c. d.put c (finite.retain_keys (d.of c) (λ k. not (test k)))))
+  pub takes : (result : Result (Unit {0}) Failed) → OnOk result ((count : ℕ) × ExecutesInside 0 text params old new (Ok count)) → OnOk result (Changes old new (λ c. d.put c (finite.retain_keys (d.of c) (λ k. not (test k)))))
   takes result = on_ok result _ _ (λ ran. removes d old new (under (early survives clean)) (own (early survives clean)) r ran.0 ran.1)
 
-  pub fails_to_take : (result : Result (Unit {0}) Failure) → IfErr result (λ f. (g : Failure) × (f ≡ without_size g) × IsWriteFailure text params old new g) → IfErr result (FailsFor old new)
+  pub fails_to_take : (result : Result (Unit {0}) Failed) → IfErr result (λ f. (g : Failed) × (f ≡ without_size g) × IsWriteFailure text params old new g) → IfErr result (FailsFor old new)
   fails_to_take result cause = removal_failed result old new _ _ cause (λ e h. removes_not d old new (under (early survives clean)) (own (early survives clean)) r e h)

@@ -16,8 +16,8 @@ use Rattle.sqlite.specs.declared.error.Error.{Error}
 use Rattle.sqlite.specs.Effect.{Database, Reads, ReadsFirst}
 use Rattle.sqlite.specs.Listing.{understood}
 use Rattle.sqlite.specs.State.{State, HasCleanDisk, Survives, Shown, ShowsRows, Begins, IsUnchanged, IsStatement, IsTooLate, FailsToQuery}
-use Rattle.tables_sql.specs.declared.failure.Failure.{Failure}
-use Rattle.tables_sql.specs.declared.failure.Failure.TheVariants.{Memory, Disk}
+use Rattle.tables_sql.specs.declared.failure.Failed.{Failed}
+use Rattle.tables_sql.specs.declared.failure.Failed.TheVariants.{Memory, Disk}
 use Rattle.tables_sql.specs.Contents.{contents_of}
 use Rattle.tables_sql.specs.Queries.{IsSelect, HasBegunWith, IsAnswered}
 use Rattle.tables_sql.specs.Failures.{IsQueryFailure, FailsFor}
@@ -65,12 +65,12 @@ module _ (text : List ℕ) (params : Row) (reads : IsSelect text) where
   never_late old new e (inr h) = absurd (let none : IsSome {T = Returning} None = subst IsSome (silent old h.0 h.1.is) h.2 in cc)
 
   -- the entries that an answer shows, or why there are none
-  pub shown_all : {T : Type 0} (ShowsItem : Row → T → Type 0) (old new : State) (rows : List Row) (r : Result (Vec T Global) Failure) → Shown text params old new rows → IfOk r (λ all. AllZip ShowsItem rows all.items)
+  pub shown_all : {T : Type 0} (ShowsItem : Row → T → Type 0) (old new : State) (rows : List Row) (r : Result (Vec T Global) Failed) → Shown text params old new rows → IfOk r (λ all. AllZip ShowsItem rows all.items)
       → IfOk r (λ all. (x : List Row) × IsAnswered text params old new x × AllZip ShowsItem x all.items)
   shown_all ShowsItem old new rows (Ok all) shown h = (rows, answered old new rows shown, h)
   shown_all ShowsItem old new rows (Err f) shown h = tt
 
-  pub amiss_some : {T : Type 0} (Amiss : List Row → Type 0) (old new : State) (rows : List Row) (r : Result T Failure) → Shown text params old new rows
+  pub amiss_some : {T : Type 0} (Amiss : List Row → Type 0) (old new : State) (rows : List Row) (r : Result T Failed) → Shown text params old new rows
       → IfErr r (λ f. (front : List Row) × (back : List Row) × (rows ≡ front ++ back) × ((f ≡ Memory) ⊎ ((f ≡ Disk) × Amiss front)))
       → IfErr r (λ f. IsQueryFailure text params old new f ⊎ ((x : List Row) × HasBegunWith text params old new x × ((f ≡ Memory) ⊎ ((f ≡ Disk) × Amiss x))))
   amiss_some Amiss old new rows (Ok x) shown h = tt
@@ -109,7 +109,7 @@ module _ (text : List ℕ) (params : Row) (reads : IsSelect text) (old new : Sta
       let kept : ShowsRows (settled old) (settled new) text h.0 full rows None = (it.0, it.1, it.2, unchanged_alike it.3) in
       (h.0, statement h.0 h.1, subst (ShowsRows (settled old) (settled new) text h.0 full rows) (sym none) kept)
 
-  selects_alike : {T : Type 0} (ShowsItem : Row → T → Type 0) (r : Result (Vec T Global) Failure) → Selects ShowsItem old new text params r → Selects ShowsItem (settled old) (settled new) text params r
+  selects_alike : {T : Type 0} (ShowsItem : Row → T → Type 0) (r : Result (Vec T Global) Failed) → Selects ShowsItem old new text params r → Selects ShowsItem (settled old) (settled new) text params r
   selects_alike ShowsItem (Err f) h = tt
   selects_alike ShowsItem (Ok all) h = (h.0, (shown_alike h.0 h.1.0, begun_alike h.0 h.1.1), h.2)
 
@@ -122,7 +122,7 @@ module _ {K X T : Type 0} {d : Description K X} {ShowsItem : Row → T → Type 
   ready up = record { of_store = (under (early survives clean)).of_store up; settled = refl }
 
   -- the entries of this part of the keys, in order
-  pub selects_within : (r : Result (Vec T Global) Failure) → Selects ShowsItem old new text params r → Rises d item r
+  pub selects_within : (r : Result (Vec T Global) Failed) → Selects ShowsItem old new text params r → Rises d item r
       → IfOk r (λ all. IsUnchanged old new × (map item all.items ≡ finite.entries (finite.retain_keys (d.of (contents_of old.now)) test)))
   selects_within (Err f) got up = tt
   selects_within (Ok all) got up =
@@ -130,7 +130,7 @@ module _ {K X T : Type 0} {d : Description K X} {ShowsItem : Row → T → Type 
       (got.1.1.1, read.1 ∙ all_made d.order _)
 
   -- why they aren't read
-  pub fails_within : (r : Result (Vec T Global) Failure) → IfErr r (IsReadFailure old new text params (Amiss d ShowsItem item IsLegible)) → IfErr r (FailsFor old new)
+  pub fails_within : (r : Result (Vec T Global) Failed) → IfErr r (IsReadFailure old new text params (Amiss d ShowsItem item IsLegible)) → IfErr r (FailsFor old new)
   fails_within r =
       let before = early survives clean in
       select_fails r old new text params _ (selects_not d q old new s (λ up. d.within old.now ((under before).of_store up) (own before up)))

@@ -10,7 +10,7 @@ use Rattle.sqlite.specs.Held.{Held, state}
 use Rattle.tables_sql.specs.Calls.{IsReady, IsUnderWay, KeepsShown, Changes, HasFurther}
 use Rattle.tables_sql.specs.Contents.{Contents, contents_of}
 use Rattle.tables_sql.specs.Failures.{FailsFor, FailsToInsert, FailsToRead}
-use Rattle.tables_sql.specs.declared.failure.Failure.{Failure}
+use Rattle.tables_sql.specs.declared.failure.Failed.{Failed}
 
 module _ {S : Type 0} (g : Ghosts S) where
   -- ---- a read outside a transaction
@@ -60,11 +60,11 @@ module _ {S : Type 0} (g : Ghosts S) where
       HasCleanDisk (state g new.now) → OnOk result (Changes (state g old.now) (state g new.now) change)
 
   -- an error comes of memory, of a fault of the disk or of a limit on steps
-  abbrev pub FailsWithCause : {T : Type 0} (old new : Held S) (result : Result T Failure) → Type 0
+  abbrev pub FailsWithCause : {T : Type 0} (old new : Held S) (result : Result T Failed) → Type 0
   FailsWithCause old new result = HasCleanDisk (state g new) → IfErr result (FailsFor (state g old) (state g new))
 
   -- and so does one of several reads, one after another
-  abbrev pub FailsInReads : {T : Type 0} (old new : Held S) (result : Result T Failure) → Type 0
+  abbrev pub FailsInReads : {T : Type 0} (old new : Held S) (result : Result T Failed) → Type 0
   FailsInReads old new result = HasCleanDisk (state g new) → IfErr result (FailsToRead (state g old) (state g new))
 
   -- where it succeeds, there was no such entry
@@ -74,7 +74,7 @@ module _ {S : Type 0} (g : Ghosts S) where
       HasCleanDisk (state g new.now) → OnOk result (find (contents_of (state g old.now).now) ≡ None)
 
   -- an error of an insert of this row may also come of its size, of the lack of a rowid, or of such an entry
-  abbrev pub FailsToPut : {T X : Type 0} (old new : MutBor (Held S)) (result : Result T Failure) (table : Table)
+  abbrev pub FailsToPut : {T X : Type 0} (old new : MutBor (Held S)) (result : Result T Failed) (table : Table)
       (row : Row) (find : Contents → Option X) → Type 0
   FailsToPut old new result table row find =
       HasCleanDisk (state g new.now)
@@ -84,14 +84,14 @@ module _ {S : Type 0} (g : Ghosts S) where
   -- ---- what each call on one table does
 
   -- a read outside a transaction finds this of the contents
-  pub record Finds {T : Type 0} (old new : Held S) (result : Result T Failure) (shows : Contents → T → Type 0)
+  pub record Finds {T : Type 0} (old new : Held S) (result : Result T Failed) (shows : Contents → T → Type 0)
       : Type 0 where
     pub frame : LeftAsItWas old new
     pub reads : Reads old new result shows
     pub cause : FailsWithCause old new result
 
-  -- so does one of a further table, which is there afterwards too
-  pub record FindsInFurther {T : Type 0} (old new : Held S) (result : Result T Failure) (table : Table)
+  -- a read of a further table, which still exists afterwards
+  pub record FindsInFurther {T : Type 0} (old new : Held S) (result : Result T Failed) (table : Table)
       (shows : Contents → T → Type 0) : Type 0 where
     pub frame : LeftAsItWas old new
     pub reads : Reads old new result shows
@@ -99,14 +99,14 @@ module _ {S : Type 0} (g : Ghosts S) where
     pub exists : HasTable new table
 
   -- and a read inside a transaction, of what that has written so far
-  pub record FindsInside {T : Type 0} (old new : MutBor (Held S)) (result : Result T Failure)
+  pub record FindsInside {T : Type 0} (old new : MutBor (Held S)) (result : Result T Failed)
       (shows : Contents → T → Type 0) : Type 0 where
     pub frame : StaysInside old new result
     pub reads : Reads old.now new.now result shows
     pub cause : FailsWithCause old.now new.now result
 
   -- an insert of this row makes this change, where there was no entry of its key
-  pub record Inserts {T X : Type 0} (before after : MutBor (Held S)) (result : Result T Failure) (table : Table)
+  pub record Inserts {T X : Type 0} (before after : MutBor (Held S)) (result : Result T Failed) (table : Table)
       (row : Row) (find : Contents → Option X) (change : Contents → Contents) : Type 0 where
     pub frame : StaysInside before after result
     pub done : Makes before after result change
@@ -114,7 +114,7 @@ module _ {S : Type 0} (g : Ghosts S) where
     pub new : WasFree before after result find
 
   -- a delete makes this change
-  pub record Removes {T : Type 0} (old new : MutBor (Held S)) (result : Result T Failure)
+  pub record Removes {T : Type 0} (old new : MutBor (Held S)) (result : Result T Failed)
       (change : Contents → Contents) : Type 0 where
     pub frame : StaysInside old new result
     pub done : Makes old new result change
@@ -123,13 +123,13 @@ module _ {S : Type 0} (g : Ghosts S) where
   -- ---- several reads, one after another
 
   -- all that they promise, but for what they are about: where they succeed, the connection is as it was
-  pub record ReadsAlone {T : Type 0} (old new : Held S) (result : Result T Failure) : Type 0 where
+  pub record ReadsOnly {T : Type 0} (old new : Held S) (result : Result T Failed) : Type 0 where
     pub frame : LeftAsItWas old new
     pub unchanged : HasCleanDisk (state g new) → OnOk result (IsUnchanged (state g old) (state g new))
     pub cause : FailsInReads old new result
 
   -- together they find this of the contents
-  pub record FindsInReads {T : Type 0} (old new : Held S) (result : Result T Failure) (shows : Contents → T → Type 0)
+  pub record FindsInReads {T : Type 0} (old new : Held S) (result : Result T Failed) (shows : Contents → T → Type 0)
       : Type 0 where
     pub frame : LeftAsItWas old new
     pub reads : Reads old new result shows

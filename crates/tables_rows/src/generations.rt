@@ -13,12 +13,12 @@ ghost use Rattle.tables_rows.specs.Frames.{MayRead, IsInside, Finds, Inserts, Re
 use crate::reading;
 use sqlite::{Alter, Connection, Transaction, params};
 use std::alloc::Global;
-use tables_sql::failure::Failure;
+use tables_sql::failure::Failed;
 pub use tables_sql::generations::Generation;
 use tables_sql::statement;
 
 /// All generations, in order.
-pub fn all<S: Alter>(alloc: Global, conn: &mut Connection<S>) -> Result<Vec<Generation>, Failure>
+pub fn all<S: Alter>(alloc: Global, conn: &mut Connection<S>) -> Result<Vec<Generation>, Failed>
     requires frame { MayRead S.Store conn.old }
     ensures { Finds S.Store conn.old conn.new result
         (λ c all. map generation_in all.items ≡ finite.entries c.generations) }
@@ -37,7 +37,7 @@ pub fn of<S: Alter>(
     conn: &mut Connection<S>,
     owner: &str,
     name: &str,
-) -> Result<Vec<Generation>, Failure>
+) -> Result<Vec<Generation>, Failed>
     requires frame { MayRead S.Store conn.old }
     ensures { Finds S.Store conn.old conn.new result
         (λ c all. map generation_in all.items
@@ -60,7 +60,7 @@ pub fn insert<S: Alter>(
     name: &str,
     number: u32,
     target: &str,
-) -> Result<(), Failure>
+) -> Result<(), Failed>
     requires { IsInside S.Store tx.old.conn }
     ensures { Inserts S.Store tx.old.conn tx.new.conn result
         generation (Text owner.now ∷ Text name.now ∷ Int (pos number) ∷ Text target.now ∷ [])
@@ -84,7 +84,7 @@ pub fn delete<S: Alter>(
     owner: &str,
     name: &str,
     number: u32,
-) -> Result<(), Failure>
+) -> Result<(), Failed>
     requires { IsInside S.Store tx.old.conn }
     ensures { Removes S.Store tx.old.conn tx.new.conn result
         (λ c. record c {

@@ -11,7 +11,7 @@ ghost use Rattle.tables_rows.specs.Frames.{IsInside, FindsInside};
 use crate::within;
 use sqlite::{Alter, Transaction, params};
 use std::alloc::Global;
-use tables_sql::failure::Failure;
+use tables_sql::failure::Failed;
 use tables_sql::objects::Object;
 
 /// The object of this base inside a transaction, as that has left it so far, if there is one.
@@ -19,7 +19,7 @@ pub fn get_within<S: Alter>(
     alloc: Global,
     tx: &mut Transaction<'_, S>,
     base: &str,
-) -> Result<Option<Object>, Failure>
+) -> Result<Option<Object>, Failed>
     requires { IsInside S.Store tx.old.conn }
     ensures { FindsInside S.Store tx.old.conn tx.new.conn result
         (λ c o. IsStored c.objects base.now o) }
@@ -33,7 +33,7 @@ fn of_within<S: Alter>(
     alloc: Global,
     tx: &mut Transaction<'_, S>,
     base: &str,
-) -> Result<Vec<Object>, Failure>
+) -> Result<Vec<Object>, Failed>
     requires { IsInside S.Store tx.old.conn }
     ensures { FindsInside S.Store tx.old.conn tx.new.conn result
         (λ c all. map stored_of all.items

@@ -13,12 +13,12 @@ ghost use Rattle.tables_rows.specs.Frames.{MayRead, IsInside, Finds, Inserts, Re
 use crate::reading;
 use sqlite::{Alter, Connection, Transaction, params};
 use std::alloc::Global;
-use tables_sql::failure::Failure;
+use tables_sql::failure::Failed;
 pub use tables_sql::meta::Setting;
 use tables_sql::statement;
 
 /// All settings, in order.
-pub fn all<S: Alter>(alloc: Global, conn: &mut Connection<S>) -> Result<Vec<Setting>, Failure>
+pub fn all<S: Alter>(alloc: Global, conn: &mut Connection<S>) -> Result<Vec<Setting>, Failed>
     requires frame { MayRead S.Store conn.old }
     ensures { Finds S.Store conn.old conn.new result
         (λ c all. map setting_of all.items ≡ finite.entries c.meta) }
@@ -31,7 +31,7 @@ pub fn of<S: Alter>(
     alloc: Global,
     conn: &mut Connection<S>,
     word: &str,
-) -> Result<Vec<Setting>, Failure>
+) -> Result<Vec<Setting>, Failed>
     requires frame { MayRead S.Store conn.old }
     ensures { Finds S.Store conn.old conn.new result
         (λ c all. map setting_of all.items
@@ -47,7 +47,7 @@ pub fn of<S: Alter>(
 
 /// Adds one setting. If its key is there already, the answer is `Disk` and nothing changes, unless the call fails
 /// otherwise.
-pub fn insert<S: Alter>(tx: &mut Transaction<'_, S>, word: &str, value: &str) -> Result<(), Failure>
+pub fn insert<S: Alter>(tx: &mut Transaction<'_, S>, word: &str, value: &str) -> Result<(), Failed>
     requires { IsInside S.Store tx.old.conn }
     ensures { Inserts S.Store tx.old.conn tx.new.conn result
         meta (Text word.now ∷ Text value.now ∷ [])
@@ -65,7 +65,7 @@ pub fn insert<S: Alter>(tx: &mut Transaction<'_, S>, word: &str, value: &str) ->
 }
 
 /// Removes the setting of this word, if there is one.
-pub fn delete<S: Alter>(tx: &mut Transaction<'_, S>, word: &str) -> Result<(), Failure>
+pub fn delete<S: Alter>(tx: &mut Transaction<'_, S>, word: &str) -> Result<(), Failed>
     requires { IsInside S.Store tx.old.conn }
     ensures { Removes S.Store tx.old.conn tx.new.conn result
         (λ c. record c { meta = finite.retain_keys c.meta (λ k. not (eq_by_cmp texts_cmp k word.now)) }) }

@@ -14,12 +14,12 @@ pub use crate::getting_within::get_within;
 use crate::reading;
 use sqlite::{Alter, Connection, Transaction, params};
 use std::alloc::Global;
-use tables_sql::failure::Failure;
+use tables_sql::failure::Failed;
 pub use tables_sql::objects::{Listed, Object};
 use tables_sql::statement;
 
 /// All objects without their archives, in the order of their bases.
-pub fn all<S: Alter>(alloc: Global, conn: &mut Connection<S>) -> Result<Vec<Listed>, Failure>
+pub fn all<S: Alter>(alloc: Global, conn: &mut Connection<S>) -> Result<Vec<Listed>, Failed>
     requires frame { MayRead S.Store conn.old }
     ensures { Finds S.Store conn.old conn.new result
         (λ c all. map listed_of all.items ≡ map without_archive (finite.entries c.objects)) }
@@ -33,7 +33,7 @@ pub fn all<S: Alter>(alloc: Global, conn: &mut Connection<S>) -> Result<Vec<List
 }
 
 /// The bases of all objects, in order. It copies no archive.
-pub fn keys<S: Alter>(alloc: Global, conn: &mut Connection<S>) -> Result<Vec<String>, Failure>
+pub fn keys<S: Alter>(alloc: Global, conn: &mut Connection<S>) -> Result<Vec<String>, Failed>
     requires frame { MayRead S.Store conn.old }
     ensures { Finds S.Store conn.old conn.new result
         (λ c all. map string_bytes all.items ≡ finite.keys c.objects) }
@@ -46,7 +46,7 @@ pub fn get<S: Alter>(
     alloc: Global,
     conn: &mut Connection<S>,
     base: &str,
-) -> Result<Option<Object>, Failure>
+) -> Result<Option<Object>, Failed>
     requires frame { MayRead S.Store conn.old }
     ensures { Finds S.Store conn.old conn.new result
         (λ c o. IsStored c.objects base.now o) }
@@ -56,7 +56,7 @@ pub fn get<S: Alter>(
 }
 
 /// The object of this base, if there is one, as a list of at most one.
-fn of<S: Alter>(alloc: Global, conn: &mut Connection<S>, base: &str) -> Result<Vec<Object>, Failure>
+fn of<S: Alter>(alloc: Global, conn: &mut Connection<S>, base: &str) -> Result<Vec<Object>, Failed>
     requires frame { MayRead S.Store conn.old }
     ensures { Finds S.Store conn.old conn.new result
         (λ c all. map stored_of all.items
@@ -79,7 +79,7 @@ pub fn insert<S: Alter>(
     hash: &[u8],
     deriver: &Option<String>,
     ca: &Option<String>,
-) -> Result<(), Failure>
+) -> Result<(), Failed>
     requires { IsInside S.Store tx.old.conn }
     ensures { Inserts S.Store tx.old.conn tx.new.conn result
         object (Text base.now ∷ Blob nar.now ∷ Blob hash.now ∷ text_or_null deriver.now ∷ text_or_null ca.now ∷ [])
@@ -96,7 +96,7 @@ pub fn insert<S: Alter>(
 }
 
 /// Removes the object of this base, if there is one.
-pub fn delete<S: Alter>(tx: &mut Transaction<'_, S>, base: &str) -> Result<(), Failure>
+pub fn delete<S: Alter>(tx: &mut Transaction<'_, S>, base: &str) -> Result<(), Failed>
     requires { IsInside S.Store tx.old.conn }
     ensures { Removes S.Store tx.old.conn tx.new.conn result
         (λ c. record c { objects = finite.retain_keys c.objects (λ k. not (eq_by_cmp texts_cmp k base.now)) }) }

@@ -13,12 +13,12 @@ ghost use Rattle.tables_rows.specs.Frames.{MayRead, IsInside, Finds, Inserts, Re
 use crate::reading;
 use sqlite::{Alter, Connection, Transaction, params};
 use std::alloc::Global;
-use tables_sql::failure::Failure;
+use tables_sql::failure::Failed;
 pub use tables_sql::outputs::Output;
 use tables_sql::statement;
 
 /// All outputs, in order.
-pub fn all<S: Alter>(alloc: Global, conn: &mut Connection<S>) -> Result<Vec<Output>, Failure>
+pub fn all<S: Alter>(alloc: Global, conn: &mut Connection<S>) -> Result<Vec<Output>, Failed>
     requires frame { MayRead S.Store conn.old }
     ensures { Finds S.Store conn.old conn.new result
         (λ c all. map output_of all.items ≡ finite.entries c.outs) }
@@ -36,7 +36,7 @@ pub fn of<S: Alter>(
     alloc: Global,
     conn: &mut Connection<S>,
     base: &str,
-) -> Result<Vec<Output>, Failure>
+) -> Result<Vec<Output>, Failed>
     requires frame { MayRead S.Store conn.old }
     ensures { Finds S.Store conn.old conn.new result
         (λ c all. map output_of all.items
@@ -57,7 +57,7 @@ pub fn insert<S: Alter>(
     base: &str,
     name: &str,
     target: &str,
-) -> Result<(), Failure>
+) -> Result<(), Failed>
     requires { IsInside S.Store tx.old.conn }
     ensures { Inserts S.Store tx.old.conn tx.new.conn result
         outs (Text base.now ∷ Text name.now ∷ Text target.now ∷ [])
@@ -76,7 +76,7 @@ pub fn insert<S: Alter>(
 }
 
 /// Removes the outputs of this base.
-pub fn delete_of<S: Alter>(tx: &mut Transaction<'_, S>, base: &str) -> Result<(), Failure>
+pub fn delete_of<S: Alter>(tx: &mut Transaction<'_, S>, base: &str) -> Result<(), Failed>
     requires { IsInside S.Store tx.old.conn }
     ensures { Removes S.Store tx.old.conn tx.new.conn result
         (λ c. record c { outs = finite.retain_keys c.outs (λ k. not (eq_by_cmp texts_cmp k.0 base.now)) }) }

@@ -13,12 +13,12 @@ ghost use Rattle.tables_rows.specs.Frames.{MayRead, IsInside, Finds, Inserts, Re
 use crate::reading;
 use sqlite::{Alter, Connection, Transaction, params};
 use std::alloc::Global;
-use tables_sql::failure::Failure;
+use tables_sql::failure::Failed;
 pub use tables_sql::permanent::PermanentRoot;
 use tables_sql::statement;
 
 /// All permanent roots, in order.
-pub fn all<S: Alter>(alloc: Global, conn: &mut Connection<S>) -> Result<Vec<PermanentRoot>, Failure>
+pub fn all<S: Alter>(alloc: Global, conn: &mut Connection<S>) -> Result<Vec<PermanentRoot>, Failed>
     requires frame { MayRead S.Store conn.old }
     ensures { Finds S.Store conn.old conn.new result
         (λ c all. map permanent_of all.items ≡ finite.entries c.permanent) }
@@ -36,7 +36,7 @@ pub fn of<S: Alter>(
     alloc: Global,
     conn: &mut Connection<S>,
     name: &str,
-) -> Result<Vec<PermanentRoot>, Failure>
+) -> Result<Vec<PermanentRoot>, Failed>
     requires frame { MayRead S.Store conn.old }
     ensures { Finds S.Store conn.old conn.new result
         (λ c all. map permanent_of all.items
@@ -52,11 +52,7 @@ pub fn of<S: Alter>(
 
 /// Adds one permanent root. If its key is there already, the answer is `Disk` and nothing changes, unless the call
 /// fails otherwise.
-pub fn insert<S: Alter>(
-    tx: &mut Transaction<'_, S>,
-    name: &str,
-    target: &str,
-) -> Result<(), Failure>
+pub fn insert<S: Alter>(tx: &mut Transaction<'_, S>, name: &str, target: &str) -> Result<(), Failed>
     requires { IsInside S.Store tx.old.conn }
     ensures { Inserts S.Store tx.old.conn tx.new.conn result
         permanent (Text name.now ∷ Text target.now ∷ [])
@@ -74,7 +70,7 @@ pub fn insert<S: Alter>(
 }
 
 /// Removes the permanent root of this name, if there is one.
-pub fn delete<S: Alter>(tx: &mut Transaction<'_, S>, name: &str) -> Result<(), Failure>
+pub fn delete<S: Alter>(tx: &mut Transaction<'_, S>, name: &str) -> Result<(), Failed>
     requires { IsInside S.Store tx.old.conn }
     ensures { Removes S.Store tx.old.conn tx.new.conn result
         (λ c. record c { permanent = finite.retain_keys c.permanent (λ k. not (eq_by_cmp texts_cmp k name.now)) }) }

@@ -13,12 +13,12 @@ ghost use Rattle.tables_rows.specs.Frames.{MayRead, HasTable, IsInside, FindsInF
 use crate::reading;
 use sqlite::{Alter, Connection, Transaction, params};
 use std::alloc::Global;
-use tables_sql::failure::Failure;
+use tables_sql::failure::Failed;
 pub use tables_sql::pieces::{Piece, PieceKey};
 use tables_sql::statement;
 
 /// The keys of all pieces, in the order of their bases and then of their numbers, without the pieces' bytes.
-pub fn keys<S: Alter>(alloc: Global, conn: &mut Connection<S>) -> Result<Vec<PieceKey>, Failure>
+pub fn keys<S: Alter>(alloc: Global, conn: &mut Connection<S>) -> Result<Vec<PieceKey>, Failed>
     requires frame { MayRead S.Store conn.old }
     requires exists { HasTable S.Store conn.old piece }
     ensures { FindsInFurther S.Store conn.old conn.new result piece
@@ -33,7 +33,7 @@ pub fn keys<S: Alter>(alloc: Global, conn: &mut Connection<S>) -> Result<Vec<Pie
 }
 
 /// All pieces with their bytes, in the order of their bases and then of their numbers.
-pub fn all<S: Alter>(alloc: Global, conn: &mut Connection<S>) -> Result<Vec<Piece>, Failure>
+pub fn all<S: Alter>(alloc: Global, conn: &mut Connection<S>) -> Result<Vec<Piece>, Failed>
     requires frame { MayRead S.Store conn.old }
     requires exists { HasTable S.Store conn.old piece }
     ensures { FindsInFurther S.Store conn.old conn.new result piece
@@ -52,7 +52,7 @@ pub fn of<S: Alter>(
     alloc: Global,
     conn: &mut Connection<S>,
     base: &str,
-) -> Result<Vec<Piece>, Failure>
+) -> Result<Vec<Piece>, Failed>
     requires frame { MayRead S.Store conn.old }
     requires exists { HasTable S.Store conn.old piece }
     ensures { FindsInFurther S.Store conn.old conn.new result piece
@@ -74,7 +74,7 @@ pub fn insert<S: Alter>(
     base: &str,
     number: u32,
     bytes: &[u8],
-) -> Result<(), Failure>
+) -> Result<(), Failed>
     requires under { IsInside S.Store tx.old.conn }
     requires exists { HasTable S.Store tx.old.conn.now piece }
     ensures { Inserts S.Store tx.old.conn tx.new.conn result
@@ -92,7 +92,7 @@ pub fn insert<S: Alter>(
 }
 
 /// Removes the pieces of this base.
-pub fn delete_of<S: Alter>(tx: &mut Transaction<'_, S>, base: &str) -> Result<(), Failure>
+pub fn delete_of<S: Alter>(tx: &mut Transaction<'_, S>, base: &str) -> Result<(), Failed>
     requires under { IsInside S.Store tx.old.conn }
     requires exists { HasTable S.Store tx.old.conn.now piece }
     ensures { Removes S.Store tx.old.conn tx.new.conn result

@@ -7,7 +7,7 @@ ghost use Rattle.sqlite_schema.specs.declared.schema.Table.{Table};
 ghost use Rattle.sqlite.specs.State.{HasCleanDisk};
 ghost use Rattle.sqlite.specs.Held.{state};
 ghost use Rattle.sqlite.specs.Values.{bound};
-ghost use Rattle.tables_sql.specs.declared.failure.Failure.TheVariants.{Memory, Disk};
+ghost use Rattle.tables_sql.specs.declared.failure.Failed.TheVariants.{Memory, Disk};
 ghost use Rattle.tables_sql.specs.Reading.{IsAmiss};
 ghost use Rattle.tables_sql.specs.Failures.{IsQueryFailure};
 ghost use Rattle.tables_sql.specs.Queries.{IsSelect, HasBegunWith, IsAnswered};
@@ -17,7 +17,7 @@ use sqlite::types::ValueRef;
 use sqlite::{Alter, Connection};
 use std::alloc::Global;
 use tables_sql::entry::Entry;
-use tables_sql::failure::Failure;
+use tables_sql::failure::Failed;
 use tables_sql::reading;
 
 /// The entries that a query shows, which must rise: an honest disk gives no others.
@@ -26,7 +26,7 @@ pub(crate) fn select<S: Alter, T: Entry>(
     conn: &mut Connection<S>,
     text: &str,
     params: &[ValueRef<'_>],
-) -> Result<Vec<T>, Failure>
+) -> Result<Vec<T>, Failed>
     requires reads { IsSelect text.now }
     requires frame { MayRead S.Store conn.old }
     ensures frame { LeftAsItWas S.Store conn.old conn.new }

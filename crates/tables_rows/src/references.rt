@@ -13,12 +13,12 @@ ghost use Rattle.tables_rows.specs.Frames.{MayRead, IsInside, Finds, Inserts, Re
 use crate::reading;
 use sqlite::{Alter, Connection, Transaction, params};
 use std::alloc::Global;
-use tables_sql::failure::Failure;
+use tables_sql::failure::Failed;
 pub use tables_sql::references::Reference;
 use tables_sql::statement;
 
 /// All references, in order.
-pub fn all<S: Alter>(alloc: Global, conn: &mut Connection<S>) -> Result<Vec<Reference>, Failure>
+pub fn all<S: Alter>(alloc: Global, conn: &mut Connection<S>) -> Result<Vec<Reference>, Failed>
     requires frame { MayRead S.Store conn.old }
     ensures { Finds S.Store conn.old conn.new result
         (λ c all. map reference_of all.items ≡ finite.entries c.refs) }
@@ -36,7 +36,7 @@ pub fn of<S: Alter>(
     alloc: Global,
     conn: &mut Connection<S>,
     base: &str,
-) -> Result<Vec<Reference>, Failure>
+) -> Result<Vec<Reference>, Failed>
     requires frame { MayRead S.Store conn.old }
     ensures { Finds S.Store conn.old conn.new result
         (λ c all. map reference_of all.items
@@ -52,11 +52,7 @@ pub fn of<S: Alter>(
 
 /// Adds one reference. If it is there already, the answer is `Disk` and nothing changes, unless the call fails
 /// otherwise.
-pub fn insert<S: Alter>(
-    tx: &mut Transaction<'_, S>,
-    base: &str,
-    target: &str,
-) -> Result<(), Failure>
+pub fn insert<S: Alter>(tx: &mut Transaction<'_, S>, base: &str, target: &str) -> Result<(), Failed>
     requires { IsInside S.Store tx.old.conn }
     ensures { Inserts S.Store tx.old.conn tx.new.conn result
         refs (Text base.now ∷ Text target.now ∷ [])
@@ -74,7 +70,7 @@ pub fn insert<S: Alter>(
 }
 
 /// Removes the references of this base.
-pub fn delete_of<S: Alter>(tx: &mut Transaction<'_, S>, base: &str) -> Result<(), Failure>
+pub fn delete_of<S: Alter>(tx: &mut Transaction<'_, S>, base: &str) -> Result<(), Failed>
     requires { IsInside S.Store tx.old.conn }
     ensures { Removes S.Store tx.old.conn tx.new.conn result
         (λ c. record c { refs = finite.retain_keys c.refs (λ k. not (eq_by_cmp texts_cmp k.0 base.now)) }) }

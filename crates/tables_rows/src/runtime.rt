@@ -13,12 +13,12 @@ ghost use Rattle.tables_rows.specs.Frames.{MayRead, IsInside, Finds, Inserts, Re
 use crate::reading;
 use sqlite::{Alter, Connection, Transaction, params};
 use std::alloc::Global;
-use tables_sql::failure::Failure;
+use tables_sql::failure::Failed;
 pub use tables_sql::runtime::RuntimeRoot;
 use tables_sql::statement;
 
 /// All runtime roots, in order.
-pub fn all<S: Alter>(alloc: Global, conn: &mut Connection<S>) -> Result<Vec<RuntimeRoot>, Failure>
+pub fn all<S: Alter>(alloc: Global, conn: &mut Connection<S>) -> Result<Vec<RuntimeRoot>, Failed>
     requires frame { MayRead S.Store conn.old }
     ensures { Finds S.Store conn.old conn.new result
         (λ c all. map runtime_of all.items ≡ finite.entries c.runtime) }
@@ -36,7 +36,7 @@ pub fn of<S: Alter>(
     alloc: Global,
     conn: &mut Connection<S>,
     label: &str,
-) -> Result<Vec<RuntimeRoot>, Failure>
+) -> Result<Vec<RuntimeRoot>, Failed>
     requires frame { MayRead S.Store conn.old }
     ensures { Finds S.Store conn.old conn.new result
         (λ c all. map runtime_of all.items
@@ -56,7 +56,7 @@ pub fn insert<S: Alter>(
     tx: &mut Transaction<'_, S>,
     label: &str,
     target: &str,
-) -> Result<(), Failure>
+) -> Result<(), Failed>
     requires { IsInside S.Store tx.old.conn }
     ensures { Inserts S.Store tx.old.conn tx.new.conn result
         runtime (Text label.now ∷ Text target.now ∷ [])
@@ -74,7 +74,7 @@ pub fn insert<S: Alter>(
 }
 
 /// Removes the runtime roots of this label.
-pub fn delete_of<S: Alter>(tx: &mut Transaction<'_, S>, label: &str) -> Result<(), Failure>
+pub fn delete_of<S: Alter>(tx: &mut Transaction<'_, S>, label: &str) -> Result<(), Failed>
     requires { IsInside S.Store tx.old.conn }
     ensures { Removes S.Store tx.old.conn tx.new.conn result
         (λ c. record c { runtime = finite.retain_keys c.runtime (λ k. not (eq_by_cmp texts_cmp k.0 label.now)) }) }
@@ -83,7 +83,7 @@ pub fn delete_of<S: Alter>(tx: &mut Transaction<'_, S>, label: &str) -> Result<(
 }
 
 /// Removes all runtime roots.
-pub fn delete_all<S: Alter>(tx: &mut Transaction<'_, S>) -> Result<(), Failure>
+pub fn delete_all<S: Alter>(tx: &mut Transaction<'_, S>) -> Result<(), Failed>
     requires { IsInside S.Store tx.old.conn }
     ensures { Removes S.Store tx.old.conn tx.new.conn result
         (λ c. record c { runtime = finite.from_entries [] }) }

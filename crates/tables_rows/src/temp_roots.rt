@@ -13,12 +13,12 @@ ghost use Rattle.tables_rows.specs.Frames.{MayRead, HasTable, IsInside, FindsInF
 use crate::reading;
 use sqlite::{Alter, Connection, Transaction, params};
 use std::alloc::Global;
-use tables_sql::failure::Failure;
+use tables_sql::failure::Failed;
 use tables_sql::statement;
 pub use tables_sql::temp_roots::TempRoot;
 
 /// All temporary roots, in order.
-pub fn all<S: Alter>(alloc: Global, conn: &mut Connection<S>) -> Result<Vec<TempRoot>, Failure>
+pub fn all<S: Alter>(alloc: Global, conn: &mut Connection<S>) -> Result<Vec<TempRoot>, Failed>
     requires frame { MayRead S.Store conn.old }
     requires exists { HasTable S.Store conn.old temp_root }
     ensures { FindsInFurther S.Store conn.old conn.new result temp_root
@@ -38,7 +38,7 @@ pub fn of<S: Alter>(
     conn: &mut Connection<S>,
     owner: &str,
     session: u32,
-) -> Result<Vec<TempRoot>, Failure>
+) -> Result<Vec<TempRoot>, Failed>
     requires frame { MayRead S.Store conn.old }
     requires exists { HasTable S.Store conn.old temp_root }
     ensures { FindsInFurther S.Store conn.old conn.new result temp_root
@@ -61,7 +61,7 @@ pub fn insert<S: Alter>(
     owner: &str,
     session: u32,
     target: &str,
-) -> Result<(), Failure>
+) -> Result<(), Failed>
     requires under { IsInside S.Store tx.old.conn }
     requires exists { HasTable S.Store tx.old.conn.now temp_root }
     ensures { Inserts S.Store tx.old.conn tx.new.conn result
@@ -84,7 +84,7 @@ pub fn delete_of<S: Alter>(
     tx: &mut Transaction<'_, S>,
     owner: &str,
     session: u32,
-) -> Result<(), Failure>
+) -> Result<(), Failed>
     requires under { IsInside S.Store tx.old.conn }
     requires exists { HasTable S.Store tx.old.conn.now temp_root }
     ensures { Removes S.Store tx.old.conn tx.new.conn result
@@ -106,7 +106,7 @@ pub fn delete<S: Alter>(
     owner: &str,
     session: u32,
     target: &str,
-) -> Result<(), Failure>
+) -> Result<(), Failed>
     requires under { IsInside S.Store tx.old.conn }
     requires exists { HasTable S.Store tx.old.conn.now temp_root }
     ensures { Removes S.Store tx.old.conn tx.new.conn result

@@ -13,12 +13,12 @@ ghost use Rattle.tables_rows.specs.Frames.{MayRead, IsInside, Finds, Inserts, Re
 use crate::reading;
 use sqlite::{Alter, Connection, Transaction, params};
 use std::alloc::Global;
-use tables_sql::failure::Failure;
+use tables_sql::failure::Failed;
 use tables_sql::statement;
 pub use tables_sql::user_roots::UserRoot;
 
 /// All user roots, in order.
-pub fn all<S: Alter>(alloc: Global, conn: &mut Connection<S>) -> Result<Vec<UserRoot>, Failure>
+pub fn all<S: Alter>(alloc: Global, conn: &mut Connection<S>) -> Result<Vec<UserRoot>, Failed>
     requires frame { MayRead S.Store conn.old }
     ensures { Finds S.Store conn.old conn.new result
         (λ c all. map user_root_of all.items ≡ finite.entries c.user_roots) }
@@ -36,7 +36,7 @@ pub fn of<S: Alter>(
     alloc: Global,
     conn: &mut Connection<S>,
     owner: &str,
-) -> Result<Vec<UserRoot>, Failure>
+) -> Result<Vec<UserRoot>, Failed>
     requires frame { MayRead S.Store conn.old }
     ensures { Finds S.Store conn.old conn.new result
         (λ c all. map user_root_of all.items
@@ -56,7 +56,7 @@ pub fn at<S: Alter>(
     conn: &mut Connection<S>,
     owner: &str,
     name: &str,
-) -> Result<Vec<UserRoot>, Failure>
+) -> Result<Vec<UserRoot>, Failed>
     requires frame { MayRead S.Store conn.old }
     ensures { Finds S.Store conn.old conn.new result
         (λ c all. map user_root_of all.items
@@ -78,7 +78,7 @@ pub fn insert<S: Alter>(
     owner: &str,
     name: &str,
     target: &str,
-) -> Result<(), Failure>
+) -> Result<(), Failed>
     requires { IsInside S.Store tx.old.conn }
     ensures { Inserts S.Store tx.old.conn tx.new.conn result
         user_root (Text owner.now ∷ Text name.now ∷ Text target.now ∷ [])
@@ -97,7 +97,7 @@ pub fn insert<S: Alter>(
 }
 
 /// Removes the user root of this owner and this name, if there is one.
-pub fn delete<S: Alter>(tx: &mut Transaction<'_, S>, owner: &str, name: &str) -> Result<(), Failure>
+pub fn delete<S: Alter>(tx: &mut Transaction<'_, S>, owner: &str, name: &str) -> Result<(), Failed>
     requires { IsInside S.Store tx.old.conn }
     ensures { Removes S.Store tx.old.conn tx.new.conn result
         (λ c. record c {

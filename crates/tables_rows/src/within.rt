@@ -6,7 +6,7 @@ ghost use Rattle.sqlite_value.specs.Order.{Row as Values};
 ghost use Rattle.sqlite.specs.State.{HasCleanDisk};
 ghost use Rattle.sqlite.specs.Held.{state};
 ghost use Rattle.sqlite.specs.Values.{bound};
-ghost use Rattle.tables_sql.specs.declared.failure.Failure.TheVariants.{Memory, Disk};
+ghost use Rattle.tables_sql.specs.declared.failure.Failed.TheVariants.{Memory, Disk};
 ghost use Rattle.tables_sql.specs.Reading.{IsAmiss};
 ghost use Rattle.tables_sql.specs.Failures.{IsQueryFailure};
 ghost use Rattle.tables_sql.specs.Queries.{IsSelect, HasBegunWith, IsAnswered};
@@ -16,11 +16,11 @@ use sqlite::types::ValueRef;
 use sqlite::{Alter, Row, Transaction};
 use std::alloc::Global;
 use tables_sql::entry::Entry;
-use tables_sql::failure::Failure;
+use tables_sql::failure::Failed;
 use tables_sql::reading::Sink;
 
 /// The entries that these rows show, which must rise.
-fn entries<T: Entry>(alloc: Global, rows: &[Row]) -> Result<Vec<T>, Failure>
+fn entries<T: Entry>(alloc: Global, rows: &[Row]) -> Result<Vec<T>, Failed>
     ensures shown { IfOk result (λ all. AllZip T.is_shown rows.now all.items) }
     ensures rises { IfOk result (λ all. AllAdjacentBelow (λ x y. true ≡ T.is_below x y) all.items (length all.items)) }
     ensures cause { IfErr result
@@ -41,7 +41,7 @@ pub(crate) fn select<S: Alter, T: Entry>(
     tx: &mut Transaction<'_, S>,
     text: &str,
     params: &[ValueRef<'_>],
-) -> Result<Vec<T>, Failure>
+) -> Result<Vec<T>, Failed>
     requires { IsSelect text.now }
     ensures frame { StaysInside S.Store tx.old.conn tx.new.conn result }
     ensures shown { HasCleanDisk (state S.Store tx.new.conn.now) → IfOk result

@@ -24,7 +24,7 @@ pub record IsUnaffected (s : Schema) (name : List ℕ) (tree : ℕ) (key : List 
 -- the table is the store's: of the form, and left alone
 pub record IsThis (s : Schema) (form found : Table) : Type 0 where
   pub has_form : HasForm s.tables form found
-  pub left_alone : IsUnaffected s form.name found.tree form.primary
+  pub unaffected : IsUnaffected s form.name found.tree form.primary
 
 -- no foreign key waits for a table of the name
 abbrev pub is_unawaited : Schema → List ℕ → Bool

@@ -36,7 +36,7 @@ is_unguarded s tree key =
     list_all (λ i. not (i.is_unique && (i.table == tree))
     || (bytes_eq i.columns key && (i.order.digits == 0))) s.indexes
 
--- the tree of the first table of a name; 0, which is none of theirs, where there is no such table
+-- the tree of the first table of a name; 0, which is no table's tree, where no table has that name
 abbrev pub tree_named : Schema → List ℕ → ℕ
 tree_named s name = unwrap_or (option_map (λ t. t.tree) (option_and_then (slice_get s.tables) (table_named s name))) 0
 

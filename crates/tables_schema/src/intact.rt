@@ -136,7 +136,7 @@ fn has_form(
 }
 
 /// Whether nothing else acts on the table of this tree.
-fn is_left_alone(schema: &Schema, name: &[u8], tree: u32, key: &[usize]) -> bool
+fn is_unaffected(schema: &Schema, name: &[u8], tree: u32, key: &[usize]) -> bool
     ensures { IsTrue result ↔ IsUnaffected schema.now name.now tree key.now }
 {
     let tables = schema.tables.as_slice();
@@ -156,7 +156,7 @@ fn is_this(
     ensures { IsTrue result ↔ IsThis schema.now (strict name.now (map expected_column columns.now) key.now) table.now }
 {
     has_form(schema.tables.as_slice(), table, name, columns, key)
-        && is_left_alone(schema, name, table.tree, key)
+        && is_unaffected(schema, name, table.tree, key)
 }
 
 /// Whether the first table of the name is of this form, and nothing else acts on it.

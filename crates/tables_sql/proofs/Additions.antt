@@ -30,7 +30,7 @@ use Rattle.sqlite.specs.Does.{Does, OnRows}
 use Rattle.sqlite.specs.Rows.{Edited, Inserts, Written, Task, stamped}
 use Rattle.sqlite.specs.State.{State, ExecutesInside}
 use Rattle.sqlite.proofs.Callers.{one_step}
-use Rattle.tables_sql.specs.declared.failure.Failure.TheVariants.{Disk}
+use Rattle.tables_sql.specs.declared.failure.Failed.TheVariants.{Disk}
 use Rattle.tables_schema.specs.Forms.{strict}
 use Rattle.tables_schema.specs.Intact.{IsIntact, tree_named}
 use Rattle.tables_sql.specs.Contents.{rows_named}
@@ -146,7 +146,7 @@ module _ (name : List ℕ) (columns : List Column) (key : List ℕ) (db : Databa
             go (inl (other, h, is)) = stops_at MayEnd stop other is (adds other h)
             go (inr (w, h, ended)) = absurd (concluded db.schema limit own params w (grown w h) stop ended)
 
-module _ (name : List ℕ) (columns : List Column) (key : List ℕ) (old new : State) (under : IsUnderWay old) (standing : IsTrue old.is_open → IsIntact old.now.schema (strict name columns key)) where
+module _ (name : List ℕ) (columns : List Column) (key : List ℕ) (old new : State) (under : IsUnderWay old) (existing : IsTrue old.is_open → IsIntact old.now.schema (strict name columns key)) where
   abbrev table : Table
   table = strict name columns key
 
@@ -158,5 +158,5 @@ module _ (name : List ℕ) (columns : List Column) (key : List ℕ) (old new : S
     pub insert_fails : (Taken : Type 0) → (IsTrue old.is_open → IsNewKey name key old.now values ⊎ Taken)
         → (e : Error) → ExecutesInside 0 text params old new (Err e) → FailsWith old new (OrShut old (IsTooLarge old.now table values)) (IsSome old.step_limit ⊎ (HasNoRowidLeft old.now table ⊎ Taken)) (failure_of e)
     insert_fails Taken free e h =
-        our_write_fails name columns key old new standing text count params _ (λ at tree. refl) given is (IsTooLarge old.now table values) (IsSome old.step_limit ⊎ (HasNoRowidLeft old.now table ⊎ Taken))
+        our_write_fails name columns key old new existing text count params _ (λ at tree. refl) given is (IsTooLarge old.now table values) (IsSome old.step_limit ⊎ (HasNoRowidLeft old.now table ⊎ Taken))
         (λ up exists. insert_stops name columns key old.now (under.of_store up).sound exists values typed (present _) Taken (free up) old.step_limit params terms width accepts (made _)) e h

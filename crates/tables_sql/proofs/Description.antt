@@ -31,7 +31,7 @@ use Rattle.tables_schema.specs.Forms.{strict, is_our_name}
 use Rattle.tables_schema.specs.Intact.{IsKnown, IsNamed, IsIntact, HasTables, tree_named}
 use Rattle.tables_sql.specs.Contents.{Contents, contents_of, map_of, rows_named}
 use Rattle.tables_sql.specs.Texts.{IsReadable, AreReadableRows}
-use Rattle.tables_sql.specs.declared.failure.Failure.{Failure}
+use Rattle.tables_sql.specs.declared.failure.Failed.{Failed}
 use Rattle.tables_sql.specs.Calls.{IsKeyed, IsStoreDatabase, IsReady, IsUnderWay, Changes}
 use Rattle.tables_sql.specs.Queries.{IsSelect, HasBegunWith}
 use Rattle.tables_sql.specs.Reading.{IsAmiss}
@@ -49,7 +49,7 @@ use Rattle.tables_sql.proofs.Rising.{AreKept, shown_well}
 use Rattle.tables_sql.proofs.Additions.{IsNewKey, insert_fails}
 use Rattle.tables_sql.proofs.Removals.{delete_fails}
 use Rattle.tables_sql.proofs.Alike.{made, part_made}
-use Rattle.tables_sql.proofs.Places.{changed, own_rows, ours_kept}
+use Rattle.tables_sql.proofs.Places.{changed, own_rows, store_kept}
 use Rattle.tables_sql.proofs.Ordered.{Place, outputs_of, query_on, names_on, scan_of, whole}
 use Rattle.tables_sql.proofs.MappedRows.{HasOneRowEach}
 use Rattle.tables_sql.proofs.NewEntries.{was_none}
@@ -151,7 +151,7 @@ module _ {K X : Type 0} (d : Description K X) (old new : State) (under : IsUnder
       let e = a.entry (next_rowid rows) in
       let keyed : IsKeyed rows → IsKeyed (put_row row rows) = keyed_put row rows it.0 refl in
       let readable = put_readable (form d) row rows (tt, texts) in
-      let after : IsStoreDatabase new.now = ours_kept (form d) old new (put_row row rows) exists it.1 of_store keyed readable in
+      let after : IsStoreDatabase new.now = store_kept (form d) old new (put_row row rows) exists it.1 of_store keyed readable in
       let once : HasOneRowEach d.total d.same d.kind d.entry (put_row row rows) = subst (HasOneRowEach d.total d.same d.kind d.entry) (own_rows (form d) old new (put_row row rows) exists it.1) (d.kept new.now after (d.still old new (put_row row rows) exists it.1 keyed readable mine)).once in
       let lacks : finite.get (map_of d.order d.kind d.entry rows) (d.entry row).0 ≡ None = was_none d.total d.same d.kind d.entry row rows it.0 (a.kind _) once in
       let more : map_of d.order d.kind d.entry (put_row row rows) ≡ finite.insert (map_of d.order d.kind d.entry rows) k x =
@@ -236,7 +236,7 @@ module _ {K X Y T : Type 0} (d : Description K X) {p : Part d Y} {ShowsItem : Ro
   scan = scan_of (outputs_of q.shown) (take q.by q.shown) s.filter
 
   -- that part of the entries of these keys, in order
-  pub selects : (IsTrue old.is_open → IsReady old) → (IsTrue old.is_open → d.IsOwn old.now) → (r : Result (Vec T Global) Failure) → Selects ShowsItem old new text params r → IfOk r (λ all. AllAdjacentBelow (λ x y. true ≡ is_lt (d.order (item x).0 (item y).0)) all.items (length all.items))
+  pub selects : (IsTrue old.is_open → IsReady old) → (IsTrue old.is_open → d.IsOwn old.now) → (r : Result (Vec T Global) Failed) → Selects ShowsItem old new text params r → IfOk r (λ all. AllAdjacentBelow (λ x y. true ≡ is_lt (d.order (item x).0 (item y).0)) all.items (length all.items))
       → IfOk r (λ all. IsUnchanged old new × (map item all.items ≡ map (made d.order p.of) (finite.entries (finite.retain_keys (d.of (contents_of old.now)) test))))
   selects ready own (Err f) got up = tt
   selects ready own (Ok all) got up =
@@ -263,7 +263,7 @@ module _ {K X Y T : Type 0} (d : Description K X) {p : Part d Y} {ShowsItem : Ro
 -- ---- in other words
 
 -- one equation for another
-pub reported_as : {T Y Z : Type 0} (r : Result (Vec T Global) Failure) (P : Type 0) (f : T → Y) (g : T → Z) (a : List Y) (b : List Z) → ((ts : List T) → map f ts ≡ a → map g ts ≡ b) → IfOk r (λ all. P × (map f all.items ≡ a)) → IfOk r (λ all. P × (map g all.items ≡ b))
+pub reported_as : {T Y Z : Type 0} (r : Result (Vec T Global) Failed) (P : Type 0) (f : T → Y) (g : T → Z) (a : List Y) (b : List Z) → ((ts : List T) → map f ts ≡ a → map g ts ≡ b) → IfOk r (λ all. P × (map f all.items ≡ a)) → IfOk r (λ all. P × (map g all.items ≡ b))
 reported_as (Err e) P f g a b leads h = tt
 reported_as (Ok all) P f g a b leads h = (h.0, leads all.items h.1)
 

@@ -23,7 +23,7 @@ use Rattle.tables_sql.specs.Contents.{map_of}
 use Rattle.tables_sql.proofs.Orders.{listed_as}
 use Rattle.tables_sql.proofs.Scans.{IsScan, scan_sound, scan_complete, shows}
 use Rattle.tables_sql.proofs.Writes.{rowids_where}
-use Rattle.tables_sql.proofs.Members.{made_where, made_new, gone_from, spared, left_from, left_has}
+use Rattle.tables_sql.proofs.Members.{made_where, made_new, removed_from, spared, left_from, left_has}
 use Rattle.tables_sql.proofs.Truths.{and_so, not_so}
 
 pub map-map : {A B C : Type 0} (f : B → C) (g : A → B) (xs : List A) → map f (map g xs) ≡ map (λ x. f (g x)) xs
@@ -101,7 +101,7 @@ module _ (tree : ℕ) (terms : List Term) (db : Trees) (params : Row) (rows : Li
       alike x h = go (is_spared (ids_of rows) x) refl (passing x) refl
         where
           go : (b : Bool) → is_spared (ids_of rows) x ≡ b → (c : Bool) → passing x ≡ c → b ≡ not c
-          go true e true f = let was = gone_from tree terms db params rows answer keyed x (left_has (ids_of rows) (db tree) x h (λ id present. not_so _ (test_has (λ i. not (has_rowid i x)) (ids_of rows) id e present))) in absurd (let g = sym f ∙ was.1 in cc)
+          go true e true f = let was = removed_from tree terms db params rows answer keyed x (left_has (ids_of rows) (db tree) x h (λ id present. not_so _ (test_has (λ i. not (has_rowid i x)) (ids_of rows) id e present))) in absurd (let g = sym f ∙ was.1 in cc)
           go true e false f = refl
           go false e true f = refl
           go false e false f =

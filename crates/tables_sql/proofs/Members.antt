@@ -70,8 +70,8 @@ module _ (tree : ℕ) (terms : List Term) (db : Trees) (params : Row) (rows : Li
   scan : IsScan (rowids_where tree terms) tree
   scan = record { from = refl; group = refl; distinct = refl; whole = λ params rows. refl }
 
-  pub gone_from : (x : Row) → Has (without_all (db tree) (ids_of rows)) x → Has (db tree) x × (passes x ≡ false)
-  gone_from x h =
+  pub removed_from : (x : Row) → Has (without_all (db tree) (ids_of rows)) x → Has (db tree) x × (passes x ≡ false)
+  removed_from x h =
       let was = left_from (ids_of rows) (db tree) x h in
       (was.0, go (passes x) refl was.0 was.1)
     where

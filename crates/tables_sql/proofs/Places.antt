@@ -102,8 +102,8 @@ module _ (a : Table) (old new : State) (rows : List Row) (exists : IsIntact old.
           go false is later = later
 
   -- and so has each of theirs
-  pub theirs_kept : is_our_name a.name ≡ true → KeepsForeignRows old.now new.now
-  theirs_kept = kept old.now.schema a exists (λ t. new.now.trees t.tree ≡ old.now.trees t.tree) old.now.schema.tables exists.idle sets.others
+  pub foreign_kept : is_our_name a.name ≡ true → KeepsForeignRows old.now new.now
+  foreign_kept = kept old.now.schema a exists (λ t. new.now.trees t.tree ≡ old.now.trees t.tree) old.now.schema.tables exists.idle sets.others
 
   -- what holds of the columns and the rows of each table of the store holds after the write, where the write keeps it of its own
   after : (P : List Column → List Row → Type 0) → (P a.columns (rows_named old.now a.name) → P a.columns rows) → (ts : List Table) → AllByRecursion (IsIntact old.now.schema) ts → AllByRecursion (λ t. P t.columns (rows_named old.now t.name)) ts → AllByRecursion (λ t. P t.columns (rows_named new.now t.name)) ts
@@ -117,9 +117,9 @@ module _ (a : Table) (old new : State) (rows : List Row) (exists : IsIntact old.
           subst₂ P (sym same) (sym (ap (rows_named new.now) is ∙ own_rows)) (keeps (subst₂ P same (ap (rows_named old.now) is) held.0))
       go false e = subst (P t.columns) (sym (others_kept t has.0 e)) held.0
 
-  pub ours_kept : IsStoreDatabase old.now → (IsKeyed (rows_named old.now a.name) → IsKeyed rows) → (AreReadableRows a (rows_named old.now a.name) → AreReadableRows a rows) → IsStoreDatabase new.now
+  pub store_kept : IsStoreDatabase old.now → (IsKeyed (rows_named old.now a.name) → IsKeyed rows) → (AreReadableRows a (rows_named old.now a.name) → AreReadableRows a rows) → IsStoreDatabase new.now
   unfolding HasReadableRows
-  ours_kept of_store keyed readable = record {
+  store_kept of_store keyed readable = record {
     sound = sets.sound;
     has = subst HasTables (sym sets.schema) of_store.has;
     keyed = after (λ columns rs. IsKeyed rs) keyed store_tables of_store.has of_store.keyed;
@@ -142,9 +142,9 @@ module _ (a : Table) (old new : State) (rows : List Row) (exists : IsIntact old.
     is_open = sets.is_open;
     schema = sets.schema;
     contents = contents;
-    foreign_rows = theirs_kept named;
+    foreign_rows = foreign_kept named;
     unshown = sets.unshown;
-    of_store = ours_kept of_store keyed readable;
+    of_store = store_kept of_store keyed readable;
     further = (further_kept keyed readable piece, (further_kept keyed readable temp_root, tt));
     committed = sets.committed;
     mode = sets.mode;

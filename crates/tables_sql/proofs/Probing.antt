@@ -18,7 +18,7 @@ use Rattle.sqlite.specs.declared.error.Error.TheVariants.{SqliteFailure}
 use Rattle.sqlite.specs.declared.error.ErrorCode.TheVariants.{OperationInterrupted}
 use Rattle.sqlite.specs.Listing.{understood}
 use Rattle.sqlite.specs.State.{State, store_error, Fails, IsUnchanged, Shown, FailsToQuery, IsTooLate}
-use Rattle.tables_sql.specs.declared.failure.Failure.{Failure}
+use Rattle.tables_sql.specs.declared.failure.Failed.{Failed}
 use Rattle.tables_sql.specs.Failures.{failure_of, FailsWith, IsQueryFailure, FailsToTest}
 use Rattle.tables_sql.specs.Queries.{IsSelect}
 use Rattle.tables_sql.proofs.Means.{IsMeant, means_command}
@@ -58,7 +58,7 @@ pub reads : IsSelect text
 unfolding everything
 reads = (_, _, _, _, _, refl)
 
-pub ask_fails : (old new : State) → (f : Failure) → IsQueryFailure text [] old new f → FailsToTest old new ⊥ f
+pub ask_fails : (old new : State) → (f : Failed) → IsQueryFailure text [] old new f → FailsToTest old new ⊥ f
 ask_fails old new = test_fails old new text ⊥ (query_fails old new text [] (codes "1" ∷ []) query (λ same. is old.now.schema) reads (λ same. typed old.now.schema) sums_nothing)
 
 -- the store failed, or a limit on steps stopped it
@@ -74,7 +74,7 @@ pub ask_stopped : (old new : State) (e : Error) → e ≡ SqliteFailure Operatio
 ask_stopped old new e stopped h = elim (ask_stops old new e h) [ inl failed ↦ absurd (store_names failed.0 (sym failed.1 ∙ stopped)) | inr it ↦ it.2 ]
 
 -- else the store failed
-pub ask_failed : (old new : State) (e : Error) (f : Failure) → (f ≡ failure_of e) × (e ≢ SqliteFailure OperationInterrupted) → FailsToQuery text [] old new e ⊎ IsTooLate text [] old new e → FailsWith old new ⊥ ⊥ f
+pub ask_failed : (old new : State) (e : Error) (f : Failed) → (f ≡ failure_of e) × (e ≢ SqliteFailure OperationInterrupted) → FailsToQuery text [] old new e ⊎ IsTooLate text [] old new e → FailsWith old new ⊥ ⊥ f
 ask_failed old new e f is h = elim (ask_stops old new e h) [ inl failed ↦ subst (FailsWith old new ⊥ ⊥) (sym is.0) (store_failed old new ⊥ ⊥ ⊥ (λ no. no) e failed) | inr it ↦ absurd (is.1 it.0) ]
 
 -- where it is answered, nothing changed

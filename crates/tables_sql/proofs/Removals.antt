@@ -23,7 +23,7 @@ use Rattle.sqlite_rules.specs.Calls.{ids_of}
 use Rattle.sqlite_rules.proofs.ListLemmas.{any_has, all_has}
 use Rattle.sqlite_rules.proofs.TableLemmas.{without_all_has}
 use Rattle.sqlite.specs.declared.error.Error.{Error}
-use Rattle.tables_sql.specs.declared.failure.Failure.TheVariants.{Disk}
+use Rattle.tables_sql.specs.declared.failure.Failed.TheVariants.{Disk}
 use Rattle.sqlite.specs.Effect.{Database, IsDatabase, RefusesQuery}
 use Rattle.sqlite.specs.Does.{Does, OnRows}
 use Rattle.sqlite.specs.Rows.{Edited, Deletes, Written, Task}
@@ -105,17 +105,17 @@ module _ (name : List ℕ) (columns : List Column) (key : List ℕ) (tree at : �
           go (inl (other, h, is)) = stops_at (MayStop ⊥ (IsSome limit)) stop other is (removes other h)
           go (inr (w, h, ended)) = absurd (concluded db.schema limit own params w (left w h) stop ended)
 
-module _ (name : List ℕ) (columns : List Column) (key : List ℕ) (old new : State) (under : IsUnderWay old) (standing : IsTrue old.is_open → IsIntact old.now.schema (strict name columns key)) where
+module _ (name : List ℕ) (columns : List Column) (key : List ℕ) (old new : State) (under : IsUnderWay old) (existing : IsTrue old.is_open → IsIntact old.now.schema (strict name columns key)) where
   -- a DELETE fails for the store or the limit on steps, and a size is no cause of it
   pub delete_fails : (text : List ℕ) (count : ℕ) (params : Row) (filter : List Term) → length params ≡ count
       → Compiles name columns key text count (λ at tree. Delete at (record { lets = []; body = rowids_where tree filter }))
       → ((s : Schema) (at tree : ℕ) → IsKnown s name at (record (strict name columns key) { tree = tree }) → accepts_program s [] (rowids_where tree filter) params ≡ true)
       → (e : Error) → ExecutesInside 0 text params old new (Err e) → FailsWith old new (old.is_open ≡ false) (IsSome old.step_limit) (failure_of e)
   delete_fails text count params filter given is accepts e h =
-      fails_wider old new (OrShut old ⊥) (old.is_open ≡ false) (IsSome old.step_limit) (IsSome old.step_limit) shut_alone (λ l. l) (failure_of e)
-      (our_write_fails name columns key old new standing text count params _ (λ at tree. refl) given is ⊥ (IsSome old.step_limit)
+      fails_wider old new (OrShut old ⊥) (old.is_open ≡ false) (IsSome old.step_limit) (IsSome old.step_limit) shut_only (λ l. l) (failure_of e)
+      (our_write_fails name columns key old new existing text count params _ (λ at tree. refl) given is ⊥ (IsSome old.step_limit)
       (λ up exists. let tree = tree_named old.now.schema name in delete_stops name columns key tree exists.at filter old.now (under.of_store up).sound exists.known.named exists.unreferred old.step_limit params (accepts old.now.schema exists.at tree exists.known)) e h)
     where
-      shut_alone : OrShut old ⊥ → old.is_open ≡ false
-      shut_alone (inl none) = absurd none
-      shut_alone (inr shut) = shut
+      shut_only : OrShut old ⊥ → old.is_open ≡ false
+      shut_only (inl none) = absurd none
+      shut_only (inr shut) = shut

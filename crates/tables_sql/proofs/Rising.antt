@@ -24,8 +24,8 @@ use Rattle.std.proofs.Math.ListN.{get_or-append}
 use Rattle.sqlite_rules.proofs.ProbeLemmas.{has_mapped, mapped_has}
 use Rattle.sqlite.specs.declared.error.Error.{Error}
 use Rattle.sqlite.specs.State.{State, FailsToQuery}
-use Rattle.tables_sql.specs.declared.failure.Failure.{Failure}
-use Rattle.tables_sql.specs.declared.failure.Failure.TheVariants.{Memory, Disk}
+use Rattle.tables_sql.specs.declared.failure.Failed.{Failed}
+use Rattle.tables_sql.specs.declared.failure.Failed.TheVariants.{Memory, Disk}
 use Rattle.tables_schema.specs.Forms.{strict}
 use Rattle.tables_schema.specs.Intact.{IsIntact, HasTables, tree_named}
 use Rattle.tables_sql.specs.Contents.{rows_named}
@@ -104,11 +104,11 @@ module _ {X E : Type 0} (c : X → X → Ordering) (test : Row → Bool) (env : 
           let other : tie (rowid r) (rowid s) ≡ false = all_has (λ v. tie (rowid r) v ≡ false) (map rowid rows) (rowid s) distinct_rowids (mapped_has rowid rows s present) in
           absurd (let no = sym (ap is_eq (tied_itself value_cmp_total (rowid r))) ∙ ap (λ x. tie (rowid r) (rowid x)) same ∙ other in cc)
 
-  pub passed_apart : (rows : List Row) → AreDistinct rows → ((a b : Row) → Has rows a → Has rows b → c (out (env a)) (out (env b)) ≡ Equal → a ≡ b) → IsDistinct (eq_by_cmp c) (passed rows)
+  pub passed_differ : (rows : List Row) → AreDistinct rows → ((a b : Row) → Has rows a → Has rows b → c (out (env a)) (out (env b)) ≡ Equal → a ≡ b) → IsDistinct (eq_by_cmp c) (passed rows)
   unfolding IsDistinct
-  passed_apart [] distinct_rowids once = tt
-  passed_apart (r ∷ rows) distinct_rowids once =
-      go (test r) (others r rows (not_tied r rows distinct_rowids.0 (λ s present. once r s (inl refl) (inr present)))) (passed_apart rows distinct_rowids.1 (λ a b here present. once a b (inr here) (inr present)))
+  passed_differ [] distinct_rowids once = tt
+  passed_differ (r ∷ rows) distinct_rowids once =
+      go (test r) (others r rows (not_tied r rows distinct_rowids.0 (λ s present. once r s (inl refl) (inr present)))) (passed_differ rows distinct_rowids.1 (λ a b here present. once a b (inr here) (inr present)))
     where
       go : (b : Bool) → AllByRecursion (λ x. eq_by_cmp c (out (env r)) x ≡ false) (passed rows) → IsDistinct (eq_by_cmp c) (passed rows)
           → IsDistinct (eq_by_cmp c) (map out (cond b (env r ∷ []) [] ++ flat_map (λ r. cond (test r) (env r ∷ []) []) rows))
@@ -137,7 +137,7 @@ module _ (q : Query) (tree : ℕ) (scan : IsScan q tree) (db : Trees) (params : 
   -- and rises
   ordered_rises : AreDistinct (db tree) → ((a b : Row) → Has (db tree) a → Has (db tree) b → output_cmp q (made a) (made b) ≡ Equal → a ≡ b) → AllAdjacentBelow (λ x y. output_cmp q x y ≡ Less) answer.ordered (length answer.ordered)
   ordered_rises distinct_rowids once =
-      let each : IsDistinct (eq_by_cmp (output_cmp q)) answer.kept = subst (IsDistinct (eq_by_cmp (output_cmp q))) (sym (kept q tree scan db params (rows ++ tail) answer)) (passed_apart (output_cmp q) test env (output q) (db tree) distinct_rowids once) in
+      let each : IsDistinct (eq_by_cmp (output_cmp q)) answer.kept = subst (IsDistinct (eq_by_cmp (output_cmp q))) (sym (kept q tree scan db params (rows ++ tail) answer)) (passed_differ (output_cmp q) test env (output q) (db tree) distinct_rowids once) in
       rising (output_cmp_total q) answer.ordered answer.sorted (IsDistinct-IsPermutation (eq_by_cmp (output_cmp q)) (λ x y. (eq_by_cmp_equiv (output_cmp_total q)).symm x y) answer.kept answer.ordered answer.same each)
 
   module _ {K : Type 0} {R : K → K → Ordering} (same : finite.IsAntisymmetric R) (kind : Row → Bool) (key : Row → K) (width : ℕ) (own : AreKept kind key width (db tree))
@@ -204,7 +204,7 @@ module _ (name : List ℕ) (columns : List Column) (primary : List ℕ) {K : Typ
 
 -- ---- so a read fails only for want of memory, once its query was answered
 
-pub select_fails : {T : Type 0} (r : Result T Failure) (old new : State) (text : List ℕ) (params : Row) (Amiss : List Row → Type 0)
+pub select_fails : {T : Type 0} (r : Result T Failed) (old new : State) (text : List ℕ) (params : Row) (Amiss : List Row → Type 0)
     → ((e : Error) → FailsToQuery text params old new e → FailsWith old new ⊥ (IsSome old.step_limit) (failure_of e)) → ((rows : List Row) → HasBegunWith text params old new rows → ¬ Amiss rows)
     → IfErr r (λ f. IsQueryFailure text params old new f ⊎ ((rows : List Row) × HasBegunWith text params old new rows × ((f ≡ Memory) ⊎ ((f ≡ Disk) × Amiss rows)))) → IfErr r (FailsFor old new)
 select_fails (Ok x) old new text params A why well h = tt

@@ -22,7 +22,7 @@ use Rattle.sqlite_schema.specs.declared.command.Command.TheVariants.{Select}
 use Rattle.tables_sql.specs.Queries.{IsSelect, HasBegunWith, IsAnswered}
 use Rattle.tables_sql.specs.Calls.{KeepsShown}
 use Rattle.tables_sql.specs.Failures.{IsQueryFailure}
-use Rattle.tables_sql.specs.declared.failure.Failure.{Failure}
+use Rattle.tables_sql.specs.declared.failure.Failed.{Failed}
 use Rattle.tables_sql.proofs.Means.{IsMeant}
 use Rattle.tables_sql.proofs.ReadFailures.{understood_read, one}
 
@@ -103,7 +103,7 @@ failed_before text params reads old new settled e (inl (inl h)) = unchanged_befo
 failed_before text params reads old new settled e (inl (inr h)) = undone_before old new settled h.3
 failed_before text params reads old new settled e (inr (c, it, h)) = unchanged_before old new (subst (FailsToShow old new text c (timed params c.formats it.now) e) (silent text reads old c it.is) h).3
 
-pub answered_before : {T : Type 0} (r : Result T Failure) (text : List ℕ) (params : Row) → IsSelect text → (old new : State) → (IsTrue old.is_open → old.now ≡ old.committed) → (Of : List Row → T → Type 0) (Why : List Row → Failure → Type 0)
+pub answered_before : {T : Type 0} (r : Result T Failed) (text : List ℕ) (params : Row) → IsSelect text → (old new : State) → (IsTrue old.is_open → old.now ≡ old.committed) → (Of : List Row → T → Type 0) (Why : List Row → Failed → Type 0)
     → IfOk r (λ it. (rows : List Row) × IsAnswered text params old new rows × Of rows it) → IfErr r (λ f. IsQueryFailure text params old new f ⊎ ((rows : List Row) × HasBegunWith text params old new rows × Why rows f)) → KeepsShown old new
 answered_before (Ok x) text params reads old new settled Of Why h k = unchanged_before old new h.1.1.1
 answered_before (Err f) text params reads old new settled Of Why h (inl k) = failed_before text params reads old new settled k.0 k.2

@@ -11,8 +11,8 @@ use Rattle.sqlite.specs.Clock.{timed}
 use Rattle.sqlite.specs.State.{State, HasCleanDisk, Survives, IsUnchanged, IsRolledBack, Fails, IsNotRun, ExecutesIn, ExecutesInside, RunsCommand, shows_rows}
 use Rattle.sqlite.proofs.Callers.{unchanged_then}
 use Rattle.sqlite.proofs.StreamLemmas.{rolled_back_since}
-use Rattle.tables_sql.specs.declared.failure.Failure.{Failure}
-use Rattle.tables_sql.specs.declared.failure.Failure.TheVariants.{Memory, Size, Disk}
+use Rattle.tables_sql.specs.declared.failure.Failed.{Failed}
+use Rattle.tables_sql.specs.declared.failure.Failed.TheVariants.{Memory, Size, Disk}
 use Rattle.tables_sql.specs.Failures.{failure_of, FailsWith, HasDiskCause, IsWriteFailure, IsAdditionFailure}
 use Rattle.tables_sql.proofs.WriteFailures.{OrShut, fails_wider}
 
@@ -49,7 +49,7 @@ module _ (a b c : State) where
       go true is = elim (before.closes clean is) [ inl up ↦ absurd (both_ways _ shut up) | inr more ↦ inl (omega (arith, more, later.counts)) ]
 
   -- a failure of the store in the later call is one of both
-  pub fails_later : IsUnchanged a b ⊎ IsRolledBack a b → Survives a b (λ _. ⊥) → Survives b c (λ _. ⊥) → HasCleanDisk b → (f : Failure) → FailsWith b c ⊥ ⊥ f → FailsWith a c ⊥ ⊥ f
+  pub fails_later : IsUnchanged a b ⊎ IsRolledBack a b → Survives a b (λ _. ⊥) → Survives b c (λ _. ⊥) → HasCleanDisk b → (f : Failed) → FailsWith b c ⊥ ⊥ f → FailsWith a c ⊥ ⊥ f
   fails_later first before later clean Memory (inl h) = inl (undone_after before.counts first h)
   fails_later (inl first) before later clean Memory (inr h) = inr (unchanged_then a b c first h)
   fails_later (inr first) before later clean Memory (inr h) = inl (undone_then first h)
@@ -89,27 +89,27 @@ module _ (a b c : State) where
   write_left text params e (inr h) = inl h.2
 
   -- it was answered, so the size stands
-  pub size_stands : (text : List ℕ) (params : Row) → IsWriteFailure text params a b Size → IsUnchanged b c → IsAdditionFailure text params a c Size
-  size_stands text params h same = inl ((h.0, h.1, write_still text params h.0 (sym h.1) same h.2), λ _. was_open (write_left text params h.0 h.2))
+  pub size_exists : (text : List ℕ) (params : Row) → IsWriteFailure text params a b Size → IsUnchanged b c → IsAdditionFailure text params a c Size
+  size_exists text params h same = inl ((h.0, h.1, write_still text params h.0 (sym h.1) same h.2), λ _. was_open (write_left text params h.0 h.2))
     where
       was_open : IsUnchanged a b ⊎ IsRolledBack a b → IsTrue a.is_open
       was_open (inl before) = before.0.was_open
       was_open (inr back) = back.was_open same.0.was_open
 
   -- it failed
-  pub size_dropped : (text : List ℕ) (params : Row) → IsWriteFailure text params a b Size → Survives a b (λ _. ⊥) → Survives b c (λ _. ⊥) → HasCleanDisk c → (f : Failure) → FailsWith b c ⊥ ⊥ f → IsAdditionFailure text params a c f
+  pub size_dropped : (text : List ℕ) (params : Row) → IsWriteFailure text params a b Size → Survives a b (λ _. ⊥) → Survives b c (λ _. ⊥) → HasCleanDisk c → (f : Failed) → FailsWith b c ⊥ ⊥ f → IsAdditionFailure text params a c f
   size_dropped text params h before later clean f failed = inr (fails_later (write_left text params h.0 h.2) before later (omega (arith, later.clean, clean)) f failed)
 
 -- ---- what the calls answer
 
-open_size : (old new : State) (large refused : Type 0) (f : Failure) → (f ≡ Size → IsTrue old.is_open) → FailsWith old new (OrShut old large) refused f → FailsWith old new (large × IsTrue old.is_open) refused f
+open_size : (old new : State) (large refused : Type 0) (f : Failed) → (f ≡ Size → IsTrue old.is_open) → FailsWith old new (OrShut old large) refused f → FailsWith old new (large × IsTrue old.is_open) refused f
 open_size old new large refused Memory up h = h
 open_size old new large refused Size up (inl big, back) = ((big, up refl), back)
 open_size old new large refused Size up (inr shut, back) = absurd (both_ways _ shut (up refl))
 open_size old new large refused Disk up h = h
 
 -- an insert that failed
-pub addition_failed : {T : Type 0} (r : Result T Failure) (old new : State) (text : List ℕ) (params : Row) (large refused : Type 0) → IfErr r (IsAdditionFailure text params old new)
+pub addition_failed : {T : Type 0} (r : Result T Failed) (old new : State) (text : List ℕ) (params : Row) (large refused : Type 0) → IfErr r (IsAdditionFailure text params old new)
     → ((e : Error) → ExecutesInside 0 text params old new (Err e) → FailsWith old new (OrShut old large) refused (failure_of e)) → IfErr r (FailsWith old new (large × IsTrue old.is_open) refused)
 addition_failed (Ok x) old new text params large refused h fails = tt
 addition_failed (Err f) old new text params large refused (inl (h, up)) fails = open_size old new large refused f up (subst (FailsWith old new (OrShut old large) refused) (sym h.1) (fails h.0 h.2))

@@ -18,7 +18,7 @@ use Rattle.sqlite_rules.specs.Edit.{without_all}
 use Rattle.sqlite_rules.specs.Calls.{ids_of}
 use Rattle.sqlite.specs.State.{State, Shown, ExecutesInside, IsUnchanged}
 use Rattle.sqlite.proofs.Callers.{reads_as}
-use Rattle.tables_sql.specs.declared.failure.Failure.{Failure}
+use Rattle.tables_sql.specs.declared.failure.Failed.{Failed}
 use Rattle.tables_schema.specs.Forms.{strict}
 use Rattle.tables_schema.specs.Intact.{IsKnown, IsIntact, HasTables, tree_named}
 use Rattle.tables_sql.specs.Contents.{map_of, rows_named}
@@ -45,7 +45,7 @@ answer_of name columns key old new text params query is exists rows shown =
     (reads_as text params old new old.now.schema refl _ m.0 m.1 m.2 rows shown).answer Null
 
 -- the entries that were read, with the rows that show them
-abbrev pub Selects : {T : Type 0} → (Row → T → Type 0) → State → State → List ℕ → Row → Result (Vec T Global) Failure → Type 0
+abbrev pub Selects : {T : Type 0} → (Row → T → Type 0) → State → State → List ℕ → Row → Result (Vec T Global) Failed → Type 0
 Selects ShowsItem old new text params r = IfOk r (λ all. (rows : List Row) × IsAnswered text params old new rows × AllZip ShowsItem rows all.items)
 
 module _ (name : List ℕ) (columns : List Column) (key : List ℕ) {K X : Type 0} {R : K → K → Ordering} (o : IsTotalOrder R) (same : finite.IsAntisymmetric R) (kind : Row → Bool) (entry : Row → K × X) (old new : State)
@@ -70,7 +70,7 @@ module _ (name : List ℕ) (columns : List Column) (key : List ℕ) {K X : Type 
         (same_all, part ∙ ap (λ rs. finite.entries (finite.retain_keys (map_of R kind entry rs) test)) same_rows)
 
     -- the entries of a part of the keys, in order, and nothing changes
-    pub reads_part : (r : Result (Vec T Global) Failure) → Selects ShowsItem old new text params r → IfOk r (λ all. AllAdjacentBelow (λ x y. true ≡ is_lt (R (item x).0 (item y).0)) all.items (length all.items))
+    pub reads_part : (r : Result (Vec T Global) Failed) → Selects ShowsItem old new text params r → IfOk r (λ all. AllAdjacentBelow (λ x y. true ≡ is_lt (R (item x).0 (item y).0)) all.items (length all.items))
         → IfOk r (λ all. IsUnchanged old new × (map item all.items ≡ finite.entries (finite.retain_keys rows_are test)))
     reads_part (Err e) selects up = tt
     reads_part (Ok all) selects up = listed all.items selects.0 selects.1 selects.2 up

@@ -15,8 +15,8 @@ use Rattle.sqlite.specs.Clock.{timed}
 use Rattle.sqlite.specs.Does.{Does}
 use Rattle.sqlite.specs.Listing.{understood}
 use Rattle.sqlite.specs.State.{State, IsUnchanged, IsNotRun, IsNoStatement, IsMisplaced, IsStatement, ExecutesIn, ExecutesInside, RunsCommand, EndsScope, Escapes, is_pragma, shows_rows, mode_of, text_of}
-use Rattle.tables_sql.specs.declared.failure.Failure.{Failure}
-use Rattle.tables_sql.specs.declared.failure.Failure.TheVariants.{Memory, Size, Disk}
+use Rattle.tables_sql.specs.declared.failure.Failed.{Failed}
+use Rattle.tables_sql.specs.declared.failure.Failed.TheVariants.{Memory, Size, Disk}
 use Rattle.tables_schema.specs.Forms.{strict}
 use Rattle.tables_schema.specs.Intact.{IsIntact, tree_named}
 use Rattle.tables_sql.specs.Failures.{failure_of, FailsWith, IsWriteFailure, without_size}
@@ -140,25 +140,25 @@ pub our_write_fails : (name : List ℕ) (columns : List Column) (key : List ℕ)
     → (large refused : Type 0)
     → (IsTrue old.is_open → (exists : IsIntact old.now.schema (strict name columns key)) (st : List ℕ) (stop : Option Error) → Does old.step_limit (mode_of old) params old.now st None (command exists.at (tree_named old.now.schema name)) (Err stop) → MayStop large refused stop)
     → (e : Error) → ExecutesInside 0 text params old new (Err e) → FailsWith old new (OrShut old large) refused (failure_of e)
-our_write_fails name columns key old new standing text count params command writes given is large refused stops e h = go old.is_open refl
+our_write_fails name columns key old new existing text count params command writes given is large refused stops e h = go old.is_open refl
   where
     go : (b : Bool) → old.is_open ≡ b → FailsWith old new (OrShut old large) refused (failure_of e)
     go false shut = write_fails old new text params (command 0 0) (writes 0 0) large refused (λ up. absurd (both_ways _ shut up)) (λ up st its stop does. absurd (both_ways _ shut up)) e h
     go true up =
-        let exists = standing up in
+        let exists = existing up in
         let tree = tree_named old.now.schema name in
         let c = is old.now.schema exists.at tree exists.known in
         write_fails old new text params (command exists.at tree) (writes exists.at tree) large refused (λ _. is_write old text params (command exists.at tree) given c) (λ _ st its. stops up exists st) e h
 
 -- where more may be said of a failure, what was said still holds
-pub fails_wider : (old new : State) (large wider refused more : Type 0) → (large → wider) → (refused → more) → (f : Failure) → FailsWith old new large refused f → FailsWith old new wider more f
+pub fails_wider : (old new : State) (large wider refused more : Type 0) → (large → wider) → (refused → more) → (f : Failed) → FailsWith old new large refused f → FailsWith old new wider more f
 fails_wider old new large wider refused more one two Memory h = h
 fails_wider old new large wider refused more one two Size h = (one h.0, h.1)
 fails_wider old new large wider refused more one two Disk (inl h) = inl h
 fails_wider old new large wider refused more one two Disk (inr h) = inr (two h.0, h.1)
 
 -- a size that only a shut connection can tell may be told as the disk
-pub fails_unsized : (old new : State) (refused : Type 0) (f : Failure) → FailsWith old new (old.is_open ≡ false) refused f → FailsWith old new ⊥ refused (without_size f)
+pub fails_unsized : (old new : State) (refused : Type 0) (f : Failed) → FailsWith old new (old.is_open ≡ false) refused f → FailsWith old new ⊥ refused (without_size f)
 fails_unsized old new refused Memory h = h
 fails_unsized old new refused Size h = inl (inr h.0, h.1)
 fails_unsized old new refused Disk h = h
@@ -166,7 +166,7 @@ fails_unsized old new refused Disk h = h
 -- ---- what the calls answer
 
 -- a delete that failed
-pub removal_failed : {T : Type 0} (r : Result T Failure) (old new : State) (text : List ℕ) (params : Row) → IfErr r (λ f. (g : Failure) × (f ≡ without_size g) × IsWriteFailure text params old new g)
+pub removal_failed : {T : Type 0} (r : Result T Failed) (old new : State) (text : List ℕ) (params : Row) → IfErr r (λ f. (g : Failed) × (f ≡ without_size g) × IsWriteFailure text params old new g)
     → ((e : Error) → ExecutesInside 0 text params old new (Err e) → FailsWith old new (old.is_open ≡ false) (IsSome old.step_limit) (failure_of e)) → IfErr r (FailsWith old new ⊥ (IsSome old.step_limit))
 removal_failed (Ok x) old new text params h fails = tt
 removal_failed (Err f) old new text params h fails =

@@ -143,7 +143,7 @@ ShowsTempRoot row e =
 
 -- ---- which rows of an answer can be read as an entry: its columns are counted from 0, and none is the rowid
 
--- such a text, or NULL
+-- a text that can be read, or NULL
 abbrev pub IsLegibleIfAny : Value → Type 0
 IsLegibleIfAny v = (v ≡ Null) ⊎ IsLegible v
 

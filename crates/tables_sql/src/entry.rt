@@ -3,10 +3,10 @@
 ghost use Rattle.std.specs.Prelude.{◌≡◌, ◌≢◌, ◌⊎◌, ◌↔◌, IfOk, IfErr, IsTrue, List, Bool, true, length};
 ghost use Rattle.std.specs.List.{AllByRecursion, AllZip, AllAdjacentBelow};
 ghost use Rattle.sqlite_value.specs.declared.value.Value.{Value};
-ghost use Rattle.tables_sql.specs.declared.failure.Failure.TheVariants.{Memory, Disk};
+ghost use Rattle.tables_sql.specs.declared.failure.Failed.TheVariants.{Memory, Disk};
 ghost use Rattle.tables_sql.specs.Reading.{IsAmiss};
 
-use crate::failure::Failure;
+use crate::failure::Failed;
 use crate::reading::Sink;
 use sqlite::Row;
 
@@ -21,7 +21,7 @@ pub trait Entry: Sized + Drop {
     // Whether its key is below the other's.
     ghost is_below: { Self → Self → Bool };
 
-    fn read(row: &Row) -> Result<Self, Failure>
+    fn read(row: &Row) -> Result<Self, Failed>
         ensures shown { IfOk result (is_shown row.now) }
         ensures illegible { IfErr result (λ f. f ≢ Memory → ¬ is_legible row.now) };
 
@@ -42,7 +42,7 @@ impl Entry for String {
 
     ghost is_below = { λ a b. is_lt (texts_cmp (string_bytes a) (string_bytes b)) };
 
-    fn read(row: &Row) -> Result<String, Failure> {
+    fn read(row: &Row) -> Result<String, Failed> {
         Ok(row.get(0)?)
     }
 
@@ -52,14 +52,14 @@ impl Entry for String {
 }
 
 /// A row that isn't as its table has them is `Disk`.
-fn read<T: Entry>(row: &Row) -> Result<T, Failure>
+fn read<T: Entry>(row: &Row) -> Result<T, Failed>
     ensures shown { IfOk result (T.is_shown row.now) }
     ensures illegible { IfErr result (λ f. (f ≡ Memory) ⊎ ((f ≡ Disk) × (¬ T.is_legible row.now))) }
 {
     match T::read(row) {
         Ok(entry) => Ok(entry),
-        Err(Failure::Memory) => Err(Failure::Memory),
-        Err(_) => Err(Failure::Disk),
+        Err(Failed::Memory) => Err(Failed::Memory),
+        Err(_) => Err(Failed::Disk),
     }
 }
 
@@ -69,11 +69,11 @@ impl<T: Entry> Sink for Vec<T> {
 
     ghost is_amiss = { IsAmiss T.is_legible T.is_shown T.is_below };
 
-    fn take(&mut self, row: &Row) -> Result<(), Failure> {
+    fn take(&mut self, row: &Row) -> Result<(), Failed> {
         let entry: T = read(row)?;
         if let Some(last) = self.last() {
             if !last.is_below(&entry) {
-                return Err(Failure::Disk);
+                return Err(Failed::Disk);
             }
         }
         self.push(entry)?;

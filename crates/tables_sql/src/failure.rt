@@ -6,7 +6,7 @@ use std::alloc::{AllocError, AllocFailed};
 /// Why a call failed. It has committed nothing, but that what a commit was writing when the disk failed may be there when the
 /// database is opened again.
 #[derive(Clone, Copy, Debug, PartialEq, Eq)]
-pub enum Failure {
+pub enum Failed {
     /// Memory ran out.
     Memory,
     /// A row would be larger than a database can hold.
@@ -17,39 +17,39 @@ pub enum Failure {
     Disk,
 }
 
-impl From<AllocError> for Failure {
+impl From<AllocError> for Failed {
     ghost use Rattle.std.specs.Prelude.{◌≡◌};
-    ghost use Rattle.tables_sql.specs.declared.failure.Failure.TheVariants.{Memory};
+    ghost use Rattle.tables_sql.specs.declared.failure.Failed.TheVariants.{Memory};
 
     ghost from_gives = { λ _ f. f ≡ Memory };
 
-    fn from(_: AllocError) -> Failure {
-        Failure::Memory
+    fn from(_: AllocError) -> Failed {
+        Failed::Memory
     }
 }
 
-impl<T: Drop> From<AllocFailed<T>> for Failure {
+impl<T: Drop> From<AllocFailed<T>> for Failed {
     ghost use Rattle.std.specs.Prelude.{◌≡◌};
-    ghost use Rattle.tables_sql.specs.declared.failure.Failure.TheVariants.{Memory};
+    ghost use Rattle.tables_sql.specs.declared.failure.Failed.TheVariants.{Memory};
 
     ghost from_gives = { λ _ f. f ≡ Memory };
 
-    fn from(_: AllocFailed<T>) -> Failure {
-        Failure::Memory
+    fn from(_: AllocFailed<T>) -> Failed {
+        Failed::Memory
     }
 }
 
-impl From<Error> for Failure {
+impl From<Error> for Failed {
     ghost use Rattle.std.specs.Prelude.{◌≡◌};
     ghost use Rattle.tables_sql.specs.Failures.{failure_of};
 
     ghost from_gives = { λ e f. f ≡ failure_of e };
 
-    fn from(error: Error) -> Failure {
+    fn from(error: Error) -> Failed {
         match error {
-            Error::SqliteFailure(ErrorCode::OutOfMemory) => Failure::Memory,
-            Error::SqliteFailure(ErrorCode::TooBig) => Failure::Size,
-            _ => Failure::Disk,
+            Error::SqliteFailure(ErrorCode::OutOfMemory) => Failed::Memory,
+            Error::SqliteFailure(ErrorCode::TooBig) => Failed::Size,
+            _ => Failed::Disk,
         }
     }
 }

@@ -7,7 +7,7 @@ ghost use Rattle.tables_sql.specs.Contents.{triple_cmp};
 ghost use Rattle.tables_sql.specs.Entries.{generation_in, ShowsGeneration, IsGenerationRow};
 
 use crate::entry::Entry;
-use crate::failure::Failure;
+use crate::failure::Failed;
 use sqlite::Row;
 use std::cmp::Ordering;
 
@@ -27,7 +27,7 @@ impl Entry for Generation {
 
     ghost is_below = { λ a b. is_lt (triple_cmp (generation_in a).0 (generation_in b).0) };
 
-    fn read(row: &Row) -> Result<Generation, Failure> {
+    fn read(row: &Row) -> Result<Generation, Failed> {
         Ok(Generation {
             owner: row.get(0)?,
             name: row.get(1)?,

@@ -5,7 +5,7 @@ ghost use Rattle.tables_sql.specs.Contents.{texts_cmp};
 ghost use Rattle.tables_sql.specs.Entries.{setting_of, ShowsSetting, IsPairRow};
 
 use crate::entry::Entry;
-use crate::failure::Failure;
+use crate::failure::Failed;
 use sqlite::Row;
 
 /// One setting: a word, and its value.
@@ -22,7 +22,7 @@ impl Entry for Setting {
 
     ghost is_below = { λ a b. is_lt (texts_cmp (setting_of a).0 (setting_of b).0) };
 
-    fn read(row: &Row) -> Result<Setting, Failure> {
+    fn read(row: &Row) -> Result<Setting, Failed> {
         Ok(Setting {
             word: row.get(0)?,
             value: row.get(1)?,

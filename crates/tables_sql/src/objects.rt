@@ -6,7 +6,7 @@ ghost use Rattle.tables_sql.specs.Contents.{texts_cmp};
 ghost use Rattle.tables_sql.specs.Entries.{stored_of, ShowsObject, listed_of, ShowsListed, IsObjectRow, IsListedRow};
 
 use crate::entry::Entry;
-use crate::failure::Failure;
+use crate::failure::Failed;
 use sqlite::Row;
 
 /// One object: the base name of its path, its archive, the archive's SHA-256, and its deriver and content address where it has one.
@@ -26,7 +26,7 @@ impl Entry for Object {
 
     ghost is_below = { λ a b. is_lt (texts_cmp (stored_of a).0 (stored_of b).0) };
 
-    fn read(row: &Row) -> Result<Object, Failure> {
+    fn read(row: &Row) -> Result<Object, Failed> {
         Ok(Object {
             base: row.get(0)?,
             nar: row.get(1)?,
@@ -57,7 +57,7 @@ impl Entry for Listed {
 
     ghost is_below = { λ a b. is_lt (texts_cmp (listed_of a).0 (listed_of b).0) };
 
-    fn read(row: &Row) -> Result<Listed, Failure> {
+    fn read(row: &Row) -> Result<Listed, Failed> {
         Ok(Listed {
             base: row.get(0)?,
             hash: row.get(1)?,

@@ -6,7 +6,7 @@ ghost use Rattle.tables_sql.specs.Contents.{pair_cmp};
 ghost use Rattle.tables_sql.specs.Entries.{output_of, ShowsOutput, IsTripleRow};
 
 use crate::entry::Entry;
-use crate::failure::Failure;
+use crate::failure::Failed;
 use sqlite::Row;
 use std::cmp::Ordering;
 
@@ -25,7 +25,7 @@ impl Entry for Output {
 
     ghost is_below = { λ a b. is_lt (pair_cmp (output_of a).0 (output_of b).0) };
 
-    fn read(row: &Row) -> Result<Output, Failure> {
+    fn read(row: &Row) -> Result<Output, Failed> {
         Ok(Output {
             base: row.get(0)?,
             name: row.get(1)?,

@@ -6,7 +6,7 @@ ghost use Rattle.tables_sql.specs.Contents.{texts_cmp};
 ghost use Rattle.tables_sql.specs.Entries.{permanent_of, ShowsPermanentRoot, IsPairRow};
 
 use crate::entry::Entry;
-use crate::failure::Failure;
+use crate::failure::Failed;
 use sqlite::Row;
 
 /// One permanent root: its name, and the base name of its target.
@@ -23,7 +23,7 @@ impl Entry for PermanentRoot {
 
     ghost is_below = { λ a b. is_lt (texts_cmp (permanent_of a).0 (permanent_of b).0) };
 
-    fn read(row: &Row) -> Result<PermanentRoot, Failure> {
+    fn read(row: &Row) -> Result<PermanentRoot, Failed> {
         Ok(PermanentRoot {
             name: row.get(0)?,
             target: row.get(1)?,

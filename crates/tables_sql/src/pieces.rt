@@ -6,7 +6,7 @@ ghost use Rattle.tables_sql.specs.Contents.{numbered_cmp};
 ghost use Rattle.tables_sql.specs.Entries.{piece_in, ShowsPiece, IsPieceRow, numbered_in, ShowsPieceKey, IsPieceKeyRow};
 
 use crate::entry::Entry;
-use crate::failure::Failure;
+use crate::failure::Failed;
 use sqlite::Row;
 use std::cmp::Ordering;
 
@@ -25,7 +25,7 @@ impl Entry for Piece {
 
     ghost is_below = { λ a b. is_lt (numbered_cmp (piece_in a).0 (piece_in b).0) };
 
-    fn read(row: &Row) -> Result<Piece, Failure> {
+    fn read(row: &Row) -> Result<Piece, Failed> {
         Ok(Piece {
             base: row.get(0)?,
             number: row.get(1)?,
@@ -56,7 +56,7 @@ impl Entry for PieceKey {
 
     ghost is_below = { λ a b. is_lt (numbered_cmp (numbered_in a) (numbered_in b)) };
 
-    fn read(row: &Row) -> Result<PieceKey, Failure> {
+    fn read(row: &Row) -> Result<PieceKey, Failed> {
         Ok(PieceKey {
             base: row.get(0)?,
             number: row.get(1)?,

@@ -7,7 +7,7 @@ ghost use Rattle.tables_sql.specs.Contents.{pair_cmp};
 ghost use Rattle.tables_sql.specs.Entries.{current_of, ShowsProfile, IsProfileRow};
 
 use crate::entry::Entry;
-use crate::failure::Failure;
+use crate::failure::Failed;
 use sqlite::Row;
 use std::cmp::Ordering;
 
@@ -26,7 +26,7 @@ impl Entry for Profile {
 
     ghost is_below = { λ a b. is_lt (pair_cmp (current_of a).0 (current_of b).0) };
 
-    fn read(row: &Row) -> Result<Profile, Failure> {
+    fn read(row: &Row) -> Result<Profile, Failed> {
         Ok(Profile {
             owner: row.get(0)?,
             name: row.get(1)?,

@@ -7,14 +7,14 @@ ghost use Rattle.sqlite_value.specs.Order.{Row as Values};
 ghost use Rattle.sqlite.specs.State.{HasCleanDisk, Survives};
 ghost use Rattle.sqlite.specs.Held.{state};
 ghost use Rattle.sqlite.specs.Values.{bound};
-ghost use Rattle.tables_sql.specs.declared.failure.Failure.TheVariants.{Memory, Disk};
+ghost use Rattle.tables_sql.specs.declared.failure.Failed.TheVariants.{Memory, Disk};
 ghost use Rattle.tables_sql.specs.Reading.{IsAmiss};
 ghost use Rattle.tables_sql.specs.Failures.{IsQueryFailure};
 ghost use Rattle.tables_sql.specs.Calls.{KeepsShown};
 ghost use Rattle.tables_sql.specs.Queries.{IsSelect, HasBegunWith, IsAnswered};
 
 use crate::entry::Entry;
-use crate::failure::Failure;
+use crate::failure::Failed;
 use sqlite::types::ValueRef;
 use sqlite::{Alter, Connection, Row};
 use std::alloc::Global;
@@ -27,7 +27,7 @@ pub trait Sink: Sized + Drop {
     // The sink takes no answer that begins with these rows.
     ghost is_amiss: { List (List Value) → Type 0 };
 
-    fn take(&mut self, row: &Row) -> Result<(), Failure>
+    fn take(&mut self, row: &Row) -> Result<(), Failed>
         ensures loaded { OnOk result ((rows : List (List Value)) → is_of rows self.old
             → is_of (rows ++ row.now ∷ []) self.new) }
         ensures refused { IfErr result
@@ -41,7 +41,7 @@ pub fn read_into<S: Alter, T: Sink>(
     text: &str,
     params: &[ValueRef<'_>],
     mut sink: T,
-) -> Result<T, Failure>
+) -> Result<T, Failed>
     requires reads { IsSelect text.now }
     requires empty { T.is_of [] sink }
     ensures idle { conn.old.in_transaction ≡ false → conn.new.in_transaction ≡ false }
@@ -66,7 +66,7 @@ pub fn read_into<S: Alter, T: Sink>(
         sink.take(row)?;
     }
     // No memory holds that many.
-    Err(Failure::Memory)
+    Err(Failed::Memory)
 }
 
 /// The entries that a query shows, which must rise: an honest disk gives no others.
@@ -75,7 +75,7 @@ pub fn select<S: Alter, T: Entry>(
     conn: &mut Connection<S>,
     text: &str,
     params: &[ValueRef<'_>],
-) -> Result<Vec<T>, Failure>
+) -> Result<Vec<T>, Failed>
     requires { IsSelect text.now }
     ensures idle { conn.old.in_transaction ≡ false → conn.new.in_transaction ≡ false }
     ensures shown { HasCleanDisk (state S.Store conn.new)

@@ -6,7 +6,7 @@ ghost use Rattle.tables_sql.specs.Contents.{pair_cmp};
 ghost use Rattle.tables_sql.specs.Entries.{reference_of, ShowsReference, IsPairRow};
 
 use crate::entry::Entry;
-use crate::failure::Failure;
+use crate::failure::Failed;
 use sqlite::Row;
 use std::cmp::Ordering;
 
@@ -24,7 +24,7 @@ impl Entry for Reference {
 
     ghost is_below = { λ a b. is_lt (pair_cmp (reference_of a).0 (reference_of b).0) };
 
-    fn read(row: &Row) -> Result<Reference, Failure> {
+    fn read(row: &Row) -> Result<Reference, Failed> {
         Ok(Reference {
             base: row.get(0)?,
             target: row.get(1)?,

@@ -7,7 +7,7 @@ ghost use Rattle.tables_sql.specs.Contents.{pair_cmp};
 ghost use Rattle.tables_sql.specs.Entries.{runtime_of, ShowsRuntimeRoot, IsPairRow};
 
 use crate::entry::Entry;
-use crate::failure::Failure;
+use crate::failure::Failed;
 use sqlite::Row;
 use std::cmp::Ordering;
 
@@ -25,7 +25,7 @@ impl Entry for RuntimeRoot {
 
     ghost is_below = { λ a b. is_lt (pair_cmp (runtime_of a).0 (runtime_of b).0) };
 
-    fn read(row: &Row) -> Result<RuntimeRoot, Failure> {
+    fn read(row: &Row) -> Result<RuntimeRoot, Failed> {
         Ok(RuntimeRoot {
             label: row.get(0)?,
             target: row.get(1)?,

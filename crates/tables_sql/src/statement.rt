@@ -9,7 +9,7 @@ ghost use Rattle.sqlite.specs.declared.error.ErrorCode.TheVariants.{OperationInt
 ghost use Rattle.tables_sql.specs.Failures.{failure_of, FailsWith, IsWriteFailure, IsAdditionFailure, without_size};
 ghost use Rattle.tables_sql.specs.Calls.{IsUnderWay};
 
-use crate::failure::Failure;
+use crate::failure::Failed;
 use sqlite::types::ValueRef;
 use sqlite::{Alter, Error, ErrorCode, Transaction};
 
@@ -18,7 +18,7 @@ pub fn run<S: Alter>(
     tx: &mut Transaction<'_, S>,
     text: &str,
     params: &[ValueRef<'_>],
-) -> Result<(), Failure>
+) -> Result<(), Failed>
     requires { HasCleanDisk (state S.Store tx.old.conn.now) → IsUnderWay (state S.Store tx.old.conn.now) }
     ensures same_reference { tx.new.conn.ghost_name ≡ tx.old.conn.ghost_name }
     ensures ran { HasCleanDisk (state S.Store tx.new.conn.now)
@@ -37,12 +37,12 @@ pub fn run<S: Alter>(
 }
 
 /// The failure of a write whose row can't be too large: a shut connection alone may name a size, so that is the disk's.
-pub fn without_size(failure: Failure) -> Failure
+pub fn without_size(failure: Failed) -> Failed
     ensures { result ≡ without_size failure }
 {
     match failure {
-        Failure::Memory => Failure::Memory,
-        Failure::Size | Failure::Disk => Failure::Disk,
+        Failed::Memory => Failed::Memory,
+        Failed::Size | Failed::Disk => Failed::Disk,
     }
 }
 
@@ -51,7 +51,7 @@ pub fn remove<S: Alter>(
     tx: &mut Transaction<'_, S>,
     text: &str,
     params: &[ValueRef<'_>],
-) -> Result<(), Failure>
+) -> Result<(), Failed>
     requires { HasCleanDisk (state S.Store tx.old.conn.now) → IsUnderWay (state S.Store tx.old.conn.now) }
     ensures same_reference { tx.new.conn.ghost_name ≡ tx.old.conn.ghost_name }
     ensures ran { HasCleanDisk (state S.Store tx.new.conn.now)
@@ -60,7 +60,7 @@ pub fn remove<S: Alter>(
         (Ok count)) }
     ensures cause { HasCleanDisk (state S.Store tx.new.conn.now)
         → IfErr result
-        (λ f. (g : Failure) × (f ≡ without_size g)
+        (λ f. (g : Failed) × (f ≡ without_size g)
         × IsWriteFailure text.now (bound params.now) (state S.Store tx.old.conn.now) (state S.Store tx.new.conn.now)
         g) }
     ensures failed { HasCleanDisk (state S.Store tx.new.conn.now)
@@ -74,18 +74,18 @@ pub fn remove<S: Alter>(
 }
 
 /// An error of a query, but that a limit on steps stopped it: that it does on an open connection alone.
-fn unless_stopped(error: Error) -> Result<(), Failure>
+fn unless_stopped(error: Error) -> Result<(), Failed>
     ensures stopped { OnOk result (error ≡ SqliteFailure OperationInterrupted) }
     ensures failed { IfErr result (λ f. (f ≡ failure_of error) × (error ≢ SqliteFailure OperationInterrupted)) }
 {
     match error {
         Error::SqliteFailure(ErrorCode::OperationInterrupted) => Ok(()),
-        _ => Err(Failure::from(error)),
+        _ => Err(Failed::from(error)),
     }
 }
 
 /// Succeeds only if no fault has shut the connection, also where the transaction is undone. Nothing changes.
-fn ask<S: Alter>(tx: &mut Transaction<'_, S>) -> Result<(), Failure>
+fn ask<S: Alter>(tx: &mut Transaction<'_, S>) -> Result<(), Failed>
     ensures same_reference { tx.new.conn.ghost_name ≡ tx.old.conn.ghost_name }
     ensures same { HasCleanDisk (state S.Store tx.new.conn.now)
         → OnOk result (IsUnchanged (state S.Store tx.old.conn.now) (state S.Store tx.new.conn.now)) }
@@ -106,7 +106,7 @@ pub fn add<S: Alter>(
     tx: &mut Transaction<'_, S>,
     text: &str,
     params: &[ValueRef<'_>],
-) -> Result<(), Failure>
+) -> Result<(), Failed>
     requires { HasCleanDisk (state S.Store tx.old.conn.now) → IsUnderWay (state S.Store tx.old.conn.now) }
     ensures same_reference { tx.new.conn.ghost_name ≡ tx.old.conn.ghost_name }
     ensures ran { HasCleanDisk (state S.Store tx.new.conn.now)
@@ -122,7 +122,7 @@ pub fn add<S: Alter>(
     ensures survives { Survives (state S.Store tx.old.conn.now) (state S.Store tx.new.conn.now) (λ _. ⊥) }
 {
     if let Err(failure) = run(tx, text, params) {
-        if let Failure::Size = failure {
+        if let Failed::Size = failure {
             ask(tx)?;
         }
         return Err(failure);

@@ -6,7 +6,7 @@ ghost use Rattle.tables_sql.specs.Contents.{session_path_cmp};
 ghost use Rattle.tables_sql.specs.Entries.{temp_root_of, ShowsTempRoot, IsTempRootRow};
 
 use crate::entry::Entry;
-use crate::failure::Failure;
+use crate::failure::Failed;
 use sqlite::Row;
 use std::cmp::Ordering;
 
@@ -25,7 +25,7 @@ impl Entry for TempRoot {
 
     ghost is_below = { λ a b. is_lt (session_path_cmp (temp_root_of a).0 (temp_root_of b).0) };
 
-    fn read(row: &Row) -> Result<TempRoot, Failure> {
+    fn read(row: &Row) -> Result<TempRoot, Failed> {
         Ok(TempRoot {
             owner: row.get(0)?,
             session: row.get(1)?,

@@ -7,7 +7,7 @@ ghost use Rattle.tables_sql.specs.Contents.{contents_of};
 ghost use Rattle.tables_sql.specs.Failures.{FailsToCommit};
 ghost use Rattle.tables_sql.specs.Calls.{IsUnderWay, IsReady, IsCommitted, IsDurable, Leaves};
 
-use crate::failure::Failure;
+use crate::failure::Failed;
 use sqlite::{Alter, Connection, Transaction};
 
 /// Begins a transaction. Dropped before `commit`, it rolls back.
@@ -23,7 +23,7 @@ pub fn begin<S: Alter>(conn: &mut Connection<S>) -> Transaction<'_, S>
 }
 
 /// Commits what the transaction wrote.
-pub fn commit<S: Alter>(tx: Transaction<'_, S>) -> Result<(), Failure>
+pub fn commit<S: Alter>(tx: Transaction<'_, S>) -> Result<(), Failed>
     requires { HasCleanDisk (state S.Store tx.conn.now) → IsUnderWay (state S.Store tx.conn.now) }
     ensures ended { tx.exit.0.now.in_transaction ≡ false }
     ensures done { HasCleanDisk (state S.Store tx.exit.0.now)

@@ -6,7 +6,7 @@ ghost use Rattle.tables_sql.specs.Contents.{pair_cmp};
 ghost use Rattle.tables_sql.specs.Entries.{user_root_of, ShowsUserRoot, IsTripleRow};
 
 use crate::entry::Entry;
-use crate::failure::Failure;
+use crate::failure::Failed;
 use sqlite::Row;
 use std::cmp::Ordering;
 
@@ -25,7 +25,7 @@ impl Entry for UserRoot {
 
     ghost is_below = { λ a b. is_lt (pair_cmp (user_root_of a).0 (user_root_of b).0) };
 
-    fn read(row: &Row) -> Result<UserRoot, Failure> {
+    fn read(row: &Row) -> Result<UserRoot, Failed> {
         Ok(UserRoot {
             owner: row.get(0)?,
             name: row.get(1)?,

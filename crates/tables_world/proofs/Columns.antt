@@ -205,9 +205,9 @@ addressed (Some text) ca = (
 )
 
 module _ (schema : Schema) (dir : List ℕ) (c : Rows) (sound : IsSoundRows schema dir c) where
-  told_profile : (owner name : List ℕ) (o : Option ℤ) → finite.get c.profiles (owner, name) ≡ o → is_some o ≡ true → (x : Profile) × (finite.get (world_of c).profiles (owner, name) ≡ Some x) × DescribesProfile c owner name x
-  told_profile owner name None e h = absurd (false≢true h)
-  told_profile owner name (Some n) e h =
+  reported_profile : (owner name : List ℕ) (o : Option ℤ) → finite.get c.profiles (owner, name) ≡ o → is_some o ≡ true → (x : Profile) × (finite.get (world_of c).profiles (owner, name) ≡ Some x) × DescribesProfile c owner name x
+  reported_profile owner name None e h = absurd (false≢true h)
+  reported_profile owner name (Some n) e h =
       let m = sound.current (owner, name) n e in (
         profile_in c (owner, name) n,
         profile_at c (owner, name) ∙ ap (option_map (profile_in c (owner, name))) e,
@@ -223,7 +223,7 @@ module _ (schema : Schema) (dir : List ℕ) (c : Rows) (sound : IsSoundRows sche
       record { archive = refl; piece = piece_at c p; reference = reference_at c p; output = output_at c p; deriver = refl; address = addressed o.ca },
     );
     no_profile = λ owned e. profile_at c owned ∙ ap (option_map (profile_in c owned)) e;
-    profile = λ owner name h. told_profile owner name (finite.get c.profiles (owner, name)) refl h;
+    profile = λ owner name h. reported_profile owner name (finite.get c.profiles (owner, name)) refl h;
     permanent = λ name. refl;
     user_root = λ owned. refl;
     runtime = λ pair. refl;

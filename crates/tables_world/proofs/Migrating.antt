@@ -152,15 +152,15 @@ module _ (dir : List ℕ) (c : Rows) where
       by None f g = absurd (false≢true (ap is_some g))
       by (Some old) f g = (old, f, same_Some (cut_row c p old) o g)
 
-  row_there : (p : Path) → IsTrue (finite.contains_key c.objects p) → IsTrue (finite.contains_key new.objects p)
-  row_there p h = ap is_some (get_row p) ∙ by (finite.get c.objects p) h
+  row_present : (p : Path) → IsTrue (finite.contains_key c.objects p) → IsTrue (finite.contains_key new.objects p)
+  row_present p h = ap is_some (get_row p) ∙ by (finite.get c.objects p) h
     where
       by : (x : Option Stored) → is_some x ≡ true → is_some (option_map (cut_row c p) x) ≡ true
       by None g = absurd (false≢true g)
       by (Some o) g = refl
 
-  owner_there : (p : Path) (n : ℤ) → IsTrue (finite.contains_key new.pieces (p, n)) → IsTrue (finite.contains_key new.objects p)
-  owner_there p n h = row_there p (by (finite.get c.objects p) refl (sym (ap is_some (get_piece p n)) ∙ h))
+  owner_present : (p : Path) (n : ℤ) → IsTrue (finite.contains_key new.pieces (p, n)) → IsTrue (finite.contains_key new.objects p)
+  owner_present p n h = row_present p (by (finite.get c.objects p) refl (sym (ap is_some (get_piece p n)) ∙ h))
     where
       by : (x : Option Stored) → finite.get c.objects p ≡ x → is_some (piece_of c p n x) ≡ true → is_some x ≡ true
       by None f g = absurd (false≢true g)
@@ -199,9 +199,9 @@ module _ (dir : List ℕ) (c : Rows) where
     address = λ p o text e a.
         let old = row_back p o e in
         sound.address p old.0 text old.1 (ap (λ (x : Stored). x.ca) old.2 ∙ a);
-    pieces = owner_there;
-    references = λ p r h. row_there p (sound.references p r h);
-    outputs = λ p name h. row_there p (sound.outputs p name h);
+    pieces = owner_present;
+    references = λ p r h. row_present p (sound.references p r h);
+    outputs = λ p name h. row_present p (sound.outputs p name h);
     generations = sound.generations;
     numbers = sound.numbers;
     current = sound.current;

@@ -122,11 +122,11 @@ module _ (schema : Schema) (dir : List ℕ) (c : Rows) where
   -- ---- to the parts
 
   module _ (h : IsSoundRows schema dir c) where
-    object_told : (p : Path) (x : Stored) → finite.get c.objects p ≡ Some x → IsSoundObject dir (world_of c) p (object_in c p x)
-    object_told p x e = h.world.objects p (object_in c p x) (object_at c p ∙ ap (option_map (object_in c p)) e)
+    object_reported : (p : Path) (x : Stored) → finite.get c.objects p ≡ Some x → IsSoundObject dir (world_of c) p (object_in c p x)
+    object_reported p x e = h.world.objects p (object_in c p x) (object_at c p ∙ ap (option_map (object_in c p)) e)
 
-    profile_told : (owned : Pair) (n : ℤ) → finite.get c.profiles owned ≡ Some n → IsSoundProfile (world_of c) owned (profile_in c owned n)
-    profile_told owned n e = h.world.profiles owned (profile_in c owned n) (profile_at c owned ∙ ap (option_map (profile_in c owned)) e)
+    profile_reported : (owned : Pair) (n : ℤ) → finite.get c.profiles owned ≡ Some n → IsSoundProfile (world_of c) owned (profile_in c owned n)
+    profile_reported owned n e = h.world.profiles owned (profile_in c owned n) (profile_at c owned ∙ ap (option_map (profile_in c owned)) e)
 
     is_object : (p : Path) → IsTrue (has (world_of c) p) → IsTrue (finite.contains_key c.objects p)
     is_object p present = sym (valid p) ∙ present
@@ -136,7 +136,7 @@ module _ (schema : Schema) (dir : List ℕ) (c : Rows) where
         let present = ap is_some e in
         let profile = h.generations owner name n present in
         let current = some_key (finite.get c.profiles (owner, name)) profile in
-        let q = profile_told (owner, name) current.0 current.1 in
+        let q = profile_reported (owner, name) current.0 current.1 in
         let m = h.numbers owner name n present in
         let found : finite.get (generations_in c (owner, name)) m.0 ≡ Some t = generation_at c h.numbers owner name m.0 ∙ ap (λ k. finite.get c.generations (owner, name, k)) (sym m.1) ∙ e in
         record {
@@ -172,7 +172,7 @@ module _ (schema : Schema) (dir : List ℕ) (c : Rows) where
       sessions = session_sound;
       objects = record {
         objects = λ p x e.
-            let o = object_told p x e in
+            let o = object_reported p x e in
             record {
               path = o.path;
               hash = h.hash p x e;
@@ -180,7 +180,7 @@ module _ (schema : Schema) (dir : List ℕ) (c : Rows) where
               archive = o.archive;
               deriver = o.deriver;
               address_text = λ text ca. h.address p x text e ca;
-              names = λ r present. let y = some_key (finite.get c.objects r) (is_object r (o.references r present)) in (object_told r y.0 y.1).path;
+              names = λ r present. let y = some_key (finite.get c.objects r) (is_object r (o.references r present)) in (object_reported r y.0 y.1).path;
               reference_count = o.reference_count;
               no_self_reference = o.no_self_reference;
               address = o.address;
@@ -190,7 +190,7 @@ module _ (schema : Schema) (dir : List ℕ) (c : Rows) where
         references = λ p r present.
             let from = h.references p r present in
             let x = some_key (finite.get c.objects p) from in
-            (from, is_object r ((object_told p x.0 x.1).references r (reference_at c p r ∙ present)));
+            (from, is_object r ((object_reported p x.0 x.1).references r (reference_at c p r ∙ present)));
         outputs = h.outputs;
       };
       roots = record {
@@ -198,7 +198,7 @@ module _ (schema : Schema) (dir : List ℕ) (c : Rows) where
         user_roots = λ owned t e. (h.world.user_root_owner owned (ap is_some e), h.world.user_root_name owned (ap is_some e), is_object t (h.world.user_root_target owned t e));
         runtime = λ r present. (h.world.runtime_label r present, is_object r.1 (h.world.runtime_target r present));
         profiles = λ owned n e.
-            let q = profile_told owned n e in
+            let q = profile_reported owned n e in
             let m = h.current owned n e in
             (q.owner, q.name, sym (ap is_some (generation_at c h.numbers owned.0 owned.1 (number_in n) ∙ ap (λ k. finite.get c.generations (owned.0, owned.1, k)) (ap (λ k. pos (number_in k)) m.1 ∙ sym m.1))) ∙ q.current);
         generations = generation_sound;

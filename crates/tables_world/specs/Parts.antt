@@ -7,6 +7,7 @@ use Rattle.nar.specs.Archive.{IsArchive}
 use Rattle.paths.specs.Names.{is_plain_name, is_store_dir}
 use Rattle.paths.specs.StorePath.{is_base_name, is_derivation}
 use Rattle.paths.specs.Root.{bytes_cmp, Set, is_runtime_label, is_session}
+use Rattle.paths.specs.Decimal.{max_generation}
 use Rattle.paths.specs.ContentAddress.{ContentAddress, address_of, verifies}
 use Rattle.tables_sql.specs.Contents.{Stored}
 use Rattle.model.specs.World.{Path, Pair}
@@ -48,7 +49,7 @@ pub record IsSoundGeneration (c : Rows) (owner name : List ℕ) (n : ℤ) (t : P
   pub number : ℕ
   pub is_number : n ≡ pos number
   pub lowest : 1 ≤ number
-  pub highest : number ≤ 9999
+  pub highest : number ≤ max_generation
   pub profile : IsTrue (finite.contains_key c.profiles (owner, name))
   pub target : IsTrue (finite.contains_key c.objects t)
 

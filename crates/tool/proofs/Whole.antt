@@ -40,15 +40,15 @@ module _ (fails : Type 0) (ask : List ℕ → Result Request Refusal → Type 0)
   whole_asked None body made is h = (body, unread fails (ask body) made h)
   whole_asked (Some all) body made is h = unread fails (ask all) made (subst (λ b. IsAsked ⊥ (ask b) made) is h)
 
-  gone_for : (stop : Stop) (bytes : List ℕ) → (stop ≡ Failed Memory) ⊎ (stop ≡ Failed Input) → (stop ≡ Failed Input → fails) → IsAsked fails (ask bytes) (Err stop)
-  gone_for stop bytes (inl memory) lost = subst (λ e. IsAsked fails (ask bytes) (Err e)) (sym memory) tt
-  gone_for stop bytes (inr input) lost = subst (λ e. IsAsked fails (ask bytes) (Err e)) (sym input) (lost input)
+  removed_for : (stop : Stop) (bytes : List ℕ) → (stop ≡ Failed Memory) ⊎ (stop ≡ Failed Input) → (stop ≡ Failed Input → fails) → IsAsked fails (ask bytes) (Err stop)
+  removed_for stop bytes (inl memory) lost = subst (λ e. IsAsked fails (ask bytes) (Err e)) (sym memory) tt
+  removed_for stop bytes (inr input) lost = subst (λ e. IsAsked fails (ask bytes) (Err e)) (sym input) (lost input)
 
   -- memory gave out, or the input that was read
   pub gone : (known : Option (List ℕ)) (stop : Stop) → (stop ≡ Failed Memory) ⊎ (stop ≡ Failed Input) → (stop ≡ Failed Input → fails)
       → IsAskedOver fails ask known (Err stop)
-  gone None stop why lost = ([], gone_for stop [] why lost)
-  gone (Some bytes) stop why lost = gone_for stop bytes why lost
+  gone None stop why lost = ([], removed_for stop [] why lost)
+  gone (Some bytes) stop why lost = removed_for stop bytes why lost
 
 -- why a body asks nothing
 pub body_refused : (says : Request → Type 0) (fault : BodyError) (stop : Stop) → stop ≡ body_stop fault → (fault ≡ body_error.BadBodyHead → (q : Request) → says q → ⊥)

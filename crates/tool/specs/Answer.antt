@@ -52,7 +52,7 @@ AnswersSourcePath config o console = AnswersUnder (config_of config)
     (λ s. AnswersTo (object_fault s.store_dir o.0 o.1) max_prefix
     (source_path_answer s.store_dir o.0 (map (base_of s.store_dir) o.1)) console) console.written
 
--- Here and below the first argument says what is done with the store of a file.
+-- The first argument of these definitions says what is done with the store of a file.
 
 -- what is asked of a store is answered to the caller whom the line names, under the settings of the configuration
 abbrev pub AnswersAsking : Doing → List ℕ → Line → Ask → Console → Type 0

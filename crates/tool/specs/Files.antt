@@ -12,7 +12,7 @@ use Rattle.tables.specs.TablesValue.{TablesValue}
 use Rattle.model.specs.Reply.{failed}
 use Rattle.store_types.specs.View.{failure_view}
 use Rattle.tables.specs.declared.refusing.Cause.{Cause}
-use Rattle.tables.specs.declared.refusing.Cause.TheVariants.{BadSchema, OtherStoreDir, Failed as Lacks}
+use Rattle.tables.specs.declared.refusing.Cause.TheVariants.{BadSchema, OtherStoreDir, Failed as CauseFailed}
 use Rattle.tables.specs.declared.refusing.Unopened.{Unopened}
 use Rattle.tables.specs.Causes.{cause_of}
 use Rattle.tables.specs.Opened.{IsUnopened, Opens}
@@ -27,7 +27,7 @@ use Rattle.tool_pure.specs.Stream.{Answers}
 abbrev pub AnswersCause : List ℕ → Cause → Written → Type 0
 AnswersCause dir BadSchema w = Answers (Err (Refused refusal.BadSchema)) w
 AnswersCause dir OtherStoreDir w = Answers (Err (Refused refusal.OtherStoreDir)) w
-AnswersCause dir (Lacks f) w = IsPrinted dir (failed (failure_view f)) w
+AnswersCause dir (CauseFailed f) w = IsPrinted dir (failed (failure_view f)) w
 
 -- `start` is ghost: what a theorem assumes of the file. No code reads it, so the definitions cover every value.
 module _ {S : Type 0} {host : calls.Ghosts Host} (start : Ghosts S) (g : disk.Ghosts (Modelled Host S host start)) where

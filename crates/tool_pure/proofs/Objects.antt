@@ -8,7 +8,8 @@ use Rattle.model.specs.declared.refusal.Refusal.{Refusal}
 use Rattle.model.specs.declared.refusal.Refusal.TheVariants.{BadStorePath, TooManyReferences}
 use Rattle.tool_pure.specs.declared.stops.Stop.{Stop}
 use Rattle.tool_pure.specs.declared.stops.Stop.TheVariants.{Refused}
-use Rattle.tool_pure.specs.Object.{is_path_text, named_fault, count_fault, object_fault, text_path_answer, max_references, max_contents}
+use Rattle.tool_pure.specs.Object.{is_path_text, named_fault, count_fault, object_fault, text_path_answer, max_contents}
+use Rattle.model.specs.Objects.{most_references}
 use Rattle.tool_pure.specs.Stream.{IsStopBy}
 
 pub bad_path : (dir name : List ℕ) (refs : List (List ℕ)) → is_store_name name ≡ true → list_all (is_path_text dir) refs ≡ false
@@ -19,17 +20,17 @@ pub no_named : (dir name : List ℕ) (refs : List (List ℕ)) → is_store_name 
     → named_fault dir name refs ≡ None
 no_named dir name refs named paths = rw (named, paths) refl
 
-many_fault : (refs : List (List ℕ)) → max_references < length refs → count_fault refs ≡ Some TooManyReferences
-many_fault refs many = rw (lt-ltb max_references (length refs) many) refl
+many_fault : (refs : List (List ℕ)) → most_references < length refs → count_fault refs ≡ Some TooManyReferences
+many_fault refs many = rw (lt-ltb most_references (length refs) many) refl
 
-few_fault : (refs : List (List ℕ)) → length refs ≤ max_references → count_fault refs ≡ None
-few_fault refs few = rw (le-ltb max_references (length refs) few) refl
+few_fault : (refs : List (List ℕ)) → length refs ≤ most_references → count_fault refs ≡ None
+few_fault refs few = rw (le-ltb most_references (length refs) few) refl
 
-pub too_many : (dir name : List ℕ) (refs : List (List ℕ)) → named_fault dir name refs ≡ None → max_references < length refs
+pub too_many : (dir name : List ℕ) (refs : List (List ℕ)) → named_fault dir name refs ≡ None → most_references < length refs
     → object_fault dir name refs ≡ Some TooManyReferences
 too_many dir name refs none many = ap (λ f. option_map_or Some f (count_fault refs)) none ∙ many_fault refs many
 
-pub no_fault : (dir name : List ℕ) (refs : List (List ℕ)) → named_fault dir name refs ≡ None → length refs ≤ max_references
+pub no_fault : (dir name : List ℕ) (refs : List (List ℕ)) → named_fault dir name refs ≡ None → length refs ≤ most_references
     → object_fault dir name refs ≡ None
 no_fault dir name refs none few = ap (λ f. option_map_or Some f (count_fault refs)) none ∙ few_fault refs few
 

@@ -1,8 +1,9 @@
 -- The answers that depend on which archive an input is, or on its first fault.
-use Rattle.std.specs.Prelude.{ℕ, List, codes, Result, Ok, Err}
+use Rattle.std.specs.Prelude.{ℕ, ◌+◌, List, codes, Result, Ok, Err}
 use Rattle.std.specs.Option.{option_map_or}
 use Rattle.nar.specs.declared.error.NarError.{NarError}
 use Rattle.nar.specs.Tree.{Tree}
+use Rattle.nar.specs.Archive.{limit}
 use Rattle.nar.specs.Outcome.{outcome_of}
 use Rattle.nar.specs.Listing.{listing}
 use Rattle.model.specs.Faults.{archive_refusal}
@@ -12,7 +13,7 @@ use Rattle.tool_pure.specs.declared.stops.Stop.TheVariants.{Refused, Failed}
 
 -- how many bytes of an input decide whether it is an archive: 8 more than an archive has at most
 abbrev pub max_prefix : ℕ
-max_prefix = 16777224
+max_prefix = limit + 8
 
 -- what a fault of an archive ends a command with: its refusal; out of memory, which is no fault of one, as a failure
 abbrev pub archive_stop : NarError → Stop

@@ -1,11 +1,13 @@
 -- The answers of `text-path` and `source-path`: the store paths of objects.
-use Rattle.std.specs.Prelude.{ℕ, Bool, not, if◌then◌else◌, nat_lt, List, length, Option, Some, None, Result, Ok, Err}
+use Rattle.std.specs.Prelude.{ℕ, ◌+◌, ◌-◌, Bool, not, if◌then◌else◌, nat_lt, List, length, Option, Some, None, Result, Ok, Err}
 use Rattle.std.specs.List.{list_all}
 use Rattle.std.specs.Option.{option_map_or}
 use Rattle.paths.specs.Names.{is_store_name}
 use Rattle.paths.specs.StorePath.{is_base_name, base_of}
 use Rattle.paths.specs.Path.{text_path, source_path}
+use Rattle.nar.specs.Archive.{limit}
 use Rattle.nar.specs.Outcome.{outcome_of}
+use Rattle.model.specs.Objects.{most_references}
 use Rattle.model.specs.declared.refusal.Refusal.{Refusal}
 use Rattle.model.specs.declared.refusal.Refusal.TheVariants.{TooLarge, BadStoreName, BadStorePath, TooManyReferences}
 use Rattle.tool_pure.specs.declared.stops.Stop.{Stop}
@@ -17,17 +19,13 @@ use Rattle.report.specs.Replies.{path_line}
 abbrev pub is_path_text : List ℕ → List ℕ → Bool
 is_path_text dir text = is_base_name (base_of dir text)
 
--- how many references an object may be passed with
-abbrev pub max_references : ℕ
-max_references = 4096
-
--- the longest contents whose archive isn't too large
+-- the longest contents whose archive isn't too large: the rest of an archive of one file takes 112 bytes
 abbrev pub max_contents : ℕ
-max_contents = 16777104
+max_contents = limit - 112
 
 -- how many bytes of contents decide whether they are too long
 abbrev pub most_of_contents : ℕ
-most_of_contents = 16777105
+most_of_contents = max_contents + 1
 
 -- what is wrong with the name of an object, or with its references
 abbrev pub named_fault : List ℕ → List ℕ → List (List ℕ) → Option Refusal
@@ -38,7 +36,7 @@ named_fault dir name refs =
 
 -- whether the references are too many
 abbrev pub count_fault : List (List ℕ) → Option Refusal
-count_fault refs = if nat_lt max_references (length refs) then Some TooManyReferences else None
+count_fault refs = if nat_lt most_references (length refs) then Some TooManyReferences else None
 
 -- why an object of this name with these references is refused, before its contents are looked at
 abbrev pub object_fault : List ℕ → List ℕ → List (List ℕ) → Option Refusal

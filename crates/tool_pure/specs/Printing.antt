@@ -3,7 +3,7 @@ use Rattle.std.specs.Prelude.{◌⊎◌, ℕ, List}
 use Rattle.std.specs.Io.KnownBytes.{Keeps}
 use Rattle.model.specs.Reply.{Reply, done, denied, refused, failed}
 use Rattle.report.specs.Replies.{answer_text, reply_text}
-use Rattle.report.specs.Outputs.{LacksMemory, Offers, Prints, Written, on_errors}
+use Rattle.report.specs.Outputs.{RunsOutOfMemory, Offers, Prints, Written, on_errors}
 
 -- the exit status of a reply
 abbrev pub status_of : Reply → ℕ
@@ -25,4 +25,4 @@ PrintsReply dir (failed f) w =
 
 -- a reply was written; or memory ran out for its text
 abbrev pub IsPrinted : List ℕ → Reply → Written → Type 0
-IsPrinted dir reply w = PrintsReply dir reply w ⊎ LacksMemory w
+IsPrinted dir reply w = PrintsReply dir reply w ⊎ RunsOutOfMemory w

@@ -1,5 +1,6 @@
 //! The archive on standard input, or the refusal of its first fault.
 ghost use Rattle.std.specs.Prelude.{◌≡◌, ◌≤◌, ◌⊎◌, length, IfOk, IfErr, Ok, Err, List, ℕ};
+ghost use Rattle.nar.specs.Archive.{limit};
 ghost use Rattle.nar.specs.Tree.{Tree};
 ghost use Rattle.nar.specs.Outcome.{outcome_of};
 ghost use Rattle.nar.specs.View.{tree_of};
@@ -17,7 +18,7 @@ pub const MOST_OF_ARCHIVE: usize = MAX_ARCHIVE + 8;
 /// The tree of an archive.
 pub(crate) fn read_archive(alloc: Global, bytes: &[u8]) -> Result<Node<'_>, Stop>
     ensures ok { IfOk result (λ node. outcome_of bytes.now ≡ Ok (tree_of node)) }
-    ensures fits { IfOk result (λ node. length bytes.now ≤ 16777216) }
+    ensures fits { IfOk result (λ node. length bytes.now ≤ limit) }
     ensures err { IfErr result
         (λ e. (e ≡ Stop.Failed Failure.Memory)
         ⊎ ((text : Tree → List ℕ) → by_outcome (outcome_of bytes.now) text ≡ Err e)) }

@@ -47,8 +47,8 @@ fn file_text<R: Read + Drop>(alloc: Global, file: io::Result<R>) -> Result<Vec<u
     }
 }
 
-/// The text of the configuration by its file, of which no more than one byte above the limit is read; the
-/// empty text if no file is named.
+/// The text of a configuration file, or the empty text if no file is named. Of a file, no more than one byte above the limit is
+/// read.
 ///
 /// # Errors
 ///

@@ -4,15 +4,15 @@ ghost use Rattle.tables_outline.specs.Maps.{labelled_bytes};
 ghost use Rattle.report.specs.Stops.{denial_text};
 ghost use Rattle.report.specs.Replies as texts;
 ghost use Rattle.store_types.specs.View.{answer_view, reply_view};
-ghost use Rattle.report.specs.Outputs.{LacksMemory, Offers, Prints, change_of};
+ghost use Rattle.report.specs.Outputs.{RunsOutOfMemory, Offers, Prints, change_of};
 ghost use Rattle.tool_pure.specs.Stream.{Says};
 ghost use Rattle.tool_pure.specs.Printing.{IsPrinted};
 
-use crate::stops::Stop;
+use crate::stops::{DENIED, Stop};
 use crate::stream::say;
 use paths::{StoreDir, StorePath};
 use policy::Rule;
-use report::{Failure, answer_text, denial_line, print, refusal_line};
+use report::{Failure, answer_text, denial_line, print};
 use std::alloc::Global;
 use std::io::Write;
 use store_types::{Answer, Reply};
@@ -45,7 +45,7 @@ fn print_answer<W: Write, E: Write>(
       errors = change_of E.contents errors.old errors.new;
       status = result;
     })
-        ⊎ LacksMemory (record {
+        ⊎ RunsOutOfMemory (record {
           output = change_of W.contents output.old output.new;
           errors = change_of E.contents errors.old errors.new;
           status = result;
@@ -71,7 +71,7 @@ fn print_denial<E: Write>(
         (record { writer = change_of E.contents errors.old errors.new; status = result }) }
 {
     match denial_line(alloc, dir, rule, root) {
-        Ok(line) => print(line.as_str(), 4, errors),
+        Ok(line) => print(line.as_str(), DENIED, errors),
         Err(_) => say(Stop::Failed(Failure::Memory), errors),
     }
 }
@@ -97,7 +97,7 @@ pub fn print_reply<W: Write, E: Write>(
     match reply {
         Reply::Done(answer) => print_answer(alloc, dir, answer, output, errors),
         Reply::Denied(rule, root) => print_denial(alloc, dir, rule, root, errors),
-        Reply::Refused(refusal) => print(refusal_line(refusal), 3, errors),
+        Reply::Refused(refusal) => say(Stop::Refused(refusal), errors),
         Reply::Failed(failure) => say(Stop::Failed(Failure::from(failure)), errors),
     }
 }

@@ -1,5 +1,6 @@
 //! `source-path`: from an archive and references to a store path.
 ghost use Rattle.std.specs.Prelude.{◌≡◌, ◌≤◌, ◌⊎◌, length, IfOk, IfErr, Ok, Err, is_none, map, string_bytes};
+ghost use Rattle.nar.specs.Archive.{limit};
 ghost use Rattle.paths.specs.StorePath.{base_of};
 ghost use Rattle.report.specs.Outputs.{change_of};
 ghost use Rattle.tool_pure.specs.Archive.{max_prefix};
@@ -20,7 +21,7 @@ fn source_line(alloc: Global, dir: &StoreDir, object: &Object, nar: &[u8]) -> Re
     ensures ok { IfOk result
         (λ line. source_path_answer dir.now object.now.name object.now.references.items nar.now
         ≡ Ok (string_bytes line)) }
-    ensures fits { IfOk result (λ line. length nar.now ≤ 16777216) }
+    ensures fits { IfOk result (λ line. length nar.now ≤ limit) }
     ensures err { IfErr result
         (λ e. (e ≡ Stop.Failed Failure.Memory)
         ⊎ (source_path_answer dir.now object.now.name object.now.references.items nar.now ≡ Err e)) }

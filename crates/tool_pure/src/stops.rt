@@ -5,6 +5,15 @@ ghost use Rattle.tool_pure.specs.Stop.{stop_by, stop_text, stop_status};
 use report::{Failure, Refusal, refusal_line};
 use streams::ReadError;
 
+/// The exit status of a command whose memory, disk, file or stream failed.
+pub(crate) const FAILED: u8 = 1;
+
+/// The exit status of a command that is refused.
+pub(crate) const REFUSED: u8 = 3;
+
+/// The exit status of a command that a rule denies.
+pub(crate) const DENIED: u8 = 4;
+
 /// Why a command ends without its result.
 #[derive(Clone, Copy, PartialEq, Eq, Debug)]
 pub enum Stop {
@@ -43,8 +52,8 @@ impl Stop {
         ensures { result ≡ stop_status self }
     {
         match self {
-            Stop::Refused(_) => 3,
-            Stop::Failed(_) => 1,
+            Stop::Refused(_) => REFUSED,
+            Stop::Failed(_) => FAILED,
         }
     }
 }

@@ -5,7 +5,7 @@ ghost use Rattle.tool_pure.specs.Who.{AnswersWho, StopsWho, verdict_of, verdict_
 
 use crate::callers::parse_caller;
 use crate::configuration::settings;
-use crate::stops::Stop;
+use crate::stops::{DENIED, Stop};
 use crate::stream::say;
 use policy::{Class, Op, Rule, class, decide};
 use report::{Failure, print, push_denial};
@@ -28,7 +28,7 @@ impl Verdict {
     {
         match self.denial {
             None => 0,
-            Some(_) => 4,
+            Some(_) => DENIED,
         }
     }
 

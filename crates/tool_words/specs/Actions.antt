@@ -3,7 +3,7 @@ use Rattle.std.specs.Prelude.{ℕ, Bool, List, if◌then◌else◌, is_some, cod
 use Rattle.std.specs.Option.{option_map_or}
 use Rattle.std.specs.Str.{bytes_eq}
 use Rattle.clap.specs.Walk.{Row, Text}
-use Rattle.paths.specs.Decimal.{decimal_of, number_up_to}
+use Rattle.paths.specs.Decimal.{decimal_of, generation_number}
 use Rattle.tool_words.specs.declared.error.UsageFault.{UsageFault}
 use Rattle.tool_words.specs.declared.error.UsageFault.TheVariants.{UnknownAction, MissingValue, ExtraValue, OwnerOfPermanent, BadLimit, ConnectionsWithoutPort}
 use Rattle.tool_words.specs.declared.line.NamedRootKind.{NamedRootKind}
@@ -23,21 +23,13 @@ abbrev pub without : {A : Type 0} → A → Option Text → Result A UsageFault
 without act (Some text) = Err ExtraValue
 without act None = Ok act
 
--- the number of a generation: 1 to 9,999, and 0 for any other text
-abbrev pub generation : Text → ℕ
-generation text = number_up_to 9999 text
-
--- the number of a session: 1 to 4,194,304, and 0 for any other text
-abbrev pub session : Text → ℕ
-session text = number_up_to 4194304 text
-
 -- an ACTION of `profile` with its VALUE
 abbrev pub on_profile : Text → Option Text → Result OnProfile UsageFault
 on_profile action value =
     if bytes_eq action (codes "set") then requiring set value
     else if bytes_eq action (codes "rollback") then without rollback value
-    else if bytes_eq action (codes "switch") then requiring (λ n. switch (generation n)) value
-    else if bytes_eq action (codes "delete") then requiring (λ n. delete_generation (generation n)) value
+    else if bytes_eq action (codes "switch") then requiring (λ n. switch (generation_number n)) value
+    else if bytes_eq action (codes "delete") then requiring (λ n. delete_generation (generation_number n)) value
     else Err UnknownAction
 
 -- an ACTION of `temp` with its PATH

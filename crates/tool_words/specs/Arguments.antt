@@ -1,9 +1,10 @@
 -- The arguments of the command line as `clap` gets them.
-use Rattle.std.specs.Prelude.{ℕ, pos, codes, Some, true}
+use Rattle.std.specs.Prelude.{◌≡◌, ℕ, pos, codes, Some, true, false}
 use Rattle.clap.specs.Lexer.{usize_max}
-use Rattle.clap.specs.Walk.{Rule, Text}
+use Rattle.clap.specs.Walk.{Rule, Text, rule_of}
 use Rattle.clap.specs.Simple.{new_rule}
 use Rattle.clap.specs.declared.builder.action.ArgAction.TheVariants.{SetTrue}
+use Rattle.clap.specs.declared.builder.arg.Arg.{Arg}
 use Rattle.clap.specs.declared.builder.value_parser.ValueParser.TheVariants.{Signed}
 
 -- an option of one value, by its long name
@@ -40,3 +41,8 @@ paths_argument = record (new_rule (codes "path")) {
   value_names = 1;
   range = Some (record { start_inclusive = 1; end_inclusive = usize_max });
 }
+
+-- an argument as `clap` gets it by this rule, for its own command and none of the subcommands
+pub record IsArgument (argument : Arg) (is : Rule) : Type 0 where
+  pub rule : rule_of argument ≡ is
+  pub local : argument.global ≡ false

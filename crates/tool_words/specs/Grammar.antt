@@ -1,10 +1,17 @@
 -- The subcommands and the whole command line as `clap` gets them.
-use Rattle.std.specs.Prelude.{codes, [], ◌∷◌, fold}
-use Rattle.clap.specs.Simple.{App, new_app, with_rule, with_subcommand}
+use Rattle.std.specs.Prelude.{◌≡◌, codes, [], ◌∷◌, fold, false}
+use Rattle.clap.specs.Simple.{App, app_of, new_app, with_rule, with_subcommand}
+use Rattle.clap.specs.declared.builder.command.Command.{Command}
+use Rattle.clap.specs.declared.builder.command.Command.TheViews.{out-Command}
 use Rattle.tool_words.specs.declared.verb.Verb.{Verb}
 use Rattle.tool_words.specs.declared.verb.Verb.TheVariants.{Who, TextPath, SourcePath, Ls, AddText, AddSource, Import, Runtime, Info, CatNar, Why, List as ListPaths, Roots, Live, Dead, Report, Root, Unroot, Profile, Temp, Gc, Delete, Serve}
 use Rattle.tool_words.specs.Verbs.{verb_name}
 use Rattle.tool_words.specs.Arguments.{option_named, number_option, flag_named, required_argument, optional_argument, references_argument, paths_argument}
+
+-- a command as `clap` gets it, of whose arguments none is for the subcommands too
+pub record IsCommand (command : Command) (is : App) : Type 0 where
+  pub app : app_of command ≡ is
+  pub local : (out-Command command).has_globals ≡ false
 
 -- a subcommand without arguments
 abbrev pub plain_app : Verb → App

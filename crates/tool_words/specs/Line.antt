@@ -16,7 +16,8 @@ use Rattle.tool_words.specs.declared.verb.Verb.TheVariants as verb
 use Rattle.tool_words.specs.Verbs.{verb_named}
 use Rattle.tool_words.specs.Grammar.{nixkeep_app}
 use Rattle.tool_words.specs.Values.{required, all_values, is_given, number}
-use Rattle.tool_words.specs.Actions.{on_profile, on_session, root_kind, unrooted, limit, served, session}
+use Rattle.tool_words.specs.Actions.{on_profile, on_session, root_kind, unrooted, limit, served}
+use Rattle.paths.specs.Decimal.{session_number}
 use Rattle.tool_words.specs.Asked.{Asked, who, ls, text_path, source_path, add_text, add_source, import_object, runtime, info, cat_nar, why, list_paths, roots, list_live, list_dead, report, root, profile, temp, gc, delete, serve, asked_view, optional_text}
 
 -- a command line: its options and its subcommand
@@ -61,7 +62,7 @@ asked_of verb.Profile rs =
     with_value (profile (first_of (codes "owner") rs) (required (codes "name") rs))
     (on_profile (required (codes "action") rs) (first_of (codes "value") rs))
 asked_of verb.Temp rs =
-    with_value (temp (first_of (codes "owner") rs) (session (required (codes "session") rs)))
+    with_value (temp (first_of (codes "owner") rs) (session_number (required (codes "session") rs)))
     (on_session (required (codes "action") rs) (first_of (codes "path") rs))
 asked_of verb.Gc rs = with_value (gc (is_given (codes "ignore-liveness") rs)) (limit (first_of (codes "max-freed") rs))
 asked_of verb.Delete rs = Ok (delete (is_given (codes "ignore-liveness") rs) (all_values (codes "path") rs))

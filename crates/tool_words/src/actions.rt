@@ -6,13 +6,7 @@ ghost use Rattle.tool_words.specs.Asked.{optional_text, on_profile_view, on_sess
 
 use crate::error::UsageFault;
 use crate::line::{ProfileAction, ServeArguments, TempAction, UnrootArguments, Unrooted};
-
-/// The number of a generation, 1 to 9,999; any other text gives 0, which no profile has.
-fn generation(text: &str) -> u32
-    ensures { result ≡ action.generation text.now }
-{
-    paths::numbers::generation(text) as u32
-}
+use paths::numbers::generation;
 
 /// An ACTION of `profile`, with its VALUE.
 pub(crate) fn profile_action<'a>(

@@ -1,15 +1,13 @@
 //! The arguments of the command line as `clap` gets them.
-ghost use Rattle.std.specs.Prelude.{◌≡◌, codes, false};
-ghost use Rattle.clap.specs.Walk.{rule_of};
-ghost use Rattle.tool_words.specs.Arguments.{option_named, number_option, flag_named, required_argument, optional_argument, references_argument, paths_argument};
+ghost use Rattle.std.specs.Prelude.{codes};
+ghost use Rattle.tool_words.specs.Arguments.{IsArgument, option_named, number_option, flag_named, required_argument, optional_argument, references_argument, paths_argument};
 
 use clap::{Arg, ArgAction, value_parser};
 use std::alloc::Global;
 
 /// An option of one value.
 pub(crate) fn option<'a>(alloc: Global, name: &'a str, value: &'a str, help: &'a str) -> Arg<'a>
-    ensures rule { rule_of result ≡ option_named name.now }
-    ensures local { result.global ≡ false }
+    ensures { IsArgument result (option_named name.now) }
 {
     Arg::new(alloc, name)
         .long(name)
@@ -19,8 +17,7 @@ pub(crate) fn option<'a>(alloc: Global, name: &'a str, value: &'a str, help: &'a
 
 /// `--port N`.
 pub(crate) fn port_option<'a>(alloc: Global) -> Arg<'a>
-    ensures rule { rule_of result ≡ number_option (codes "port") 65535 }
-    ensures local { result.global ≡ false }
+    ensures { IsArgument result (number_option (codes "port") 65535) }
 {
     option(
         alloc,
@@ -33,8 +30,7 @@ pub(crate) fn port_option<'a>(alloc: Global) -> Arg<'a>
 
 /// `--connections K`.
 pub(crate) fn connections_option<'a>(alloc: Global) -> Arg<'a>
-    ensures rule { rule_of result ≡ number_option (codes "connections") 1000000 }
-    ensures local { result.global ≡ false }
+    ensures { IsArgument result (number_option (codes "connections") 1000000) }
 {
     option(
         alloc,
@@ -47,8 +43,7 @@ pub(crate) fn connections_option<'a>(alloc: Global) -> Arg<'a>
 
 /// A flag.
 pub(crate) fn flag<'a>(alloc: Global, name: &'a str, help: &'a str) -> Arg<'a>
-    ensures rule { rule_of result ≡ flag_named name.now }
-    ensures local { result.global ≡ false }
+    ensures { IsArgument result (flag_named name.now) }
 {
     Arg::new(alloc, name)
         .long(name)
@@ -58,8 +53,7 @@ pub(crate) fn flag<'a>(alloc: Global, name: &'a str, help: &'a str) -> Arg<'a>
 
 /// A value that is required.
 pub(crate) fn required<'a>(alloc: Global, id: &'a str, value: &'a str, help: &'a str) -> Arg<'a>
-    ensures rule { rule_of result ≡ required_argument id.now }
-    ensures local { result.global ≡ false }
+    ensures { IsArgument result (required_argument id.now) }
 {
     Arg::new(alloc, id)
         .value_name(value)
@@ -69,16 +63,14 @@ pub(crate) fn required<'a>(alloc: Global, id: &'a str, value: &'a str, help: &'a
 
 /// A value that is optional.
 pub(crate) fn optional<'a>(alloc: Global, id: &'a str, value: &'a str, help: &'a str) -> Arg<'a>
-    ensures rule { rule_of result ≡ optional_argument id.now }
-    ensures local { result.global ≡ false }
+    ensures { IsArgument result (optional_argument id.now) }
 {
     Arg::new(alloc, id).value_name(value).help(help)
 }
 
 /// `[REF]..`.
 pub(crate) fn references<'a>(alloc: Global) -> Arg<'a>
-    ensures rule { rule_of result ≡ references_argument }
-    ensures local { result.global ≡ false }
+    ensures { IsArgument result references_argument }
 {
     Arg::new(alloc, "reference")
         .value_name("REF")
@@ -88,8 +80,7 @@ pub(crate) fn references<'a>(alloc: Global) -> Arg<'a>
 
 /// `PATH..`.
 pub(crate) fn paths<'a>(alloc: Global) -> Arg<'a>
-    ensures rule { rule_of result ≡ paths_argument }
-    ensures local { result.global ≡ false }
+    ensures { IsArgument result paths_argument }
 {
     Arg::new(alloc, "path")
         .value_name("PATH")

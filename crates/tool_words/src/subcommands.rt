@@ -1,8 +1,6 @@
 //! The subcommands as `clap` gets them.
-ghost use Rattle.std.specs.Prelude.{◌≡◌, IfOk, false};
-ghost use Rattle.clap.specs.Simple.{app_of};
-ghost use Rattle.clap.specs.declared.builder.command.Command.TheViews.{out-Command};
-ghost use Rattle.tool_words.specs.Grammar.{plain_app, object_app, path_app, root_app, unroot_app, profile_app, temp_app, gc_app, delete_app, serve_app};
+ghost use Rattle.std.specs.Prelude.{IfOk};
+ghost use Rattle.tool_words.specs.Grammar.{IsCommand, plain_app, object_app, path_app, root_app, unroot_app, profile_app, temp_app, gc_app, delete_app, serve_app};
 
 use crate::arguments::{
     connections_option, flag, option, optional, paths, port_option, references, required,
@@ -13,16 +11,14 @@ use std::alloc::{AllocError, Global};
 
 /// A subcommand without arguments.
 pub(crate) fn plain<'a>(alloc: Global, verb: Verb) -> Command<'a>
-    ensures app { app_of result ≡ plain_app verb }
-    ensures local { (out-Command result).has_globals ≡ false }
+    ensures { IsCommand result (plain_app verb) }
 {
     Command::new(alloc, verb.name()).about(verb.purpose())
 }
 
 /// `NAME [REF]..`.
 pub(crate) fn object<'a>(alloc: Global, verb: Verb) -> Result<Command<'a>, AllocError>
-    ensures app { IfOk result (λ c. app_of c ≡ object_app verb) }
-    ensures local { IfOk result (λ c. (out-Command c).has_globals ≡ false) }
+    ensures { IfOk result (λ c. IsCommand c (object_app verb)) }
 {
     plain(alloc, verb)
         .arg(required(alloc, "name", "NAME", "The name of the store object"))?
@@ -31,16 +27,14 @@ pub(crate) fn object<'a>(alloc: Global, verb: Verb) -> Result<Command<'a>, Alloc
 
 /// `PATH`.
 pub(crate) fn path<'a>(alloc: Global, verb: Verb) -> Result<Command<'a>, AllocError>
-    ensures app { IfOk result (λ c. app_of c ≡ path_app verb) }
-    ensures local { IfOk result (λ c. (out-Command c).has_globals ≡ false) }
+    ensures { IfOk result (λ c. IsCommand c (path_app verb)) }
 {
     plain(alloc, verb).arg(required(alloc, "path", "PATH", "The store path, full or base name"))
 }
 
 /// `root [--permanent] NAME PATH`.
 pub(crate) fn root<'a>(alloc: Global) -> Result<Command<'a>, AllocError>
-    ensures app { IfOk result (λ c. app_of c ≡ root_app) }
-    ensures local { IfOk result (λ c. (out-Command c).has_globals ≡ false) }
+    ensures { IfOk result (λ c. IsCommand c root_app) }
 {
     plain(alloc, Verb::Root)
         .arg(flag(
@@ -54,8 +48,7 @@ pub(crate) fn root<'a>(alloc: Global) -> Result<Command<'a>, AllocError>
 
 /// `unroot [--permanent] [--owner USER] NAME`.
 pub(crate) fn unroot<'a>(alloc: Global) -> Result<Command<'a>, AllocError>
-    ensures app { IfOk result (λ c. app_of c ≡ unroot_app) }
-    ensures local { IfOk result (λ c. (out-Command c).has_globals ≡ false) }
+    ensures { IfOk result (λ c. IsCommand c unroot_app) }
 {
     plain(alloc, Verb::Unroot)
         .arg(flag(alloc, "permanent", "A permanent root"))?
@@ -70,8 +63,7 @@ pub(crate) fn unroot<'a>(alloc: Global) -> Result<Command<'a>, AllocError>
 
 /// `profile [--owner USER] ACTION NAME [VALUE]`.
 pub(crate) fn profile<'a>(alloc: Global) -> Result<Command<'a>, AllocError>
-    ensures app { IfOk result (λ c. app_of c ≡ profile_app) }
-    ensures local { IfOk result (λ c. (out-Command c).has_globals ≡ false) }
+    ensures { IfOk result (λ c. IsCommand c profile_app) }
 {
     plain(alloc, Verb::Profile)
         .arg(option(
@@ -92,8 +84,7 @@ pub(crate) fn profile<'a>(alloc: Global) -> Result<Command<'a>, AllocError>
 
 /// `temp [--owner USER] ACTION SESSION [PATH]`.
 pub(crate) fn temp<'a>(alloc: Global) -> Result<Command<'a>, AllocError>
-    ensures app { IfOk result (λ c. app_of c ≡ temp_app) }
-    ensures local { IfOk result (λ c. (out-Command c).has_globals ≡ false) }
+    ensures { IfOk result (λ c. IsCommand c temp_app) }
 {
     plain(alloc, Verb::Temp)
         .arg(option(
@@ -114,8 +105,7 @@ pub(crate) fn temp<'a>(alloc: Global) -> Result<Command<'a>, AllocError>
 
 /// `gc [--ignore-liveness] [--max-freed N]`.
 pub(crate) fn gc<'a>(alloc: Global) -> Result<Command<'a>, AllocError>
-    ensures app { IfOk result (λ c. app_of c ≡ gc_app) }
-    ensures local { IfOk result (λ c. (out-Command c).has_globals ≡ false) }
+    ensures { IfOk result (λ c. IsCommand c gc_app) }
 {
     plain(alloc, Verb::Gc)
         .arg(flag(
@@ -133,8 +123,7 @@ pub(crate) fn gc<'a>(alloc: Global) -> Result<Command<'a>, AllocError>
 
 /// `delete [--ignore-liveness] PATH..`.
 pub(crate) fn delete<'a>(alloc: Global) -> Result<Command<'a>, AllocError>
-    ensures app { IfOk result (λ c. app_of c ≡ delete_app) }
-    ensures local { IfOk result (λ c. (out-Command c).has_globals ≡ false) }
+    ensures { IfOk result (λ c. IsCommand c delete_app) }
 {
     plain(alloc, Verb::Delete)
         .arg(flag(
@@ -147,8 +136,7 @@ pub(crate) fn delete<'a>(alloc: Global) -> Result<Command<'a>, AllocError>
 
 /// `serve [--port N] [--connections K]`.
 pub(crate) fn serve<'a>(alloc: Global) -> Result<Command<'a>, AllocError>
-    ensures app { IfOk result (λ c. app_of c ≡ serve_app) }
-    ensures local { IfOk result (λ c. (out-Command c).has_globals ≡ false) }
+    ensures { IfOk result (λ c. IsCommand c serve_app) }
 {
     plain(alloc, Verb::Serve)
         .arg(port_option(alloc))?

@@ -89,7 +89,7 @@ impl Verb {
         }
     }
 
-    /// What it does, for help.
+    /// The purpose of a subcommand, as the help prints it.
     pub(crate) fn purpose<'a>(self) -> &'a str {
         match self {
             Verb::Who => "Print the class of the caller, and whether it may connect",

@@ -8,7 +8,7 @@ use Rattle.sqlite_trees.specs.declared.store.Store.{Ghosts}
 use Rattle.httparse.specs.Grammar.{RequestHead}
 use Rattle.wire_server.specs.Responses.{Replied}
 use Rattle.report.specs.declared.failures.Failure.TheVariants.{Input, Memory}
-use Rattle.report.specs.Outputs.{LacksMemory, PrintsFailure}
+use Rattle.report.specs.Outputs.{RunsOutOfMemory, PrintsFailure}
 use Rattle.wire_server.specs.Serves.{Served}
 use Rattle.wire_server.specs.Sessions.{Says, failure, result_of}
 use Rattle.wire_server.specs.ServesAll.{ServesOn}
@@ -30,7 +30,7 @@ module _ {S : Type 0} where
   abbrev pub EndsStreams : (S → S → Result ℕ WireError → Type 0) → Option (List ℕ) → Option (List ℕ) → Option (List ℕ)
       → Option (List ℕ) → S → ℕ → Type 0
   EndsStreams serving out out' err err' old status =
-      LacksMemory
+      RunsOutOfMemory
       (record { output = record { old = out; new = out' }; errors = record { old = err; new = err' }; status = status })
       ⊎ ((end : End) × (new : S) × serving old new (result_of end) × Says end err err' × (status ≡ failure end))
 

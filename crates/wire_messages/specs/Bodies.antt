@@ -1,7 +1,8 @@
 -- What one read of a body leaves.
-use Rattle.std.specs.Prelude.{◌≡◌, ℕ, ◌+◌, ◌<◌, ◌≤◌, List, [], ◌++◌, length, take, drop, Option, Result, Ok, Err, Bool, true, false}
+use Rattle.std.specs.Prelude.{◌≡◌, ℕ, ◌+◌, ◌<◌, ◌≤◌, List, [], ◌++◌, length, take, drop, Option, Result, Ok, Err, IfErr, Bool, true, false}
 use Rattle.std.specs.Io.KnownBytes.{Consumes, IsAtEnd}
 use Rattle.wire_messages.specs.declared.error.ReceiveError.{ReceiveError}
+use Rattle.wire_messages.specs.declared.error.ReceiveError.TheVariants.{Read}
 use Rattle.wire_messages.specs.declared.keeping.Fate.{Fate}
 use Rattle.wire_messages.specs.declared.keeping.Fate.TheVariants.{Kept, Lost, Short}
 use Rattle.wire_messages.specs.declared.keeping.Piece.{Piece}
@@ -23,6 +24,11 @@ pub record ReadsBody (old new : Option (List ℕ)) (held : List ℕ) (len size :
   pub whole : result ≡ Ok true
       → (len + size ≤ length (held ++ read)) × (drop (len + size) (held ++ read) ≡ drop (len + size) held)
   pub short : result ≡ Ok false → IsAtEnd new × (length (held ++ read) < len + size)
+
+-- a call reads as its definition says, and the only error is that a read failed
+pub record ReadsOrFails {T : Type 0} (result : Result T ReceiveError) (reads : Type 0) : Type 0 where
+  pub came : reads
+  pub fault : IfErr result (λ e. e ≡ Read)
 
 -- ---- bodies that are kept, or for which memory was refused
 

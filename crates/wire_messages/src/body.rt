@@ -1,6 +1,6 @@
-//! Bodies that are read to their end and not kept.
-ghost use Rattle.std.specs.Prelude.{◌≡◌, ◌≤◌, ℕ, List, IfErr, length};
-ghost use Rattle.wire_messages.specs.Bodies.{ReadsBody, ReadsRest};
+//! Bodies that are read to their end and not stored.
+ghost use Rattle.std.specs.Prelude.{◌≤◌, ℕ, List, length};
+ghost use Rattle.wire_messages.specs.Bodies.{ReadsBody, ReadsOrFails, ReadsRest};
 
 use crate::error::ReceiveError;
 use crate::head::Head;
@@ -9,8 +9,8 @@ use streams::PIECE_SIZE;
 
 /// Reads a number of bytes and keeps none of them: whether all came.
 fn read_out<R: Read>(input: &mut R, size: usize) -> Result<bool, ReceiveError>
-    ensures came { (read : List ℕ) × ReadsRest (R.remaining input.old) (R.remaining input.new) size read result }
-    ensures fault { IfErr result (λ e. e ≡ ReceiveError.Read) }
+    ensures { ReadsOrFails result
+        ((read : List ℕ) × ReadsRest (R.remaining input.old) (R.remaining input.new) size read result) }
 {
     let mut window = [0; PIECE_SIZE];
     let mut left = size;
@@ -32,8 +32,8 @@ fn read_out<R: Read>(input: &mut R, size: usize) -> Result<bool, ReceiveError>
 /// Reads the bytes that are missing of a body, and keeps none of them: whether all came. Where none is missing nothing is read, and
 /// no window is made.
 pub(crate) fn pass_rest<R: Read>(input: &mut R, left: usize) -> Result<bool, ReceiveError>
-    ensures came { (read : List ℕ) × ReadsRest (R.remaining input.old) (R.remaining input.new) left read result }
-    ensures fault { IfErr result (λ e. e ≡ ReceiveError.Read) }
+    ensures { ReadsOrFails result
+        ((read : List ℕ) × ReadsRest (R.remaining input.old) (R.remaining input.new) left read result) }
 {
     if left == 0 {
         return Ok(true);
@@ -53,8 +53,8 @@ pub fn pass_body<R: Read>(
     size: usize,
 ) -> Result<bool, ReceiveError>
     requires { head.now.spans.len ≤ length held.now }
-    ensures came { ReadsBody (R.remaining input.old) (R.remaining input.new) held.now head.now.spans.len size result }
-    ensures fault { IfErr result (λ e. e ≡ ReceiveError.Read) }
+    ensures { ReadsOrFails result
+        (ReadsBody (R.remaining input.old) (R.remaining input.new) held.now head.now.spans.len size result) }
 {
     pass_rest(input, size.saturating_sub(held.len() - head.spans.len))
 }

@@ -22,7 +22,7 @@ pub struct Head {
 pub enum Look {
     /// The bytes begin with a head.
     Whole(Head),
-    /// There is no head yet.
+    /// The head is not complete yet.
     Unfinished,
     /// No head begins them, whatever follows.
     Faulty,

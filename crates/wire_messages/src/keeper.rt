@@ -5,7 +5,7 @@ use std::alloc::AllocError;
 
 /// Keeps the body of a message as it comes, and may be refused memory for it.
 pub trait Keeper {
-    /// All bytes that were kept.
+    /// All bytes that were stored.
     ghost kept: { Self → List ℕ };
 
     /// Whether a body for which memory was refused may be these bytes, by what is still known of it.

@@ -1,6 +1,6 @@
-//! Bodies that are kept as they come. Where memory is refused for one, the rest of it is read all the same.
-ghost use Rattle.std.specs.Prelude.{◌≡◌, ◌≤◌, ◌<◌, ◌++◌, ℕ, List, Ok, IfErr, length};
-ghost use Rattle.wire_messages.specs.Bodies.{KeepsBody, KeepsOn, KeepsRest, ReadsRest, has_come};
+//! Bodies that are stored as they come. Where memory is refused for one, the rest of it is still read.
+ghost use Rattle.std.specs.Prelude.{◌≡◌, ◌≤◌, ◌<◌, ℕ, List, Ok, IfErr, length};
+ghost use Rattle.wire_messages.specs.Bodies.{KeepsBody, KeepsOn, KeepsRest, ReadsOrFails, ReadsRest, has_come};
 
 use crate::body::pass_rest;
 use crate::error::ReceiveError;
@@ -12,9 +12,9 @@ use streams::PIECE_SIZE;
 /// What became of a body.
 #[derive(Clone, Copy, Debug, PartialEq, Eq)]
 pub enum Fate {
-    /// All of it, and it was kept.
+    /// The whole body came, and was stored.
     Kept,
-    /// All of it, and memory was refused for it.
+    /// The whole body came, and memory was refused for it.
     Lost,
     /// The input ended inside it.
     Short,
@@ -23,7 +23,7 @@ pub enum Fate {
 /// What one read brought.
 #[derive(Clone, Copy)]
 pub(crate) enum Piece {
-    /// A number of bytes, which were kept.
+    /// A number of bytes, which were stored.
     Kept(usize),
     /// A number of bytes, for which memory was refused.
     Lost(usize),
@@ -33,7 +33,7 @@ pub(crate) enum Piece {
     Failed,
 }
 
-/// One read into a window, whose bytes are kept.
+/// One read into a window, whose bytes are stored.
 fn keep_next<R: Read, K: Keeper>(input: &mut R, window: &mut [u8], body: &mut K) -> Piece
     requires { 0 < length window.old }
     ensures { KeepsOn (length window.old) (R.remaining input.old) (R.remaining input.new) (K.kept body.old)
@@ -72,9 +72,9 @@ fn keep_out<R: Read, K: Keeper>(
     size: usize,
     body: &mut K,
 ) -> Result<Fate, ReceiveError>
-    ensures came { KeepsRest (R.remaining input.old) (R.remaining input.new) size (K.kept body.old) (K.kept body.new)
-        (K.may_be body.new) result }
-    ensures fault { IfErr result (λ e. e ≡ ReceiveError.Read) }
+    ensures { ReadsOrFails result
+        (KeepsRest (R.remaining input.old) (R.remaining input.new) size (K.kept body.old) (K.kept body.new)
+        (K.may_be body.new) result) }
 {
     let mut window = [0; PIECE_SIZE];
     let mut left = size;
@@ -96,9 +96,9 @@ fn keep_rest<R: Read, K: Keeper>(
     left: usize,
     body: &mut K,
 ) -> Result<Fate, ReceiveError>
-    ensures came { KeepsRest (R.remaining input.old) (R.remaining input.new) left (K.kept body.old) (K.kept body.new)
-        (K.may_be body.new) result }
-    ensures fault { IfErr result (λ e. e ≡ ReceiveError.Read) }
+    ensures { ReadsOrFails result
+        (KeepsRest (R.remaining input.old) (R.remaining input.new) left (K.kept body.old) (K.kept body.new)
+        (K.may_be body.new) result) }
 {
     if left == 0 {
         return Ok(Fate::Kept);
@@ -120,12 +120,12 @@ pub fn receive_body<R: Read, K: Keeper>(
     body: &mut K,
 ) -> Result<Fate, ReceiveError>
     requires { head.now.spans.len ≤ length held.now }
-    ensures came { KeepsBody (R.remaining input.old) (R.remaining input.new) held.now head.now.spans.len size
-        (K.kept body.old) (K.kept body.new) (K.may_be body.new) result }
-    ensures fault { IfErr result (λ e. e ≡ ReceiveError.Read) }
+    ensures { ReadsOrFails result
+        (KeepsBody (R.remaining input.old) (R.remaining input.new) held.now head.now.spans.len size (K.kept body.old)
+        (K.kept body.new) (K.may_be body.new) result) }
 {
-    let behind = &held[head.spans.len..];
-    let (first, _) = behind.split_at(size.min(behind.len()));
+    let after = &held[head.spans.len..];
+    let (first, _) = after.split_at(size.min(after.len()));
     match body.keep(first) {
         Ok(()) => keep_rest(input, size - first.len(), body),
         Err(_) => pass_lost(input, size - first.len()),

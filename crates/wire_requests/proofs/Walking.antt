@@ -112,8 +112,8 @@ module _ (pattern text path : List ℕ) (short : length pattern < 1000) where
     next : after_token token ≡ token + 1
     next = min-eq_left (omega (arith, short, left token 256 (y ∷ rest) is))
 
-    behind_there : drop (at + (length (prefix p) + 1)) path ≡ suffix p
-    behind_there =
+    behind_present : drop (at + (length (prefix p) + 1)) path ≡ suffix p
+    behind_present =
         let long : length (prefix p) + 1 ≡ suc (length (prefix p)) = omega arith in
         sym (drop-drop (length (prefix p) + 1) at path) ∙ ap (drop (length (prefix p) + 1)) here ∙ ap (λ k. drop k (b ∷ p)) long ∙ drop_prefix p
 
@@ -142,7 +142,7 @@ module _ (pattern text path : List ℕ) (short : length pattern < 1000) where
       let slash : y ≡ 47 = grind (arith, nat_tests) in
       at_slash token at b y p rest is here size slash apart f n names
       ∙ ap (λ t. (part_of text n.0 n.1, b ∷ prefix p) ∷ t)
-      (ih (suffix p) names (token + 1) (at + (length (prefix p) + 1)) (dropped token 256 (y ∷ rest) is) (behind_there token at b y p rest is here size slash apart f)
+      (ih (suffix p) names (token + 1) (at + (length (prefix p) + 1)) (dropped token 256 (y ∷ rest) is) (behind_present token at b y p rest is here size slash apart f)
       (behind_size token at b y p rest is here size slash apart f) (omega (arith, count)) plain f)
 
   walked : (pat : List ℕ) → Walks pat

@@ -1,7 +1,7 @@
 -- What a message asks: by the kind that its route and its method stand for, its target and its body.
 use Rattle.std.specs.Prelude.{◌≡◌, ℕ, Bool, true, false, not, List, [], ◌∷◌, Option, Some, None}
 use Rattle.std.specs.Str.{bytes_eq}
-use Rattle.paths.specs.Decimal.{number_up_to}
+use Rattle.paths.specs.Decimal.{generation_number, session_number}
 use Rattle.paths.specs.StorePath.{is_base_name}
 use Rattle.model.specs.World.{Path, Pair}
 use Rattle.model.specs.Request.{Request, add_text, add_source, import_object, info, nar, ls, list, list_live, list_dead, list_roots, list_roots_of, set_permanent, drop_permanent, set_user_root, drop_user_root, set_profile, rollback, switch, delete_generation, replace_runtime, add_temp, end_session, collect, delete, report}
@@ -21,24 +21,17 @@ use Rattle.wire_requests.specs.View.{imported, flag}
 abbrev pub is_blank : List ℕ → Bool
 is_blank body = bytes_eq (spelled body) (10 ∷ [])
 
--- the numbers that parts of a target write; any other text is 0, which no generation and no session has
-abbrev pub generation_in : List ℕ → ℕ
-generation_in text = number_up_to 9999 text
-
-abbrev pub session_in : List ℕ → ℕ
-session_in text = number_up_to 4194304 text
-
 -- the request that the parameters of a target make without a body
 abbrev pub by_names : Kind → List ℕ → Option Request
 by_names kinds.DropPermanent target = Some (drop_permanent (name at_permanent target))
 by_names kinds.DropUserRoot target = Some (drop_user_root (user at_user_root target) (name at_user_root target))
 by_names kinds.Rollback target = Some (rollback (user at_rollback target) (name at_rollback target))
 by_names kinds.Switch target =
-    Some (switch (user at_switch target) (name at_switch target) (generation_in (number at_switch target)))
+    Some (switch (user at_switch target) (name at_switch target) (generation_number (number at_switch target)))
 by_names kinds.DeleteGeneration target =
     Some (delete_generation (user at_generation target) (name at_generation target)
-    (generation_in (number at_generation target)))
-by_names kinds.EndSession target = Some (end_session (user at_temp target) (session_in (session at_temp target)))
+    (generation_number (number at_generation target)))
+by_names kinds.EndSession target = Some (end_session (user at_temp target) (session_number (session at_temp target)))
 by_names _ target = None
 
 -- the request of a kind without a body, with parameters or none
@@ -78,7 +71,7 @@ Asks dir kinds.SetUserRoot target body q =
 Asks dir kinds.SetProfile target body q =
     Naming dir body (λ p. set_profile (user at_profile target) (name at_profile target) p) q
 Asks dir kinds.AddTemp target body q =
-    Naming dir body (λ p. add_temp (user at_temp target) (session_in (session at_temp target)) p) q
+    Naming dir body (λ p. add_temp (user at_temp target) (session_number (session at_temp target)) p) q
 Asks dir kinds.ReplaceRuntime target body q =
     (named : List Pair) × Says (IsRuntime dir) body named × (q ≡ replace_runtime named)
 Asks dir kinds.Collect target body q =

@@ -46,7 +46,7 @@ abbrev pub can_add : Result Scan InsertError → RowsOf (RouteOf Requests) → B
 can_add (Ok s) table = list_all (λ row. not (conflicts s.pattern row.0)) table
 can_add (Err e) table = false
 
--- each of these routes can be added to a table and those before it
+-- each of these routes can be added to a table that has those before it
 abbrev pub can_add_all : RowsOf (RouteOf Requests) → List (List ℕ × Requests) → Bool
 can_add_all table [] = true
 can_add_all table (row ∷ rows) = can_add (parse_route row.0) table && can_add_all (table ++ row_of row ∷ []) rows

@@ -17,7 +17,7 @@ use wire_bodies::lines_of;
 enum Storage {
     /// In one buffer.
     Whole(Held),
-    /// The payload apart, in an intake.
+    /// The lines in a buffer, the payload in an intake.
     Parted(Parted),
 }
 

@@ -12,13 +12,6 @@ use paths::numbers::{generation, session};
 use store_types::Request;
 use wire_bodies::is_blank;
 
-/// The number of a generation in a text. Any other text is 0, a number that no profile has.
-fn generation_of(text: &str) -> u32
-    ensures { result ≡ spec.generation_in text.now }
-{
-    generation(text) as u32
-}
-
 /// The request of a kind whose values are all names in the target. `None` for any other kind.
 fn by_names(kind: Kind, parameters: Parameters) -> Option<Request>
     ensures { (target : List ℕ) → AreParameters kind target parameters
@@ -37,12 +30,12 @@ fn by_names(kind: Kind, parameters: Parameters) -> Option<Request>
             profile: parameters.name,
         }),
         Kind::Switch => Some(Request::Switch {
-            n: generation_of(parameters.number.as_str()),
+            n: generation(parameters.number.as_str()),
             user: parameters.user,
             profile: parameters.name,
         }),
         Kind::DeleteGeneration => Some(Request::DeleteGeneration {
-            n: generation_of(parameters.number.as_str()),
+            n: generation(parameters.number.as_str()),
             user: parameters.user,
             profile: parameters.name,
         }),

@@ -1,6 +1,7 @@
 //! The places of paths among rows.
-ghost use Rattle.std.specs.Prelude.{◌≡◌, ◌++◌, IfOk, OnOk};
-ghost use Rattle.live.specs.Numbering.{Rise, numbered_links, paths_of, place_of as place, places_of};
+ghost use Rattle.std.specs.Prelude.{◌≡◌, ◌<◌, ◌++◌, [], IfNone, IfOk, IfSome, OnOk, filter, length};
+ghost use Rattle.live.specs.Graph.{same};
+ghost use Rattle.live.specs.Numbering.{Rise, numbered_links, path_at, paths_of, place_of as place, places_of};
 ghost use Rattle.live.specs.Arguments.{row_view, rows_view};
 ghost use Rattle.live.specs.Heads.{AreHeads, AreTexts};
 ghost use Rattle.live.specs.Added.{IsAdded};
@@ -33,10 +34,25 @@ fn place_between(rows: &[Row], path: &StorePath, from: usize, to: usize) -> Opti
     None
 }
 
-/// The place of a path, if it is a row's.
-pub(crate) fn place_of(rows: &[Row], path: &StorePath) -> Option<usize>
+/// The place of a path among rows that strictly rise. `None` if no row has it.
+///
+/// ```rust
+/// use live::Row;
+/// use paths::StorePath;
+///
+/// let first = StorePath::from_base(alloc, "00000000000000000000000000000000-p")?;
+/// let second = StorePath::from_base(alloc, "11111111111111111111111111111111-x")?;
+/// let p = Row { path: &first, references: &[], outputs: &[], deriver: None };
+/// let rows = [p];
+/// assert!(rt; live::do_rise(&rows));
+/// assert_eq!(rt; live::place_of(&rows, &first), Some(0));
+/// assert_eq!(rt; live::place_of(&rows, &second), None);
+/// ```
+pub fn place_of(rows: &[Row], path: &StorePath) -> Option<usize>
     requires { Rise (paths_of (rows_view rows.now)) }
-    ensures { result ≡ place (paths_of (rows_view rows.now)) path.now }
+    ensures place { result ≡ place (paths_of (rows_view rows.now)) path.now }
+    ensures found { IfSome result (λ i. (i < length rows.now) × (path_at (rows_view rows.now) i ≡ path.now)) }
+    ensures none { IfNone result (filter (same path.now) (paths_of (rows_view rows.now)) ≡ []) }
 {
     place_between(rows, path, 0, rows.len())
 }

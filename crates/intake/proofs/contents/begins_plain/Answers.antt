@@ -9,4 +9,4 @@ pub returns : goal.returns
 unfolding plain_prefix string
 returns c =
     let front = c.split_at.ensures.front ∙ ap (λ n. take n c.args.archive.now) c.min.ensures ∙ take_min 88 c.args.archive.now in
-    c.same_bytes.ensures ∙ ap (λ t. bytes_eq t plain_prefix) front
+    c.eq.ensures ∙ ap (λ t. bytes_eq t plain_prefix) front

@@ -7,16 +7,16 @@ use Rattle.live.proofs.Turns.{one_more, over, under_way}
 use Rattle.live.proofs.limiting.limited.Goals as goal
 
 pub turns-init : goal.turns-init
-turns-init c = under_way c.args.graph.now c.args.marks.now c.args.sizes.now c.args.limit c.in_ok-leaving.leaving c.in_ok-leaving.ensures.remaining c.in_ok-leaving.ensures.left c.in_ok-leaving.ensures.dead
+turns-init c = under_way c.args.graph.now c.args.marks.now c.args.sizes.now c.args.limit c.in_ok-remaining.remaining c.in_ok-remaining.ensures.remaining c.in_ok-remaining.ensures.left c.in_ok-remaining.ensures.dead
 
 pub turns-preserved : goal.turns-preserved
 turns-preserved c =
-    one_more c.args.graph.now c.args.marks.now c.args.sizes.now c.args.limit c.turns.turn c.turns.leaving c.turn.new.self c.turns.wanted c.in_ok-wanted.wanted
+    one_more c.args.graph.now c.args.marks.now c.args.sizes.now c.args.limit c.turns.turn c.turns.remaining c.turn.new.self c.turns.wanted c.in_ok-wanted.wanted
     (let t = c.turns-test.true in let n = c.len-turn-end.ensures.value in omega arith) c.turns.invariant c.in_ok-wanted.ensures.remaining c.in_ok-wanted.ensures.dead c.in_ok-wanted.ensures.turn
 
 places : goal.returns-clause-places
 places c keep rows given size rise same exact sized =
-    over c.args.graph.now c.args.marks.now c.args.sizes.now c.args.limit c.turns.turn c.turns.leaving c.turns.wanted
+    over c.args.graph.now c.args.marks.now c.args.sizes.now c.args.limit c.turns.turn c.turns.remaining c.turns.wanted
     (let t = c.turns-test.false in let n = c.len-turn-end.ensures.value in omega arith) c.turns.invariant c.in_ok-deleted_places.deleted_places.items c.in_ok-deleted_places.ensures keep rows given size rise same exact sized
 
 pub returns-clause-places : goal.returns-clause-places

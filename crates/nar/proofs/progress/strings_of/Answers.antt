@@ -33,7 +33,7 @@ strings-preserved c =
     record {
       fed = λ all fed. next_takes (symbols_of c.strings.nest) (symbols_of c.step.new.self) c.strings.at.room c.strings.at.rest.now all c.in-Ok.text.now c.in-Ok.after.room c.in-Ok.after.rest.now c.in_ok-step-in-Ok.ensures.ok c.in-Ok.ensures.ok (so_far.fed all fed);
       bytes = rest_bytes c.in-Ok.ensures.ok so_far.bytes;
-      behind = ends_step so_far.behind c.in-Ok.ensures.ok;
+      suffix = ends_step so_far.suffix c.in-Ok.ensures.ok;
     }
 
 pub strings-smaller : goal.strings-smaller

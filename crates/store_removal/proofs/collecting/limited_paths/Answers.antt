@@ -16,24 +16,17 @@ use Rattle.store_removal.proofs.Marked.{passed_rise, valid_rise, valid_targets}
 use Rattle.store_removal.proofs.Valid.{aims_well}
 use Rattle.store_removal.proofs.collecting.limited_paths.Goals as goal
 
-pub places-requires-clause-rows : goal.places-requires-clause-rows
-places-requires-clause-rows c = passed_rise c.args.outline.now (rows_view c.deref-4.result.now) (ap rows_view c.deref-4.ensures.value ∙ c.in_ok-rows.ensures)
-
-pub places-requires-clause-roots : goal.places-requires-clause-roots
-places-requires-clause-roots c =
+pub places-requires-clause-listed : goal.places-requires-clause-listed
+places-requires-clause-listed c =
     let o = c.args.outline.now in
     let same : roots_view c.deref-5.result.now ≡ filter (aims_well o) (roots_of (rooted o)) =
     ap roots_view c.deref-5.ensures.value ∙ c.in_ok-valid.ensures
     ∙ ap (filter (aims_well o)) (ap roots_view c.deref-2.ensures.value ∙ c.in_ok-given.ensures ∙ ap (map root_view) c.deref.ensures.value ∙ c.in_ok-roots.ensures) in
-    valid_rise o (rows_view c.deref-4.result.now) (ap rows_view c.deref-4.ensures.value ∙ c.in_ok-rows.ensures) (roots_view c.deref-5.result.now) same
-
-pub places-requires-clause-targets : goal.places-requires-clause-targets
-places-requires-clause-targets c =
-    let o = c.args.outline.now in
-    let same : roots_view c.deref-5.result.now ≡ filter (aims_well o) (roots_of (rooted o)) =
-    ap roots_view c.deref-5.ensures.value ∙ c.in_ok-valid.ensures
-    ∙ ap (filter (aims_well o)) (ap roots_view c.deref-2.ensures.value ∙ c.in_ok-given.ensures ∙ ap (map root_view) c.deref.ensures.value ∙ c.in_ok-roots.ensures) in
-    valid_targets o (rows_view c.deref-4.result.now) (ap rows_view c.deref-4.ensures.value ∙ c.in_ok-rows.ensures) (roots_view c.deref-5.result.now) same
+    record {
+      rows = passed_rise c.args.outline.now (rows_view c.deref-4.result.now) (ap rows_view c.deref-4.ensures.value ∙ c.in_ok-rows.ensures);
+      roots = valid_rise o (rows_view c.deref-4.result.now) (ap rows_view c.deref-4.ensures.value ∙ c.in_ok-rows.ensures) (roots_view c.deref-5.result.now) same;
+      targets = valid_targets o (rows_view c.deref-4.result.now) (ap rows_view c.deref-4.ensures.value ∙ c.in_ok-rows.ensures) (roots_view c.deref-5.result.now) same;
+    }
 
 pub places-requires-clause-sizes : goal.places-requires-clause-sizes
 places-requires-clause-sizes c =

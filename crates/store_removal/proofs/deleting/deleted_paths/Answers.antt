@@ -5,6 +5,9 @@ use Rattle.store_removal.proofs.Deleted.{deleted_reported}
 use Rattle.store_removal.proofs.Marked.{passed_rise}
 use Rattle.store_removal.proofs.deleting.deleted_paths.Goals as goal
 
+pub places-requires : goal.places-requires
+places-requires c = passed_rise c.args.outline.now (rows_view c.deref.result.now) (ap rows_view c.deref.ensures.value ∙ c.in_ok-rows.ensures)
+
 pub referring-requires-clause-rise : goal.referring-requires-clause-rise
 referring-requires-clause-rise c = passed_rise c.args.outline.now (rows_view c.deref-2.result.now) (ap rows_view c.deref-2.ensures.value ∙ c.in_ok-rows.ensures)
 

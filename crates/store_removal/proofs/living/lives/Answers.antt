@@ -11,24 +11,17 @@ use Rattle.store_removal.proofs.Marked.{passed_rise, lives_marked, valid_rise, v
 use Rattle.store_removal.proofs.Valid.{aims_well}
 use Rattle.store_removal.proofs.living.lives.Goals as goal
 
-pub marks-requires-clause-rows : goal.marks-requires-clause-rows
-marks-requires-clause-rows c = passed_rise c.args.outline.now (rows_view c.args.rows.now) c.requires
-
-pub marks-requires-clause-roots : goal.marks-requires-clause-roots
-marks-requires-clause-roots c =
+pub marks-requires : goal.marks-requires
+marks-requires c =
     let o = c.args.outline.now in
     let same : roots_view c.deref-3.result.now ≡ filter (aims_well o) (roots_of (rooted o)) =
     ap roots_view c.deref-3.ensures.value ∙ c.in_ok-valid.ensures
     ∙ ap (filter (aims_well o)) (ap roots_view c.deref-2.ensures.value ∙ c.in_ok-given.ensures ∙ ap (map root_view) c.deref.ensures.value ∙ c.in_ok-roots.ensures) in
-    valid_rise o (rows_view c.args.rows.now) c.requires (roots_view c.deref-3.result.now) same
-
-pub marks-requires-clause-targets : goal.marks-requires-clause-targets
-marks-requires-clause-targets c =
-    let o = c.args.outline.now in
-    let same : roots_view c.deref-3.result.now ≡ filter (aims_well o) (roots_of (rooted o)) =
-    ap roots_view c.deref-3.ensures.value ∙ c.in_ok-valid.ensures
-    ∙ ap (filter (aims_well o)) (ap roots_view c.deref-2.ensures.value ∙ c.in_ok-given.ensures ∙ ap (map root_view) c.deref.ensures.value ∙ c.in_ok-roots.ensures) in
-    valid_targets o (rows_view c.args.rows.now) c.requires (roots_view c.deref-3.result.now) same
+    record {
+      rows = passed_rise c.args.outline.now (rows_view c.args.rows.now) c.requires;
+      roots = valid_rise o (rows_view c.args.rows.now) c.requires (roots_view c.deref-3.result.now) same;
+      targets = valid_targets o (rows_view c.args.rows.now) c.requires (roots_view c.deref-3.result.now) same;
+    }
 
 pub returns : goal.returns
 returns c =

@@ -14,6 +14,9 @@ use Rattle.store_removal.proofs.Places.{keeping_reported, none_keeps}
 use Rattle.store_removal.proofs.Valid.{aims_well}
 use Rattle.store_removal.proofs.reaching.seen_roots_of.Goals as goal
 
+pub place_of-requires : goal.place_of-requires
+place_of-requires c = passed_rise c.args.outline.now (rows_view c.deref.result.now) (ap rows_view c.deref.ensures.value ∙ c.in_ok-rows.ensures)
+
 pub returns-in_default : goal.returns-in_default
 returns-in_default c w is =
     ap (map labelled_bytes) c.new.ensures.items

@@ -4,7 +4,7 @@ use Rattle.std.proofs.lemmas.List.{nil_from_length}
 use Rattle.model.specs.World.{Pair, pair_cmp}
 use Rattle.tables_outline.specs.Maps.{labelled_bytes, seen_set}
 use Rattle.tables_outline.proofs.Orders.{pair_total, pair_antisymmetric}
-use Rattle.store_steps.proofs.Outputs.{at_first, all_put}
+use Rattle.intake.proofs.FirstEntries.{at_first, all_put}
 use Rattle.store_roots.proofs.RuntimePairs.{fronts, pushed, next_pair}
 use Rattle.store_roots.proofs.runtime.valid_pairs.Goals as goal
 

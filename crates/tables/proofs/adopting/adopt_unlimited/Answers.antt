@@ -1,28 +1,23 @@
 use Rattle.std.proofs.Common.{inl}
 use Rattle.sqlite.specs.Held.{state}
-use Rattle.tables.specs.Opening.{OpensStore}
-use Rattle.tables.proofs.Passed.{both_survive, both_same, same_cause, same_took}
+use Rattle.sqlite.proofs.StateLemmas.{survives_weaker}
+use Rattle.tables.proofs.Adopted.{adopts_after}
 use Rattle.tables.proofs.adopting.adopt_unlimited.Goals as goal
 
-pub returns-in-Ok-clause-cause : goal.returns-in-Ok-clause-cause
-returns-in-Ok-clause-cause g c =
-    same_cause (λ t. state g.S.Store t.connection) (λ e. state g.S.Store e.conn) c.take.result (state g.S.Store c.args.conn) (state g.S.Store c.in-Ok.opened.conn) c.args.dir.now
-    c.in-Ok.ensures.unchanged c.in-Ok.ensures.survives c.take.ensures.survives (λ e. e.cause) c.take.ensures.cause
+pub returns-in-Ok : goal.returns-in-Ok
+returns-in-Ok g c =
+    adopts_after g.S.Store c.args.dir.now (state g.S.Store c.args.conn) (state g.S.Store c.in-Ok.opened.conn) c.take.result
+    c.in-Ok.ensures.unchanged c.in-Ok.ensures.survives c.in-Ok.ensures.same c.take.ensures
 
-pub returns-in-Ok-clause-same : goal.returns-in-Ok-clause-same
-returns-in-Ok-clause-same g c =
-    both_same (λ t. state g.S.Store t.connection) (λ e. state g.S.Store e.conn) c.take.result (state g.S.Store c.args.conn) (state g.S.Store c.in-Ok.opened.conn) c.args.dir.now
-    c.in-Ok.ensures.unchanged c.in-Ok.ensures.survives c.take.ensures.survives c.in-Ok.ensures.same c.take.ensures.same
-
-pub returns-in-Ok-clause-survives : goal.returns-in-Ok-clause-survives
-returns-in-Ok-clause-survives g c =
-    both_survive (λ t. state g.S.Store t.connection) (λ e. state g.S.Store e.conn) c.take.result (state g.S.Store c.args.conn) (state g.S.Store c.in-Ok.opened.conn) c.args.dir.now
-    c.in-Ok.ensures.unchanged c.in-Ok.ensures.survives c.take.ensures.survives
-
-pub returns-in-Ok-clause-opens : goal.returns-in-Ok-clause-opens
-returns-in-Ok-clause-opens g c =
-    same_took (λ t. state g.S.Store t.connection) (λ e. state g.S.Store e.conn) c.take.result (state g.S.Store c.args.conn) (state g.S.Store c.in-Ok.opened.conn) c.args.dir.now
-    c.in-Ok.ensures.unchanged c.in-Ok.ensures.survives c.take.ensures.survives (λ db t. OpensStore g.S.Store c.args.dir.now db t) c.take.ensures.opens
-
-pub returns-in-Err-clause-cause : goal.returns-in-Err-clause-cause
-returns-in-Err-clause-cause g c clean = inl (c.in-Err.ensures.cause clean)
+pub returns-in-Err : goal.returns-in-Err
+returns-in-Err g c =
+    let new = c.in-Err.unreadable.conn in
+    record {
+      dir = tt;
+      opens = tt;
+      idle = c.in-Err.ensures.idle;
+      cause = λ clean. inl (c.in-Err.ensures.cause clean);
+      same = c.in-Err.ensures.same;
+      durable = λ is_open db may. g.met.S.Store.settled new.store db is_open may;
+      survives = survives_weaker (state g.S.Store c.args.conn) (state g.S.Store new) _ _ (λ clean db none. absurd none) c.in-Err.ensures.survives;
+    }

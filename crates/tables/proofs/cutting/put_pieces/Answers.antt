@@ -21,6 +21,7 @@ use Rattle.tables.proofs.Free.{free_next}
 use Rattle.tables_make.proofs.Reasons.{is_none, next_reason, put_reason}
 use Rattle.tables.proofs.Transactions.{pieces_exist}
 use Rattle.tables_make.proofs.Inside.{done_fails}
+use Rattle.tables.proofs.Failing.{none_done}
 use Rattle.tables.proofs.cutting.put_pieces.Goals as goal
 
 pub pieces-init : goal.pieces-init
@@ -30,7 +31,7 @@ pieces-init g c =
     let change : List (ℤ × List ℕ) → Contents → Contents = λ ps x. record x { pieces = put_pieces c.args.base.now ps x.pieces } in
     record {
       same_reference = refl;
-      goes = λ clean. subst (λ ps. Goes change (further_pieces nar) first first ps) (sym (all_left nar)) (goes_first change (further_pieces nar) first (c.requires.under_way clean) (c.requires.is_open clean));
+      goes = λ clean. subst (λ ps. Goes change (further_pieces nar) first first ps) (sym (all_left nar)) (goes_first change (further_pieces nar) first (c.requires.frame.under_way clean) (c.requires.frame.is_open clean));
       free = λ clean. subst (λ ps. AreFree (contents_of first.now).pieces (map (λ (e : ℤ × List ℕ). (c.args.base.now, e.0)) ps)) (sym (all_left nar)) (c.requires.free clean);
       among = λ t values. subst (λ ps. RowsOf (PieceRow c.args.base.now) ps t values) (all_left nar);
       survives = survives_none first;
@@ -64,47 +65,53 @@ pieces-preserved g c =
 
 pub insert-requires-clause-exists : goal.insert-requires-clause-exists
 insert-requires-clause-exists g c clean is_open =
-    pieces_exist (state g.S.Store c.args.tx.now.conn.now) (state g.S.Store c.pieces.tx.conn.now) _ (λ now. (c.pieces.invariant.goes now).changes) c.pieces.invariant.survives (λ early up. c.requires.exists early) clean
+    pieces_exist (state g.S.Store c.args.tx.now.conn.now) (state g.S.Store c.pieces.tx.conn.now) _ (λ now. (c.pieces.invariant.goes now).changes) c.pieces.invariant.survives (λ early up. c.requires.frame.exists early) clean
 
-pub returns-then-place-count-clause-done : goal.returns-then-place-count-clause-done
-returns-then-place-count-clause-done g c clean =
-    let nar = c.args.nar.now in
-    let n = c.pieces.number in
-    let now = state g.S.Store c.pieces.tx.conn.now in
-    let change : List (ℤ × List ℕ) → Contents → Contents = λ ps x. record x { pieces = put_pieces c.args.base.now ps x.pieces } in
-    let end : length nar ≤ 65536 * n = omega arith in
-    goes_done change (further_pieces nar) (state g.S.Store c.args.tx.now.conn.now) now (left_from n nar) (ap (λ ps. change ps (contents_of now.now)) (past_end n nar end)) (c.pieces.invariant.goes clean)
+pub returns-then-place-count : goal.returns-then-place-count
+returns-then-place-count g c = record {
+  frame = record { same_reference = c.pieces.invariant.same_reference; failed = λ clean. tt; survives = c.pieces.invariant.survives };
+  done = λ clean.
+      let nar = c.args.nar.now in
+      let n = c.pieces.number in
+      let now = state g.S.Store c.pieces.tx.conn.now in
+      let change : List (ℤ × List ℕ) → Contents → Contents = λ ps x. record x { pieces = put_pieces c.args.base.now ps x.pieces } in
+      let end : length nar ≤ 65536 * n = omega arith in
+      goes_done change (further_pieces nar) (state g.S.Store c.args.tx.now.conn.now) now (left_from n nar) (ap (λ ps. change ps (contents_of now.now)) (past_end n nar end)) (c.pieces.invariant.goes clean);
+  cause = λ clean. tt;
+}
 
 -- one of them wasn't put: none was there before it
-pub returns-in_err-insert-clause-cause : goal.returns-in_err-insert-clause-cause
-returns-in_err-insert-clause-cause g c clean =
-    let base = c.args.base.now in
-    let nar = c.args.nar.now in
-    let first = state g.S.Store c.args.tx.now.conn.now in
-    let now = state g.S.Store c.pieces.tx.conn.now in
-    let next = state g.S.Store c.insert.new.tx.conn.now in
-    let was = contents_of now.now in
-    let n = c.pieces.number in
-    let more : 65536 * n < length nar = omega arith in
-    let early = clean_before now next _ c.insert.ensures.frame.survives clean in
-    let free = subst (λ ps. AreFree was.pieces (map (λ (e : ℤ × List ℕ). (base, e.0)) ps)) (next_left n nar more) (c.pieces.invariant.free early) in
-    let row : Row = Text base ∷ Int (pos n) ∷ Blob c.piece.result.now ∷ [] in
-    let is : row ≡ Text base ∷ Int (pos n) ∷ Blob (piece_of n nar) ∷ [] = ap (λ b. Text base ∷ Int (pos n) ∷ Blob b ∷ []) c.piece.ensures in
-    passed_on c.from_residual.result _ _ c.from_residual.ensures.1
-    (next_reason _ first now next _ (c.pieces.invariant.goes early).changes c.pieces.invariant.survives _
-    (put_reason (RowsOf (PieceRow base) (further_pieces nar)) now next piece row _ (c.pieces.invariant.among piece row (subst (λ ps. RowsOf (PieceRow base) ps piece row) (sym (next_left n nar more)) (inl (refl, is)))) (is_none _ free.free.0) _ (c.in_err-insert.ensures.cause clean)))
+pub returns-in_err-insert : goal.returns-in_err-insert
+returns-in_err-insert g c = record {
+  frame =
+      done_fails g.S.Store c.args.tx.now.conn c.pieces.tx.conn c.insert.new.tx.conn _ c.pieces.invariant.same_reference (λ clean. (c.pieces.invariant.goes clean).changes) c.pieces.invariant.survives
+      c.from_residual.result c.insert.ensures.frame.same_reference c.in_err-insert.ensures.frame.failed c.insert.ensures.frame.survives;
+  done = λ clean. none_done c.from_residual.result _ _ c.from_residual.ensures.1;
+  cause = λ clean.
+      let base = c.args.base.now in
+      let nar = c.args.nar.now in
+      let first = state g.S.Store c.args.tx.now.conn.now in
+      let now = state g.S.Store c.pieces.tx.conn.now in
+      let next = state g.S.Store c.insert.new.tx.conn.now in
+      let was = contents_of now.now in
+      let n = c.pieces.number in
+      let more : 65536 * n < length nar = omega arith in
+      let early = clean_before now next _ c.insert.ensures.frame.survives clean in
+      let free = subst (λ ps. AreFree was.pieces (map (λ (e : ℤ × List ℕ). (base, e.0)) ps)) (next_left n nar more) (c.pieces.invariant.free early) in
+      let row : Row = Text base ∷ Int (pos n) ∷ Blob c.piece.result.now ∷ [] in
+      let is : row ≡ Text base ∷ Int (pos n) ∷ Blob (piece_of n nar) ∷ [] = ap (λ b. Text base ∷ Int (pos n) ∷ Blob b ∷ []) c.piece.ensures in
+      passed_on c.from_residual.result _ _ c.from_residual.ensures.1
+      (next_reason _ first now next _ (c.pieces.invariant.goes early).changes c.pieces.invariant.survives _
+      (put_reason (RowsOf (PieceRow base) (further_pieces nar)) now next piece row _ (c.pieces.invariant.among piece row (subst (λ ps. RowsOf (PieceRow base) ps piece row) (sym (next_left n nar more)) (inl (refl, is)))) (is_none _ free.free.0) _ (c.in_err-insert.ensures.cause clean)));
+}
 
-pub returns-in_err-insert-clause-frame : goal.returns-in_err-insert-clause-frame
-returns-in_err-insert-clause-frame g c =
-    done_fails g.S.Store c.args.tx.now.conn c.pieces.tx.conn c.insert.new.tx.conn _ c.pieces.invariant.same_reference (λ clean. (c.pieces.invariant.goes clean).changes) c.pieces.invariant.survives
-    c.from_residual.result c.insert.ensures.frame.same_reference c.in_err-insert.ensures.frame.failed c.insert.ensures.frame.survives
-
-pub returns-then-place-count-clause-frame : goal.returns-then-place-count-clause-frame
-returns-then-place-count-clause-frame g c = record { same_reference = c.pieces.invariant.same_reference; failed = λ clean. tt; survives = c.pieces.invariant.survives }
-
-pub returns-clause-frame : goal.returns-clause-frame
-returns-clause-frame g c = record {
-  same_reference = c.pieces.invariant.same_reference;
-  failed = λ clean. let done = (c.pieces.invariant.goes clean).changes in record { was_open = λ up. done.was_open; committed = λ up. done.committed };
-  survives = c.pieces.invariant.survives;
+pub returns : goal.returns
+returns g c = record {
+  frame = record {
+    same_reference = c.pieces.invariant.same_reference;
+    failed = λ clean. let done = (c.pieces.invariant.goes clean).changes in record { was_open = λ up. done.was_open; committed = λ up. done.committed };
+    survives = c.pieces.invariant.survives;
+  };
+  done = λ clean. tt;
+  cause = λ clean. tt;
 }

@@ -25,7 +25,7 @@ returns-clause-survives g c =
     let d = state g.S.Store c.bring.new.conn in
     both_leave c.args.schema c.args.dir.now a b d c.in_ok-loaded.ensures.unchanged
     (λ early. subst (λ (x : List ℕ). IsSoundBy c.args.schema x (contents_of a.now)) c.in_ok-loaded.ensures.dir (c.in_ok-loaded.ensures.reported early).0)
-    c.requires.found c.read_as.ensures.survives c.bring.ensures.survives
+    c.requires.found c.read_as.ensures.frame.survives c.bring.ensures.survives
 
 pub returns-in_err-bring-clause-survives : goal.returns-in_err-bring-clause-survives
 returns-in_err-bring-clause-survives g c =
@@ -34,7 +34,7 @@ returns-in_err-bring-clause-survives g c =
     let d = state g.S.Store c.bring.new.conn in
     both_leave c.args.schema c.args.dir.now a b d c.in_ok-loaded.ensures.unchanged
     (λ early. subst (λ (x : List ℕ). IsSoundBy c.args.schema x (contents_of a.now)) c.in_ok-loaded.ensures.dir (c.in_ok-loaded.ensures.reported early).0)
-    c.requires.found c.read_as.ensures.survives c.bring.ensures.survives
+    c.requires.found c.read_as.ensures.frame.survives c.bring.ensures.survives
 
 pub returns-in_err-bring-clause-cause : goal.returns-in_err-bring-clause-cause
 returns-in_err-bring-clause-cause g c clean =
@@ -42,7 +42,7 @@ returns-in_err-bring-clause-cause g c clean =
     let b = state g.S.Store c.read_as.new.conn in
     let d = state g.S.Store c.bring.new.conn in
     let read = clean_before b d _ c.bring.ensures.survives clean in
-    let early = clean_before a b _ c.read_as.ensures.survives read in
+    let early = clean_before a b _ c.read_as.ensures.frame.survives read in
     let p = err_from_is_err_and c.from_residual-in_err-bring.result c.from_residual-in_err-bring.ensures.1 in
     rw (p.1, p.2) (migration_cause c.args.dir.now a d c.in_err-bring.field-0.0 c.args.schema (c.requires.found early) c.in_err-bring.ensures.needed
-    (migrating_before c.args.schema a b d (c.in_ok-loaded.ensures.unchanged read) c.read_as.ensures.survives c.in_err-bring.field-0.0 (c.in_err-bring.ensures.cause clean)))
+    (migrating_before c.args.schema a b d (c.in_ok-loaded.ensures.unchanged read) c.read_as.ensures.frame.survives c.in_err-bring.field-0.0 (c.in_err-bring.ensures.cause clean)))

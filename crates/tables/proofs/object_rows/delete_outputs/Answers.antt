@@ -8,14 +8,19 @@ use Rattle.tables_sql.proofs.Transactions.{survives_none}
 use Rattle.tables.proofs.object_rows.delete_outputs.Goals as goal
 
 -- the object has none, and so there is no row
-pub returns-then-is_empty-clause-done : goal.returns-then-is_empty-clause-done
-returns-then-is_empty-clause-done g c clean =
-    let s = state g.S.Store c.args.tx.now.conn.now in
-    changes_nothing s _ (c.requires.under_way clean) (c.requires.is_open clean)
-    (no_outputs (contents_of s.now) c.args.base.now (λ name present. keyless c.args.object.now.outputs (λ e. e.1) c.outputs.result.now c.outputs.ensures c.if-is_empty.ensures name (c.requires.reported clean name present)))
+pub returns-then-is_empty : goal.returns-then-is_empty
+returns-then-is_empty g c = record {
+  frame = record { same_reference = refl; failed = λ clean. tt; survives = survives_none (state g.S.Store c.args.tx.now.conn.now) };
+  done = λ clean.
+      let s = state g.S.Store c.args.tx.now.conn.now in
+      changes_nothing s _ (c.requires.frame.under_way clean) (c.requires.frame.is_open clean)
+      (no_outputs (contents_of s.now) c.args.base.now (λ name present. keyless c.args.object.now.outputs (λ e. e.1) c.outputs.result.now c.outputs.ensures c.if-is_empty.ensures name (c.requires.reported clean name present)));
+  cause = λ clean. tt;
+}
 
-pub returns-clause-cause : goal.returns-clause-cause
-returns-clause-cause g c clean = as_reason _ _ (removal_reason _ (state g.S.Store c.args.tx.now.conn.now) (state g.S.Store c.delete_of.new.tx.conn.now)) c.delete_of.result (c.delete_of.ensures.cause clean)
-
-pub returns-then-is_empty-clause-frame : goal.returns-then-is_empty-clause-frame
-returns-then-is_empty-clause-frame g c = record { same_reference = refl; failed = λ clean. tt; survives = survives_none (state g.S.Store c.args.tx.now.conn.now) }
+pub returns : goal.returns
+returns g c = record {
+  frame = c.delete_of.ensures.frame;
+  done = c.delete_of.ensures.done;
+  cause = λ clean. as_reason _ _ (removal_reason _ (state g.S.Store c.args.tx.now.conn.now) (state g.S.Store c.delete_of.new.tx.conn.now)) c.delete_of.result (c.delete_of.ensures.cause clean);
+}

@@ -10,14 +10,19 @@ use Rattle.tables_sql.proofs.Transactions.{survives_none}
 use Rattle.tables.proofs.object_rows.delete_pieces.Goals as goal
 
 -- the row holds the whole archive, and so there is no piece
-pub returns-then-size-le-PIECE_SIZE-clause-done : goal.returns-then-size-le-PIECE_SIZE-clause-done
-returns-then-size-le-PIECE_SIZE-clause-done g c clean =
-    let s = state g.S.Store c.args.tx.now.conn.now in
-    changes_nothing s _ (c.requires.under_way clean) (c.requires.is_open clean)
-    (no_pieces (contents_of s.now) c.args.base.now (λ n present. let longer : piece_size < c.args.object.now.size = c.requires.reported clean n present in omega (arith, longer, size_is, c.size.ensures, c.if-size-le-PIECE_SIZE.true)))
+pub returns-then-size-le-PIECE_SIZE : goal.returns-then-size-le-PIECE_SIZE
+returns-then-size-le-PIECE_SIZE g c = record {
+  frame = record { same_reference = refl; failed = λ clean. tt; survives = survives_none (state g.S.Store c.args.tx.now.conn.now) };
+  done = λ clean.
+      let s = state g.S.Store c.args.tx.now.conn.now in
+      changes_nothing s _ (c.requires.frame.under_way clean) (c.requires.frame.is_open clean)
+      (no_pieces (contents_of s.now) c.args.base.now (λ n present. let longer : piece_size < c.args.object.now.size = c.requires.reported clean n present in omega (arith, longer, size_is, c.size.ensures, c.if-size-le-PIECE_SIZE.true)));
+  cause = λ clean. tt;
+}
 
-pub returns-clause-cause : goal.returns-clause-cause
-returns-clause-cause g c clean = as_reason _ _ (removal_reason _ (state g.S.Store c.args.tx.now.conn.now) (state g.S.Store c.delete_of.new.tx.conn.now)) c.delete_of.result (c.delete_of.ensures.cause clean)
-
-pub returns-then-size-le-PIECE_SIZE-clause-frame : goal.returns-then-size-le-PIECE_SIZE-clause-frame
-returns-then-size-le-PIECE_SIZE-clause-frame g c = record { same_reference = refl; failed = λ clean. tt; survives = survives_none (state g.S.Store c.args.tx.now.conn.now) }
+pub returns : goal.returns
+returns g c = record {
+  frame = c.delete_of.ensures.frame;
+  done = c.delete_of.ensures.done;
+  cause = λ clean. as_reason _ _ (removal_reason _ (state g.S.Store c.args.tx.now.conn.now) (state g.S.Store c.delete_of.new.tx.conn.now)) c.delete_of.result (c.delete_of.ensures.cause clean);
+}

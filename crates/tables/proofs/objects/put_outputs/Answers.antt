@@ -17,6 +17,7 @@ use Rattle.tables_sql.proofs.Transactions.{survives_none}
 use Rattle.tables_sql.proofs.TestFailures.{passed_on, survives_both}
 use Rattle.tables_make.proofs.Reasons.{is_none, next_reason, of_item, put_reason}
 use Rattle.tables_make.proofs.Inside.{done_fails}
+use Rattle.tables.proofs.Failing.{none_done}
 use Rattle.tables.proofs.objects.put_outputs.Goals as goal
 
 pub outputs-init : goal.outputs-init
@@ -25,7 +26,7 @@ outputs-init g c =
     let all = zip (map string_bytes c.args.names.now) c.args.outputs.now in
     record {
       same_reference = refl;
-      goes = λ clean. goes_first (λ es (x : Contents). record x { outs = put_outputs c.args.base.now es x.outs }) all first (c.requires.under_way clean) (c.requires.is_open clean);
+      goes = λ clean. goes_first (λ es (x : Contents). record x { outs = put_outputs c.args.base.now es x.outs }) all first (c.requires.frame.under_way clean) (c.requires.frame.is_open clean);
       free = c.requires.free;
       survives = survives_none first;
     }
@@ -61,44 +62,46 @@ outputs-preserved g c =
       survives = survives_both first now next c.outputs.invariant.survives c.insert.ensures.frame.survives;
     }
 
-pub returns-clause-done : goal.returns-clause-done
-returns-clause-done g c = λ clean.
-    let first = state g.S.Store c.args.tx.now.conn.now in
-    let now = state g.S.Store c.outputs.tx.conn.now in
-    let all = zip (map string_bytes c.args.names.now) c.args.outputs.now in
-    let end : c.outputs.i ≡ length c.args.names.now = omega arith in
-    let none = ap (λ n. drop n all) end ∙ no_pairs_left string_bytes c.args.names.now c.args.outputs.now c.requires.count in
-    goes_done (λ es (x : Contents). record x { outs = put_outputs c.args.base.now es x.outs }) all first now (drop c.outputs.i all)
-    (ap (λ es. record (contents_of now.now) { outs = put_outputs c.args.base.now es (contents_of now.now).outs }) none) (c.outputs.invariant.goes clean)
+pub returns : goal.returns
+returns g c = record {
+  frame = record { same_reference = c.outputs.invariant.same_reference; failed = λ clean. tt; survives = c.outputs.invariant.survives };
+  done = λ clean.
+      let first = state g.S.Store c.args.tx.now.conn.now in
+      let now = state g.S.Store c.outputs.tx.conn.now in
+      let all = zip (map string_bytes c.args.names.now) c.args.outputs.now in
+      let end : c.outputs.i ≡ length c.args.names.now = omega arith in
+      let none = ap (λ n. drop n all) end ∙ no_pairs_left string_bytes c.args.names.now c.args.outputs.now c.requires.count in
+      goes_done (λ es (x : Contents). record x { outs = put_outputs c.args.base.now es x.outs }) all first now (drop c.outputs.i all)
+      (ap (λ es. record (contents_of now.now) { outs = put_outputs c.args.base.now es (contents_of now.now).outs }) none) (c.outputs.invariant.goes clean);
+  cause = λ clean. tt;
+}
 
 -- one of them wasn't put: none was there before it
-pub returns-in_err-insert-clause-cause : goal.returns-in_err-insert-clause-cause
-returns-in_err-insert-clause-cause g c clean =
-    let base = c.args.base.now in
-    let first = state g.S.Store c.args.tx.now.conn.now in
-    let now = state g.S.Store c.outputs.tx.conn.now in
-    let next = state g.S.Store c.insert.new.tx.conn.now in
-    let was = contents_of now.now in
-    let all = zip (map string_bytes c.args.names.now) c.args.outputs.now in
-    let left = drop c.outputs.i all in
-    let rest = drop (c.outputs.i + 1) all in
-    let name = string_bytes c.index-names-i.result in
-    let target = c.index-outputs-i.result in
-    let inside : c.outputs.i < length c.args.names.now = omega arith in
-    let beside : c.outputs.i < length c.args.outputs.now = omega arith in
-    let split : left ≡ (name, target) ∷ rest = zip_at string_bytes c.args.names.now c.args.outputs.now c.outputs.i c.index-names-i.result target inside beside c.index-names-i.is c.index-outputs-i.is in
-    let early = clean_before now next _ c.insert.ensures.frame.survives clean in
-    let free = subst (λ es. AreFree was.outs (map (λ (e : List ℕ × Path). (base, e.0)) es)) split (c.outputs.invariant.free early) in
-    let row : Row = Text base ∷ Text c.as_str.result.now ∷ Text c.as_str-in-outputs.result.now ∷ [] in
-    let is : row ≡ Text base ∷ Text name ∷ Text target ∷ [] = ap₂ (λ n t. Text base ∷ Text n ∷ Text t ∷ []) c.as_str.ensures.value c.as_str-in-outputs.ensures.value in
-    passed_on c.from_residual.result _ _ c.from_residual.ensures.1
-    (next_reason _ first now next _ (c.outputs.invariant.goes early).changes c.outputs.invariant.survives _
-    (put_reason _ now next _ row _ (of_item (OutputRow base) all rest (name, target) c.outputs.i split _ row (refl, is)) (is_none _ (ap (λ n. finite.get was.outs (base, n)) c.as_str.ensures.value ∙ free.free.0)) _ (c.in_err-insert.ensures.cause clean)))
-
-pub returns-in_err-insert-clause-frame : goal.returns-in_err-insert-clause-frame
-returns-in_err-insert-clause-frame g c =
-    done_fails g.S.Store c.args.tx.now.conn c.outputs.tx.conn c.insert.new.tx.conn _ c.outputs.invariant.same_reference (λ clean. (c.outputs.invariant.goes clean).changes) c.outputs.invariant.survives
-    c.from_residual.result c.insert.ensures.frame.same_reference c.in_err-insert.ensures.frame.failed c.insert.ensures.frame.survives
-
-pub returns-clause-frame : goal.returns-clause-frame
-returns-clause-frame g c = record { same_reference = c.outputs.invariant.same_reference; failed = λ clean. tt; survives = c.outputs.invariant.survives }
+pub returns-in_err-insert : goal.returns-in_err-insert
+returns-in_err-insert g c = record {
+  frame =
+      done_fails g.S.Store c.args.tx.now.conn c.outputs.tx.conn c.insert.new.tx.conn _ c.outputs.invariant.same_reference (λ clean. (c.outputs.invariant.goes clean).changes) c.outputs.invariant.survives
+      c.from_residual.result c.insert.ensures.frame.same_reference c.in_err-insert.ensures.frame.failed c.insert.ensures.frame.survives;
+  done = λ clean. none_done c.from_residual.result _ _ c.from_residual.ensures.1;
+  cause = λ clean.
+      let base = c.args.base.now in
+      let first = state g.S.Store c.args.tx.now.conn.now in
+      let now = state g.S.Store c.outputs.tx.conn.now in
+      let next = state g.S.Store c.insert.new.tx.conn.now in
+      let was = contents_of now.now in
+      let all = zip (map string_bytes c.args.names.now) c.args.outputs.now in
+      let left = drop c.outputs.i all in
+      let rest = drop (c.outputs.i + 1) all in
+      let name = string_bytes c.index-names-i.result in
+      let target = c.index-outputs-i.result in
+      let inside : c.outputs.i < length c.args.names.now = omega arith in
+      let beside : c.outputs.i < length c.args.outputs.now = omega arith in
+      let split : left ≡ (name, target) ∷ rest = zip_at string_bytes c.args.names.now c.args.outputs.now c.outputs.i c.index-names-i.result target inside beside c.index-names-i.is c.index-outputs-i.is in
+      let early = clean_before now next _ c.insert.ensures.frame.survives clean in
+      let free = subst (λ es. AreFree was.outs (map (λ (e : List ℕ × Path). (base, e.0)) es)) split (c.outputs.invariant.free early) in
+      let row : Row = Text base ∷ Text c.as_str.result.now ∷ Text c.as_str-in-outputs.result.now ∷ [] in
+      let is : row ≡ Text base ∷ Text name ∷ Text target ∷ [] = ap₂ (λ n t. Text base ∷ Text n ∷ Text t ∷ []) c.as_str.ensures.value c.as_str-in-outputs.ensures.value in
+      passed_on c.from_residual.result _ _ c.from_residual.ensures.1
+      (next_reason _ first now next _ (c.outputs.invariant.goes early).changes c.outputs.invariant.survives _
+      (put_reason _ now next _ row _ (of_item (OutputRow base) all rest (name, target) c.outputs.i split _ row (refl, is)) (is_none _ (ap (λ n. finite.get was.outs (base, n)) c.as_str.ensures.value ∙ free.free.0)) _ (c.in_err-insert.ensures.cause clean)));
+}

@@ -1,4 +1,4 @@
-use Rattle.std.proofs.Common.{◌≡◌, ◌+◌, ◌∷◌, drop, [], map, refl, sym, ap, subst, ◌∙◌, List}
+use Rattle.std.proofs.Common.{◌≡◌, ◌+◌, ◌∷◌, arith, drop, [], length, map, refl, sym, ap, subst, ◌∙◌, List}
 use Rattle.std.specs.FinMap as finite
 use Rattle.sqlite_value.specs.declared.value.Value.TheVariants.{Text}
 use Rattle.sqlite_value.specs.Order.{Row}
@@ -7,15 +7,16 @@ use Rattle.tables_sql.specs.Contents.{Contents, contents_of}
 use Rattle.model.specs.World.{Path}
 use Rattle.tables.specs.Rewritten.{AreFree, put_references}
 use Rattle.tables.specs.RowsPut.{ReferenceRow}
-use Rattle.tables_sql.proofs.Going.{goes_first, goes_next}
+use Rattle.tables_sql.proofs.Going.{goes_first, goes_next, goes_done}
 use Rattle.tables_sql.proofs.Transactions.{survives_none}
 use Rattle.tables.proofs.AfterWrites.{clean_before}
-use Rattle.tables.proofs.Lists.{left_at}
+use Rattle.tables.proofs.Lists.{left_at, none_left}
 use Rattle.tables_sql.proofs.TestFailures.{passed_on, survives_both}
 use Rattle.tables_sql.proofs.Orders.{pair_total}
 use Rattle.tables.proofs.Free.{free_next}
 use Rattle.tables_make.proofs.Reasons.{is_none, next_reason, of_item, put_reason}
 use Rattle.tables_make.proofs.Inside.{done_fails}
+use Rattle.tables.proofs.Failing.{none_done}
 use Rattle.tables.proofs.objects.put_references.Goals as goal
 
 pub targets-init : goal.targets-init
@@ -23,7 +24,7 @@ targets-init g c =
     let first = state g.S.Store c.args.tx.now.conn.now in
     record {
       same_reference = refl;
-      goes = λ clean. goes_first (λ rs (x : Contents). record x { refs = put_references c.args.base.now rs x.refs }) c.args.targets.now first (c.requires.under_way clean) (c.requires.is_open clean);
+      goes = λ clean. goes_first (λ rs (x : Contents). record x { refs = put_references c.args.base.now rs x.refs }) c.args.targets.now first (c.requires.frame.under_way clean) (c.requires.frame.is_open clean);
       free = c.requires.free;
       survives = survives_none first;
     }
@@ -57,30 +58,42 @@ targets-preserved g c =
     }
 
 -- one of them wasn't put: none was there before it
-pub returns-in_err-insert-clause-cause : goal.returns-in_err-insert-clause-cause
-returns-in_err-insert-clause-cause g c clean =
-    let base = c.args.base.now in
-    let first = state g.S.Store c.args.tx.now.conn.now in
-    let now = state g.S.Store c.targets.tx.conn.now in
-    let next = state g.S.Store c.insert.new.tx.conn.now in
-    let was = contents_of now.now in
-    let all = c.args.targets.now in
-    let item = c.target-item.result in
-    let left = drop c.targets.target-index all in
-    let rest = drop (c.targets.target-index + 1) all in
-    let split : left ≡ item ∷ rest = left_at all c.targets.target-index item c.targets-test.true c.target-item.is in
-    let early = clean_before now next _ c.insert.ensures.frame.survives clean in
-    let free = subst (λ ts. AreFree was.refs (map (λ (t : Path). (base, t)) ts)) split (c.targets.invariant.free early) in
-    let row : Row = Text base ∷ Text c.as_str.result.now ∷ [] in
-    let is : row ≡ Text base ∷ Text item ∷ [] = ap (λ t. Text base ∷ Text t ∷ []) c.as_str.ensures.value in
-    passed_on c.from_residual.result _ _ c.from_residual.ensures.1
-    (next_reason _ first now next _ (c.targets.invariant.goes early).changes c.targets.invariant.survives _
-    (put_reason _ now next _ row _ (of_item (ReferenceRow base) all rest item c.targets.target-index split _ row (refl, is)) (is_none _ (ap (λ t. finite.get was.refs (base, t)) c.as_str.ensures.value ∙ free.free.0)) _ (c.in_err-insert.ensures.cause clean)))
+pub returns-in_err-insert : goal.returns-in_err-insert
+returns-in_err-insert g c = record {
+  frame =
+      done_fails g.S.Store c.args.tx.now.conn c.targets.tx.conn c.insert.new.tx.conn _ c.targets.invariant.same_reference (λ clean. (c.targets.invariant.goes clean).changes) c.targets.invariant.survives
+      c.from_residual.result c.insert.ensures.frame.same_reference c.in_err-insert.ensures.frame.failed c.insert.ensures.frame.survives;
+  done = λ clean. none_done c.from_residual.result _ _ c.from_residual.ensures.1;
+  cause = λ clean.
+      let base = c.args.base.now in
+      let first = state g.S.Store c.args.tx.now.conn.now in
+      let now = state g.S.Store c.targets.tx.conn.now in
+      let next = state g.S.Store c.insert.new.tx.conn.now in
+      let was = contents_of now.now in
+      let all = c.args.targets.now in
+      let item = c.target-item.result in
+      let left = drop c.targets.target-index all in
+      let rest = drop (c.targets.target-index + 1) all in
+      let split : left ≡ item ∷ rest = left_at all c.targets.target-index item c.targets-test.true c.target-item.is in
+      let early = clean_before now next _ c.insert.ensures.frame.survives clean in
+      let free = subst (λ ts. AreFree was.refs (map (λ (t : Path). (base, t)) ts)) split (c.targets.invariant.free early) in
+      let row : Row = Text base ∷ Text c.as_str.result.now ∷ [] in
+      let is : row ≡ Text base ∷ Text item ∷ [] = ap (λ t. Text base ∷ Text t ∷ []) c.as_str.ensures.value in
+      passed_on c.from_residual.result _ _ c.from_residual.ensures.1
+      (next_reason _ first now next _ (c.targets.invariant.goes early).changes c.targets.invariant.survives _
+      (put_reason _ now next _ row _ (of_item (ReferenceRow base) all rest item c.targets.target-index split _ row (refl, is)) (is_none _ (ap (λ t. finite.get was.refs (base, t)) c.as_str.ensures.value ∙ free.free.0)) _ (c.in_err-insert.ensures.cause clean)));
+}
 
-pub returns-in_err-insert-clause-frame : goal.returns-in_err-insert-clause-frame
-returns-in_err-insert-clause-frame g c =
-    done_fails g.S.Store c.args.tx.now.conn c.targets.tx.conn c.insert.new.tx.conn _ c.targets.invariant.same_reference (λ clean. (c.targets.invariant.goes clean).changes) c.targets.invariant.survives
-    c.from_residual.result c.insert.ensures.frame.same_reference c.in_err-insert.ensures.frame.failed c.insert.ensures.frame.survives
-
-pub returns-clause-frame : goal.returns-clause-frame
-returns-clause-frame g c = record { same_reference = c.targets.invariant.same_reference; failed = λ clean. tt; survives = c.targets.invariant.survives }
+pub returns : goal.returns
+returns g c = record {
+  frame = record { same_reference = c.targets.invariant.same_reference; failed = λ clean. tt; survives = c.targets.invariant.survives };
+  done = λ clean.
+      let first = state g.S.Store c.args.tx.now.conn.now in
+      let now = state g.S.Store c.targets.tx.conn.now in
+      let all = c.args.targets.now in
+      let end : c.targets.target-index ≡ length all = omega arith in
+      let none = ap (λ n. drop n all) end ∙ none_left all in
+      goes_done (λ rs (x : Contents). record x { refs = put_references c.args.base.now rs x.refs }) all first now (drop c.targets.target-index all)
+      (ap (λ rs. record (contents_of now.now) { refs = put_references c.args.base.now rs (contents_of now.now).refs }) none) (c.targets.invariant.goes clean);
+  cause = λ clean. tt;
+}

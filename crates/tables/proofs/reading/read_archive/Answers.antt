@@ -10,9 +10,8 @@ use Rattle.tables_schema.specs.Forms.{piece}
 use Rattle.tables_sql.specs.Calls.{HasFurther}
 use Rattle.tables_sql.specs.Contents.{contents_of}
 use Rattle.tables_sql.specs.Entries.{IsStored, stored_of}
-use Rattle.tables_sql.proofs.Steps.{shown_then}
 use Rattle.tables.proofs.ReadArchives.{none_read, all_read, row_read}
-use Rattle.tables_sql.proofs.TestFailures.{survives_both}
+use Rattle.tables_rows.proofs.Several.{left_then}
 use Rattle.tables.proofs.reading.read_archive.Goals as goal
 
 pub of-requires-clause-exists : goal.of-requires-clause-exists
@@ -57,26 +56,11 @@ returns-then-size-le-PIECE_SIZE-clause-reads g c clean =
           c.new.ensures.items c.in_ok-nar.ensures,
     )
 
-pub returns-in_err-further-clause-same : goal.returns-in_err-further-clause-same
-returns-in_err-further-clause-same g c clean =
-    let early : HasCleanDisk (state g.S.Store c.get.new.conn) = omega (arith, c.of.ensures.frame.survives.clean, clean) in
-    shown_then (state g.S.Store c.args.conn.now) (state g.S.Store c.get.new.conn) (state g.S.Store c.of.new.conn) (c.get.ensures.frame.same early) (c.of.ensures.frame.same clean)
+pub returns-in_err-further-clause-frame : goal.returns-in_err-further-clause-frame
+returns-in_err-further-clause-frame g c = left_then _ _ _ c.get.ensures.frame c.of.ensures.frame
 
-pub returns-in_err-nar-2-clause-same : goal.returns-in_err-nar-2-clause-same
-returns-in_err-nar-2-clause-same g c clean =
-    let early : HasCleanDisk (state g.S.Store c.get.new.conn) = omega (arith, c.of.ensures.frame.survives.clean, clean) in
-    shown_then (state g.S.Store c.args.conn.now) (state g.S.Store c.get.new.conn) (state g.S.Store c.of.new.conn) (c.get.ensures.frame.same early) (c.of.ensures.frame.same clean)
+pub returns-in_err-nar-2-clause-frame : goal.returns-in_err-nar-2-clause-frame
+returns-in_err-nar-2-clause-frame g c = left_then _ _ _ c.get.ensures.frame c.of.ensures.frame
 
-pub returns-clause-same : goal.returns-clause-same
-returns-clause-same g c clean =
-    let early : HasCleanDisk (state g.S.Store c.get.new.conn) = omega (arith, c.of.ensures.frame.survives.clean, clean) in
-    shown_then (state g.S.Store c.args.conn.now) (state g.S.Store c.get.new.conn) (state g.S.Store c.of.new.conn) (c.get.ensures.frame.same early) (c.of.ensures.frame.same clean)
-
-pub returns-in_err-further-clause-survives : goal.returns-in_err-further-clause-survives
-returns-in_err-further-clause-survives g c = survives_both (state g.S.Store c.args.conn.now) (state g.S.Store c.get.new.conn) (state g.S.Store c.of.new.conn) c.get.ensures.frame.survives c.of.ensures.frame.survives
-
-pub returns-in_err-nar-2-clause-survives : goal.returns-in_err-nar-2-clause-survives
-returns-in_err-nar-2-clause-survives g c = survives_both (state g.S.Store c.args.conn.now) (state g.S.Store c.get.new.conn) (state g.S.Store c.of.new.conn) c.get.ensures.frame.survives c.of.ensures.frame.survives
-
-pub returns-clause-survives : goal.returns-clause-survives
-returns-clause-survives g c = survives_both (state g.S.Store c.args.conn.now) (state g.S.Store c.get.new.conn) (state g.S.Store c.of.new.conn) c.get.ensures.frame.survives c.of.ensures.frame.survives
+pub returns-clause-frame : goal.returns-clause-frame
+returns-clause-frame g c = left_then _ _ _ c.get.ensures.frame c.of.ensures.frame

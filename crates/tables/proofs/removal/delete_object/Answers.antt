@@ -8,23 +8,23 @@ use Rattle.tables_sql.proofs.Transactions.{done_both, failed_next, steps_both}
 use Rattle.tables_sql.proofs.Steps.{under_after}
 use Rattle.tables.specs.Rewritten.{without_object}
 use Rattle.tables.proofs.Covered.{references_reported, outputs_reported, pieces_reported, single_removed}
-use Rattle.tables.proofs.Failing.{err_kept}
+use Rattle.tables.proofs.Failing.{err_kept, none_done, on_err}
 use Rattle.tables_sql.proofs.TestFailures.{passed_on, survives_both}
 use Rattle.tables.proofs.Transactions.{changes_at, pieces_exist}
 use Rattle.tables_make.proofs.Reasons.{as_reason, next_reason, removal_reason}
 use Rattle.tables.proofs.removal.delete_object.Goals as goal
 
-pub delete_references-requires-clause-under_way : goal.delete_references-requires-clause-under_way
-delete_references-requires-clause-under_way g c clean =
-    let a = state g.S.Store c.args.tx.now.conn.now in
-    let b = state g.S.Store c.delete.new.tx.conn.now in
-    under_after a b _ (c.in_ok-delete.ensures.done clean)
-
-pub delete_references-requires-clause-is_open : goal.delete_references-requires-clause-is_open
-delete_references-requires-clause-is_open g c clean =
-    let a = state g.S.Store c.args.tx.now.conn.now in
-    let b = state g.S.Store c.delete.new.tx.conn.now in
-    (c.in_ok-delete.ensures.done clean).is_open
+pub delete_references-requires-clause-frame : goal.delete_references-requires-clause-frame
+delete_references-requires-clause-frame g c = record {
+  under_way = λ clean.
+      let a = state g.S.Store c.args.tx.now.conn.now in
+      let b = state g.S.Store c.delete.new.tx.conn.now in
+      under_after a b _ (c.in_ok-delete.ensures.done clean);
+  is_open = λ clean.
+      let a = state g.S.Store c.args.tx.now.conn.now in
+      let b = state g.S.Store c.delete.new.tx.conn.now in
+      (c.in_ok-delete.ensures.done clean).is_open;
+}
 
 pub delete_references-requires-clause-reported : goal.delete_references-requires-clause-reported
 delete_references-requires-clause-reported g c clean =
@@ -34,40 +34,19 @@ delete_references-requires-clause-reported g c clean =
     let early : HasCleanDisk a = omega (arith, c.delete.ensures.frame.survives.clean, clean) in
     references_reported c.args.outline.now (contents_of a.now) c.args.path.now c.as_str-base.result.now c.in-Some.object.now (c.requires.covers early it.was_open) c.in-Some.ensures c.as_str-base.ensures.value (contents_of b.now) (ap (λ (x : Contents). x.refs) it.contents)
 
-pub returns-in_err-delete_references-clause-frame : goal.returns-in_err-delete_references-clause-frame
-returns-in_err-delete_references-clause-frame g c =
-    let a = state g.S.Store c.args.tx.now.conn.now in
-    let b = state g.S.Store c.delete.new.tx.conn.now in
-    let d = state g.S.Store c.delete_references.new.tx.conn.now in
-    record {
-      same_reference = c.delete_references.ensures.frame.same_reference ∙ c.delete.ensures.frame.same_reference;
-      failed = λ clean. err_kept a b d _ c.from_residual-in_err-delete_references.result c.in_ok-delete.ensures.done c.delete_references.ensures.frame.survives (c.in_err-delete_references.ensures.frame.failed clean) clean;
-      survives = survives_both a b d c.delete.ensures.frame.survives c.delete_references.ensures.frame.survives;
-    }
-
--- one that the outline hasn't has nothing else
-pub returns-in_default-clause-done : goal.returns-in_default-clause-done
-returns-in_default-clause-done g c clean =
-    let a = state g.S.Store c.args.tx.now.conn.now in
-    let b = state g.S.Store c.delete.new.tx.conn.now in
-    let it = c.in_ok-delete.ensures.done clean in
-    let early : HasCleanDisk a = omega (arith, c.delete.ensures.frame.survives.clean, clean) in
-    let path = c.args.path.now in
-    changes_at a b _ (without_object path) (ap (λ p. record (contents_of a.now) { objects = finite.retain_keys (contents_of a.now).objects (λ k. not (same k p)) }) c.as_str-base.ensures.value ∙ single_removed c.args.outline.now (contents_of a.now) path (c.requires.covers early it.was_open) (sym c.in_default.ensures)) it
-
-pub delete_outputs-requires-clause-under_way : goal.delete_outputs-requires-clause-under_way
-delete_outputs-requires-clause-under_way g c clean =
-    let a = state g.S.Store c.args.tx.now.conn.now in
-    let b = state g.S.Store c.delete.new.tx.conn.now in
-    let d = state g.S.Store c.delete_references.new.tx.conn.now in
-    under_after a d _ ((steps_both a b d _ _ c.in_ok-delete.ensures.done c.delete_references.ensures.frame.survives c.in_ok-delete_references.ensures.done) clean)
-
-pub delete_outputs-requires-clause-is_open : goal.delete_outputs-requires-clause-is_open
-delete_outputs-requires-clause-is_open g c clean =
-    let a = state g.S.Store c.args.tx.now.conn.now in
-    let b = state g.S.Store c.delete.new.tx.conn.now in
-    let d = state g.S.Store c.delete_references.new.tx.conn.now in
-    ((steps_both a b d _ _ c.in_ok-delete.ensures.done c.delete_references.ensures.frame.survives c.in_ok-delete_references.ensures.done) clean).is_open
+pub delete_outputs-requires-clause-frame : goal.delete_outputs-requires-clause-frame
+delete_outputs-requires-clause-frame g c = record {
+  under_way = λ clean.
+      let a = state g.S.Store c.args.tx.now.conn.now in
+      let b = state g.S.Store c.delete.new.tx.conn.now in
+      let d = state g.S.Store c.delete_references.new.tx.conn.now in
+      under_after a d _ ((steps_both a b d _ _ c.in_ok-delete.ensures.done c.delete_references.ensures.frame.survives c.in_ok-delete_references.ensures.done) clean);
+  is_open = λ clean.
+      let a = state g.S.Store c.args.tx.now.conn.now in
+      let b = state g.S.Store c.delete.new.tx.conn.now in
+      let d = state g.S.Store c.delete_references.new.tx.conn.now in
+      ((steps_both a b d _ _ c.in_ok-delete.ensures.done c.delete_references.ensures.frame.survives c.in_ok-delete_references.ensures.done) clean).is_open;
+}
 
 pub delete_outputs-requires-clause-reported : goal.delete_outputs-requires-clause-reported
 delete_outputs-requires-clause-reported g c clean =
@@ -78,41 +57,27 @@ delete_outputs-requires-clause-reported g c clean =
     let early : HasCleanDisk a = omega (arith, (survives_both a b d c.delete.ensures.frame.survives c.delete_references.ensures.frame.survives).clean, clean) in
     outputs_reported c.args.outline.now (contents_of a.now) c.args.path.now c.as_str-base.result.now c.in-Some.object.now (c.requires.covers early it.was_open) c.in-Some.ensures c.as_str-base.ensures.value (contents_of d.now) (ap (λ (x : Contents). x.outs) it.contents)
 
-pub returns-in_err-delete_outputs-clause-frame : goal.returns-in_err-delete_outputs-clause-frame
-returns-in_err-delete_outputs-clause-frame g c =
-    let a = state g.S.Store c.args.tx.now.conn.now in
-    let b = state g.S.Store c.delete.new.tx.conn.now in
-    let d = state g.S.Store c.delete_references.new.tx.conn.now in
-    let e = state g.S.Store c.delete_outputs.new.tx.conn.now in
-    record {
-      same_reference = c.delete_outputs.ensures.frame.same_reference ∙ c.delete_references.ensures.frame.same_reference ∙ c.delete.ensures.frame.same_reference;
-      failed = λ clean. err_kept a d e _ c.from_residual-in_err-delete_outputs.result (steps_both a b d _ _ c.in_ok-delete.ensures.done c.delete_references.ensures.frame.survives c.in_ok-delete_references.ensures.done) c.delete_outputs.ensures.frame.survives (c.in_err-delete_outputs.ensures.frame.failed clean) clean;
-      survives = survives_both a d e (survives_both a b d c.delete.ensures.frame.survives c.delete_references.ensures.frame.survives) c.delete_outputs.ensures.frame.survives;
-    }
-
-pub delete_pieces-requires-clause-under_way : goal.delete_pieces-requires-clause-under_way
-delete_pieces-requires-clause-under_way g c clean =
-    let a = state g.S.Store c.args.tx.now.conn.now in
-    let b = state g.S.Store c.delete.new.tx.conn.now in
-    let d = state g.S.Store c.delete_references.new.tx.conn.now in
-    let e = state g.S.Store c.delete_outputs.new.tx.conn.now in
-    under_after a e _ ((steps_both a d e _ _ (steps_both a b d _ _ c.in_ok-delete.ensures.done c.delete_references.ensures.frame.survives c.in_ok-delete_references.ensures.done) c.delete_outputs.ensures.frame.survives c.in_ok-delete_outputs.ensures.done) clean)
-
-pub delete_pieces-requires-clause-is_open : goal.delete_pieces-requires-clause-is_open
-delete_pieces-requires-clause-is_open g c clean =
-    let a = state g.S.Store c.args.tx.now.conn.now in
-    let b = state g.S.Store c.delete.new.tx.conn.now in
-    let d = state g.S.Store c.delete_references.new.tx.conn.now in
-    let e = state g.S.Store c.delete_outputs.new.tx.conn.now in
-    ((steps_both a d e _ _ (steps_both a b d _ _ c.in_ok-delete.ensures.done c.delete_references.ensures.frame.survives c.in_ok-delete_references.ensures.done) c.delete_outputs.ensures.frame.survives c.in_ok-delete_outputs.ensures.done) clean).is_open
-
-pub delete_pieces-requires-clause-exists : goal.delete_pieces-requires-clause-exists
-delete_pieces-requires-clause-exists g c clean =
-    let a = state g.S.Store c.args.tx.now.conn.now in
-    let b = state g.S.Store c.delete.new.tx.conn.now in
-    let d = state g.S.Store c.delete_references.new.tx.conn.now in
-    let e = state g.S.Store c.delete_outputs.new.tx.conn.now in
-    pieces_exist a e _ (steps_both a d e _ _ (steps_both a b d _ _ c.in_ok-delete.ensures.done c.delete_references.ensures.frame.survives c.in_ok-delete_references.ensures.done) c.delete_outputs.ensures.frame.survives c.in_ok-delete_outputs.ensures.done) (survives_both a d e (survives_both a b d c.delete.ensures.frame.survives c.delete_references.ensures.frame.survives) c.delete_outputs.ensures.frame.survives) c.requires.exists clean
+pub delete_pieces-requires-clause-frame : goal.delete_pieces-requires-clause-frame
+delete_pieces-requires-clause-frame g c = record {
+  under_way = λ clean.
+      let a = state g.S.Store c.args.tx.now.conn.now in
+      let b = state g.S.Store c.delete.new.tx.conn.now in
+      let d = state g.S.Store c.delete_references.new.tx.conn.now in
+      let e = state g.S.Store c.delete_outputs.new.tx.conn.now in
+      under_after a e _ ((steps_both a d e _ _ (steps_both a b d _ _ c.in_ok-delete.ensures.done c.delete_references.ensures.frame.survives c.in_ok-delete_references.ensures.done) c.delete_outputs.ensures.frame.survives c.in_ok-delete_outputs.ensures.done) clean);
+  is_open = λ clean.
+      let a = state g.S.Store c.args.tx.now.conn.now in
+      let b = state g.S.Store c.delete.new.tx.conn.now in
+      let d = state g.S.Store c.delete_references.new.tx.conn.now in
+      let e = state g.S.Store c.delete_outputs.new.tx.conn.now in
+      ((steps_both a d e _ _ (steps_both a b d _ _ c.in_ok-delete.ensures.done c.delete_references.ensures.frame.survives c.in_ok-delete_references.ensures.done) c.delete_outputs.ensures.frame.survives c.in_ok-delete_outputs.ensures.done) clean).is_open;
+  exists = λ clean.
+      let a = state g.S.Store c.args.tx.now.conn.now in
+      let b = state g.S.Store c.delete.new.tx.conn.now in
+      let d = state g.S.Store c.delete_references.new.tx.conn.now in
+      let e = state g.S.Store c.delete_outputs.new.tx.conn.now in
+      pieces_exist a e _ (steps_both a d e _ _ (steps_both a b d _ _ c.in_ok-delete.ensures.done c.delete_references.ensures.frame.survives c.in_ok-delete_references.ensures.done) c.delete_outputs.ensures.frame.survives c.in_ok-delete_outputs.ensures.done) (survives_both a d e (survives_both a b d c.delete.ensures.frame.survives c.delete_references.ensures.frame.survives) c.delete_outputs.ensures.frame.survives) c.requires.exists clean;
+}
 
 pub delete_pieces-requires-clause-reported : goal.delete_pieces-requires-clause-reported
 delete_pieces-requires-clause-reported g c clean =
@@ -124,65 +89,101 @@ delete_pieces-requires-clause-reported g c clean =
     let early : HasCleanDisk a = omega (arith, (survives_both a d e (survives_both a b d c.delete.ensures.frame.survives c.delete_references.ensures.frame.survives) c.delete_outputs.ensures.frame.survives).clean, clean) in
     pieces_reported c.args.outline.now (contents_of a.now) c.args.path.now c.as_str-base.result.now c.in-Some.object.now (c.requires.covers early it.was_open) c.in-Some.ensures c.as_str-base.ensures.value (contents_of e.now) (ap (λ (x : Contents). x.pieces) it.contents)
 
-pub returns-clause-frame : goal.returns-clause-frame
-returns-clause-frame g c =
-    let a = state g.S.Store c.args.tx.now.conn.now in
-    let b = state g.S.Store c.delete.new.tx.conn.now in
-    let d = state g.S.Store c.delete_references.new.tx.conn.now in
-    let e = state g.S.Store c.delete_outputs.new.tx.conn.now in
-    let f = state g.S.Store c.delete_pieces.new.tx.conn.now in
-    record {
-      same_reference = c.delete_pieces.ensures.frame.same_reference ∙ c.delete_outputs.ensures.frame.same_reference ∙ c.delete_references.ensures.frame.same_reference ∙ c.delete.ensures.frame.same_reference;
-      failed = failed_next a e f _ (λ x. x) (steps_both a d e _ _ (steps_both a b d _ _ c.in_ok-delete.ensures.done c.delete_references.ensures.frame.survives c.in_ok-delete_references.ensures.done) c.delete_outputs.ensures.frame.survives c.in_ok-delete_outputs.ensures.done) c.delete_pieces.ensures.frame.survives c.delete_pieces.result c.delete_pieces.ensures.frame.failed;
-      survives = survives_both a e f (survives_both a d e (survives_both a b d c.delete.ensures.frame.survives c.delete_references.ensures.frame.survives) c.delete_outputs.ensures.frame.survives) c.delete_pieces.ensures.frame.survives;
-    }
+pub returns-in_err-delete_references : goal.returns-in_err-delete_references
+returns-in_err-delete_references g c = record {
+  frame =
+      let a = state g.S.Store c.args.tx.now.conn.now in
+      let b = state g.S.Store c.delete.new.tx.conn.now in
+      let d = state g.S.Store c.delete_references.new.tx.conn.now in
+      record {
+        same_reference = c.delete_references.ensures.frame.same_reference ∙ c.delete.ensures.frame.same_reference;
+        failed = λ clean. err_kept a b d _ c.from_residual-in_err-delete_references.result c.in_ok-delete.ensures.done c.delete_references.ensures.frame.survives (c.in_err-delete_references.ensures.frame.failed clean) clean;
+        survives = survives_both a b d c.delete.ensures.frame.survives c.delete_references.ensures.frame.survives;
+      };
+  done = λ clean. none_done c.from_residual-in_err-delete_references.result _ _ c.from_residual-in_err-delete_references.ensures.1;
+  cause = λ clean.
+      let a = state g.S.Store c.args.tx.now.conn.now in
+      let b = state g.S.Store c.delete.new.tx.conn.now in
+      let d = state g.S.Store c.delete_references.new.tx.conn.now in
+      let late : HasCleanDisk b = omega (arith, c.delete_references.ensures.frame.survives.clean, clean) in
+      passed_on c.from_residual-in_err-delete_references.result _ _ c.from_residual-in_err-delete_references.ensures.1
+      (next_reason _ a b d _ (c.in_ok-delete.ensures.done late) c.delete.ensures.frame.survives _ (c.in_err-delete_references.ensures.cause clean));
+}
 
-pub returns-clause-done : goal.returns-clause-done
-returns-clause-done g c =
-    let a = state g.S.Store c.args.tx.now.conn.now in
-    let b = state g.S.Store c.delete.new.tx.conn.now in
-    let d = state g.S.Store c.delete_references.new.tx.conn.now in
-    let e = state g.S.Store c.delete_outputs.new.tx.conn.now in
-    let f = state g.S.Store c.delete_pieces.new.tx.conn.now in
-    done_both a e f _ _ (steps_both a d e _ _ (steps_both a b d _ _ c.in_ok-delete.ensures.done c.delete_references.ensures.frame.survives c.in_ok-delete_references.ensures.done) c.delete_outputs.ensures.frame.survives c.in_ok-delete_outputs.ensures.done) c.delete_pieces.ensures.frame.survives c.delete_pieces.result _ (λ x. ap (λ p. without_object p x) c.as_str-base.ensures.value) c.delete_pieces.ensures.done
+-- one that the outline hasn't has nothing else
+pub returns-in_default : goal.returns-in_default
+returns-in_default g c = record {
+  frame = record { same_reference = c.delete.ensures.frame.same_reference; failed = λ clean. tt; survives = c.delete.ensures.frame.survives };
+  done = λ clean.
+      let a = state g.S.Store c.args.tx.now.conn.now in
+      let b = state g.S.Store c.delete.new.tx.conn.now in
+      let it = c.in_ok-delete.ensures.done clean in
+      let early : HasCleanDisk a = omega (arith, c.delete.ensures.frame.survives.clean, clean) in
+      let path = c.args.path.now in
+      changes_at a b _ (without_object path) (ap (λ p. record (contents_of a.now) { objects = finite.retain_keys (contents_of a.now).objects (λ k. not (same k p)) }) c.as_str-base.ensures.value ∙ single_removed c.args.outline.now (contents_of a.now) path (c.requires.covers early it.was_open) (sym c.in_default.ensures)) it;
+  cause = λ clean. tt;
+}
 
--- ---- why it failed
+pub returns-in_err-delete_outputs : goal.returns-in_err-delete_outputs
+returns-in_err-delete_outputs g c = record {
+  frame =
+      let a = state g.S.Store c.args.tx.now.conn.now in
+      let b = state g.S.Store c.delete.new.tx.conn.now in
+      let d = state g.S.Store c.delete_references.new.tx.conn.now in
+      let e = state g.S.Store c.delete_outputs.new.tx.conn.now in
+      record {
+        same_reference = c.delete_outputs.ensures.frame.same_reference ∙ c.delete_references.ensures.frame.same_reference ∙ c.delete.ensures.frame.same_reference;
+        failed = λ clean. err_kept a d e _ c.from_residual-in_err-delete_outputs.result (steps_both a b d _ _ c.in_ok-delete.ensures.done c.delete_references.ensures.frame.survives c.in_ok-delete_references.ensures.done) c.delete_outputs.ensures.frame.survives (c.in_err-delete_outputs.ensures.frame.failed clean) clean;
+        survives = survives_both a d e (survives_both a b d c.delete.ensures.frame.survives c.delete_references.ensures.frame.survives) c.delete_outputs.ensures.frame.survives;
+      };
+  done = λ clean. none_done c.from_residual-in_err-delete_outputs.result _ _ c.from_residual-in_err-delete_outputs.ensures.1;
+  cause = λ clean.
+      let a = state g.S.Store c.args.tx.now.conn.now in
+      let b = state g.S.Store c.delete.new.tx.conn.now in
+      let d = state g.S.Store c.delete_references.new.tx.conn.now in
+      let e = state g.S.Store c.delete_outputs.new.tx.conn.now in
+      let late : HasCleanDisk d = omega (arith, c.delete_outputs.ensures.frame.survives.clean, clean) in
+      passed_on c.from_residual-in_err-delete_outputs.result _ _ c.from_residual-in_err-delete_outputs.ensures.1
+      (next_reason _ a d e _ (steps_both a b d _ _ c.in_ok-delete.ensures.done c.delete_references.ensures.frame.survives c.in_ok-delete_references.ensures.done late)
+      (survives_both a b d c.delete.ensures.frame.survives c.delete_references.ensures.frame.survives) _ (c.in_err-delete_outputs.ensures.cause clean));
+}
 
-pub returns-in_err-delete-clause-cause : goal.returns-in_err-delete-clause-cause
-returns-in_err-delete-clause-cause g c clean =
-    passed_on c.from_residual.result _ _ c.from_residual.ensures.1 (removal_reason _ (state g.S.Store c.args.tx.now.conn.now) (state g.S.Store c.delete.new.tx.conn.now) _ (c.in_err-delete.ensures.cause clean))
+pub returns : goal.returns
+returns g c = record {
+  frame =
+      let a = state g.S.Store c.args.tx.now.conn.now in
+      let b = state g.S.Store c.delete.new.tx.conn.now in
+      let d = state g.S.Store c.delete_references.new.tx.conn.now in
+      let e = state g.S.Store c.delete_outputs.new.tx.conn.now in
+      let f = state g.S.Store c.delete_pieces.new.tx.conn.now in
+      record {
+        same_reference = c.delete_pieces.ensures.frame.same_reference ∙ c.delete_outputs.ensures.frame.same_reference ∙ c.delete_references.ensures.frame.same_reference ∙ c.delete.ensures.frame.same_reference;
+        failed = failed_next a e f _ (λ x. x) (steps_both a d e _ _ (steps_both a b d _ _ c.in_ok-delete.ensures.done c.delete_references.ensures.frame.survives c.in_ok-delete_references.ensures.done) c.delete_outputs.ensures.frame.survives c.in_ok-delete_outputs.ensures.done) c.delete_pieces.ensures.frame.survives c.delete_pieces.result c.delete_pieces.ensures.frame.failed;
+        survives = survives_both a e f (survives_both a d e (survives_both a b d c.delete.ensures.frame.survives c.delete_references.ensures.frame.survives) c.delete_outputs.ensures.frame.survives) c.delete_pieces.ensures.frame.survives;
+      };
+  done =
+      let a = state g.S.Store c.args.tx.now.conn.now in
+      let b = state g.S.Store c.delete.new.tx.conn.now in
+      let d = state g.S.Store c.delete_references.new.tx.conn.now in
+      let e = state g.S.Store c.delete_outputs.new.tx.conn.now in
+      let f = state g.S.Store c.delete_pieces.new.tx.conn.now in
+      done_both a e f _ _ (steps_both a d e _ _ (steps_both a b d _ _ c.in_ok-delete.ensures.done c.delete_references.ensures.frame.survives c.in_ok-delete_references.ensures.done) c.delete_outputs.ensures.frame.survives c.in_ok-delete_outputs.ensures.done) c.delete_pieces.ensures.frame.survives c.delete_pieces.result _ (λ x. ap (λ p. without_object p x) c.as_str-base.ensures.value) c.delete_pieces.ensures.done;
+  cause = λ clean.
+      let a = state g.S.Store c.args.tx.now.conn.now in
+      let b = state g.S.Store c.delete.new.tx.conn.now in
+      let d = state g.S.Store c.delete_references.new.tx.conn.now in
+      let e = state g.S.Store c.delete_outputs.new.tx.conn.now in
+      let f = state g.S.Store c.delete_pieces.new.tx.conn.now in
+      let late : HasCleanDisk e = omega (arith, c.delete_pieces.ensures.frame.survives.clean, clean) in
+      as_reason _ _ (next_reason _ a e f _
+      (steps_both a d e _ _ (steps_both a b d _ _ c.in_ok-delete.ensures.done c.delete_references.ensures.frame.survives c.in_ok-delete_references.ensures.done) c.delete_outputs.ensures.frame.survives c.in_ok-delete_outputs.ensures.done late)
+      (survives_both a d e (survives_both a b d c.delete.ensures.frame.survives c.delete_references.ensures.frame.survives) c.delete_outputs.ensures.frame.survives)) c.delete_pieces.result (c.delete_pieces.ensures.cause clean);
+}
 
-pub returns-in_err-delete_references-clause-cause : goal.returns-in_err-delete_references-clause-cause
-returns-in_err-delete_references-clause-cause g c clean =
-    let a = state g.S.Store c.args.tx.now.conn.now in
-    let b = state g.S.Store c.delete.new.tx.conn.now in
-    let d = state g.S.Store c.delete_references.new.tx.conn.now in
-    let late : HasCleanDisk b = omega (arith, c.delete_references.ensures.frame.survives.clean, clean) in
-    passed_on c.from_residual-in_err-delete_references.result _ _ c.from_residual-in_err-delete_references.ensures.1
-    (next_reason _ a b d _ (c.in_ok-delete.ensures.done late) c.delete.ensures.frame.survives _ (c.in_err-delete_references.ensures.cause clean))
-
-pub returns-in_err-delete_outputs-clause-cause : goal.returns-in_err-delete_outputs-clause-cause
-returns-in_err-delete_outputs-clause-cause g c clean =
-    let a = state g.S.Store c.args.tx.now.conn.now in
-    let b = state g.S.Store c.delete.new.tx.conn.now in
-    let d = state g.S.Store c.delete_references.new.tx.conn.now in
-    let e = state g.S.Store c.delete_outputs.new.tx.conn.now in
-    let late : HasCleanDisk d = omega (arith, c.delete_outputs.ensures.frame.survives.clean, clean) in
-    passed_on c.from_residual-in_err-delete_outputs.result _ _ c.from_residual-in_err-delete_outputs.ensures.1
-    (next_reason _ a d e _ (steps_both a b d _ _ c.in_ok-delete.ensures.done c.delete_references.ensures.frame.survives c.in_ok-delete_references.ensures.done late)
-    (survives_both a b d c.delete.ensures.frame.survives c.delete_references.ensures.frame.survives) _ (c.in_err-delete_outputs.ensures.cause clean))
-
-pub returns-clause-cause : goal.returns-clause-cause
-returns-clause-cause g c clean =
-    let a = state g.S.Store c.args.tx.now.conn.now in
-    let b = state g.S.Store c.delete.new.tx.conn.now in
-    let d = state g.S.Store c.delete_references.new.tx.conn.now in
-    let e = state g.S.Store c.delete_outputs.new.tx.conn.now in
-    let f = state g.S.Store c.delete_pieces.new.tx.conn.now in
-    let late : HasCleanDisk e = omega (arith, c.delete_pieces.ensures.frame.survives.clean, clean) in
-    as_reason _ _ (next_reason _ a e f _
-    (steps_both a d e _ _ (steps_both a b d _ _ c.in_ok-delete.ensures.done c.delete_references.ensures.frame.survives c.in_ok-delete_references.ensures.done) c.delete_outputs.ensures.frame.survives c.in_ok-delete_outputs.ensures.done late)
-    (survives_both a d e (survives_both a b d c.delete.ensures.frame.survives c.delete_references.ensures.frame.survives) c.delete_outputs.ensures.frame.survives)) c.delete_pieces.result (c.delete_pieces.ensures.cause clean)
-
-pub returns-in_default-clause-frame : goal.returns-in_default-clause-frame
-returns-in_default-clause-frame g c = record { same_reference = c.delete.ensures.frame.same_reference; failed = λ clean. tt; survives = c.delete.ensures.frame.survives }
+pub returns-in_err-delete : goal.returns-in_err-delete
+returns-in_err-delete g c = record {
+  frame = record { same_reference = c.delete.ensures.frame.same_reference; failed = λ clean. on_err c.from_residual.result _ (c.in_err-delete.ensures.frame.failed clean); survives = c.delete.ensures.frame.survives };
+  done = λ clean. none_done c.from_residual.result _ _ c.from_residual.ensures.1;
+  cause = λ clean.
+      passed_on c.from_residual.result _ _ c.from_residual.ensures.1 (removal_reason _ (state g.S.Store c.args.tx.now.conn.now) (state g.S.Store c.delete.new.tx.conn.now) _ (c.in_err-delete.ensures.cause clean));
+}

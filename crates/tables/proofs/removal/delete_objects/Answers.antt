@@ -13,6 +13,7 @@ use Rattle.tables_sql.proofs.TestFailures.{passed_on, survives_both}
 use Rattle.tables.proofs.Transactions.{pieces_exist}
 use Rattle.tables_make.proofs.Reasons.{next_reason}
 use Rattle.tables_make.proofs.Inside.{done_fails}
+use Rattle.tables.proofs.Failing.{none_done}
 use Rattle.tables.proofs.removal.delete_objects.Goals as goal
 
 pub paths-init : goal.paths-init
@@ -20,7 +21,7 @@ paths-init g c =
     let first = state g.S.Store c.args.tx.now.conn.now in
     record {
       same_reference = refl;
-      goes = λ clean. goes_first without_objects c.args.paths.now first (c.requires.under_way clean) (c.requires.is_open clean);
+      goes = λ clean. goes_first without_objects c.args.paths.now first (c.requires.frame.under_way clean) (c.requires.frame.is_open clean);
       covers = c.requires.covers;
       survives = survives_none first;
     }
@@ -48,30 +49,32 @@ pub delete_object-requires-clause-exists : goal.delete_object-requires-clause-ex
 delete_object-requires-clause-exists g c clean is_open =
     let first = state g.S.Store c.args.tx.now.conn.now in
     let now = state g.S.Store c.paths.tx.conn.now in
-    pieces_exist first now _ (λ clean. (c.paths.invariant.goes clean).changes) c.paths.invariant.survives (λ clean is_open. c.requires.exists clean) clean
+    pieces_exist first now _ (λ clean. (c.paths.invariant.goes clean).changes) c.paths.invariant.survives (λ clean is_open. c.requires.frame.exists clean) clean
 
-pub returns-clause-done : goal.returns-clause-done
-returns-clause-done g c = λ clean.
-    let first = state g.S.Store c.args.tx.now.conn.now in
-    let now = state g.S.Store c.paths.tx.conn.now in
-    let all = c.args.paths.now in
-    let end : c.paths.path-index ≡ length all = omega arith in
-    let none = ap (λ n. drop n all) end ∙ none_left all in
-    goes_done without_objects all first now (drop c.paths.path-index all)
-    (ap (λ (xs : List Path). without_objects xs (contents_of now.now)) none ∙ without_none (contents_of now.now)) (c.paths.invariant.goes clean)
+pub returns : goal.returns
+returns g c = record {
+  frame = record { same_reference = c.paths.invariant.same_reference; failed = λ clean. tt; survives = c.paths.invariant.survives };
+  done = λ clean.
+      let first = state g.S.Store c.args.tx.now.conn.now in
+      let now = state g.S.Store c.paths.tx.conn.now in
+      let all = c.args.paths.now in
+      let end : c.paths.path-index ≡ length all = omega arith in
+      let none = ap (λ n. drop n all) end ∙ none_left all in
+      goes_done without_objects all first now (drop c.paths.path-index all)
+      (ap (λ (xs : List Path). without_objects xs (contents_of now.now)) none ∙ without_none (contents_of now.now)) (c.paths.invariant.goes clean);
+  cause = λ clean. tt;
+}
 
-pub returns-in_err-delete_object-clause-cause : goal.returns-in_err-delete_object-clause-cause
-returns-in_err-delete_object-clause-cause g c clean =
-    let first = state g.S.Store c.args.tx.now.conn.now in
-    let now = state g.S.Store c.paths.tx.conn.now in
-    let next = state g.S.Store c.delete_object.new.tx.conn.now in
-    passed_on c.from_residual.result _ _ c.from_residual.ensures.1
-    (next_reason _ first now next _ (c.paths.invariant.goes (clean_before now next _ c.delete_object.ensures.frame.survives clean)).changes c.paths.invariant.survives _ (c.in_err-delete_object.ensures.cause clean))
-
-pub returns-in_err-delete_object-clause-frame : goal.returns-in_err-delete_object-clause-frame
-returns-in_err-delete_object-clause-frame g c =
-    done_fails g.S.Store c.args.tx.now.conn c.paths.tx.conn c.delete_object.new.tx.conn _ c.paths.invariant.same_reference (λ clean. (c.paths.invariant.goes clean).changes) c.paths.invariant.survives
-    c.from_residual.result c.delete_object.ensures.frame.same_reference c.in_err-delete_object.ensures.frame.failed c.delete_object.ensures.frame.survives
-
-pub returns-clause-frame : goal.returns-clause-frame
-returns-clause-frame g c = record { same_reference = c.paths.invariant.same_reference; failed = λ clean. tt; survives = c.paths.invariant.survives }
+pub returns-in_err-delete_object : goal.returns-in_err-delete_object
+returns-in_err-delete_object g c = record {
+  frame =
+      done_fails g.S.Store c.args.tx.now.conn c.paths.tx.conn c.delete_object.new.tx.conn _ c.paths.invariant.same_reference (λ clean. (c.paths.invariant.goes clean).changes) c.paths.invariant.survives
+      c.from_residual.result c.delete_object.ensures.frame.same_reference c.in_err-delete_object.ensures.frame.failed c.delete_object.ensures.frame.survives;
+  done = λ clean. none_done c.from_residual.result _ _ c.from_residual.ensures.1;
+  cause = λ clean.
+      let first = state g.S.Store c.args.tx.now.conn.now in
+      let now = state g.S.Store c.paths.tx.conn.now in
+      let next = state g.S.Store c.delete_object.new.tx.conn.now in
+      passed_on c.from_residual.result _ _ c.from_residual.ensures.1
+      (next_reason _ first now next _ (c.paths.invariant.goes (clean_before now next _ c.delete_object.ensures.frame.survives clean)).changes c.paths.invariant.survives _ (c.in_err-delete_object.ensures.cause clean));
+}

@@ -3,18 +3,15 @@ use Rattle.std.specs.Prelude.{◌↔◌}
 use Rattle.sqlite.specs.Effect.{Database}
 use Rattle.sqlite.specs.State.{HasCleanDisk}
 use Rattle.sqlite.specs.Held.{state}
-use Rattle.sqlite.proofs.Callers.{unchanged_then}
 use Rattle.tables_schema.specs.Forms.{piece, temp_root}
 use Rattle.tables_sql.specs.Contents.{contents_of}
 use Rattle.tables_sql.specs.Calls.{HasFurther}
-use Rattle.tables_sql.proofs.TestFailures.{both_keep, passed_on, read_then_passed, survives_both}
-use Rattle.tables_sql.proofs.Steps.{clean_before}
-use Rattle.tables_sql.specs.Failures.{FailsToRead}
 use Rattle.tables_world.specs.Worlds.{rows_of, world_in}
 use Rattle.tables_outline.specs.Outline.{OutlineValue, outline_of}
 use Rattle.tables_objects.specs.Loaded.{AreSoundInPieces}
 use Rattle.tables_roots.specs.Loaded.{AreAllSound, AreObjects, with_roots}
 use Rattle.tables.proofs.Joined.{none_yet, named_dir, without_objects, without_roots, are_objects, sound_from, whole_outline}
+use Rattle.tables_rows.proofs.Several.{several_failed, reads_then, reads_done}
 use Rattle.tables.proofs.rows.read.Goals as goal
 
 pub load_objects-requires-clause-empty : goal.load_objects-requires-clause-empty
@@ -60,36 +57,6 @@ load_roots-requires-clause-no_table g c clean none is_open =
 
 pub load_roots-requires-clause-temporary : goal.load_roots-requires-clause-temporary
 load_roots-requires-clause-temporary g c clean = ap (λ (o : OutlineValue). o.temporary) (c.in_ok-load_objects.ensures.loaded clean c.if-not-branch.false) ∙ ap (λ (o : OutlineValue). o.temporary) c.new-outline.ensures
-
-pub returns-in_err-load_objects-clause-same : goal.returns-in_err-load_objects-clause-same
-returns-in_err-load_objects-clause-same g c = both_keep (state g.S.Store c.args.conn.now) (state g.S.Store c.read.new.conn) (state g.S.Store c.load_objects.new.conn) c.read.ensures.read.frame.same c.load_objects.ensures.read.frame.same c.load_objects.ensures.read.frame.survives
-
-pub returns-in_err-load_objects-clause-survives : goal.returns-in_err-load_objects-clause-survives
-returns-in_err-load_objects-clause-survives g c = survives_both (state g.S.Store c.args.conn.now) (state g.S.Store c.read.new.conn) (state g.S.Store c.load_objects.new.conn) c.read.ensures.read.frame.survives c.load_objects.ensures.read.frame.survives
-
-pub returns-then-not-branch-clause-same : goal.returns-then-not-branch-clause-same
-returns-then-not-branch-clause-same g c = both_keep (state g.S.Store c.args.conn.now) (state g.S.Store c.read.new.conn) (state g.S.Store c.load_objects.new.conn) c.read.ensures.read.frame.same c.load_objects.ensures.read.frame.same c.load_objects.ensures.read.frame.survives
-
-pub returns-then-not-branch-clause-survives : goal.returns-then-not-branch-clause-survives
-returns-then-not-branch-clause-survives g c = survives_both (state g.S.Store c.args.conn.now) (state g.S.Store c.read.new.conn) (state g.S.Store c.load_objects.new.conn) c.read.ensures.read.frame.survives c.load_objects.ensures.read.frame.survives
-
-pub returns-in_err-load_roots-clause-same : goal.returns-in_err-load_roots-clause-same
-returns-in_err-load_roots-clause-same g c = both_keep (state g.S.Store c.args.conn.now) (state g.S.Store c.load_objects.new.conn) (state g.S.Store c.load_roots.new.conn) (both_keep (state g.S.Store c.args.conn.now) (state g.S.Store c.read.new.conn) (state g.S.Store c.load_objects.new.conn) c.read.ensures.read.frame.same c.load_objects.ensures.read.frame.same c.load_objects.ensures.read.frame.survives) c.load_roots.ensures.read.frame.same c.load_roots.ensures.read.frame.survives
-
-pub returns-in_err-load_roots-clause-survives : goal.returns-in_err-load_roots-clause-survives
-returns-in_err-load_roots-clause-survives g c = survives_both (state g.S.Store c.args.conn.now) (state g.S.Store c.load_objects.new.conn) (state g.S.Store c.load_roots.new.conn) (survives_both (state g.S.Store c.args.conn.now) (state g.S.Store c.read.new.conn) (state g.S.Store c.load_objects.new.conn) c.read.ensures.read.frame.survives c.load_objects.ensures.read.frame.survives) c.load_roots.ensures.read.frame.survives
-
-pub returns-then-not-branch-2-clause-same : goal.returns-then-not-branch-2-clause-same
-returns-then-not-branch-2-clause-same g c = both_keep (state g.S.Store c.args.conn.now) (state g.S.Store c.load_objects.new.conn) (state g.S.Store c.load_roots.new.conn) (both_keep (state g.S.Store c.args.conn.now) (state g.S.Store c.read.new.conn) (state g.S.Store c.load_objects.new.conn) c.read.ensures.read.frame.same c.load_objects.ensures.read.frame.same c.load_objects.ensures.read.frame.survives) c.load_roots.ensures.read.frame.same c.load_roots.ensures.read.frame.survives
-
-pub returns-then-not-branch-2-clause-survives : goal.returns-then-not-branch-2-clause-survives
-returns-then-not-branch-2-clause-survives g c = survives_both (state g.S.Store c.args.conn.now) (state g.S.Store c.load_objects.new.conn) (state g.S.Store c.load_roots.new.conn) (survives_both (state g.S.Store c.args.conn.now) (state g.S.Store c.read.new.conn) (state g.S.Store c.load_objects.new.conn) c.read.ensures.read.frame.survives c.load_objects.ensures.read.frame.survives) c.load_roots.ensures.read.frame.survives
-
-pub returns-clause-same : goal.returns-clause-same
-returns-clause-same g c = both_keep (state g.S.Store c.args.conn.now) (state g.S.Store c.load_objects.new.conn) (state g.S.Store c.load_roots.new.conn) (both_keep (state g.S.Store c.args.conn.now) (state g.S.Store c.read.new.conn) (state g.S.Store c.load_objects.new.conn) c.read.ensures.read.frame.same c.load_objects.ensures.read.frame.same c.load_objects.ensures.read.frame.survives) c.load_roots.ensures.read.frame.same c.load_roots.ensures.read.frame.survives
-
-pub returns-clause-survives : goal.returns-clause-survives
-returns-clause-survives g c = survives_both (state g.S.Store c.args.conn.now) (state g.S.Store c.load_objects.new.conn) (state g.S.Store c.load_roots.new.conn) (survives_both (state g.S.Store c.args.conn.now) (state g.S.Store c.read.new.conn) (state g.S.Store c.load_objects.new.conn) c.read.ensures.read.frame.survives c.load_objects.ensures.read.frame.survives) c.load_roots.ensures.read.frame.survives
 
 pub returns-then-not-branch-clause-reported : goal.returns-then-not-branch-clause-reported
 returns-then-not-branch-clause-reported g c clean =
@@ -145,39 +112,35 @@ returns-clause-reported g c clean =
           ∙ whole_outline (contents_of a.now) c.load_objects.new.outline (outline ∙ (λ i. record (c.new-outline.ensures i) { objects = (outline_of (world_in (contents_of (same i)))).objects }))),
     )
 
-pub returns-then-not-branch-2-clause-unchanged : goal.returns-then-not-branch-2-clause-unchanged
-returns-then-not-branch-2-clause-unchanged g c clean =
-    let a = state g.S.Store c.args.conn.now in
-    let b = state g.S.Store c.read.new.conn in
-    let d = state g.S.Store c.load_objects.new.conn in
-    let e = state g.S.Store c.load_roots.new.conn in
-    let later : HasCleanDisk d = omega (arith, c.load_roots.ensures.read.frame.survives.clean) in
-    let early : HasCleanDisk b = omega (arith, c.load_objects.ensures.read.frame.survives.clean) in
-    unchanged_then a d e (unchanged_then a b d (c.in_ok-dir.ensures.read.unchanged early) (c.in_ok-load_objects.ensures.read.unchanged later)) (c.in_ok-load_roots.ensures.read.unchanged clean)
+-- ---- what it leaves
 
-pub returns-clause-unchanged : goal.returns-clause-unchanged
-returns-clause-unchanged g c clean =
-    let a = state g.S.Store c.args.conn.now in
-    let b = state g.S.Store c.read.new.conn in
-    let d = state g.S.Store c.load_objects.new.conn in
-    let e = state g.S.Store c.load_roots.new.conn in
-    let later : HasCleanDisk d = omega (arith, c.load_roots.ensures.read.frame.survives.clean) in
-    let early : HasCleanDisk b = omega (arith, c.load_objects.ensures.read.frame.survives.clean) in
-    unchanged_then a d e (unchanged_then a b d (c.in_ok-dir.ensures.read.unchanged early) (c.in_ok-load_objects.ensures.read.unchanged later)) (c.in_ok-load_roots.ensures.read.unchanged clean)
+pub returns-in_err-dir-clause-read : goal.returns-in_err-dir-clause-read
+returns-in_err-dir-clause-read g c = several_failed _ _ c.from_residual.result _ c.from_residual.ensures.1 c.read.ensures.read.frame c.in_err-dir.ensures.read.cause
 
-pub returns-in_err-dir-clause-cause : goal.returns-in_err-dir-clause-cause
-returns-in_err-dir-clause-cause g c clean = passed_on c.from_residual.result _ (FailsToRead (state g.S.Store c.args.conn.now) (state g.S.Store c.read.new.conn)) c.from_residual.ensures.1 (c.in_err-dir.ensures.read.cause clean)
+pub returns-in_default-clause-read : goal.returns-in_default-clause-read
+returns-in_default-clause-read g c = reads_done _ _ _ _ c.in_ok-dir.ensures.read
 
-pub returns-in_err-load_objects-clause-cause : goal.returns-in_err-load_objects-clause-cause
-returns-in_err-load_objects-clause-cause g c clean =
-    read_then_passed (state g.S.Store c.args.conn.now) (state g.S.Store c.read.new.conn) (state g.S.Store c.load_objects.new.conn) c.from_residual-in_err-load_objects.result _ c.from_residual-in_err-load_objects.ensures.1
-    c.in_ok-dir.ensures.read.unchanged c.read.ensures.read.frame.survives c.load_objects.ensures.read.frame.survives clean (c.in_err-load_objects.ensures.read.cause clean)
+pub returns-in_err-load_objects-clause-read : goal.returns-in_err-load_objects-clause-read
+returns-in_err-load_objects-clause-read g c =
+    reads_then _ _ _ c.from_residual-in_err-load_objects.result c.read.ensures.read.frame c.in_ok-dir.ensures.read.unchanged
+    (several_failed _ _ c.from_residual-in_err-load_objects.result _ c.from_residual-in_err-load_objects.ensures.1 c.load_objects.ensures.read.frame c.in_err-load_objects.ensures.read.cause)
 
-pub returns-in_err-load_roots-clause-cause : goal.returns-in_err-load_roots-clause-cause
-returns-in_err-load_roots-clause-cause g c clean =
-    let a = state g.S.Store c.args.conn.now in
-    let b = state g.S.Store c.read.new.conn in
-    let d = state g.S.Store c.load_objects.new.conn in
-    read_then_passed a d (state g.S.Store c.load_roots.new.conn) c.from_residual-in_err-load_roots.result _ c.from_residual-in_err-load_roots.ensures.1
-    (λ later. unchanged_then a b d (c.in_ok-dir.ensures.read.unchanged (clean_before b d _ c.load_objects.ensures.read.frame.survives later)) (c.in_ok-load_objects.ensures.read.unchanged later))
-    (survives_both a b d c.read.ensures.read.frame.survives c.load_objects.ensures.read.frame.survives) c.load_roots.ensures.read.frame.survives clean (c.in_err-load_roots.ensures.read.cause clean)
+pub returns-then-not-branch-clause-read : goal.returns-then-not-branch-clause-read
+returns-then-not-branch-clause-read g c =
+    reads_then _ _ _ _ c.read.ensures.read.frame c.in_ok-dir.ensures.read.unchanged (reads_done _ _ _ _ c.in_ok-load_objects.ensures.read)
+
+pub returns-in_err-load_roots-clause-read : goal.returns-in_err-load_roots-clause-read
+returns-in_err-load_roots-clause-read g c =
+    let both = reads_then _ _ _ _ c.read.ensures.read.frame c.in_ok-dir.ensures.read.unchanged c.in_ok-load_objects.ensures.read in
+    reads_then _ _ _ c.from_residual-in_err-load_roots.result both.frame both.unchanged
+    (several_failed _ _ c.from_residual-in_err-load_roots.result _ c.from_residual-in_err-load_roots.ensures.1 c.load_roots.ensures.read.frame c.in_err-load_roots.ensures.read.cause)
+
+pub returns-then-not-branch-2-clause-read : goal.returns-then-not-branch-2-clause-read
+returns-then-not-branch-2-clause-read g c =
+    let both = reads_then _ _ _ _ c.read.ensures.read.frame c.in_ok-dir.ensures.read.unchanged c.in_ok-load_objects.ensures.read in
+    reads_then _ _ _ _ both.frame both.unchanged (reads_done _ _ _ _ c.in_ok-load_roots.ensures.read)
+
+pub returns-clause-read : goal.returns-clause-read
+returns-clause-read g c =
+    let both = reads_then _ _ _ _ c.read.ensures.read.frame c.in_ok-dir.ensures.read.unchanged c.in_ok-load_objects.ensures.read in
+    reads_then _ _ _ _ both.frame both.unchanged (reads_done _ _ _ _ c.in_ok-load_roots.ensures.read)

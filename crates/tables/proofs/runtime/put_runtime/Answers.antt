@@ -9,7 +9,8 @@ use Rattle.tables_outline.specs.Maps.{labelled_bytes}
 use Rattle.tables.specs.Rewritten.{AreFree, put_pairs}
 use Rattle.tables_make.specs.Reasons.{RowsOf}
 use Rattle.tables.specs.RowsPut.{RuntimeRow}
-use Rattle.tables_sql.proofs.Going.{goes_first, goes_next}
+use Rattle.tables_sql.specs.Calls.{Changes}
+use Rattle.tables_sql.proofs.Going.{goes_first, goes_next, goes_done}
 use Rattle.tables_sql.proofs.Transactions.{survives_none}
 use Rattle.tables.proofs.AfterWrites.{clean_before}
 use Rattle.tables_sql.proofs.TestFailures.{passed_on, survives_both}
@@ -17,6 +18,7 @@ use Rattle.tables_sql.proofs.Orders.{pair_total}
 use Rattle.tables.proofs.Free.{free_next, runtime_free}
 use Rattle.tables_make.proofs.Reasons.{is_none, next_reason, put_reason}
 use Rattle.tables_make.proofs.Inside.{done_fails}
+use Rattle.tables.proofs.Failing.{none_done}
 use Rattle.tables.proofs.runtime.put_runtime.Goals as goal
 
 pub roots-init : goal.roots-init
@@ -24,7 +26,7 @@ roots-init g c =
     let first = state g.S.Store c.args.tx.now.conn.now in
     record {
       same_reference = refl;
-      goes = λ clean. goes_first (λ ps (x : Contents). record x { runtime = put_pairs ps x.runtime }) (map labelled_bytes c.into_iter-root-iterator.result) first (c.requires.under_way clean) (c.requires.is_open clean);
+      goes = λ clean. goes_first (λ ps (x : Contents). record x { runtime = put_pairs ps x.runtime }) (map labelled_bytes c.into_iter-root-iterator.result) first (c.requires.frame.under_way clean) (c.requires.frame.is_open clean);
       free = λ clean.
           let same : c.into_iter-root-iterator.result ≡ c.args.roots.now.keys = cc in
           subst (λ ks. AreFree (contents_of first.now).runtime (map labelled_bytes ks)) (sym same)
@@ -59,30 +61,42 @@ roots-preserved g c =
     }
 
 -- one of them wasn't put: none was there before it
-pub returns-in_err-insert-clause-cause : goal.returns-in_err-insert-clause-cause
-returns-in_err-insert-clause-cause g c clean =
-    let first = state g.S.Store c.args.tx.now.conn.now in
-    let now = state g.S.Store c.roots.tx.conn.now in
-    let next = state g.S.Store c.insert.new.tx.conn.now in
-    let was = contents_of now.now in
-    let left = map labelled_bytes c.roots.root-iterator in
-    let rest = map labelled_bytes c.next.new.self in
-    let pair = labelled_bytes c.in-Some.root.now in
-    let split : left ≡ pair ∷ rest = ap (map labelled_bytes) c.in-Some.ensures.steps in
-    let early = clean_before now next _ c.insert.ensures.frame.survives clean in
-    let free = subst (AreFree was.runtime) split (c.roots.invariant.free early) in
-    let row : Row = Text c.as_str.result.now ∷ Text c.as_str-in-roots.result.now ∷ [] in
-    let is : row ≡ Text pair.0 ∷ Text pair.1 ∷ [] = ap₂ (λ l t. Text l ∷ Text t ∷ []) c.as_str.ensures.value c.as_str-in-roots.ensures.value in
-    let same : c.into_iter-root-iterator.result ≡ c.args.roots.now.keys = cc in
-    passed_on c.from_residual.result _ _ c.from_residual.ensures.1
-    (next_reason _ first now next _ (c.roots.invariant.goes early).changes c.roots.invariant.survives _
-    (put_reason (RowsOf RuntimeRow (map labelled_bytes c.args.roots.now.keys)) now next runtime row _ (subst (λ ks. RowsOf RuntimeRow (map labelled_bytes ks) runtime row) same (c.roots.invariant.among runtime row (subst (λ ps. RowsOf RuntimeRow ps runtime row) (sym split) (inl (refl, is)))))
-    (is_none _ (ap₂ (λ l t. finite.get was.runtime (l, t)) c.as_str.ensures.value c.as_str-in-roots.ensures.value ∙ free.free.0)) _ (c.in_err-insert.ensures.cause clean)))
+pub returns-in_err-insert : goal.returns-in_err-insert
+returns-in_err-insert g c = record {
+  frame =
+      done_fails g.S.Store c.args.tx.now.conn c.roots.tx.conn c.insert.new.tx.conn _ c.roots.invariant.same_reference (λ clean. (c.roots.invariant.goes clean).changes) c.roots.invariant.survives
+      c.from_residual.result c.insert.ensures.frame.same_reference c.in_err-insert.ensures.frame.failed c.insert.ensures.frame.survives;
+  done = λ clean. none_done c.from_residual.result _ _ c.from_residual.ensures.1;
+  cause = λ clean.
+      let first = state g.S.Store c.args.tx.now.conn.now in
+      let now = state g.S.Store c.roots.tx.conn.now in
+      let next = state g.S.Store c.insert.new.tx.conn.now in
+      let was = contents_of now.now in
+      let left = map labelled_bytes c.roots.root-iterator in
+      let rest = map labelled_bytes c.next.new.self in
+      let pair = labelled_bytes c.in-Some.root.now in
+      let split : left ≡ pair ∷ rest = ap (map labelled_bytes) c.in-Some.ensures.steps in
+      let early = clean_before now next _ c.insert.ensures.frame.survives clean in
+      let free = subst (AreFree was.runtime) split (c.roots.invariant.free early) in
+      let row : Row = Text c.as_str.result.now ∷ Text c.as_str-in-roots.result.now ∷ [] in
+      let is : row ≡ Text pair.0 ∷ Text pair.1 ∷ [] = ap₂ (λ l t. Text l ∷ Text t ∷ []) c.as_str.ensures.value c.as_str-in-roots.ensures.value in
+      let same : c.into_iter-root-iterator.result ≡ c.args.roots.now.keys = cc in
+      passed_on c.from_residual.result _ _ c.from_residual.ensures.1
+      (next_reason _ first now next _ (c.roots.invariant.goes early).changes c.roots.invariant.survives _
+      (put_reason (RowsOf RuntimeRow (map labelled_bytes c.args.roots.now.keys)) now next runtime row _ (subst (λ ks. RowsOf RuntimeRow (map labelled_bytes ks) runtime row) same (c.roots.invariant.among runtime row (subst (λ ps. RowsOf RuntimeRow ps runtime row) (sym split) (inl (refl, is)))))
+      (is_none _ (ap₂ (λ l t. finite.get was.runtime (l, t)) c.as_str.ensures.value c.as_str-in-roots.ensures.value ∙ free.free.0)) _ (c.in_err-insert.ensures.cause clean)));
+}
 
-pub returns-in_err-insert-clause-frame : goal.returns-in_err-insert-clause-frame
-returns-in_err-insert-clause-frame g c =
-    done_fails g.S.Store c.args.tx.now.conn c.roots.tx.conn c.insert.new.tx.conn _ c.roots.invariant.same_reference (λ clean. (c.roots.invariant.goes clean).changes) c.roots.invariant.survives
-    c.from_residual.result c.insert.ensures.frame.same_reference c.in_err-insert.ensures.frame.failed c.insert.ensures.frame.survives
-
-pub returns-clause-frame : goal.returns-clause-frame
-returns-clause-frame g c = record { same_reference = c.roots.invariant.same_reference; failed = λ clean. tt; survives = c.roots.invariant.survives }
+pub returns : goal.returns
+returns g c = record {
+  frame = record { same_reference = c.roots.invariant.same_reference; failed = λ clean. tt; survives = c.roots.invariant.survives };
+  done = λ clean.
+      let first = state g.S.Store c.args.tx.now.conn.now in
+      let now = state g.S.Store c.roots.tx.conn.now in
+      let change : List Pair → Contents → Contents = λ ps x. record x { runtime = put_pairs ps x.runtime } in
+      let same : c.into_iter-root-iterator.result ≡ c.args.roots.now.keys = cc in
+      subst (λ ks. Changes first now (change (map labelled_bytes ks))) same
+      (goes_done change (map labelled_bytes c.into_iter-root-iterator.result) first now (map labelled_bytes c.roots.root-iterator)
+      (ap (λ ks. change (map labelled_bytes ks) (contents_of now.now)) c.in-None.ensures.steps.0) (c.roots.invariant.goes clean));
+  cause = λ clean. tt;
+}

@@ -25,7 +25,7 @@ tables-preserved g c = record {
   same_reference = c.one.ensures.frame.same_reference ∙ c.tables.invariant.same_reference;
   made = λ clean.
       let before = c.tables.invariant.made (clean_before _ _ _ c.one.ensures.frame.survives clean) in
-      next_made c.args.tables.now c.tables.table-index c.tables-test.true _ _ _ c.requires.apart before (c.in_ok-one.ensures.makes clean);
+      next_made c.args.tables.now c.tables.table-index c.tables-test.true _ _ _ c.requires.distinct before (c.in_ok-one.ensures.makes clean);
   kept = both_keep_commit _ _ _ c.tables.invariant.kept c.one.ensures.frame.kept c.one.ensures.frame.survives;
   survives = survives_both _ _ _ c.tables.invariant.survives c.one.ensures.frame.survives;
 }
@@ -34,7 +34,7 @@ pub returns-in_err-one-clause-cause : goal.returns-in_err-one-clause-cause
 returns-in_err-one-clause-cause g c clean =
     let before = c.tables.invariant.made (clean_before _ _ _ c.one.ensures.frame.survives clean) in
     passed_on c.from_residual.result _ _ c.from_residual.ensures.1
-    (next_fails c.args.tables.now c.tables.table-index c.tables-test.true _ _ (state g.S.Store c.one.new.tx.conn.now) c.requires.apart before c.tables.invariant.survives.counts _ (c.in_err-one.ensures.cause clean))
+    (next_fails c.args.tables.now c.tables.table-index c.tables-test.true _ _ (state g.S.Store c.one.new.tx.conn.now) c.requires.distinct before c.tables.invariant.survives.counts _ (c.in_err-one.ensures.cause clean))
 
 pub returns-clause-makes : goal.returns-clause-makes
 returns-clause-makes g c clean = all_in_turn c.args.tables.now c.tables.table-index (state g.S.Store c.args.tx.now.conn.now) (state g.S.Store c.tables.tx.conn.now) (omega (arith, c.tables-test.false)) c.requires.some (c.tables.invariant.made clean)

@@ -11,9 +11,9 @@ use Rattle.tables_make.proofs.further.make_temp_root.Goals as goal
 pub all-requires-clause-making : goal.all-requires-clause-making
 all-requires-clause-making g c clean = making_further (temp_root ∷ []) (state g.S.Store c.args.tx.now.conn.now) (c.requires.under clean) (λ up. let h = c.requires.second clean up in ((h.2, tt), h.3))
 
-pub all-requires-clause-apart : goal.all-requires-clause-apart
+pub all-requires-clause-distinct : goal.all-requires-clause-distinct
 unfolding digits everything
-all-requires-clause-apart g c = refl
+all-requires-clause-distinct g c = refl
 
 pub returns-clause-done : goal.returns-clause-done
 returns-clause-done g c clean =

@@ -14,9 +14,9 @@ use Rattle.tables_make.proofs.MakingTogether.{part, fails_after}
 use Rattle.tables_make.proofs.Settles.{all_made}
 use Rattle.tables_make.proofs.making.make_all.Goals as goal
 
-pub all-requires-clause-apart : goal.all-requires-clause-apart
+pub all-requires-clause-distinct : goal.all-requires-clause-distinct
 unfolding digits everything
-all-requires-clause-apart g c = rw c.schema_tables.ensures refl
+all-requires-clause-distinct g c = rw c.schema_tables.ensures refl
 
 pub all-requires-clause-making : goal.all-requires-clause-making
 unfolding digits everything

@@ -20,8 +20,8 @@ load_table-requires-clause-frame g c = record { idle = c.load_explicit.ensures.r
 pub load_table-requires-clause-exists : goal.load_table-requires-clause-exists
 load_table-requires-clause-exists g c clean is_open =
     let early : HasCleanDisk (state g.S.Store c.args.conn.now) = omega (arith, c.load_explicit.ensures.read.frame.survives.clean) in
-    let lasting = (c.in_ok-load_explicit.ensures.read.unchanged clean).0 in
-    subst (λ (d : Database). HasFurther d temp_root) (sym lasting.now_is) (c.requires.exists early (sym c.has_temporary.ensures ∙ c.if-not-has_temporary.false) lasting.was_open)
+    let remaining = (c.in_ok-load_explicit.ensures.read.unchanged clean).0 in
+    subst (λ (d : Database). HasFurther d temp_root) (sym remaining.now_is) (c.requires.exists early (sym c.has_temporary.ensures ∙ c.if-not-has_temporary.false) remaining.was_open)
 
 pub load_table-requires-clause-fits : goal.load_table-requires-clause-fits
 load_table-requires-clause-fits g c clean =

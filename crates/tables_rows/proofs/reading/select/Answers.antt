@@ -1,4 +1,4 @@
-use Rattle.tables_rows.proofs.Clauses.{shows_same, still_ready, still_stands}
+use Rattle.tables_rows.proofs.Clauses.{shows_same, still_ready, still_exists}
 use Rattle.tables_rows.proofs.reading.select.Goals as goal
 
 pub returns-clause-frame : goal.returns-clause-frame
@@ -10,4 +10,4 @@ returns-clause-frame g c = record {
 }
 
 pub returns-clause-further : goal.returns-clause-further
-returns-clause-further g c t exists clean = still_stands c.select.ensures.survives c.requires.frame.ready c.select.ensures.same clean t exists
+returns-clause-further g c t exists clean = still_exists c.select.ensures.survives c.requires.frame.ready c.select.ensures.same clean t exists

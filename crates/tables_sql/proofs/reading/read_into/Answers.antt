@@ -3,7 +3,7 @@ use Rattle.sqlite.specs.State.{HasCleanDisk, IsUnchanged, Survives, Shown, Begin
 use Rattle.sqlite.specs.Held.{state}
 use Rattle.sqlite.specs.Values.{bound}
 use Rattle.sqlite.proofs.Callers.{given_begin, unchanged_then}
-use Rattle.tables_sql.specs.declared.failure.Failure.TheVariants.{Memory, Disk}
+use Rattle.tables_sql.specs.declared.failure.Failed.TheVariants.{Memory, Disk}
 use Rattle.tables_sql.proofs.TestFailures.{passed_on}
 use Rattle.tables_sql.proofs.RowByRow.{commits_nothing, begun, shown_since, begins_since, fails_since}
 use Rattle.tables_sql.proofs.reading.read_into.Goals as goal

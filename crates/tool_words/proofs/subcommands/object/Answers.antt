@@ -4,14 +4,13 @@ use Rattle.std.proofs.lemmas.Result.{IfOk-weaker}
 use Rattle.clap.specs.Simple.{with_rule}
 use Rattle.tool_words.proofs.subcommands.object.Goals as goal
 
-pub returns-clause-app : goal.returns-clause-app
-returns-clause-app c =
+pub returns : goal.returns
+returns c =
     let first = c.plain.ensures.app in
     let second = c.in_ok-arg.ensures.shape c.required.ensures.local ∙ ap₂ with_rule first c.required.ensures.rule in
-    IfOk-weaker c.arg-2.result _ _ (λ r added. added.shape c.references.ensures.local ∙ ap₂ with_rule second c.references.ensures.rule) c.arg-2.ensures
-
-pub returns-clause-local : goal.returns-clause-local
-returns-clause-local c =
-    let first = c.plain.ensures.local in
-    let second = c.in_ok-arg.ensures.globals ∙ ap₂ (λ a b. a || b) first c.required.ensures.local in
-    IfOk-weaker c.arg-2.result _ _ (λ r added. added.globals ∙ ap₂ (λ a b. a || b) second c.references.ensures.local) c.arg-2.ensures
+    let first_local = c.plain.ensures.local in
+    let second_local = c.in_ok-arg.ensures.globals ∙ ap₂ (λ a b. a || b) first_local c.required.ensures.local in
+    IfOk-weaker c.arg-2.result _ _ (λ r added. record {
+      app = added.shape c.references.ensures.local ∙ ap₂ with_rule second c.references.ensures.rule;
+      local = added.globals ∙ ap₂ (λ a b. a || b) second_local c.references.ensures.local;
+    }) c.arg-2.ensures

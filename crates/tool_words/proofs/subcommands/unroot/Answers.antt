@@ -4,16 +4,15 @@ use Rattle.std.proofs.lemmas.Result.{IfOk-weaker}
 use Rattle.clap.specs.Simple.{with_rule}
 use Rattle.tool_words.proofs.subcommands.unroot.Goals as goal
 
-pub returns-clause-app : goal.returns-clause-app
-returns-clause-app c =
+pub returns : goal.returns
+returns c =
     let first = c.plain.ensures.app in
     let second = c.in_ok-arg.ensures.shape c.flag.ensures.local ∙ ap₂ with_rule first c.flag.ensures.rule in
     let third = c.in_ok-arg-2.ensures.shape c.option.ensures.local ∙ ap₂ with_rule second c.option.ensures.rule in
-    IfOk-weaker c.arg-3.result _ _ (λ r added. added.shape c.required.ensures.local ∙ ap₂ with_rule third c.required.ensures.rule) c.arg-3.ensures
-
-pub returns-clause-local : goal.returns-clause-local
-returns-clause-local c =
-    let first = c.plain.ensures.local in
-    let second = c.in_ok-arg.ensures.globals ∙ ap₂ (λ a b. a || b) first c.flag.ensures.local in
-    let third = c.in_ok-arg-2.ensures.globals ∙ ap₂ (λ a b. a || b) second c.option.ensures.local in
-    IfOk-weaker c.arg-3.result _ _ (λ r added. added.globals ∙ ap₂ (λ a b. a || b) third c.required.ensures.local) c.arg-3.ensures
+    let first_local = c.plain.ensures.local in
+    let second_local = c.in_ok-arg.ensures.globals ∙ ap₂ (λ a b. a || b) first_local c.flag.ensures.local in
+    let third_local = c.in_ok-arg-2.ensures.globals ∙ ap₂ (λ a b. a || b) second_local c.option.ensures.local in
+    IfOk-weaker c.arg-3.result _ _ (λ r added. record {
+      app = added.shape c.required.ensures.local ∙ ap₂ with_rule third c.required.ensures.rule;
+      local = added.globals ∙ ap₂ (λ a b. a || b) third_local c.required.ensures.local;
+    }) c.arg-3.ensures

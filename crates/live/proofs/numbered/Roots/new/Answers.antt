@@ -9,7 +9,7 @@ use Rattle.live.proofs.numbered.Roots.new.Goals.{in-Some+in_ok-push, in_default}
 pub loop-root-preserved : goal.loop-root-preserved
 loop-root-preserved c =
     let is = root_is c.args.roots.now c.loop-root.root-index c.root-item.result c.loop-root-test.true c.root-item.is in
-    let at = ap (place_of (paths_of (rows_view c.args.rows.now))) is ∙ sym c.place_of.ensures in
+    let at = ap (place_of (paths_of (rows_view c.args.rows.now))) is ∙ sym c.place_of.ensures.place in
     elim c.match-place_of.branch [
       | in-Some+in_ok-push w ↦
           subst (λ (xs : List ℕ). AimsBelow (rows_view c.args.rows.now) (roots_view c.args.roots.now) (c.loop-root.root-index + 1) xs) (sym (ap (λ (v : Vec ℕ Global). v.items) w.targets-is ∙ w.in_ok-push.ensures.items))

@@ -9,7 +9,7 @@ pub returns-clause-found : goal.returns-clause-found
 returns-clause-found g c clean =
     let read = c.in_ok-found.ensures.reads clean in
     archive_reported g.S.Store _ c.args.self.now c.self.view_is c.as_str.result.now c.args.path.now _ c.as_str.ensures.value
-    (clean_before (state g.S.Store c.self.inside.connection) (state g.S.Store c.read_archive.new.conn) _ c.read_archive.ensures.survives clean) read.0.0.was_open read.1
+    (clean_before (state g.S.Store c.self.inside.connection) (state g.S.Store c.read_archive.new.conn) _ c.read_archive.ensures.frame.survives clean) read.0.0.was_open read.1
 
 pub returns-clause-was_open : goal.returns-clause-was_open
 returns-clause-was_open g c clean some =
@@ -18,11 +18,11 @@ returns-clause-was_open g c clean some =
 
 pub returns-clause-same : goal.returns-clause-same
 returns-clause-same g c =
-    reported_failed g.S.Store _ c.args.self.now c.self.view_is c.read_archive.new.conn c.self.inside.outline c.self.invariant _ c.read_archive.ensures.survives c.read_archive.ensures.same refl
+    reported_failed g.S.Store _ c.args.self.now c.self.view_is c.read_archive.new.conn c.self.inside.outline c.self.invariant _ c.read_archive.ensures.frame.survives c.read_archive.ensures.frame.same refl
 
 pub returns-in_err-found-clause-same : goal.returns-in_err-found-clause-same
 returns-in_err-found-clause-same g c =
-    reported_failed g.S.Store _ c.args.self.now c.self.view_is c.read_archive.new.conn c.self.inside.outline c.self.invariant _ c.read_archive.ensures.survives c.read_archive.ensures.same refl
+    reported_failed g.S.Store _ c.args.self.now c.self.view_is c.read_archive.new.conn c.self.inside.outline c.self.invariant _ c.read_archive.ensures.frame.survives c.read_archive.ensures.frame.same refl
 
 pub read_archive-requires-clause-size : goal.read_archive-requires-clause-size
 read_archive-requires-clause-size g c clean is_open =

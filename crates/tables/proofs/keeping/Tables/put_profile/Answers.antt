@@ -17,27 +17,27 @@ put_number-requires g c =
     let owned : Pair = (c.args.owner.now, c.args.name.now) in
     record { sound = subst (λ o. StaysSound g.S.Store c.args.self.now (with_numbers owned (option_map (λ e. (e.0, e.1.now)) o) c.args.current)) c.in-Some.is c.requires.sound }
 
-pub returns-in-Some-clause-frame : goal.returns-in-Some-clause-frame
-returns-in-Some-clause-frame g c =
-    let owned : Pair = (c.args.owner.now, c.args.name.now) in
-    subst (λ o. CommitsChange g.S.Store c.args.self.now c.put_number.new.self c.put_number.result (with_numbers owned (option_map (λ e. (e.0, e.1.now)) o) c.args.current)) (sym c.in-Some.is) c.put_number.ensures.frame
-
-pub returns-in-Some-clause-cause : goal.returns-in-Some-clause-cause
-returns-in-Some-clause-cause g c =
-    let owned : Pair = (c.args.owner.now, c.args.name.now) in
-    subst (λ o. FailsToChange g.S.Store c.args.self.now c.put_number.new.self c.put_number.result (NumberedRows owned (option_map (λ e. (e.0, e.1.now)) o) c.args.current)) (sym c.in-Some.is) c.put_number.ensures.cause
+pub returns-in-Some : goal.returns-in-Some
+returns-in-Some g c = record {
+  frame =
+      let owned : Pair = (c.args.owner.now, c.args.name.now) in
+      subst (λ o. CommitsChange g.S.Store c.args.self.now c.put_number.new.self c.put_number.result (with_numbers owned (option_map (λ e. (e.0, e.1.now)) o) c.args.current)) (sym c.in-Some.is) c.put_number.ensures.frame;
+  cause =
+      let owned : Pair = (c.args.owner.now, c.args.name.now) in
+      subst (λ o. FailsToChange g.S.Store c.args.self.now c.put_number.new.self c.put_number.result (NumberedRows owned (option_map (λ e. (e.0, e.1.now)) o) c.args.current)) (sym c.in-Some.is) c.put_number.ensures.cause;
+}
 
 pub switch_generation-requires-clause-sound : goal.switch_generation-requires-clause-sound
 switch_generation-requires-clause-sound g c =
     let owned : Pair = (c.args.owner.now, c.args.name.now) in
     subst (λ o. StaysSound g.S.Store c.args.self.now (with_numbers owned (option_map (λ e. (e.0, e.1.now)) o) c.args.current)) c.in-None.is c.requires.sound
 
-pub returns-in-None-clause-frame : goal.returns-in-None-clause-frame
-returns-in-None-clause-frame g c =
-    let owned : Pair = (c.args.owner.now, c.args.name.now) in
-    subst (λ o. CommitsChange g.S.Store c.args.self.now c.switch_generation.new.self c.switch_generation.result (with_numbers owned (option_map (λ e. (e.0, e.1.now)) o) c.args.current)) (sym c.in-None.is) c.switch_generation.ensures.frame
-
-pub returns-in-None-clause-cause : goal.returns-in-None-clause-cause
-returns-in-None-clause-cause g c =
-    let owned : Pair = (c.args.owner.now, c.args.name.now) in
-    subst (λ o. FailsToChange g.S.Store c.args.self.now c.switch_generation.new.self c.switch_generation.result (NumberedRows owned (option_map (λ e. (e.0, e.1.now)) o) c.args.current)) (sym c.in-None.is) c.switch_generation.ensures.cause
+pub returns-in-None : goal.returns-in-None
+returns-in-None g c = record {
+  frame =
+      let owned : Pair = (c.args.owner.now, c.args.name.now) in
+      subst (λ o. CommitsChange g.S.Store c.args.self.now c.switch_generation.new.self c.switch_generation.result (with_numbers owned (option_map (λ e. (e.0, e.1.now)) o) c.args.current)) (sym c.in-None.is) c.switch_generation.ensures.frame;
+  cause =
+      let owned : Pair = (c.args.owner.now, c.args.name.now) in
+      subst (λ o. FailsToChange g.S.Store c.args.self.now c.switch_generation.new.self c.switch_generation.result (NumberedRows owned (option_map (λ e. (e.0, e.1.now)) o) c.args.current)) (sym c.in-None.is) c.switch_generation.ensures.cause;
+}

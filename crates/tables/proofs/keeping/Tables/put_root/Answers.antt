@@ -8,21 +8,21 @@ use Rattle.tables.proofs.keeping.Tables.put_root.Goals as goal
 pub put_permanent-requires : goal.put_permanent-requires
 put_permanent-requires g c = record { sound = subst (λ (n : RootName). StaysSound g.S.Store c.args.self.now (with_root n c.args.target.now)) c.in-Permanent.is c.requires }
 
-pub returns-in-Permanent-clause-frame : goal.returns-in-Permanent-clause-frame
-returns-in-Permanent-clause-frame g c =
-    subst (λ (n : RootName). CommitsChange g.S.Store c.args.self.now c.put_permanent.new.self c.put_permanent.result (with_root n c.args.target.now)) (sym c.in-Permanent.is) c.put_permanent.ensures.frame
-
-pub returns-in-Permanent-clause-cause : goal.returns-in-Permanent-clause-cause
-returns-in-Permanent-clause-cause g c =
-    subst (λ (n : RootName). FailsToChange g.S.Store c.args.self.now c.put_permanent.new.self c.put_permanent.result (RootRow n c.args.target.now)) (sym c.in-Permanent.is) c.put_permanent.ensures.cause
+pub returns-in-Permanent : goal.returns-in-Permanent
+returns-in-Permanent g c = record {
+  frame =
+      subst (λ (n : RootName). CommitsChange g.S.Store c.args.self.now c.put_permanent.new.self c.put_permanent.result (with_root n c.args.target.now)) (sym c.in-Permanent.is) c.put_permanent.ensures.frame;
+  cause =
+      subst (λ (n : RootName). FailsToChange g.S.Store c.args.self.now c.put_permanent.new.self c.put_permanent.result (RootRow n c.args.target.now)) (sym c.in-Permanent.is) c.put_permanent.ensures.cause;
+}
 
 pub put_user_root-requires : goal.put_user_root-requires
 put_user_root-requires g c = record { sound = subst (λ (n : RootName). StaysSound g.S.Store c.args.self.now (with_root n c.args.target.now)) c.in-User.is c.requires }
 
-pub returns-in-User-clause-frame : goal.returns-in-User-clause-frame
-returns-in-User-clause-frame g c =
-    subst (λ (n : RootName). CommitsChange g.S.Store c.args.self.now c.put_user_root.new.self c.put_user_root.result (with_root n c.args.target.now)) (sym c.in-User.is) c.put_user_root.ensures.frame
-
-pub returns-in-User-clause-cause : goal.returns-in-User-clause-cause
-returns-in-User-clause-cause g c =
-    subst (λ (n : RootName). FailsToChange g.S.Store c.args.self.now c.put_user_root.new.self c.put_user_root.result (RootRow n c.args.target.now)) (sym c.in-User.is) c.put_user_root.ensures.cause
+pub returns-in-User : goal.returns-in-User
+returns-in-User g c = record {
+  frame =
+      subst (λ (n : RootName). CommitsChange g.S.Store c.args.self.now c.put_user_root.new.self c.put_user_root.result (with_root n c.args.target.now)) (sym c.in-User.is) c.put_user_root.ensures.frame;
+  cause =
+      subst (λ (n : RootName). FailsToChange g.S.Store c.args.self.now c.put_user_root.new.self c.put_user_root.result (RootRow n c.args.target.now)) (sym c.in-User.is) c.put_user_root.ensures.cause;
+}

@@ -28,24 +28,27 @@ invariant_of-self-in-Err g c =
     (λ clean is_open. add_follows _ _ (c.self.invariant.rows clean is_open).sound owned c.args.number c.args.target.now c.args.current)) c.commit.new.conn c.self.inside.outline _ (rows_as g.S.Store _ _ (ap {B = Contents → Contents} (λ (t : List ℕ). put_generation owned c.args.number t c.args.current) c.as_str.ensures.value) c.in-Err.ensures.frame)
     (refl)
 
-pub returns-in-Ok-clause-frame : goal.returns-in-Ok-clause-frame
-returns-in-Ok-clause-frame g c =
-    let owned : Pair = (c.args.owner.now, c.args.name.now) in
-    write_commits g.S.Store (profile_write owned (λ p. switched (put_at p c.args.number c.args.target.now) c.args.current) (put_generation owned c.args.number c.args.target.now c.args.current) g.S.Store _ c.args.self.now c.self.view_is c.self.invariant c.requires.sound
-    (λ clean is_open. add_follows _ _ (c.self.invariant.rows clean is_open).sound owned c.args.number c.args.target.now c.args.current)) c.commit.new.conn c.switch_generation.new.self _ (rows_as g.S.Store _ _ (ap {B = Contents → Contents} (λ (t : List ℕ). put_generation owned c.args.number t c.args.current) c.as_str.ensures.value) c.in-Ok.ensures.frame)
-    (generation_put c.self.inside.outline c.replace_generation.new.self owned (pair_bytes c.in_ok-key.key) (pair_bytes c.in_ok-key.key) c.args.number c.args.target.now c.in_ok-value.value c.in_ok-key.ensures c.in_ok-key.ensures c.in_ok-value.ensures.cases c.replace_generation.ensures c.switch_generation.new.self c.args.current c.switch_generation.ensures) _
+pub returns-in-Ok : goal.returns-in-Ok
+returns-in-Ok g c = record {
+  frame =
+      let owned : Pair = (c.args.owner.now, c.args.name.now) in
+      write_commits g.S.Store (profile_write owned (λ p. switched (put_at p c.args.number c.args.target.now) c.args.current) (put_generation owned c.args.number c.args.target.now c.args.current) g.S.Store _ c.args.self.now c.self.view_is c.self.invariant c.requires.sound
+      (λ clean is_open. add_follows _ _ (c.self.invariant.rows clean is_open).sound owned c.args.number c.args.target.now c.args.current)) c.commit.new.conn c.switch_generation.new.self _ (rows_as g.S.Store _ _ (ap {B = Contents → Contents} (λ (t : List ℕ). put_generation owned c.args.number t c.args.current) c.as_str.ensures.value) c.in-Ok.ensures.frame)
+      (generation_put c.self.inside.outline c.replace_generation.new.self owned (pair_bytes c.in_ok-key.key) (pair_bytes c.in_ok-key.key) c.args.number c.args.target.now c.in_ok-value.value c.in_ok-key.ensures c.in_ok-key.ensures c.in_ok-value.ensures.cases c.replace_generation.ensures c.switch_generation.new.self c.args.current c.switch_generation.ensures) _;
+  cause = λ clean. tt;
+}
 
-pub returns-clause-frame : goal.returns-clause-frame
-returns-clause-frame g c =
-    let owned : Pair = (c.args.owner.now, c.args.name.now) in
-    write_fails g.S.Store (profile_write owned (λ p. switched (put_at p c.args.number c.args.target.now) c.args.current) (put_generation owned c.args.number c.args.target.now c.args.current) g.S.Store _ c.args.self.now c.self.view_is c.self.invariant c.requires.sound
-    (λ clean is_open. add_follows _ _ (c.self.invariant.rows clean is_open).sound owned c.args.number c.args.target.now c.args.current)) c.commit.new.conn c.self.inside.outline _ (rows_as g.S.Store _ _ (ap {B = Contents → Contents} (λ (t : List ℕ). put_generation owned c.args.number t c.args.current) c.as_str.ensures.value) c.in-Err.ensures.frame)
-    (refl) _
-
-pub returns-clause-cause : goal.returns-clause-cause
-returns-clause-cause g c =
-    subst (λ (t : List ℕ). HasReason {T = Unit {0}} g.S.Store c.args.self.now.connection c.commit.new.conn (Err c.in-Err.failure) (GenerationRows (c.args.owner.now, c.args.name.now) c.args.number t c.args.current)) c.as_str.ensures.value
-    (failure_seen g.S.Store c.commit.new.conn (GenerationRows (c.args.owner.now, c.args.name.now) c.args.number c.as_str.result.now c.args.current) c.in-Err.failure c.self.view_is c.in-Err.ensures.cause)
+pub returns : goal.returns
+returns g c = record {
+  frame =
+      let owned : Pair = (c.args.owner.now, c.args.name.now) in
+      write_fails g.S.Store (profile_write owned (λ p. switched (put_at p c.args.number c.args.target.now) c.args.current) (put_generation owned c.args.number c.args.target.now c.args.current) g.S.Store _ c.args.self.now c.self.view_is c.self.invariant c.requires.sound
+      (λ clean is_open. add_follows _ _ (c.self.invariant.rows clean is_open).sound owned c.args.number c.args.target.now c.args.current)) c.commit.new.conn c.self.inside.outline _ (rows_as g.S.Store _ _ (ap {B = Contents → Contents} (λ (t : List ℕ). put_generation owned c.args.number t c.args.current) c.as_str.ensures.value) c.in-Err.ensures.frame)
+      (refl) _;
+  cause =
+      subst (λ (t : List ℕ). HasReason {T = Unit {0}} g.S.Store c.args.self.now.connection c.commit.new.conn (Err c.in-Err.failure) (GenerationRows (c.args.owner.now, c.args.name.now) c.args.number t c.args.current)) c.as_str.ensures.value
+      (failure_seen g.S.Store c.commit.new.conn (GenerationRows (c.args.owner.now, c.args.name.now) c.args.number c.as_str.result.now c.args.current) c.in-Err.failure c.self.view_is c.in-Err.ensures.cause);
+}
 
 pub replace_generation-requires : goal.replace_generation-requires
 replace_generation-requires g c =

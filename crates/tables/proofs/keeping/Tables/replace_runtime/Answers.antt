@@ -19,16 +19,19 @@ invariant_of-self-in-Err g c =
     failure_agrees g.S.Store (roots_write (λ (m : finite.FinMap bytes_cmp Path). m) (λ (m : finite.FinMap pair_cmp Path). m) (λ (m : Set pair_cmp). seen_set pair_cmp labelled_bytes c.args.roots.keys) g.S.Store _ c.args.self.now c.self.view_is c.self.invariant c.requires.sound) c.commit.new.conn c.self.inside.outline _ (c.in-Err.ensures.frame)
     (refl)
 
-pub returns-in-Ok-clause-frame : goal.returns-in-Ok-clause-frame
-returns-in-Ok-clause-frame g c =
-    write_commits g.S.Store (roots_write (λ (m : finite.FinMap bytes_cmp Path). m) (λ (m : finite.FinMap pair_cmp Path). m) (λ (m : Set pair_cmp). seen_set pair_cmp labelled_bytes c.args.roots.keys) g.S.Store _ c.args.self.now c.self.view_is c.self.invariant c.requires.sound) c.commit.new.conn c.replace_runtime.new.self _ (c.in-Ok.ensures.frame)
-    (c.replace_runtime.ensures) _
+pub returns-in-Ok : goal.returns-in-Ok
+returns-in-Ok g c = record {
+  frame =
+      write_commits g.S.Store (roots_write (λ (m : finite.FinMap bytes_cmp Path). m) (λ (m : finite.FinMap pair_cmp Path). m) (λ (m : Set pair_cmp). seen_set pair_cmp labelled_bytes c.args.roots.keys) g.S.Store _ c.args.self.now c.self.view_is c.self.invariant c.requires.sound) c.commit.new.conn c.replace_runtime.new.self _ (c.in-Ok.ensures.frame)
+      (c.replace_runtime.ensures) _;
+  cause = λ clean. tt;
+}
 
-pub returns-in-Err-clause-frame : goal.returns-in-Err-clause-frame
-returns-in-Err-clause-frame g c =
-    write_fails g.S.Store (roots_write (λ (m : finite.FinMap bytes_cmp Path). m) (λ (m : finite.FinMap pair_cmp Path). m) (λ (m : Set pair_cmp). seen_set pair_cmp labelled_bytes c.args.roots.keys) g.S.Store _ c.args.self.now c.self.view_is c.self.invariant c.requires.sound) c.commit.new.conn c.self.inside.outline _ (c.in-Err.ensures.frame)
-    (refl) _
-
-pub returns-in-Err-clause-cause : goal.returns-in-Err-clause-cause
-returns-in-Err-clause-cause g c =
-    failure_seen g.S.Store c.commit.new.conn (RowsOf RuntimeRow (map labelled_bytes c.args.roots.keys)) c.in-Err.failure c.self.view_is c.in-Err.ensures.cause
+pub returns-in-Err : goal.returns-in-Err
+returns-in-Err g c = record {
+  frame =
+      write_fails g.S.Store (roots_write (λ (m : finite.FinMap bytes_cmp Path). m) (λ (m : finite.FinMap pair_cmp Path). m) (λ (m : Set pair_cmp). seen_set pair_cmp labelled_bytes c.args.roots.keys) g.S.Store _ c.args.self.now c.self.view_is c.self.invariant c.requires.sound) c.commit.new.conn c.self.inside.outline _ (c.in-Err.ensures.frame)
+      (refl) _;
+  cause =
+      failure_seen g.S.Store c.commit.new.conn (RowsOf RuntimeRow (map labelled_bytes c.args.roots.keys)) c.in-Err.failure c.self.view_is c.in-Err.ensures.cause;
+}

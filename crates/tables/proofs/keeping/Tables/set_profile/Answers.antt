@@ -26,17 +26,20 @@ put_generation-requires-clause-sound g c =
     let owned : Pair = (c.args.owner.now, c.args.name.now) in
     set_sound g.S.Store c.args.self.now owned c.args.target.now (λ p. put_at p c.args.number c.args.target.now) (set_is_new (profile_of c.args.self.now.outline owned) c.args.target.now c.args.number c.requires.number) c.requires.sound
 
-pub returns-then-has_generation-clause-frame : goal.returns-then-has_generation-clause-frame
-returns-then-has_generation-clause-frame g c =
-    let owned : Pair = (c.args.owner.now, c.args.name.now) in
-    set_commits g.S.Store c.args.self.now owned c.args.target.now (λ p. switched p c.args.number) (set_is_switch (profile_of c.args.self.now.outline owned) c.args.target.now c.args.number c.requires.number (sym (ap₂ (λ (n : TablesValue _) (k : Pair). has_generation (profile_of n.outline k) c.args.number) c.self.view_is c.in_ok-key.ensures) ∙ sym c.has_generation.ensures ∙ c.if-has_generation.true)) c.switch_generation.result c.switch_generation.new.self c.switch_generation.ensures.frame
+pub returns-then-has_generation : goal.returns-then-has_generation
+returns-then-has_generation g c = record {
+  frame =
+      let owned : Pair = (c.args.owner.now, c.args.name.now) in
+      set_commits g.S.Store c.args.self.now owned c.args.target.now (λ p. switched p c.args.number) (set_is_switch (profile_of c.args.self.now.outline owned) c.args.target.now c.args.number c.requires.number (sym (ap₂ (λ (n : TablesValue _) (k : Pair). has_generation (profile_of n.outline k) c.args.number) c.self.view_is c.in_ok-key.ensures) ∙ sym c.has_generation.ensures ∙ c.if-has_generation.true)) c.switch_generation.result c.switch_generation.new.self c.switch_generation.ensures.frame;
+  cause = λ clean.
+      let owned : Pair = (c.args.owner.now, c.args.name.now) in
+      as_reason _ _ (more_reason (ProfileRow owned c.args.number) (GenerationRows owned c.args.number c.args.target.now c.args.number) (λ t values h. inl h) (state g.S.Store c.args.self.now.connection) (state g.S.Store c.switch_generation.new.self.connection)) c.switch_generation.result (c.switch_generation.ensures.cause clean);
+}
 
-pub returns-then-has_generation-clause-cause : goal.returns-then-has_generation-clause-cause
-returns-then-has_generation-clause-cause g c clean =
-    let owned : Pair = (c.args.owner.now, c.args.name.now) in
-    as_reason _ _ (more_reason (ProfileRow owned c.args.number) (GenerationRows owned c.args.number c.args.target.now c.args.number) (λ t values h. inl h) (state g.S.Store c.args.self.now.connection) (state g.S.Store c.switch_generation.new.self.connection)) c.switch_generation.result (c.switch_generation.ensures.cause clean)
-
-pub returns-clause-frame : goal.returns-clause-frame
-returns-clause-frame g c =
-    let owned : Pair = (c.args.owner.now, c.args.name.now) in
-    set_commits g.S.Store c.args.self.now owned c.args.target.now (λ p. put_at p c.args.number c.args.target.now) (set_is_new (profile_of c.args.self.now.outline owned) c.args.target.now c.args.number c.requires.number) c.put_generation.result c.put_generation.new.self c.put_generation.ensures.frame
+pub returns : goal.returns
+returns g c = record {
+  frame =
+      let owned : Pair = (c.args.owner.now, c.args.name.now) in
+      set_commits g.S.Store c.args.self.now owned c.args.target.now (λ p. put_at p c.args.number c.args.target.now) (set_is_new (profile_of c.args.self.now.outline owned) c.args.target.now c.args.number c.requires.number) c.put_generation.result c.put_generation.new.self c.put_generation.ensures.frame;
+  cause = c.put_generation.ensures.cause;
+}

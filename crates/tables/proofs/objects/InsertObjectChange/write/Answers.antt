@@ -1,4 +1,4 @@
-use Rattle.std.proofs.Common.{◌≡◌, ℕ, List, [], ◌∷◌, drop, map, inl, inr, refl, sym, ap, ap₂, subst, subst₂, arith, ◌∙◌, string_bytes}
+use Rattle.std.proofs.Common.{◌≡◌, ℕ, List, [], ◌∷◌, drop, map, inl, inr, refl, sym, ap₂, subst, subst₂, arith, ◌∙◌, string_bytes}
 use Rattle.std.specs.Prelude.{ℤ}
 use Rattle.std.specs.List.{zip}
 use Rattle.std.specs.FinMap as finite
@@ -30,12 +30,12 @@ pub put_outputs-requires-clause-count : goal.put_outputs-requires-clause-count
 put_outputs-requires-clause-count g c =
     keys_count c.args.self.now.object.now.outputs c.names.result.now c.outputs.result.now c.names.ensures c.outputs.ensures
 
-pub put_references-requires-clause-under_way : goal.put_references-requires-clause-under_way
-put_references-requires-clause-under_way g c clean =
-    under_after (state g.S.Store c.args.tx.now.conn.now) (state g.S.Store c.insert.new.tx.conn.now) _ (c.in_ok-insert.ensures.done clean)
-
-pub put_references-requires-clause-is_open : goal.put_references-requires-clause-is_open
-put_references-requires-clause-is_open g c clean = (c.in_ok-insert.ensures.done clean).is_open
+pub put_references-requires-clause-frame : goal.put_references-requires-clause-frame
+put_references-requires-clause-frame g c = record {
+  under_way = λ clean.
+      under_after (state g.S.Store c.args.tx.now.conn.now) (state g.S.Store c.insert.new.tx.conn.now) _ (c.in_ok-insert.ensures.done clean);
+  is_open = λ clean. (c.in_ok-insert.ensures.done clean).is_open;
+}
 
 pub returns-in_err-put_references-clause-frame : goal.returns-in_err-put_references-clause-frame
 returns-in_err-put_references-clause-frame g c =
@@ -45,19 +45,19 @@ returns-in_err-put_references-clause-frame g c =
       survives = survives_both (state g.S.Store c.args.tx.now.conn.now) (state g.S.Store c.insert.new.tx.conn.now) (state g.S.Store c.put_references.new.tx.conn.now) c.insert.ensures.frame.survives c.put_references.ensures.frame.survives;
     }
 
-pub put_outputs-requires-clause-under_way : goal.put_outputs-requires-clause-under_way
-put_outputs-requires-clause-under_way g c clean =
-    let a = state g.S.Store c.args.tx.now.conn.now in
-    let b = state g.S.Store c.insert.new.tx.conn.now in
-    let d = state g.S.Store c.put_references.new.tx.conn.now in
-    under_after a d _ (steps_both a b d _ _ c.in_ok-insert.ensures.done c.put_references.ensures.frame.survives c.in_ok-put_references.ensures.done clean)
-
-pub put_outputs-requires-clause-is_open : goal.put_outputs-requires-clause-is_open
-put_outputs-requires-clause-is_open g c clean =
-    let a = state g.S.Store c.args.tx.now.conn.now in
-    let b = state g.S.Store c.insert.new.tx.conn.now in
-    let d = state g.S.Store c.put_references.new.tx.conn.now in
-    (steps_both a b d _ _ c.in_ok-insert.ensures.done c.put_references.ensures.frame.survives c.in_ok-put_references.ensures.done clean).is_open
+pub put_outputs-requires-clause-frame : goal.put_outputs-requires-clause-frame
+put_outputs-requires-clause-frame g c = record {
+  under_way = λ clean.
+      let a = state g.S.Store c.args.tx.now.conn.now in
+      let b = state g.S.Store c.insert.new.tx.conn.now in
+      let d = state g.S.Store c.put_references.new.tx.conn.now in
+      under_after a d _ (steps_both a b d _ _ c.in_ok-insert.ensures.done c.put_references.ensures.frame.survives c.in_ok-put_references.ensures.done clean);
+  is_open = λ clean.
+      let a = state g.S.Store c.args.tx.now.conn.now in
+      let b = state g.S.Store c.insert.new.tx.conn.now in
+      let d = state g.S.Store c.put_references.new.tx.conn.now in
+      (steps_both a b d _ _ c.in_ok-insert.ensures.done c.put_references.ensures.frame.survives c.in_ok-put_references.ensures.done clean).is_open;
+}
 
 pub returns-in_err-put_outputs-clause-frame : goal.returns-in_err-put_outputs-clause-frame
 returns-in_err-put_outputs-clause-frame g c =
@@ -71,30 +71,28 @@ returns-in_err-put_outputs-clause-frame g c =
       survives = survives_both a d e (survives_both a b d c.insert.ensures.frame.survives c.put_references.ensures.frame.survives) c.put_outputs.ensures.frame.survives;
     }
 
-pub put_pieces-requires-clause-under_way : goal.put_pieces-requires-clause-under_way
-put_pieces-requires-clause-under_way g c clean =
-    let a = state g.S.Store c.args.tx.now.conn.now in
-    let b = state g.S.Store c.insert.new.tx.conn.now in
-    let d = state g.S.Store c.put_references.new.tx.conn.now in
-    let e = state g.S.Store c.put_outputs.new.tx.conn.now in
-    under_after a e _ (steps_both a d e _ _ (steps_both a b d _ _ c.in_ok-insert.ensures.done c.put_references.ensures.frame.survives c.in_ok-put_references.ensures.done) c.put_outputs.ensures.frame.survives c.in_ok-put_outputs.ensures.done clean)
-
-pub put_pieces-requires-clause-is_open : goal.put_pieces-requires-clause-is_open
-put_pieces-requires-clause-is_open g c clean =
-    let a = state g.S.Store c.args.tx.now.conn.now in
-    let b = state g.S.Store c.insert.new.tx.conn.now in
-    let d = state g.S.Store c.put_references.new.tx.conn.now in
-    let e = state g.S.Store c.put_outputs.new.tx.conn.now in
-    (steps_both a d e _ _ (steps_both a b d _ _ c.in_ok-insert.ensures.done c.put_references.ensures.frame.survives c.in_ok-put_references.ensures.done) c.put_outputs.ensures.frame.survives c.in_ok-put_outputs.ensures.done clean).is_open
-
-pub put_pieces-requires-clause-exists : goal.put_pieces-requires-clause-exists
-put_pieces-requires-clause-exists g c clean =
-    let a = state g.S.Store c.args.tx.now.conn.now in
-    let b = state g.S.Store c.insert.new.tx.conn.now in
-    let d = state g.S.Store c.put_references.new.tx.conn.now in
-    let e = state g.S.Store c.put_outputs.new.tx.conn.now in
-    pieces_exist a e _ (steps_both a d e _ _ (steps_both a b d _ _ c.in_ok-insert.ensures.done c.put_references.ensures.frame.survives c.in_ok-put_references.ensures.done) c.put_outputs.ensures.frame.survives c.in_ok-put_outputs.ensures.done)
-    (survives_both a d e (survives_both a b d c.insert.ensures.frame.survives c.put_references.ensures.frame.survives) c.put_outputs.ensures.frame.survives) (λ early is_open. (c.requires.whole early is_open).pieces) clean
+pub put_pieces-requires-clause-frame : goal.put_pieces-requires-clause-frame
+put_pieces-requires-clause-frame g c = record {
+  under_way = λ clean.
+      let a = state g.S.Store c.args.tx.now.conn.now in
+      let b = state g.S.Store c.insert.new.tx.conn.now in
+      let d = state g.S.Store c.put_references.new.tx.conn.now in
+      let e = state g.S.Store c.put_outputs.new.tx.conn.now in
+      under_after a e _ (steps_both a d e _ _ (steps_both a b d _ _ c.in_ok-insert.ensures.done c.put_references.ensures.frame.survives c.in_ok-put_references.ensures.done) c.put_outputs.ensures.frame.survives c.in_ok-put_outputs.ensures.done clean);
+  is_open = λ clean.
+      let a = state g.S.Store c.args.tx.now.conn.now in
+      let b = state g.S.Store c.insert.new.tx.conn.now in
+      let d = state g.S.Store c.put_references.new.tx.conn.now in
+      let e = state g.S.Store c.put_outputs.new.tx.conn.now in
+      (steps_both a d e _ _ (steps_both a b d _ _ c.in_ok-insert.ensures.done c.put_references.ensures.frame.survives c.in_ok-put_references.ensures.done) c.put_outputs.ensures.frame.survives c.in_ok-put_outputs.ensures.done clean).is_open;
+  exists = λ clean.
+      let a = state g.S.Store c.args.tx.now.conn.now in
+      let b = state g.S.Store c.insert.new.tx.conn.now in
+      let d = state g.S.Store c.put_references.new.tx.conn.now in
+      let e = state g.S.Store c.put_outputs.new.tx.conn.now in
+      pieces_exist a e _ (steps_both a d e _ _ (steps_both a b d _ _ c.in_ok-insert.ensures.done c.put_references.ensures.frame.survives c.in_ok-put_references.ensures.done) c.put_outputs.ensures.frame.survives c.in_ok-put_outputs.ensures.done)
+      (survives_both a d e (survives_both a b d c.insert.ensures.frame.survives c.put_references.ensures.frame.survives) c.put_outputs.ensures.frame.survives) (λ early is_open. (c.requires.whole early is_open).pieces) clean;
+}
 
 pub returns-clause-frame : goal.returns-clause-frame
 returns-clause-frame g c =

@@ -3,7 +3,7 @@ use Rattle.sqlite.specs.State.{HasCleanDisk}
 use Rattle.sqlite.specs.Held.{state}
 use Rattle.sqlite.specs.Steps.{over_memory}
 use Rattle.sqlite.proofs.Callers.{memory_is_clean}
-use Rattle.tables_sql.specs.declared.failure.Failure.TheVariants.{Memory}
+use Rattle.tables_sql.specs.declared.failure.Failed.TheVariants.{Memory}
 use Rattle.tables_sql.proofs.TestFailures.{passed_on}
 use Rattle.tables_make.specs.Making.{IsMade}
 use Rattle.paths.specs.Names.{is_store_dir}

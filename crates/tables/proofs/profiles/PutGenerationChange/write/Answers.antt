@@ -8,7 +8,7 @@ use Rattle.tables_sql.proofs.Orders.{triple_total, triple_antisymmetric}
 use Rattle.tables_sql.proofs.Transactions.{done_both, failed_next, steps_both}
 use Rattle.tables_sql.proofs.Steps.{under_after}
 use Rattle.tables_sql.proofs.TestFailures.{passed_on, survives_both}
-use Rattle.tables_outline.proofs.Puts.{get-gone, put_over}
+use Rattle.tables_outline.proofs.Puts.{get-removed, put_over}
 use Rattle.tables.specs.RowsPut.{ProfileRow, GenerationRows}
 use Rattle.tables.proofs.AddedGenerations.{without_triple}
 use Rattle.tables.proofs.Failing.{err_kept}
@@ -81,4 +81,4 @@ returns-clause-cause g c clean =
     let done = steps_both a b d _ _ c.in_ok-put_current.ensures.done c.delete.ensures.frame.survives c.in_ok-delete.ensures.done early in
     as_reason _ _ (λ e h. next_reason _ a d n _ done (survives_both a b d c.put_current.ensures.frame.survives c.delete.ensures.frame.survives) e
     (put_reason _ d n _ _ _ (inr (refl, refl)) (is_none _ (ap (λ (x : Contents). finite.get x.generations key) done.contents
-    ∙ ap (λ m. finite.get m key) (without_triple _ key.0 key.1 key.2) ∙ get-gone triple_total triple_antisymmetric _ key)) e h)) c.insert.result (c.insert.ensures.cause clean)
+    ∙ ap (λ m. finite.get m key) (without_triple _ key.0 key.1 key.2) ∙ get-removed triple_total triple_antisymmetric _ key)) e h)) c.insert.result (c.insert.ensures.cause clean)

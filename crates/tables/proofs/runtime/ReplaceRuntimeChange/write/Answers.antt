@@ -10,11 +10,11 @@ use Rattle.tables_sql.proofs.TestFailures.{passed_on, survives_both}
 use Rattle.tables_make.proofs.Reasons.{as_reason, next_reason, removal_reason}
 use Rattle.tables.proofs.runtime.ReplaceRuntimeChange.write.Goals as goal
 
-pub put_runtime-requires-clause-under_way : goal.put_runtime-requires-clause-under_way
-put_runtime-requires-clause-under_way g c clean = under_after (state g.S.Store c.args.tx.now.conn.now) (state g.S.Store c.delete_all.new.tx.conn.now) _ (c.in_ok-delete_all.ensures.done clean)
-
-pub put_runtime-requires-clause-is_open : goal.put_runtime-requires-clause-is_open
-put_runtime-requires-clause-is_open g c clean = (c.in_ok-delete_all.ensures.done clean).is_open
+pub put_runtime-requires-clause-frame : goal.put_runtime-requires-clause-frame
+put_runtime-requires-clause-frame g c = record {
+  under_way = λ clean. under_after (state g.S.Store c.args.tx.now.conn.now) (state g.S.Store c.delete_all.new.tx.conn.now) _ (c.in_ok-delete_all.ensures.done clean);
+  is_open = λ clean. (c.in_ok-delete_all.ensures.done clean).is_open;
+}
 
 pub returns-clause-frame : goal.returns-clause-frame
 returns-clause-frame g c =

@@ -7,7 +7,7 @@ use Rattle.tables_sql.specs.Contents.{Contents, SessionPath}
 use Rattle.tables_sql.proofs.Orders.{session_path_total, session_path_antisymmetric}
 use Rattle.tables_sql.proofs.Transactions.{done_both, failed_next}
 use Rattle.tables_sql.proofs.Steps.{under_after}
-use Rattle.tables_outline.proofs.Puts.{get-gone, put_over}
+use Rattle.tables_outline.proofs.Puts.{get-removed, put_over}
 use Rattle.tables.proofs.SessionRows.{without_one}
 use Rattle.tables_sql.proofs.TestFailures.{passed_on, survives_both}
 use Rattle.tables_make.proofs.Reasons.{as_reason, is_none, next_reason, put_reason, removal_reason}
@@ -54,4 +54,4 @@ returns-clause-cause g c clean =
     let early : HasCleanDisk b = omega (arith, c.insert.ensures.frame.survives.clean, clean) in
     let done = c.in_ok-delete.ensures.done early in
     as_reason _ _ (λ e h. next_reason _ a b n _ done c.delete.ensures.frame.survives e
-    (put_reason _ b n _ _ _ (refl, refl) (is_none _ (ap (λ (x : Contents). finite.get x.temp_roots key) done.contents ∙ ap (λ m. finite.get m key) (without_one _ key.0 key.1 key.2) ∙ get-gone session_path_total session_path_antisymmetric _ key)) e h)) c.insert.result (c.insert.ensures.cause clean)
+    (put_reason _ b n _ _ _ (refl, refl) (is_none _ (ap (λ (x : Contents). finite.get x.temp_roots key) done.contents ∙ ap (λ m. finite.get m key) (without_one _ key.0 key.1 key.2) ∙ get-removed session_path_total session_path_antisymmetric _ key)) e h)) c.insert.result (c.insert.ensures.cause clean)

@@ -4,7 +4,7 @@ use Rattle.sqlite.specs.State.{HasCleanDisk}
 use Rattle.sqlite.specs.Held.{state}
 use Rattle.tables_sql.specs.Contents.{Contents}
 use Rattle.tables_outline.proofs.Orders.{pair_total, pair_antisymmetric}
-use Rattle.tables_outline.proofs.Puts.{get-gone, put_over}
+use Rattle.tables_outline.proofs.Puts.{get-removed, put_over}
 use Rattle.tables.proofs.Parts.{without_pair}
 use Rattle.tables_sql.proofs.Transactions.{done_both, failed_next}
 use Rattle.tables_sql.proofs.Steps.{under_after}
@@ -43,4 +43,4 @@ returns-clause-cause g c clean =
     let early : HasCleanDisk b = omega (arith, c.insert.ensures.frame.survives.clean, clean) in
     let done = c.in_ok-delete.ensures.done early in
     as_reason _ _ (λ e h. next_reason _ a b n _ done c.delete.ensures.frame.survives e
-    (put_reason _ b n _ _ _ (refl, refl) (is_none _ (ap (λ (x : Contents). finite.get x.user_roots owned) done.contents ∙ ap (λ m. finite.get m owned) (without_pair _ owned.0 owned.1) ∙ get-gone pair_total pair_antisymmetric _ owned)) e h)) c.insert.result (c.insert.ensures.cause clean)
+    (put_reason _ b n _ _ _ (refl, refl) (is_none _ (ap (λ (x : Contents). finite.get x.user_roots owned) done.contents ∙ ap (λ m. finite.get m owned) (without_pair _ owned.0 owned.1) ∙ get-removed pair_total pair_antisymmetric _ owned)) e h)) c.insert.result (c.insert.ensures.cause clean)

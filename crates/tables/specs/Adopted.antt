@@ -1,0 +1,45 @@
+-- What each call that opens a connection as a store requires of the connection, and what it promises.
+use Rattle.std.specs.Prelude.{◌≡◌, ℕ, false, List, Result, IsTrue, IfOk, IfErr, MatchResult}
+use Rattle.sqlite_trees.specs.declared.store.Store.{Ghosts}
+use Rattle.sqlite.specs.State.{State, HasCleanDisk, Survives}
+use Rattle.sqlite.specs.Held.{Held, state}
+use Rattle.tables_schema.specs.Finding.{HasNone}
+use Rattle.tables_schema.specs.declared.schema.Schema.{Schema}
+use Rattle.tables_sql.specs.Calls.{Remains, IsDurable, IsReady, KeepsShown}
+use Rattle.tables.specs.TablesValue.{TablesValue}
+use Rattle.tables.specs.Opening.{IsFoundBy, IsCause}
+use Rattle.tables.specs.declared.refusing.Unadopted.{Unadopted}
+
+module _ {S : Type 0} (g : Ghosts S) where
+  -- no transaction is under way, and the store's tables are those of a schema
+  pub record HasTables (schema : Schema) (conn : Held S) : Type 0 where
+    pub idle : conn.in_transaction ≡ false
+    pub ready : HasCleanDisk (state g conn) → IsReady (state g conn)
+    pub found : HasCleanDisk (state g conn) → IsFoundBy schema (state g conn).now
+
+  -- no transaction is under way, none of the store's tables exists, and the rest is committed
+  pub record HasNoTables (conn : Held S) : Type 0 where
+    pub idle : conn.in_transaction ≡ false
+    pub none : HasCleanDisk (state g conn) → HasNone (state g conn).now.schema
+    pub settled : HasCleanDisk (state g conn) → (state g conn).now ≡ (state g conn).committed
+
+  -- A connection in a state is opened as the store of a directory, or isn't.
+  pub record Adopts (named : List ℕ) (old : State) (result : Result (TablesValue S) (Unadopted S))
+      (shows : TablesValue S → Type 0) (leaves : Remains → Type 0) : Type 0 where
+    -- the tables are those of the directory
+    pub dir : IfOk result (λ t. t.dir ≡ named)
+    -- what they show of the database
+    pub opens : IfOk result (λ t. HasCleanDisk (state g t.connection) → shows t)
+    -- an error returns the connection outside a transaction
+    pub idle : IfErr result (λ e. e.conn.in_transaction ≡ false)
+    -- and it has a cause
+    pub cause : IfErr result
+        (λ e. HasCleanDisk (state g e.conn) → IsCause named old (state g e.conn) e.cause)
+    -- the connection shows what it showed
+    pub same : IfErr result (λ e. HasCleanDisk (state g e.conn) → KeepsShown old (state g e.conn))
+    -- while the connection is open, a crash leaves what its last commit left
+    pub durable : MatchResult result (λ t. IsTrue (state g t.connection).is_open → IsDurable (state g t.connection))
+        (λ e. IsTrue (state g e.conn).is_open → IsDurable (state g e.conn))
+    -- a crash leaves what it could leave before, or this
+    pub survives : MatchResult result (λ t. Survives old (state g t.connection) leaves)
+        (λ e. Survives old (state g e.conn) leaves)
