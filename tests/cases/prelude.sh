@@ -35,6 +35,24 @@ rows() { python3 -c 'import sqlite3, sys
 for row in sqlite3.connect(sys.argv[1]).execute(sys.argv[2]): print(*row)' "$@"; }
 put() { python3 -c 'import sqlite3, sys; sqlite3.connect(sys.argv[1]).executescript(sys.argv[2])' "$@"; }
 
+# `$top`: the repository.
+top=${PRELUDE%/tests/cases/prelude.sh}
+
+# `without WHAT..`: says what of these isn't here, and ends with 1 if all are. A port has to be free, if there is no
+# `alone`.
+without() {
+  for what; do
+    case $what in
+    alone) alone true ;;
+    /*) [ -d "$what" ] ;;
+    port:*) alone true || ! (exec 3<>"/dev/tcp/127.0.0.1/${what#*:}") ;;
+    python3-*) /usr/bin/python3 -c "import ${what#python3-}" ;;
+    *) command -v "$what" >/dev/null ;;
+    esac 2>/dev/null || { printf 'skipped without %s: ' "$what" && return; }
+  done
+  false
+}
+
 # ---- HTTP
 
 # `message LINE..`: the head of a message.

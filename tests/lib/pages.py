@@ -1,0 +1,16 @@
+"""The blocks of commands on the pages of the repository, which the cases run."""
+import re
+
+# What a block of commands alone may be called. A block without a name is one of commands if it begins with `$ `.
+SHELLS = ("sh", "bash", "zsh", "shell", "console")
+
+
+def command_blocks(page):
+    """The blocks of commands by section: for each heading the kind (empty, or one of SHELLS) and the text of each."""
+    found, section = {}, ""
+    for heading, kind, text in re.findall(r"^#+ +(.*?) *$|^```(\w*)\n(.*?)^```$", page, re.M | re.S):
+        if heading:
+            section = heading
+        elif kind in SHELLS or not kind and text.startswith("$ "):
+            found.setdefault(section, []).append((kind, text))
+    return found
