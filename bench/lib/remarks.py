@@ -1,55 +1,60 @@
 """Why figures miss their limits, and what was tried: a remark for each, by a pattern of its names."""
 import collections
 import re
+import textwrap
 
-# A pattern of the benchmark, the section and the figure, joined by ": ", and what to say of those that miss a limit.
+WIDTH = 118
+# A pattern of the benchmark, the section and the figure, joined by ": ", and the remark on those that miss a limit.
 Remark = collections.namedtuple("Remark", "pattern about text")
 REMARKS = [
     Remark(r"stores: `list` on 100 objects .*: time", "`list` of 100 objects of 1 MiB, its time",
-           """`sqlite` tests a file when it opens it, and copies each row for that: a row of the same section has what
-           that takes alone. `sha2` is scalar code, and takes 1.7 times as long as C's for each byte. Tried: archives go
-           piece by piece through one checker and one digest, each byte is hashed once, and no page is read twice."""),
+           """`sqlite` tests a file when it opens it, and copies each row for these tests. A row of the same section
+           has the time of the opening alone. `sha2` is scalar code, and takes 1.7 times as long as C's for each byte.
+           Tried: archives go piece by piece through one checker and one digest. Each byte is hashed once, and no page
+           is read twice."""),
     Remark(r"stores: `list` on 100 objects .*: memory", "`list` of 100 objects of 1 MiB, its memory",
-           """The opening of `sqlite` alone holds 105 MiB for 100 MiB of rows: it copies all rows of a table into one
-           list (`all_rows`), whatever options it is given. Tried: nixkeep's own tests hold one archive at a time, which
-           took 16 MiB off."""),
+           """The opening of `sqlite` alone holds 105 MiB for 100 MiB of rows, with any options. It copies all rows of
+           a table into one list (`all_rows`). Tried: nixkeep's own tests hold one archive at a time, which saved 16
+           MiB."""),
     Remark(r"stores: `list` on .*: (time|100,000 .*)", "`list` of many small objects",
-           """Of 100 instructions the opening of `sqlite` takes 45 to 49, SHA-256 20 to 22, a query for each object 8,
-           the queries for texts and for rowids 8. The opening looks up the row of each entry of each index. Tried: a
-           place in memory for each page (10 of 100 and two of three reads less), all references, outputs and keys of
-           pieces by one query each (13 less), look-ups among texts without a path (1 less). Not done yet: one scan of
-           the objects in place of a query for each, and one query of a table for its texts and rowids, some 12 of
-           100."""),
+           """Of 100 instructions, the opening of `sqlite` took 45 to 49 and SHA-256 20 to 22. A query for each
+           object takes 8. The opening looks up the row of each entry of each index. Tried: a place in memory for each
+           page. That saves 10 of 100 instructions, and two of three reads. Tried: one query each for all references,
+           all outputs and all keys of pieces. That saves 13 of 100. Tried: look-ups among texts without a path. That
+           saves 1 of 100. Tried: one query of a table for its texts and rowids. That saves 3 of 100. One scan of the
+           objects in place of a query for each would save 6 (docs/DECISIONS.md)."""),
     Remark(r"counts: memory .*", "memory of the index",
-           """An object is an entry of a tree, with a list of its references and their texts in blocks of their own. Not
-           tried yet: the index filled in the order of the file, and paths that are shared."""),
+           """An object is an entry of a tree. It has a list of its references, with their texts in blocks of their
+           own. Not tried yet: the index filled in the order of the file, and paths that are shared."""),
     Remark(r"(requests|http): .* 16 MiB.*: (time|next to one SHA-256 of it by the same crate)",
            "adds of 16 MiB to a file",
-           """`sqlite` copies each byte of a value when it is bound, evaluated and made a row, and then into a record, a
-           page, the log and the file (bench/counts); no call of it takes a value that it needn't copy. Tried: rows of
-           65,536 bytes that are bound as slices of what came, no second digest of contents unless an address asks for
-           one (3.2 to 3.6 times before), and no copy of the archive by nixkeep itself."""),
+           """`sqlite` copies each byte of a value when it is bound, evaluated and made a row. It copies each again
+           into a record, a page, the log and the file (bench/counts). No call of it takes a value without a copy.
+           Tried: rows of 65,536 bytes that are bound as slices of what came. Tried: no second digest of contents
+           unless an address asks for one (3.2 to 3.6 times before). Tried: no copy of the archive by nixkeep
+           itself."""),
     Remark(r"nix: the exponent of .*", "growths of everyday actions", "As in bench/growth."),
     Remark(r"nix: .*by nixkeep-remote over a server: .*", "actions by `nixkeep-remote`",
-           """Of what processors spend on a run that asks for nothing, python3 alone takes a sixth, and its module
-           http.client half, since it loads email and ssl; a server takes less than a millisecond for most requests
-           (bench/requests). Tried: Debian's python3 in place of one that a script chooses, which took half as long
-           again, and curl as the client, which has rows of its own. Not tried yet: requests without http.client."""),
+           """In a run that asks for nothing, python3 alone takes a sixth of the processors' time. Its module
+           http.client takes half, since it loads email and ssl. A server takes less than a millisecond for most
+           requests (bench/requests). Tried: Debian's python3 in place of one that a script chooses, which took half
+           as long again. Tried: curl as the client, which has rows of its own. Not tried yet: requests without
+           http.client."""),
     Remark(r"nix: .*by curl over a server: .*", "actions by curl",
-           """Each runs a process, connects, and sends one request. What the server takes of that is in
+           """Each runs a process, connects, and sends one request. The server's part of that is in
            bench/requests."""),
     Remark(r"nix: .* by a command: .*", "actions by a command",
-           """A command opens the file, and tests all of it before it answers: real Nix opens its database and trusts
+           """A command opens the file, and tests all of it before it answers. Real Nix opens its database and trusts
            it. So a command takes as long as `list`, whatever it does. Tried: all that is tried for `list`. A server
            tests its file once."""),
     Remark(r"growth: .*", "growths",
-           """A file of more than 64 MiB is read with a place for 2,000 of its pages alone, so the opening of `sqlite`
+           """A file of more than 64 MiB is read with a place for 2,000 of its pages alone. So the opening of `sqlite`
            reads pages again for the entries of its indexes. Not tried yet: a higher bound."""),
     Remark(r"libraries: .*in pieces of 100: what comes", "an archive in pieces of 100 bytes",
-           """In six runs of a quiet machine it takes 1.13 to 1.19 times one digest; a call for each 100 bytes takes the
-           rest."""),
+           """In six runs of a quiet machine it took 1.13 to 1.19 times as long as one digest. The rest is a call for
+           each 100 bytes."""),
     Remark(r"commands: .*", "commands without a store",
-           """A process of nixkeep starts, reads its words and its configuration, and hashes what it is given; `sha2` is
+           """A process of nixkeep starts, reads its words and its configuration, and hashes its input. `sha2` is
            scalar code."""),
 ]
 
@@ -68,13 +73,19 @@ def missed(found):
     return [name_of(bench, it) for bench, of in found.items() for it in of["figures"] if it.get("is_met") is False]
 
 
+def item(text):
+    """An item of a list, in lines of the page's width."""
+    return textwrap.fill(" ".join(text.split()), WIDTH, initial_indent="- ", subsequent_indent="  ",
+                         break_long_words=False, break_on_hyphens=False)
+
+
 def lines(found):
-    """The lines of the page: what is said of the figures that miss their limit, and of which nothing is."""
+    """The items of the page: each remark with its number of missed limits, then the missed figures without a remark."""
     counted = collections.Counter(remark_of(name) for name in missed(found))
     for remark in REMARKS:
         if count := counted[remark]:
             figures = "1 figure" if count == 1 else f"{count} figures"
-            yield f"- **{remark.about}** ({figures}): {' '.join(remark.text.split())}"
+            yield item(f"**{remark.about}** ({figures}). {remark.text}")
     for name in missed(found):
         if remark_of(name) is None:
-            yield f"- **{name}**: nothing is known of why."
+            yield item(f"**{name}**. The reason isn't known.")
