@@ -17,11 +17,11 @@ REMARKS = [
            a table into one list (`all_rows`). Tried: nixkeep's own tests hold one archive at a time, which saved 16
            MiB."""),
     Remark(r"stores: `list` on .*: (time|100,000 .*)", "`list` of many small objects",
-           """Of 100 instructions, the opening of `sqlite` took 45 to 49 and SHA-256 20 to 22. A query for each
+           """Of 100 instructions, the opening of `sqlite` takes 53 and SHA-256 23 (bench/counts). A query for each
            object takes 8. The opening looks up the row of each entry of each index. Tried: a place in memory for each
-           page. That saves 10 of 100 instructions, and two of three reads. Tried: one query each for all references,
-           all outputs and all keys of pieces. That saves 13 of 100. Tried: look-ups among texts without a path. That
-           saves 1 of 100. Tried: one query of a table for its texts and rowids. That saves 3 of 100. One scan of the
+           page. That saved 10 of 100 instructions, and two of three reads. Tried: one query each for all references,
+           all outputs and all keys of pieces. That saved 13 of 100. Tried: look-ups among texts without a path. That
+           saved 1 of 100. Tried: one query of a table for its texts and rowids. That saved 4 of 100. One scan of the
            objects in place of a query for each would save 6 (docs/DECISIONS.md)."""),
     Remark(r"counts: memory .*", "memory of the index",
            """An object is an entry of a tree. It has a list of its references, with their texts in blocks of their
@@ -33,6 +33,10 @@ REMARKS = [
            Tried: rows of 65,536 bytes that are bound as slices of what came. Tried: no second digest of contents
            unless an address asks for one (3.2 to 3.6 times before). Tried: no copy of the archive by nixkeep
            itself."""),
+    Remark(r"requests: 100 archives of 1 MiB .*: time", "archives of 1 MiB that a server sends",
+           """The server also sends each archive to a client on the machine. C SQLite only reads the rows. nixkeep takes
+           1.2 times as long as a server that reads them by C SQLite: a row of the same section compares the two.
+           Tried: the pieces of an archive are sent as they were read, without a copy."""),
     Remark(r"nix: the exponent of .*", "growths of everyday actions", "As in bench/growth."),
     Remark(r"nix: .*by nixkeep-remote over a server: .*", "actions by `nixkeep-remote`",
            """In a run that asks for nothing, python3 alone takes a sixth of the processors' time. Its module
@@ -47,6 +51,10 @@ REMARKS = [
            """A command opens the file, and tests all of it before it answers. Real Nix opens its database and trusts
            it. So a command takes as long as `list`, whatever it does. Tried: all that is tried for `list`. A server
            tests its file once."""),
+    Remark(r"nix: `cat-nar` of 16 MiB: time", "`cat-nar`, next to a copy of the file by `cat`",
+           """A command reads the file, and hashes the archive before it prints it. `cat` reads a file that the kernel
+           has in memory. `sha256sum` of the same bytes takes half as long as the command: a row of the same section.
+           Tried: all that is tried for `list`."""),
     Remark(r"growth: .*", "growths",
            """A file of more than 64 MiB is read with a place for 2,000 of its pages alone. So the opening of `sqlite`
            reads pages again for the entries of its indexes. Not tried yet: a higher bound."""),
