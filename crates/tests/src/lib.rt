@@ -5,3 +5,9 @@
 mod fakes;
 #[cfg(test)]
 mod libraries;
+#[cfg(test)]
+mod served;
+#[cfg(test)]
+mod stops;
+#[cfg(test)]
+mod stores;
