@@ -189,7 +189,7 @@ class Cache:
                     async with asyncio.timeout(self.idle):
                         await response.write(text[at : at + PIECE])
             except (ConnectionError, TimeoutError):
-                # (the client has gone, or takes nothing: it can't be told)
+                # (the client has closed, or takes nothing: no reply can reach it)
                 if request.transport:
                     request.transport.abort()
             return response

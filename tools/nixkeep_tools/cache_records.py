@@ -18,7 +18,7 @@ ROOM = 128 << 20
 
 
 class Bad(Exception):
-    """An upload that can't be taken, with what the client is told."""
+    """An upload that can't be accepted, with the text of the reply."""
 
 
 def file_named(name):

@@ -3,10 +3,7 @@
 A file and the variable NIXKEEP_CREDENTIALS hold one line: `USER:PASSWORD` for Basic authentication, or `Bearer TOKEN`.
 Credentials are sent over https, to this machine and over a Unix socket. They never cross a network in the clear.
 """
-import base64
 import collections
-import getpass
-import netrc
 import os
 import stat
 
@@ -18,6 +15,8 @@ Credentials = collections.namedtuple("Credentials", "field user source")
 
 
 def basic(user, password, source):
+    import base64
+
     return Credentials("Basic " + base64.b64encode(f"{user}:{password}".encode()).decode(), user, source)
 
 
@@ -48,6 +47,8 @@ def of_file(path):
 
 def of_netrc(host):
     """The credentials that ~/.netrc has for a host, or None."""
+    import netrc
+
     path = os.path.expanduser("~/.netrc")
     if not host or not os.path.exists(path):
         return None
@@ -61,6 +62,8 @@ def of_netrc(host):
 
 def user_of(credentials):
     """The name of the user of some credentials, else the login name."""
+    import getpass
+
     if credentials and credentials.user:
         return credentials.user
     try:

@@ -7,14 +7,21 @@
 A Reply is the server's own, whether the request was done or not. A proxy's own answer and a failed connection raise
 Stop with one line. A request is sent with its length, because the server takes no transfer coding. A reply is a stream.
 """
-import http.client
 import ipaddress
 import re
 import socket
-import ssl
+import sys
 import urllib.parse
 
 from .failures import DENIED, DONE, FAILED, REFUSED, Stop, reason
+
+# http.client loads ssl where it finds it, and that takes longer than a request. Only an https place needs it.
+if is_without_tls := "ssl" not in sys.modules:
+    sys.modules["ssl"] = None
+import http.client
+
+if is_without_tls:
+    del sys.modules["ssl"]
 
 CHUNK = 65_536
 SECONDS = 600
@@ -60,7 +67,7 @@ class Place:
         if self.socket:
             return UnixConnection(self.socket)
         if self.scheme == "https":
-            return http.client.HTTPSConnection(self.host, self.port, timeout=SECONDS, context=_context(ca))
+            return TlsConnection(self.host, self.port, ca)
         return http.client.HTTPConnection(self.host, self.port, timeout=SECONDS)
 
 
@@ -71,11 +78,23 @@ def _is_loopback(host):
         return False
 
 
-def _context(ca):
-    try:
-        return ssl.create_default_context(cafile=ca)
-    except (OSError, ssl.SSLError) as error:
-        raise Stop(f"failed: certificate: {ca}: {reason(error)}") from None
+class TlsConnection(http.client.HTTPConnection):
+    """A connection over TLS. `ca` is a file of certificates, or None for those of the system."""
+
+    default_port = http.client.HTTPS_PORT
+
+    def __init__(self, host, port, ca):
+        import ssl
+
+        super().__init__(host, port, timeout=SECONDS)
+        try:
+            self.context = ssl.create_default_context(cafile=ca)
+        except OSError as error:
+            raise Stop(f"failed: certificate: {ca}: {reason(error)}") from None
+
+    def connect(self):
+        super().connect()
+        self.sock = self.context.wrap_socket(self.sock, server_hostname=self.host)
 
 
 class UnixConnection(http.client.HTTPConnection):
@@ -191,10 +210,6 @@ class Server:
         """The result of `work(*words)`, a part of a request; Stop if the connection fails in it."""
         try:
             return work(*words)
-        except ssl.SSLCertVerificationError as error:
-            raise Stop(f"failed: certificate: {self.place.url}: {error.verify_message}") from None
-        except ssl.SSLError as error:
-            raise Stop(f"failed: unreachable: {self.place.url}: TLS: {reason(error)}") from None
         except (http.client.RemoteDisconnected, http.client.NotConnected, ConnectionResetError, BrokenPipeError):
             raise self.gone("the connection ended before the answer; the request may be done") from None
         except http.client.IncompleteRead as error:
@@ -204,7 +219,15 @@ class Server:
         except TimeoutError:
             raise Stop(f"failed: unreachable: {self.place.url}: no answer within {SECONDS} seconds") from None
         except OSError as error:
-            raise Stop(f"failed: unreachable: {self.place.url}: {reason(error)}") from None
+            raise Stop(f"failed: {self.fault(error)}") from None
+
+    def fault(self, error):
+        """What is said of an error of the system, or of TLS where that is in use."""
+        ssl = sys.modules.get("ssl")
+        if ssl and isinstance(error, ssl.SSLCertVerificationError):
+            return f"certificate: {self.place.url}: {error.verify_message}"
+        tls = "TLS: " if ssl and isinstance(error, ssl.SSLError) else ""
+        return f"unreachable: {self.place.url}: {tls}{reason(error)}"
 
     def gone(self, why):
         return Lost(f"failed: unreachable: {self.place.url}: {why}")

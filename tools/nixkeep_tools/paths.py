@@ -3,7 +3,6 @@
 A function that rejects a text raises Malformed, with the number and the name of the refusal that nixkeep answers.
 A path is kept as its base name, such as `xv2iccirbrvklck36f1g7vldn5v58vck-myfile`; `full` adds the store directory.
 """
-import hashlib
 import re
 
 DIGITS = "0123456789abcdfghijklmnpqrsvwxyz"
@@ -101,6 +100,8 @@ def full(base, store=STORE):
 
 def sha256(pieces):
     """The SHA-256 of an iterable of pieces."""
+    import hashlib
+
     digest = hashlib.sha256()
     for it in pieces:
         digest.update(it)
@@ -123,7 +124,7 @@ def path_of(kind, inner, name, references=(), store=STORE):
     """
     start = ":".join([kind, *(full(it, store) for it in sorted(set(references)))])
     fingerprint = f"{start}:sha256:{inner.hex()}:{store}:{name}"
-    return f"{base32(fold20(hashlib.sha256(fingerprint.encode()).digest()))}-{name}"
+    return f"{base32(fold20(sha256([fingerprint.encode()])))}-{name}"
 
 
 # ---- content addresses

@@ -1,5 +1,4 @@
 """The progress of a transfer: one line on standard error, rewritten as it goes on, if that is a terminal."""
-import shutil
 import time
 
 from . import streams
@@ -50,6 +49,8 @@ class Progress:
         return " ".join(parts)
 
     def put(self, text):
+        import shutil
+
         width = shutil.get_terminal_size().columns - 1
         try:
             streams.write([f"\r\x1b[K{text[:width]}".encode()], 2)

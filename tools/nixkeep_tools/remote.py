@@ -5,7 +5,6 @@ comes. No route returns the class of a caller, or whether a full path is in the 
 requests that are always denied or refused, so they change nothing.
 """
 import collections
-import hashlib
 import os
 
 from . import credentials, nar, paths, streams, subcommands
@@ -262,6 +261,8 @@ def ls(_):
 
 def object_path(asked):
     """Prints the path of the text or the source on standard input."""
+    import hashlib
+
     values, folder = asked.values, asked.store_dir or paths.STORE
     try:
         name = paths.store_name(values["name"])

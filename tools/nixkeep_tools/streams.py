@@ -1,7 +1,6 @@
 """Standard input and output. A stream that can't be read or written raises Stop with the line that `nixkeep` prints."""
 import os
 import stat
-import tempfile
 
 from .failures import Stop
 
@@ -77,6 +76,8 @@ class Input:
             # A file that can't be read is found out before a request is sent.
             self.first = read(min(CHUNK, self.length)) if self.length else b""
             return
+        import tempfile
+
         self.file = tempfile.SpooledTemporaryFile(IN_MEMORY)
         for part in received(most):
             self.file.write(part)
