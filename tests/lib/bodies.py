@@ -43,7 +43,7 @@ def changes(path):
 
 
 def laid(changed, texts):
-    """The texts with these changes, or None where an old text doesn't stand there once."""
+    """The texts with these changes, or None where an old text isn't there exactly once."""
     made = dict(texts)
     for file, old, new in changed:
         if made.get(file, "").count(old) != 1:
@@ -53,7 +53,7 @@ def laid(changed, texts):
 
 
 def plain(name):
-    """A function's path without what tells it from a type or a module of its name."""
+    """A function's path without what distinguishes it from a type or a module of its name."""
     return name.replace("fn::", "")
 
 
@@ -61,8 +61,8 @@ class Check:
     """What a check of a crate said: a line for each function that was changed, and for those in them, and errors in
     proofs."""
 
-    def __init__(self, crate, output):
-        self.crate, self.output = crate, output
+    def __init__(self, crate, output, edited):
+        self.crate, self.output, self.edited = crate, output, {plain(it) for it in edited}
         self.said = dict(re.findall(rf"^fn {crate}::(\S+): (.*)", output, re.M))
         self.errors = collections.defaultdict(list)
         for folder, text in ERROR.findall(output):
@@ -74,11 +74,15 @@ class Check:
         return [text for at, found in self.errors.items() if f"{at}/".startswith(f"{folder}/") for text in found]
 
     def others(self, function):
-        """The functions that aren't proved and that this one calls, its own closures left out."""
+        """The functions that were changed, that aren't proved and that this one calls, its own closures left out."""
         own = {name: text for name, text in self.said.items() if f"{plain(name)}::".startswith(f"{plain(function)}::")}
         calls = re.findall(r"it calls (.*), which (?:is|are) not proved", "\n".join(own.values()))
         named = {plain(it.removeprefix(f"{self.crate}::")) for it in re.findall(r"`(.*?)`", " ".join(calls))}
-        return named - {plain(it) for it in own}
+        return (named & self.edited) - {plain(it) for it in own}
+
+    def is_proved(self, function):
+        """Whether a function is proved, over others that are only stated."""
+        return self.said.get(function, "").startswith(("no holes", "depends on a hole"))
 
     def is_refused(self, function):
         """Whether a function is refused for what its body does: a search failed, or an error is of a goal of its own
