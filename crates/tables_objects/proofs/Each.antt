@@ -1,14 +1,14 @@
 -- Objects that are taken one after another: what is left decides, and makes the rest.
-use Rattle.std.proofs.Common.{◌≡◌, ℕ, suc, ◌+◌, ◌<◌, List, [], ◌∷◌, map, length, get_or, drop, drop-cons, arith, Result, Ok, Err, refl, sym, ap, ap₂, subst, ◌∙◌, IsTrue, String, Global, string_bytes}
-use Rattle.std.specs.Prelude.{◌↔◌, IfOk}
+use Rattle.std.proofs.Common.{◌≡◌, ℕ, Bool, suc, ◌+◌, ◌<◌, List, [], ◌∷◌, map, length, get_or, drop, drop-cons, arith, refl, sym, ap, ap₂, subst, ◌∙◌, IsTrue, String, Global, string_bytes}
+use Rattle.std.specs.Prelude.{◌↔◌}
+use Rattle.std.specs.FinMap as finite
 use Rattle.std.specs.List.{AllByRecursion}
 use Rattle.sqlite.specs.State.{State, IsUnchanged}
 use Rattle.tables_sql.specs.Calls.{KeepsShown}
 use Rattle.tables_sql.specs.Contents.{Contents}
 use Rattle.model.specs.World.{Path}
 use Rattle.tables_schema.specs.declared.schema.Schema.{Schema}
-use Rattle.tables_outline.specs.Outline.{OutlineValue}
-use Rattle.tables_objects.specs.Loaded.{IsSoundOne, with_object, with_objects}
+use Rattle.tables_objects.specs.Loaded.{Objects, IsSoundOne, with_object, with_objects}
 
 -- what is left begins with the item at this place
 pub left_at : {A : Type 0} (xs : List A) (i : ℕ) (x : A) → i < length xs → x ≡ get_or xs i x → drop i xs ≡ x ∷ drop (i + 1) xs
@@ -47,23 +47,18 @@ module _ (schema : Schema) (dir : List ℕ) (c : Contents) (all : List Path) whe
   pub decides_all : (left : List (String Global)) → left ≡ [] → Decides left → AllByRecursion P all
   decides_all left none h = let now : Decides [] = subst Decides none h in now.0 tt
 
-module _ (c : Contents) (o : OutlineValue) (all : List Path) where
-  abbrev pub Makes : List (String Global) → OutlineValue → Type 0
-  Makes left now = record now { objects = with_objects c (map string_bytes left) now.objects } ≡ record o { objects = with_objects c all o.objects }
+module _ (c : Contents) (o : Objects) (all : List Path) where
+  abbrev pub Makes : List (String Global) → Objects → Type 0
+  Makes left now = with_objects c (map string_bytes left) now ≡ with_objects c all o
 
-  pub makes_next : (left rest : List (String Global)) (x : String Global) (now next : OutlineValue) → left ≡ x ∷ rest → next ≡ record now { objects = with_object c (string_bytes x) now.objects } → Makes left now → Makes rest next
-  makes_next left rest x now next split is h =
-      ap (λ (n : OutlineValue). record n { objects = with_objects c (map string_bytes rest) n.objects }) is
-      ∙ ap (λ (l : List (String Global)). record now { objects = with_objects c (map string_bytes l) now.objects }) (sym split) ∙ h
+  pub makes_next : (left rest : List (String Global)) (x : String Global) (now next : Objects) → left ≡ x ∷ rest → next ≡ with_object c (string_bytes x) now → Makes left now → Makes rest next
+  makes_next left rest x now next split is h = ap (with_objects c (map string_bytes rest)) is ∙ ap (λ (l : List (String Global)). with_objects c (map string_bytes l) now) (sym split) ∙ h
 
-  pub makes_all : (left : List (String Global)) (now : OutlineValue) → left ≡ [] → Makes left now → now ≡ record o { objects = with_objects c all o.objects }
-  makes_all left now none h = sym (ap (λ (l : List (String Global)). record now { objects = with_objects c (map string_bytes l) now.objects }) none) ∙ h
+  pub makes_all : (left : List (String Global)) (now : Objects) → left ≡ [] → Makes left now → now ≡ with_objects c all o
+  makes_all left now none h = sym (ap (λ (l : List (String Global)). with_objects c (map string_bytes l) now) none) ∙ h
 
--- an answer in other words
-pub if_ok : {A E : Type 0} (r : Result A E) (P Q : A → Type 0) → ((x : A) → P x → Q x) → IfOk r P → IfOk r Q
-if_ok (Ok x) P Q f h = f x h
-if_ok (Err e) P Q f h = h
-
-pub any_ok : {A E : Type 0} (r : Result A E) (Q : A → Type 0) → ((x : A) → Q x) → IfOk r Q
-any_ok (Ok x) Q f = f x
-any_ok (Err e) Q f = tt
+-- an answer on some paths of some contents is one on these, which are the same
+pub as_asked : (schema : Schema) (dir : List ℕ) (b a : Contents) (ps : List Path) → b ≡ a → ps ≡ finite.keys a.objects → (ok : Bool) → IsTrue ok ↔ AllByRecursion (IsSoundOne schema dir b) ps
+    → IsTrue ok ↔ AllByRecursion (IsSoundOne schema dir a) (finite.keys a.objects)
+as_asked schema dir b a ps same are ok h =
+    subst (λ (l : List Path). IsTrue ok ↔ AllByRecursion (IsSoundOne schema dir a) l) are (subst (λ (x : Contents). IsTrue ok ↔ AllByRecursion (IsSoundOne schema dir x) ps) same h)

@@ -1,3 +1,4 @@
+pub mod Ahead
 pub mod AllObjects
 pub mod AllTests
 pub mod Columns

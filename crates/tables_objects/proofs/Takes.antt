@@ -1,5 +1,5 @@
 -- One object, tested by its rows and put among the others.
-use Rattle.std.proofs.Common.{◌≡◌, ℕ, ℤ, List, length, Bool, Some, Option, sym, ap, subst, ◌∙◌, IsTrue}
+use Rattle.std.proofs.Common.{◌≡◌, ℕ, ℤ, List, [], ◌∷◌, ◌++◌, refl, length, Bool, Some, Option, sym, ap, subst, ◌∙◌, IsTrue}
 use Rattle.std.specs.Prelude.{◌↔◌, MatchOption}
 use Rattle.std.specs.FinMap as finite
 use Rattle.std.proofs.lemmas.Option.{same_Some}
@@ -16,12 +16,13 @@ use Rattle.tables_world.specs.Rows.{address_in, archive_in, references_in, outpu
 use Rattle.tables_schema.specs.declared.schema.Schema.{Schema}
 use Rattle.tables_world.specs.Worlds.{rows_of}
 use Rattle.tables_world.specs.Parts.{IsSoundRow}
+use Rattle.tables_outline.specs.Maps.{put_all}
 use Rattle.tables_outline.specs.Outline.{Outlined, outlined}
 use Rattle.tables_objects.specs.declared.reading.ObjectRows.{ObjectRows}
 use Rattle.tables_objects.specs.Cut.{parts_of, whole_of}
 use Rattle.tables_objects.specs.Tested.{IsSoundAt, kept_of, named_of, targets_of}
 use Rattle.tables_objects.specs.Rows.{AreRowsOf}
-use Rattle.tables_objects.specs.Loaded.{Objects, IsCutBy, IsSoundOne, with_stored, with_object}
+use Rattle.tables_objects.specs.Loaded.{Objects, IsCutBy, IsSoundOne, filled, with_stored, with_object}
 use Rattle.tables_objects.proofs.Paths.{set_again}
 use Rattle.tables_objects.proofs.SoundRows.{row_of_tested, tested_of_row}
 
@@ -108,3 +109,20 @@ pub sound_found : (dir : List ℕ) (w : Path × Stored) (refs : List Path) (outs
     → IsSoundAt dir w.0 w.1 refs outs
 sound_found dir w refs outs o s is h =
     (subst (λ (p : Option (Path × Outlined)). MatchOption p (¬ IsSoundAt dir w.0 w.1 refs outs) (λ (x : Path × Outlined). IsSoundAt dir w.0 w.1 refs outs × (x.0 ≡ w.0) × (x.1 ≡ kept_of dir w.0 w.1 refs))) is h).0
+
+-- and what was kept then
+pub kept_found : (dir : List ℕ) (w : Path × Stored) (refs : List Path) (outs : List (List ℕ × Path)) (o : Option (Path × Outlined)) (s : Path × Outlined) → o ≡ Some s
+    → MatchOption o (¬ IsSoundAt dir w.0 w.1 refs outs) (λ (x : Path × Outlined). IsSoundAt dir w.0 w.1 refs outs × (x.0 ≡ w.0) × (x.1 ≡ kept_of dir w.0 w.1 refs))
+    → (s.0 ≡ w.0) × (s.1 ≡ kept_of dir w.0 w.1 refs)
+kept_found dir w refs outs o s is h =
+    let it = subst (λ (p : Option (Path × Outlined)). MatchOption p (¬ IsSoundAt dir w.0 w.1 refs outs) (λ (x : Path × Outlined). IsSoundAt dir w.0 w.1 refs outs × (x.0 ≡ w.0) × (x.1 ≡ kept_of dir w.0 w.1 refs))) is h in
+    (it.1, it.2)
+
+-- ---- one more in a list of objects
+
+put_last : (es : List (Path × Outlined)) (e : Path × Outlined) (m : Objects) → put_all (es ++ e ∷ []) m ≡ finite.insert (put_all es m) e.0 e.1
+put_last [] e m = refl
+put_last (d ∷ es) e m = put_last es e (finite.insert m d.0 d.1)
+
+pub pushed : (es : List (Path × Outlined)) (e : Path × Outlined) (p : Path) (x : Outlined) → e.0 ≡ p → e.1 ≡ x → filled (es ++ e ∷ []) ≡ finite.insert (filled es) p x
+pushed es e p x key value = put_last es e finite.empty ∙ (λ i. finite.insert (filled es) (key i) (value i))

@@ -8,7 +8,7 @@ use Rattle.paths.specs.Root.{bytes_cmp}
 use Rattle.tables_sql.specs.Contents.{Numbered}
 use Rattle.model.specs.World.{Path, Pair}
 
--- paths that are lent
+-- borrowed paths
 abbrev pub borrowed : List (Bor Path) → List Path
 borrowed paths = map (λ p. p.now) paths
 

@@ -11,10 +11,15 @@ use Rattle.tables_schema.specs.Schemas.{has_pieces}
 use Rattle.tables_world.specs.Worlds.{rows_of}
 use Rattle.tables_world.specs.Parts.{IsSoundRow, AreSoundObjects}
 use Rattle.tables_world.specs.Pieces.{IsCut}
+use Rattle.tables_outline.specs.Maps.{put_all}
 use Rattle.tables_outline.specs.Outline.{Outlined, outlined}
 
 abbrev pub Objects : Type 0
 Objects = finite.FinMap bytes_cmp Outlined
+
+-- the objects of a list
+abbrev pub filled : List (Path × Outlined) → Objects
+filled all = put_all all finite.empty
 
 -- an object's row and its pieces are cut the right way, where there is a table of pieces
 abbrev pub IsCutBy : Schema → List ℕ → List (ℤ × List ℕ) → Type 0

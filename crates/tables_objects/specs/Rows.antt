@@ -1,6 +1,8 @@
 -- The rows of one object, and those of all objects that are in other tables, read.
-use Rattle.std.specs.Prelude.{◌≡◌, Option, Some, None, MatchOption, map}
+use Rattle.std.specs.Prelude.{◌≡◌, List, Option, Some, None, MatchOption, map}
 use Rattle.std.specs.FinMap as finite
+use Rattle.std.specs.List.{AllByRecursion}
+use Rattle.tables_sql.specs.declared.objects.Object.{Object}
 use Rattle.tables_sql.specs.Contents.{Contents}
 use Rattle.tables_sql.specs.Entries.{stored_of, reference_of, output_of, numbered_in}
 use Rattle.model.specs.World.{Path}
@@ -19,6 +21,10 @@ pub record AreRowsOf (c : Contents) (p : Path) (r : ObjectRows) : Type 0 where
 -- the rows at a path, if an object is there
 abbrev pub AreRowsAt : Contents → Path → Option ObjectRows → Type 0
 AreRowsAt c p o = MatchOption o (finite.get c.objects p ≡ None) (AreRowsOf c p)
+
+-- each is the object of its path
+abbrev pub AreStored : Contents → List Object → Type 0
+AreStored c all = AllByRecursion (λ o. finite.get c.objects (stored_of o).0 ≡ Some (stored_of o).1) all
 
 -- all references and outputs, and which pieces there are
 pub record AreJoined (c : Contents) (all : Joined) : Type 0 where

@@ -12,6 +12,7 @@ mod objects;
 mod outputs;
 mod passing;
 mod reading;
+mod reading_ahead;
 mod recorded;
 mod references;
 mod texts;

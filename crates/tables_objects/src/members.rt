@@ -17,7 +17,7 @@ use tables_sql::outputs::Output;
 use tables_sql::pieces::PieceKey;
 use tables_sql::references::Reference;
 
-/// The paths of all objects, lent, in order.
+/// The paths of all objects, borrowed, in order.
 pub(crate) fn paths_in<'a>(
     alloc: Global,
     outline: &'a Outline,

@@ -1,4 +1,4 @@
-//! One object, tested by its rows.
+//! An object, tested by its rows.
 
 ghost use Rattle.std.specs.Prelude.{◌≡◌, None, IfOk, IsTrue, MatchOption, is_some, length, map, string_bytes};
 ghost use Rattle.std.specs.List.{zip};

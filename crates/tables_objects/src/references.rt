@@ -29,7 +29,7 @@ pub(crate) fn paths_of(
         (λ o. MatchOption o (are_paths None (targets_of rows.now) ≡ false)
         (λ v. (v.items ≡ targets_of rows.now) × (are_paths None (targets_of rows.now) ≡ true))) }
 {
-    let mut paths = Vec::new(alloc);
+    let mut paths = Vec::with_capacity(alloc, rows.len())?;
     let mut last = None;
     'rows: for row in rows {
         let text = row.target.as_str();

@@ -1,10 +1,11 @@
 -- Values that are put into finite maps, over others or over none, and taken back.
-use Rattle.std.proofs.Common.{◌≡◌, Bool, true, false, not, cond, Some, None, Option, option_map, is_some, refl, sym, ap, ◌∙◌}
+use Rattle.std.proofs.Common.{◌≡◌, List, [], ◌∷◌, Bool, true, false, not, cond, Some, None, Option, option_map, is_some, refl, sym, ap, ◌∙◌}
 use Rattle.std.specs.declared.cmp.Ordering.{Ordering}
 use Rattle.std.specs.Ordering.{eq_by_cmp}
 use Rattle.std.specs.Cmp.{IsTotalOrder, Equal-is, eq_by_cmp_equiv}
 use Rattle.std.specs.FinMap as finite
-use Rattle.tables_outline.specs.Maps.{unput}
+use Rattle.std.specs.Map.{update, update_all}
+use Rattle.tables_outline.specs.Maps.{unput, put_all}
 
 pub tied_is : {K : Type 0} {R : K → K → Ordering} → finite.IsAntisymmetric R → (k j : K) → eq_by_cmp R k j ≡ true → k ≡ j
 tied_is {K} {R} same k j h = same k j ((Equal-is (R k j)).0 h)
@@ -61,3 +62,10 @@ module _ {K X : Type 0} {R : K → K → Ordering} (o : IsTotalOrder R) (same : 
       by : (b : Bool) (g : Option X) → cond (not b) g None ≡ cond b None g
       by true g = refl
       by false g = refl
+
+  -- what is found among entries that are put one after another
+  pub get-all : (es : List (K × X)) (m : finite.FinMap R X) (f : K → Option X) (q : K) → finite.get m q ≡ f q → finite.get (put_all es m) q ≡ update_all (eq_by_cmp R) f es q
+  get-all [] m f q is = is
+  get-all (e ∷ es) m f q is = get-all es (finite.insert m e.0 e.1) (update (eq_by_cmp R) f e.0 (Some e.1)) q (
+      finite.get-insert o m e.0 e.1 q ∙ ap (cond (eq_by_cmp R q e.0) (Some e.1)) is
+      ∙ ap (λ b. cond b (Some e.1) (f q)) ((eq_by_cmp_equiv o).symm q e.0))

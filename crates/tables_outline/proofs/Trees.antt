@@ -70,6 +70,10 @@ module _ {K X L Y : Type 0} (R : L → L → Ordering) (key : K → L) (value : 
         finite.get-from_entries o (put R (key k) (value v) (seen es)) q ∙ find-put R o q (key k) (value v) (seen es)
         ∙ sym (finite.get-insert o (seen_map R key value es) (key k) (value v) q ∙ ap (cond (eq_by_cmp R q (key k)) (Some (value v))) (finite.get-from_entries o (seen es) q)))
 
+    -- a map in which the same is found
+    pub seen_as : (es : List (K × X)) (m : finite.FinMap R Y) → ((q : L) → option_map value (lookup (λ k. eq_by_cmp R q (key k)) es) ≡ finite.get m q) → seen_map R key value es ≡ m
+    seen_as es m is = finite.same_map o same _ _ (λ q. get_seen es q ∙ is q)
+
     -- ---- removal
 
     other : (k q : L) (es : List (K × X)) → eq_by_cmp R q k ≡ false → lookup (λ x. eq_by_cmp R q (key x)) (remove_entry (λ x. eq_by_cmp R k (key x)) es) ≡ lookup (λ x. eq_by_cmp R q (key x)) es

@@ -1,4 +1,4 @@
-//! All roots of an outline, lent.
+//! All roots of an outline, borrowed.
 
 ghost use Rattle.std.specs.Prelude.{◌≡◌, map, string_bytes};
 ghost use Rattle.std.specs.FinMap as finite;
@@ -9,7 +9,7 @@ use paths::StorePath;
 use std::collections::{BTreeMap, BTreeSet};
 
 impl Outline {
-    /// All permanent roots, lent, in the order of their names.
+    /// All permanent roots, borrowed, in the order of their names.
     ///
     /// ```rust
     /// tables.put_permanent("system", path)?;
@@ -23,7 +23,7 @@ impl Outline {
         &self.permanent
     }
 
-    /// All user roots, lent, in the order of their owners and names.
+    /// All user roots, borrowed, in the order of their owners and names.
     ///
     /// ```rust
     /// tables.put_user_root("ann", "editor", path)?;
@@ -37,7 +37,7 @@ impl Outline {
         &self.user_roots
     }
 
-    /// All runtime roots, lent, in the order of their labels and targets.
+    /// All runtime roots, borrowed, in the order of their labels and targets.
     ///
     /// ```rust
     /// assert!(rt; tables.outline().runtime_roots().is_empty());
@@ -50,7 +50,7 @@ impl Outline {
         &self.runtime
     }
 
-    /// All temporary roots, lent, in the order of their owners, sessions and paths.
+    /// All temporary roots, borrowed, in the order of their owners, sessions and paths.
     ///
     /// ```rust
     /// tables.add_temp("ann", 7, path)?;

@@ -1,4 +1,4 @@
-//! The outline of the tables, which is kept in memory: everything but the bytes of archives.
+//! The outline of the tables, which is stored in memory: everything but the bytes of archives.
 #![tactic(auto)]
 
 mod borrowed_roots;

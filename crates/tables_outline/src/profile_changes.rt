@@ -22,7 +22,7 @@ impl Outline {
         self.profiles.get(owned)
     }
 
-    /// All profiles, lent, in the order of their owners and names.
+    /// All profiles, borrowed, in the order of their owners and names.
     ///
     /// ```rust
     /// tables.put_profile("ann", "default", Some((1, path)), 1)?;

@@ -33,7 +33,7 @@ impl Outline {
         Ok(had)
     }
 
-    /// Gives a permanent root the target that it had, or takes it away where it had none. It takes no memory.
+    /// Gives a permanent root its former target, or removes the root if it had none. Allocates no memory.
     pub fn undo_permanent(&mut self, name: &str, had: Option<StorePath>)
         requires { IsTrue (finite.contains_key self.old.permanent name.now) }
         ensures { self.new ≡ record self.old { permanent = unput self.old.permanent name.now had } }

@@ -36,7 +36,7 @@ impl Outline {
         Ok(!is_new)
     }
 
-    /// Leaves a path that was put to the session that kept it before, or takes it away where that didn't. It takes no memory.
+    /// Keeps a path that was put if the session kept it before, and removes it otherwise. Allocates no memory.
     pub fn undo_temporary(&mut self, kept: &(String, u32, StorePath), had: bool)
         ensures { self.new ≡ record self.old { temporary = unkept self.old.temporary (temporary_bytes kept.now) had } }
     {

@@ -13,7 +13,7 @@ use Rattle.tables_sql.specs.declared.failure.Failed.TheVariants.{Memory, Disk}
 use Rattle.tables_sql.specs.Calls.{IsReady, IsUnderWay, Changes, KeepsShown, HasFurther}
 use Rattle.tables_sql.specs.Contents.{contents_of}
 use Rattle.tables_sql.specs.Texts.{IsReadable}
-use Rattle.tables_sql.specs.Failures.{FailsFor, FailsToInsert, IsQueryFailure, IsWriteFailure, IsAdditionFailure, without_size}
+use Rattle.tables_sql.specs.Failures.{FailsFor, FailsToInsert, IsQueryFailure, IsDeletionFailure, IsAdditionFailure}
 use Rattle.tables_sql.specs.Queries.{HasBegunWith}
 use Rattle.tables_sql.specs.Reading.{IsAmiss}
 use Rattle.tables_sql.proofs.Rising.{select_fails}
@@ -123,5 +123,5 @@ module _ {K X : Type 0} {d : Description K X} {old new : State} {text : List ℕ
   pub takes : (result : Result (Unit {0}) Failed) → OnOk result ((count : ℕ) × ExecutesInside 0 text params old new (Ok count)) → OnOk result (Changes old new (λ c. d.put c (finite.retain_keys (d.of c) (λ k. not (test k)))))
   takes result = on_ok result _ _ (λ ran. removes d old new (under (early survives clean)) (own (early survives clean)) r ran.0 ran.1)
 
-  pub fails_to_take : (result : Result (Unit {0}) Failed) → IfErr result (λ f. (g : Failed) × (f ≡ without_size g) × IsWriteFailure text params old new g) → IfErr result (FailsFor old new)
+  pub fails_to_take : (result : Result (Unit {0}) Failed) → IfErr result (IsDeletionFailure text params old new) → IfErr result (FailsFor old new)
   fails_to_take result cause = removal_failed result old new _ _ cause (λ e h. removes_not d old new (under (early survives clean)) (own (early survives clean)) r e h)

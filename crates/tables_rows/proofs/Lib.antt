@@ -1,3 +1,4 @@
 pub mod Clauses
+pub mod Ranges
 pub mod Several
 pub mod Unsettled

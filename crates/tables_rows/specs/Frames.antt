@@ -1,14 +1,15 @@
 -- What each call on the tables requires of a connection, and what it keeps of it, by whichever table it reads or
 -- writes.
-use Rattle.std.specs.Prelude.{◌≡◌, false, Option, None, Result, IsSome, IsTrue, IfOk, IfErr, OnOk, OnErr}
+use Rattle.std.specs.Prelude.{◌≡◌, false, Option, None, Result, IsSome, IsTrue, IfOk, IfErr, OnOk}
 use Rattle.std.specs.Borrow.{MutBor}
 use Rattle.sqlite_value.specs.Order.{Row}
 use Rattle.sqlite_schema.specs.declared.schema.Table.{Table}
 use Rattle.sqlite_trees.specs.declared.store.Store.{Ghosts}
-use Rattle.sqlite.specs.State.{HasCleanDisk, IsUnchanged, KeepsCommit, Survives}
+use Rattle.sqlite.specs.State.{HasCleanDisk, IsUnchanged, Survives}
 use Rattle.sqlite.specs.Held.{Held, state}
-use Rattle.tables_sql.specs.Calls.{IsReady, IsUnderWay, KeepsShown, Changes, HasFurther}
+use Rattle.tables_sql.specs.Calls.{IsReady, KeepsShown, Changes, HasFurther}
 use Rattle.tables_sql.specs.Contents.{Contents, contents_of}
+pub use Rattle.tables_sql.specs.Frames.{IsInside, StaysInside}
 use Rattle.tables_sql.specs.Failures.{FailsFor, FailsToInsert, FailsToRead}
 use Rattle.tables_sql.specs.declared.failure.Failed.{Failed}
 
@@ -31,19 +32,6 @@ module _ {S : Type 0} (g : Ghosts S) where
   -- a further table is there, unless a fault has shut the connection
   abbrev pub HasTable : Held S → Table → Type 0
   HasTable at table = HasCleanDisk (state g at) → IsTrue (state g at).is_open → HasFurther (state g at).now table
-
-  -- ---- a call inside a transaction
-
-  -- a transaction is under way over the store's tables, unless a fault has shut the connection
-  abbrev pub IsInside : MutBor (Held S) → Type 0
-  IsInside old = HasCleanDisk (state g old.now) → IsUnderWay (state g old.now)
-
-  -- A write stays in its transaction, and where it fails nothing is committed. A crash leaves what it could leave
-  -- before.
-  pub record StaysInside {T E : Type 0} (old new : MutBor (Held S)) (result : Result T E) : Type 0 where
-    pub same_reference : new.ghost_name ≡ old.ghost_name
-    pub failed : HasCleanDisk (state g new.now) → OnErr result (KeepsCommit (state g old.now) (state g new.now))
-    pub survives : Survives (state g old.now) (state g new.now) (λ _. ⊥)
 
   -- ---- what a call is about
 
@@ -101,14 +89,14 @@ module _ {S : Type 0} (g : Ghosts S) where
   -- and a read inside a transaction, of what that has written so far
   pub record FindsInside {T : Type 0} (old new : MutBor (Held S)) (result : Result T Failed)
       (shows : Contents → T → Type 0) : Type 0 where
-    pub frame : StaysInside old new result
+    pub frame : StaysInside g old new result
     pub reads : Reads old.now new.now result shows
     pub cause : FailsWithCause old.now new.now result
 
   -- an insert of this row makes this change, where there was no entry of its key
   pub record Inserts {T X : Type 0} (before after : MutBor (Held S)) (result : Result T Failed) (table : Table)
       (row : Row) (find : Contents → Option X) (change : Contents → Contents) : Type 0 where
-    pub frame : StaysInside before after result
+    pub frame : StaysInside g before after result
     pub done : Makes before after result change
     pub cause : FailsToPut before after result table row find
     pub new : WasFree before after result find
@@ -116,7 +104,7 @@ module _ {S : Type 0} (g : Ghosts S) where
   -- a delete makes this change
   pub record Removes {T : Type 0} (old new : MutBor (Held S)) (result : Result T Failed)
       (change : Contents → Contents) : Type 0 where
-    pub frame : StaysInside old new result
+    pub frame : StaysInside g old new result
     pub done : Makes old new result change
     pub cause : FailsWithCause old.now new.now result
 

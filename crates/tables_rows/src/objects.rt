@@ -1,5 +1,5 @@
 //! The objects, with their archives.
-#![tactic(auto, using(tables_sql::proofs::ListingLemmas::all_read, tables_sql::proofs::ListingLemmas::keys_read, tables_sql::proofs::ObjectLemmas::of_read))]
+#![tactic(auto, using(tables_sql::proofs::ListingLemmas::all_read, tables_sql::proofs::ListingLemmas::keys_read, tables_sql::proofs::ObjectLemmas::of_read, crate::proofs::Ranges::reads))]
 
 ghost use Rattle.std.specs.Prelude.{◌∷◌, [], ◌≡◌, map, not, string_bytes};
 ghost use Rattle.sqlite_value.specs.declared.value.Value.TheVariants.{Text, Blob};
@@ -9,6 +9,7 @@ ghost use Rattle.std.specs.FinMap as finite;
 ghost use Rattle.tables_sql.specs.Contents.{texts_cmp, without_archive};
 ghost use Rattle.tables_sql.specs.Entries.{text_or_null, stored_of, listed_of, IsStored, stored};
 ghost use Rattle.tables_rows.specs.Frames.{MayRead, IsInside, Finds, Inserts, Removes};
+ghost use Rattle.tables_rows.specs.Ranges.{is_between};
 
 pub use crate::getting_within::get_within;
 use crate::reading;
@@ -67,6 +68,26 @@ fn of<S: Alter>(alloc: Global, conn: &mut Connection<S>, base: &str) -> Result<V
         conn,
         "SELECT base, nar, hash, deriver, ca FROM object WHERE base = ?1 ORDER BY base",
         params![base],
+    )
+}
+
+/// The objects of the bases from the first to the last, both of them included, in order.
+pub fn between<S: Alter>(
+    alloc: Global,
+    conn: &mut Connection<S>,
+    first: &str,
+    last: &str,
+) -> Result<Vec<Object>, Failed>
+    requires frame { MayRead S.Store conn.old }
+    ensures { Finds S.Store conn.old conn.new result
+        (λ c all. map stored_of all.items
+        ≡ finite.entries (finite.retain_keys c.objects (is_between first.now last.now))) }
+{
+    reading::select(
+        alloc,
+        conn,
+        "SELECT base, nar, hash, deriver, ca FROM object WHERE base >= ?1 AND base <= ?2 ORDER BY base",
+        params![first, last],
     )
 }
 

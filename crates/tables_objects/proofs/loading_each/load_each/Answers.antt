@@ -5,8 +5,8 @@ use Rattle.sqlite.specs.Held.{state}
 use Rattle.sqlite.proofs.Callers.{unchanged_then}
 use Rattle.tables_sql.specs.Contents.{Contents, contents_of}
 use Rattle.tables_rows.proofs.Several.{left_then, several_failed, reads_done, reads_then}
-use Rattle.tables_outline.specs.Outline.{OutlineValue}
-use Rattle.tables_objects.specs.Loaded.{IsSoundOne, with_object}
+use Rattle.tables_objects.specs.Rows.{AreStored}
+use Rattle.tables_objects.specs.Loaded.{Objects, IsSoundOne, filled, with_object}
 use Rattle.tables_objects.proofs.ReadRows.{as_it_was, clean_before, pieces_after, joined_still}
 use Rattle.tables_objects.proofs.Each.{left_at, no_change, decides_next, decides_one, decides_all, makes_next, makes_all}
 use Rattle.tables_objects.proofs.loading_each.load_each.Goals as goal
@@ -19,6 +19,7 @@ bases-init g c =
       unchanged = λ clean. no_change s (c.requires.opened clean);
       decides = λ clean. (λ h. h, λ h. h);
       makes = λ clean. refl;
+      ahead = λ clean. subst (AreStored (contents_of s.now)) (sym c.new-ahead.ensures.items) tt;
     }
 
 pub load_object-requires-clause-joined : goal.load_object-requires-clause-joined
@@ -45,16 +46,20 @@ bases-preserved g c =
           let same : contents_of now.now ≡ contents_of first.now = ap contents_of (inv.unchanged was).0.now_is in
           let one : IsSoundOne c.args.schema c.args.dir.now (contents_of first.now) (string_bytes item) =
           subst (λ (x : Contents). IsSoundOne c.args.schema c.args.dir.now x (string_bytes item)) same
-          (subst (IsSoundOne c.args.schema c.args.dir.now (contents_of now.now)) c.as_str.ensures.value ((c.in_ok-load_object.ensures.reported clean).0 c.if-not-branch.false)) in
+          (subst (IsSoundOne c.args.schema c.args.dir.now (contents_of now.now)) c.as_str-base.ensures.value ((c.in_ok-load_object.ensures.reported clean).0 c.if-not-branch.false)) in
           decides_next c.args.schema c.args.dir.now (contents_of first.now) (map string_bytes c.args.bases.now) left rest item split one (inv.decides was);
       makes = λ clean.
           let was = clean_before now next (λ _. ⊥) c.load_object.ensures.read.frame.survives clean in
           let same : contents_of now.now ≡ contents_of first.now = ap contents_of (inv.unchanged was).0.now_is in
-          let outline : OutlineValue = c.bases.outline in
-          makes_next (contents_of first.now) c.args.outline.now (map string_bytes c.args.bases.now) left rest item outline c.load_object.new.outline split
+          let found : Objects = filled c.bases.found.items in
+          makes_next (contents_of first.now) (filled c.args.found.now.items) (map string_bytes c.args.bases.now) left rest item found (filled c.load_object.new.found.items) split
           (c.in_ok-load_object.ensures.loaded clean c.if-not-branch.false
-          ∙ ap₂ (λ (x : Contents) (p : List ℕ). record outline { objects = with_object x p outline.objects }) same c.as_str.ensures.value)
+          ∙ ap₂ (λ (x : Contents) (p : List ℕ). with_object x p found) same c.as_str-base.ensures.value)
           (inv.makes was);
+      ahead = λ clean.
+          let was = clean_before now next (λ _. ⊥) c.load_object.ensures.read.frame.survives clean in
+          let same : contents_of now.now ≡ contents_of first.now = ap contents_of (inv.unchanged was).0.now_is in
+          subst (λ (x : Contents). AreStored x c.load_object.new.ahead.items) same (c.in_ok-load_object.ensures.ahead clean);
     }
 
 pub returns-then-not-branch-clause-reported : goal.returns-then-not-branch-clause-reported
@@ -71,7 +76,7 @@ returns-then-not-branch-clause-reported g c clean =
       λ every.
           let one = decides_one c.args.schema c.args.dir.now (contents_of first.now) (map string_bytes c.args.bases.now) (drop c.bases.base-index c.args.bases.now) (drop (c.bases.base-index + 1) c.args.bases.now) item split (inv.decides was) every in
           absurd (false≢true (sym c.if-not-branch.true ∙ (c.in_ok-load_object.ensures.reported clean).1
-          (subst (IsSoundOne c.args.schema c.args.dir.now (contents_of now.now)) (sym c.as_str.ensures.value) (subst (λ (x : Contents). IsSoundOne c.args.schema c.args.dir.now x (string_bytes item)) (sym same) one)))),
+          (subst (IsSoundOne c.args.schema c.args.dir.now (contents_of now.now)) (sym c.as_str-base.ensures.value) (subst (λ (x : Contents). IsSoundOne c.args.schema c.args.dir.now x (string_bytes item)) (sym same) one)))),
     )
 
 pub returns-clause-reported : goal.returns-clause-reported
@@ -82,7 +87,7 @@ returns-clause-reported g c clean =
 pub returns-clause-loaded : goal.returns-clause-loaded
 returns-clause-loaded g c clean ok =
     let first = state g.S.Store c.args.conn.now in
-    makes_all (contents_of first.now) c.args.outline.now (map string_bytes c.args.bases.now) (drop c.bases.base-index c.args.bases.now) c.bases.outline (drop_of_length-le c.args.bases.now c.bases-test.false) (c.bases.invariant.makes clean)
+    makes_all (contents_of first.now) (filled c.args.found.now.items) (map string_bytes c.args.bases.now) (drop c.bases.base-index c.args.bases.now) (filled c.bases.found.items) (drop_of_length-le c.args.bases.now c.bases-test.false) (c.bases.invariant.makes clean)
 
 pub load_object-requires-clause-frame : goal.load_object-requires-clause-frame
 load_object-requires-clause-frame g c = record { idle = c.bases.invariant.frame.idle; ready = c.bases.invariant.frame.ready }
@@ -101,3 +106,11 @@ returns-then-not-branch-clause-read g c =
 
 pub returns-clause-read : goal.returns-clause-read
 returns-clause-read g c = record { frame = c.bases.invariant.frame; unchanged = c.bases.invariant.unchanged; cause = λ _. tt }
+
+pub load_object-requires-clause-opened : goal.load_object-requires-clause-opened
+load_object-requires-clause-opened g c clean = (c.bases.invariant.unchanged clean).0.is_open
+
+pub load_object-requires-clause-ahead : goal.load_object-requires-clause-ahead
+load_object-requires-clause-ahead g c clean =
+    let same : contents_of (state g.S.Store c.bases.conn).now ≡ contents_of (state g.S.Store c.args.conn.now).now = ap contents_of (c.bases.invariant.unchanged clean).0.now_is in
+    subst (λ (x : Contents). AreStored x c.bases.ahead.items) (sym same) (c.bases.invariant.ahead clean)

@@ -1,9 +1,10 @@
-use Rattle.std.proofs.Common.{sym, refl, ◌∙◌}
+use Rattle.std.proofs.Common.{ap, sym, refl, ◌∙◌}
 use Rattle.std.proofs.lemmas.Bool.{false≢true}
 use Rattle.tables_sql.specs.Entries.{stored_of}
 use Rattle.tables_objects.specs.Cut.{parts_of, whole_of}
 use Rattle.tables_objects.specs.Tested.{named_of, targets_of}
-use Rattle.tables_objects.proofs.Takes.{cut_so, sound_found}
+use Rattle.tables_objects.specs.Loaded.{filled}
+use Rattle.tables_objects.proofs.Takes.{cut_so, kept_found, pushed, sound_found}
 use Rattle.tables_objects.proofs.loading_each.load_rows.Goals as goal
 
 pub returns-then-not-is_cut_by-clause-reported : goal.returns-then-not-is_cut_by-clause-reported
@@ -21,3 +22,9 @@ returns-clause-reported c =
       λ _. (cut, sound),
       λ _. refl,
     )
+
+pub returns-clause-loaded : goal.returns-clause-loaded
+returns-clause-loaded c _ =
+    let rows = c.args.rows in
+    let kept = kept_found c.args.dir.now ((stored_of rows.object).0, whole_of (stored_of rows.object).1 (parts_of rows.pieces.items)) (targets_of c.args.references.now) (named_of c.args.outputs.now) c.in_ok-path.field-0 (c.in-Some.path, c.in-Some.summary) c.in-Some.is c.in_ok-path.ensures in
+    ap filled c.in_ok-push.ensures.items ∙ pushed c.args.found.now.items (c.in-Some.path, c.in-Some.summary) _ _ kept.0 kept.1

@@ -5,7 +5,7 @@ use Rattle.sqlite.specs.State.{HasCleanDisk}
 use Rattle.sqlite.specs.Held.{state}
 use Rattle.tables_sql.specs.Contents.{contents_of}
 use Rattle.tables_sql.specs.Entries.{IsStored}
-use Rattle.tables_rows.proofs.Several.{left_then, one_failed, several_failed, finds_failed, reads_then}
+use Rattle.tables_rows.proofs.Several.{left_then, several_failed, finds_failed, reads_then}
 use Rattle.tables_objects.proofs.ReadRows.{clean_before, pieces_after, rows_read}
 use Rattle.tables_objects.proofs.reading.rows_at.Goals as goal
 
@@ -13,44 +13,47 @@ pub pieces_of-requires-clause-opened : goal.pieces_of-requires-clause-opened
 pieces_of-requires-clause-opened g c clean = (c.in_ok-object.ensures.reads clean).0.0.is_open
 
 pub pieces_of-requires-clause-pieces : goal.pieces_of-requires-clause-pieces
-pieces_of-requires-clause-pieces g c = pieces_after c.args.schema c.args.conn.now c.get.new.conn c.get.ensures.frame (λ clean. (c.in_ok-object.ensures.reads clean).0) c.requires.pieces
+pieces_of-requires-clause-pieces g c = pieces_after c.args.schema c.args.conn.now c.object_at.new.conn c.object_at.ensures.frame (λ clean. (c.in_ok-object.ensures.reads clean).0) c.requires.pieces
 
 pub pieces_of-requires-clause-listed : goal.pieces_of-requires-clause-listed
 pieces_of-requires-clause-listed g c clean =
     let s0 = state g.S.Store c.args.conn.now in
-    let s1 = state g.S.Store c.get.new.conn in
-    c.requires.listed (clean_before s0 s1 (λ _. ⊥) c.get.ensures.frame.survives clean)
+    let s1 = state g.S.Store c.object_at.new.conn in
+    c.requires.listed (clean_before s0 s1 (λ _. ⊥) c.object_at.ensures.frame.survives clean)
     ∙ sym (ap (λ (d : Database). finite.keys (contents_of d).pieces) (c.in_ok-object.ensures.reads clean).0.0.now_is)
 
 pub returns-in_err-object : goal.returns-in_err-object
 returns-in_err-object g c =
-    finds_failed _ _ c.from_residual.result _ _ c.from_residual.ensures.1 (one_failed _ _ _ _ c.from_residual.ensures.1 c.get.ensures.frame c.in_err-object.ensures.cause)
+    finds_failed _ _ c.from_residual.result _ _ c.from_residual.ensures.1 (several_failed _ _ _ _ c.from_residual.ensures.1 c.object_at.ensures.frame c.in_err-object.ensures.cause)
 
 pub returns-in_default : goal.returns-in_default
 returns-in_default g c = record {
-  frame = c.get.ensures.frame;
+  frame = c.object_at.ensures.frame;
   reads = λ clean.
       let read = c.in_ok-object.ensures.reads clean in
-      (read.0, subst (IsStored (contents_of (state g.S.Store c.args.conn.now).now).objects c.args.base.now) c.in_default.is read.1);
+      (read.0, (subst (IsStored (contents_of (state g.S.Store c.args.conn.now).now).objects c.args.base.now) c.in_default.is read.1.0, read.1.1));
   cause = λ _. tt;
 }
 
 pub returns-in_err-pieces : goal.returns-in_err-pieces
 returns-in_err-pieces g c =
     finds_failed _ _ c.from_residual-in_err-pieces.result _ _ c.from_residual-in_err-pieces.ensures.1
-    (reads_then c.args.conn.now c.get.new.conn c.pieces_of.new.conn _ c.get.ensures.frame (λ clean. (c.in_ok-object.ensures.reads clean).0)
+    (reads_then c.args.conn.now c.object_at.new.conn c.pieces_of.new.conn _ c.object_at.ensures.frame (λ clean. (c.in_ok-object.ensures.reads clean).0)
     (several_failed _ _ _ _ c.from_residual-in_err-pieces.ensures.1 c.pieces_of.ensures.frame c.in_err-pieces.ensures.cause))
 
 pub returns : goal.returns
 returns g c =
     let s0 = state g.S.Store c.args.conn.now in
-    let s1 = state g.S.Store c.get.new.conn in
+    let s1 = state g.S.Store c.object_at.new.conn in
     let s2 = state g.S.Store c.pieces_of.new.conn in
     record {
-      frame = left_then _ _ _ c.get.ensures.frame c.pieces_of.ensures.frame;
+      frame = left_then _ _ _ c.object_at.ensures.frame c.pieces_of.ensures.frame;
       reads = λ clean.
           let clean1 : HasCleanDisk s1 = clean_before s1 s2 (λ _. ⊥) c.pieces_of.ensures.frame.survives clean in
-          rows_read s0 s1 s2 c.args.base.now (record { object = c.in-Some.object; pieces = c.in_ok-pieces.pieces }) c.in_ok-object.field-0 c.in-Some.is
-          (c.in_ok-object.ensures.reads clean1) (c.in_ok-pieces.ensures.reads clean);
+          let first = c.in_ok-object.ensures.reads clean1 in
+          let read =
+          rows_read s0 s1 s2 c.args.base.now (record { object = c.in-Some.object; pieces = c.in_ok-pieces.pieces }) c.in_ok-object.field-0 c.in-Some.is (first.0, first.1.0)
+          (c.in_ok-pieces.ensures.reads clean) in
+          (read.0, (read.1, first.1.1));
       cause = λ _. tt;
     }

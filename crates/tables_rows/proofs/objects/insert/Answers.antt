@@ -6,8 +6,8 @@ use Rattle.tables_rows.proofs.objects.insert.Goals as goal
 
 pub returns : goal.returns
 returns g c = record {
-  frame = record { same_reference = c.add.ensures.same_reference; failed = c.add.ensures.failed; survives = c.add.ensures.survives };
-  done = λ clean. puts (addition c.args.base.now c.args.nar.now c.args.hash.now c.args.deriver.now c.args.ca.now) c.add.ensures.survives c.requires (λ early up. tt) clean c.add.result (readable c.args.base.now c.args.nar.now c.args.hash.now c.args.deriver.now c.args.ca.now (subst IsUtf8 c.as_bytes-base.ensures.value c.as_bytes-base.ensures.utf8)) (rw (c.params-to_sql.ensures, c.params-to_sql-2.ensures, c.params-to_sql-3.ensures, c.params-to_sql-4.ensures, c.params-to_sql-5.ensures) at (c.add.ensures.ran clean));
-  new = λ clean. puts_new (addition c.args.base.now c.args.nar.now c.args.hash.now c.args.deriver.now c.args.ca.now) c.add.ensures.survives c.requires (λ early up. tt) clean c.add.result (readable c.args.base.now c.args.nar.now c.args.hash.now c.args.deriver.now c.args.ca.now (subst IsUtf8 c.as_bytes-base.ensures.value c.as_bytes-base.ensures.utf8)) (rw (c.params-to_sql.ensures, c.params-to_sql-2.ensures, c.params-to_sql-3.ensures, c.params-to_sql-4.ensures, c.params-to_sql-5.ensures) at (c.add.ensures.ran clean));
-  cause = λ clean. fails_to_put (addition c.args.base.now c.args.nar.now c.args.hash.now c.args.deriver.now c.args.ca.now) c.add.ensures.survives c.requires (λ early up. tt) clean c.add.result (rw (c.params-to_sql.ensures, c.params-to_sql-2.ensures, c.params-to_sql-3.ensures, c.params-to_sql-4.ensures, c.params-to_sql-5.ensures) at (c.add.ensures.cause clean));
+  frame = c.add.ensures.frame;
+  done = λ clean. puts (addition c.args.base.now c.args.nar.now c.args.hash.now c.args.deriver.now c.args.ca.now) c.add.ensures.frame.survives c.requires (λ early up. tt) clean c.add.result (readable c.args.base.now c.args.nar.now c.args.hash.now c.args.deriver.now c.args.ca.now (subst IsUtf8 c.as_bytes-base.ensures.value c.as_bytes-base.ensures.utf8)) (rw (c.params-to_sql.ensures, c.params-to_sql-2.ensures, c.params-to_sql-3.ensures, c.params-to_sql-4.ensures, c.params-to_sql-5.ensures) at (c.add.ensures.ran clean));
+  new = λ clean. puts_new (addition c.args.base.now c.args.nar.now c.args.hash.now c.args.deriver.now c.args.ca.now) c.add.ensures.frame.survives c.requires (λ early up. tt) clean c.add.result (readable c.args.base.now c.args.nar.now c.args.hash.now c.args.deriver.now c.args.ca.now (subst IsUtf8 c.as_bytes-base.ensures.value c.as_bytes-base.ensures.utf8)) (rw (c.params-to_sql.ensures, c.params-to_sql-2.ensures, c.params-to_sql-3.ensures, c.params-to_sql-4.ensures, c.params-to_sql-5.ensures) at (c.add.ensures.ran clean));
+  cause = λ clean. fails_to_put (addition c.args.base.now c.args.nar.now c.args.hash.now c.args.deriver.now c.args.ca.now) c.add.ensures.frame.survives c.requires (λ early up. tt) clean c.add.result (rw (c.params-to_sql.ensures, c.params-to_sql-2.ensures, c.params-to_sql-3.ensures, c.params-to_sql-4.ensures, c.params-to_sql-5.ensures) at (c.add.ensures.cause clean));
 }

@@ -4,7 +4,7 @@ use Rattle.tables_rows.proofs.references.delete_of.Goals as goal
 
 pub returns : goal.returns
 returns g c = record {
-  frame = record { same_reference = c.remove.ensures.same_reference; failed = c.remove.ensures.failed; survives = c.remove.ensures.survives };
-  done = λ clean. takes (removal c.args.base.now) c.remove.ensures.survives c.requires (λ early up. tt) clean c.remove.result (rw c.params-to_sql.ensures at (c.remove.ensures.ran clean));
-  cause = λ clean. fails_to_take (removal c.args.base.now) c.remove.ensures.survives c.requires (λ early up. tt) clean c.remove.result (rw c.params-to_sql.ensures at (c.remove.ensures.cause clean));
+  frame = c.remove.ensures.frame;
+  done = λ clean. takes (removal c.args.base.now) c.remove.ensures.frame.survives c.requires (λ early up. tt) clean c.remove.result (rw c.params-to_sql.ensures at (c.remove.ensures.ran clean));
+  cause = λ clean. fails_to_take (removal c.args.base.now) c.remove.ensures.frame.survives c.requires (λ early up. tt) clean c.remove.result (rw c.params-to_sql.ensures at (c.remove.ensures.cause clean));
 }

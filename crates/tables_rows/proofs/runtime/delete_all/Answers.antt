@@ -8,7 +8,7 @@ use Rattle.tables_rows.proofs.runtime.delete_all.Goals as goal
 
 pub returns : goal.returns
 returns g c = record {
-  frame = record { same_reference = c.remove.ensures.same_reference; failed = c.remove.ensures.failed; survives = c.remove.ensures.survives };
-  done = λ clean. on_ok c.remove.result _ _ (changes_by _ _ _ _ (λ x i. record x { runtime = none_kept pair_total pair_antisymmetric x.runtime i })) (takes removal_all c.remove.ensures.survives c.requires (λ early up. tt) clean c.remove.result (c.remove.ensures.ran clean));
-  cause = λ clean. fails_to_take removal_all c.remove.ensures.survives c.requires (λ early up. tt) clean c.remove.result (c.remove.ensures.cause clean);
+  frame = c.remove.ensures.frame;
+  done = λ clean. on_ok c.remove.result _ _ (changes_by _ _ _ _ (λ x i. record x { runtime = none_kept pair_total pair_antisymmetric x.runtime i })) (takes removal_all c.remove.ensures.frame.survives c.requires (λ early up. tt) clean c.remove.result (c.remove.ensures.ran clean));
+  cause = λ clean. fails_to_take removal_all c.remove.ensures.frame.survives c.requires (λ early up. tt) clean c.remove.result (c.remove.ensures.cause clean);
 }

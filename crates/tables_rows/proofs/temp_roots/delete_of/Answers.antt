@@ -5,7 +5,7 @@ use Rattle.tables_rows.proofs.temp_roots.delete_of.Goals as goal
 
 pub returns : goal.returns
 returns g c = record {
-  frame = record { same_reference = c.remove.ensures.same_reference; failed = c.remove.ensures.failed; survives = c.remove.ensures.survives };
-  done = λ clean. takes (removal c.args.owner.now (pos c.args.session)) c.remove.ensures.survives c.requires.under c.requires.exists clean c.remove.result (rw (c.params-to_sql.ensures, c.params-to_sql-2.ensures) at (c.remove.ensures.ran clean));
-  cause = λ clean. fails_to_take (removal c.args.owner.now (pos c.args.session)) c.remove.ensures.survives c.requires.under c.requires.exists clean c.remove.result (rw (c.params-to_sql.ensures, c.params-to_sql-2.ensures) at (c.remove.ensures.cause clean));
+  frame = c.remove.ensures.frame;
+  done = λ clean. takes (removal c.args.owner.now (pos c.args.session)) c.remove.ensures.frame.survives c.requires.under c.requires.exists clean c.remove.result (rw (c.params-to_sql.ensures, c.params-to_sql-2.ensures) at (c.remove.ensures.ran clean));
+  cause = λ clean. fails_to_take (removal c.args.owner.now (pos c.args.session)) c.remove.ensures.frame.survives c.requires.under c.requires.exists clean c.remove.result (rw (c.params-to_sql.ensures, c.params-to_sql-2.ensures) at (c.remove.ensures.cause clean));
 }

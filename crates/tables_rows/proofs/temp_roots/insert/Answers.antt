@@ -6,8 +6,8 @@ use Rattle.tables_rows.proofs.temp_roots.insert.Goals as goal
 
 pub returns : goal.returns
 returns g c = record {
-  frame = record { same_reference = c.add.ensures.same_reference; failed = c.add.ensures.failed; survives = c.add.ensures.survives };
-  done = λ clean. puts (addition c.args.owner.now (pos c.args.session) c.args.target.now) c.add.ensures.survives c.requires.under c.requires.exists clean c.add.result (subst IsUtf8 c.as_bytes-owner.ensures.value c.as_bytes-owner.ensures.utf8, (tt, (subst IsUtf8 c.as_bytes-target.ensures.value c.as_bytes-target.ensures.utf8, tt))) (rw (c.params-to_sql.ensures, c.params-to_sql-2.ensures, c.params-to_sql-3.ensures) at (c.add.ensures.ran clean));
-  new = λ clean. puts_new (addition c.args.owner.now (pos c.args.session) c.args.target.now) c.add.ensures.survives c.requires.under c.requires.exists clean c.add.result (subst IsUtf8 c.as_bytes-owner.ensures.value c.as_bytes-owner.ensures.utf8, (tt, (subst IsUtf8 c.as_bytes-target.ensures.value c.as_bytes-target.ensures.utf8, tt))) (rw (c.params-to_sql.ensures, c.params-to_sql-2.ensures, c.params-to_sql-3.ensures) at (c.add.ensures.ran clean));
-  cause = λ clean. fails_to_put (addition c.args.owner.now (pos c.args.session) c.args.target.now) c.add.ensures.survives c.requires.under c.requires.exists clean c.add.result (rw (c.params-to_sql.ensures, c.params-to_sql-2.ensures, c.params-to_sql-3.ensures) at (c.add.ensures.cause clean));
+  frame = c.add.ensures.frame;
+  done = λ clean. puts (addition c.args.owner.now (pos c.args.session) c.args.target.now) c.add.ensures.frame.survives c.requires.under c.requires.exists clean c.add.result (subst IsUtf8 c.as_bytes-owner.ensures.value c.as_bytes-owner.ensures.utf8, (tt, (subst IsUtf8 c.as_bytes-target.ensures.value c.as_bytes-target.ensures.utf8, tt))) (rw (c.params-to_sql.ensures, c.params-to_sql-2.ensures, c.params-to_sql-3.ensures) at (c.add.ensures.ran clean));
+  new = λ clean. puts_new (addition c.args.owner.now (pos c.args.session) c.args.target.now) c.add.ensures.frame.survives c.requires.under c.requires.exists clean c.add.result (subst IsUtf8 c.as_bytes-owner.ensures.value c.as_bytes-owner.ensures.utf8, (tt, (subst IsUtf8 c.as_bytes-target.ensures.value c.as_bytes-target.ensures.utf8, tt))) (rw (c.params-to_sql.ensures, c.params-to_sql-2.ensures, c.params-to_sql-3.ensures) at (c.add.ensures.ran clean));
+  cause = λ clean. fails_to_put (addition c.args.owner.now (pos c.args.session) c.args.target.now) c.add.ensures.frame.survives c.requires.under c.requires.exists clean c.add.result (rw (c.params-to_sql.ensures, c.params-to_sql-2.ensures, c.params-to_sql-3.ensures) at (c.add.ensures.cause clean));
 }
