@@ -59,7 +59,7 @@ fn is_text_at(alloc: Global, contents: &[u8], base: &str) -> Result<bool, Fail> 
     Ok(of_text(alloc, &dir, &name, &[], contents)?.as_str() == base)
 }
 
-/// The same, by the digest of the contents.
+/// Whether the path of a text by the digest of its contents has this base name.
 fn is_text_of_digest_at(alloc: Global, contents: &[u8], base: &str) -> Result<bool, Fail> {
     let (dir, name) = (store_dir(alloc)?, name(alloc, "myfile")?);
     Ok(of_text_digest(alloc, &dir, &name, contents)?.as_str() == base)
@@ -79,7 +79,7 @@ fn is_source_at(alloc: Global, archive: &[u8], base: &str) -> Result<bool, Fail>
     Ok(of_source(alloc, &dir, &name, archive)?.as_str() == base)
 }
 
-/// The same, by the digest of the archive.
+/// Whether the path of a source by the digest of its archive has this base name.
 fn is_source_of_digest_at(alloc: Global, digest: &[u8; 32], base: &str) -> Result<bool, Fail> {
     let (dir, name) = (store_dir(alloc)?, name(alloc, "myfile")?);
     Ok(of_source_digest(alloc, &dir, &name, digest)?.as_str() == base)

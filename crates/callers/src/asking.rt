@@ -50,7 +50,7 @@ pub enum Asked {
     Collect(bool, Option<u64>),
 }
 
-/// Who asks, and what.
+/// A request: the user, and what is asked.
 pub type Step = (&'static str, Asked);
 
 fn request_of(alloc: Global, asked: Asked) -> Result<Request, Fail> {

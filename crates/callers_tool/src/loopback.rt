@@ -65,7 +65,7 @@ fn receive(alloc: Global, client: &mut TcpStream) -> io::Result<Vec<u8>> {
     Ok(replies)
 }
 
-// One thread is client and server: what the client sends waits at the listener.
+// The test is client and server in one thread: what the client sends waits at the listener.
 #[test]
 fn served_on_loopback(rt: HostRuntime) -> Result<(), Fail> {
     let listener = TcpListener::bind(&rt, "127.0.0.1:0")?;

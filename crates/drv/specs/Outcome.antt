@@ -1,5 +1,5 @@
--- The recorded outputs of a whole text, or what is wrong with it: as a relation, and as a function on bytes that
--- nobody needs to believe, since a law says that it is the relation.
+-- The recorded outputs of a whole text, or what is wrong with it: as a relation, and as a function on bytes, which
+-- needn't be trusted, since a law says that it is the relation.
 use Rattle.std.specs.Prelude.{ℕ, ◌&&◌, Bool, true, not, List, [], ◌∷◌, Option, Some, None, Result, Ok, Err, if◌then◌else◌}
 use Rattle.std.specs.List.{list_any}
 use Rattle.std.specs.Str.{bytes_eq}

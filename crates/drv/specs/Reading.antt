@@ -1,4 +1,4 @@
--- What reading from the beginning gives, as functions on bytes. Nobody needs to believe them: the laws tie the last
+-- The result of reading from the beginning, as functions on bytes. They needn't be trusted: the laws relate the last
 -- of them to the text that a derivation is written as.
 use Rattle.std.specs.Prelude.{ℕ, zero, suc, ◌+◌, ◌==◌, ◌&&◌, Bool, true, false, List, [], ◌∷◌, ◌++◌, length, drop, codes, Option, Some, None, option_map, if◌then◌else◌}
 use Rattle.paths.specs.Names.{is_store_name, begins}
@@ -42,7 +42,7 @@ body_at false (b ∷ rest) =
 unfoldable pub string_at : List ℕ → Option (List ℕ × List ℕ)
 string_at text = after 34 text >>= λ body. body_at false body
 
--- what follows, where what was read isn't asked for
+-- what follows, without the value that was read
 abbrev pub rest_of : {A : Type 0} → Option (A × List ℕ) → Option (List ℕ)
 rest_of read = option_map (λ x. x.1) read
 

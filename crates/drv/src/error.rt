@@ -17,7 +17,7 @@ pub enum DrvError {
     /// The text is a derivation, and two of its outputs share a name.
     #[error("double-output")]
     DoubleOutput,
-    /// Memory was refused: it says nothing of the text.
+    /// Memory was refused, which says nothing about the text.
     #[error("memory")]
     Memory,
 }

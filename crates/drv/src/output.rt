@@ -30,7 +30,7 @@ fn name_in(alloc: Global, bytes: Vec<u8>) -> Result<String, DrvError>
     Ok(name)
 }
 
-/// The path of an output's base name, where some bytes are its full path in the store directory.
+/// The path of an output, if some bytes are a full path in the store directory.
 fn base_in(alloc: Global, bytes: &[u8], dir: &StoreDir) -> Result<StorePath, DrvError>
     ensures { Gives (λ path. path) result (base_in dir.now bytes.now) }
 {

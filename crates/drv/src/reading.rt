@@ -31,7 +31,7 @@ fn outputs_of<'a>(
     more_outputs(alloc, outputs, rest, dir)
 }
 
-/// The outputs before and those that come with a comma before each, and what follows the closing bracket.
+/// The given outputs and those that follow, each after a comma, and what follows the closing bracket.
 fn more_outputs<'a>(
     alloc: Global,
     before: Vec<Output>,

@@ -61,14 +61,14 @@ fn outcome(alloc: Global, text: &[u8], dir: &StoreDir) -> Result<Vec<(String, St
 ///
 /// # Errors
 ///
-/// `BadDerivation` exactly where the text isn't such a text, `DoubleOutput` exactly where it is and two outputs share
-/// a name (also where their paths are empty), and `Memory`, which says nothing of the text.
+/// `BadDerivation` exactly if the text isn't such a text; `DoubleOutput` exactly if it is and two outputs share a name, also if their paths
+/// are empty; `Memory` if memory was refused, which says nothing about the text.
 pub fn outputs(
     alloc: Global,
     text: &[u8],
     dir: &StoreDir,
 ) -> Result<Vec<(String, StorePath)>, DrvError>
-    // What is given are the recorded outputs of the text, all of whose outputs have names of their own.
+    // The result is the recorded outputs of the text, and no two outputs of the text share a name.
     ensures found { IfOk result (λ v. Records dir.now text.now (pairs v.items)) }
     // A fault that is returned is the text's.
     ensures fault { IfErr result (λ e. e ≢ memory → IsFault dir.now text.now e) }
@@ -78,7 +78,7 @@ pub fn outputs(
     // The text's fault is returned, unless memory is refused.
     ensures each_fault { (f : Fault) → IsFault dir.now text.now f
         → MatchResult result (λ _. ⊥) (λ e. e ≢ memory → e ≡ f) }
-    // So it answers the function in specs/.
+    // So the answer is that of the function in specs/.
     ensures outcome { MatchResult result (λ v. outputs_of dir.now text.now ≡ Ok (pairs v.items))
         (λ e. e ≢ memory → outputs_of dir.now text.now ≡ Err e) }
 {

@@ -1,4 +1,4 @@
-//! What follows the parts of a derivation that aren't asked for.
+//! What follows the parts of a derivation that aren't examined.
 
 ghost use Rattle.std.specs.Prelude.{◌≡◌, length};
 ghost use Rattle.std.specs.Option.{option_copied};
@@ -26,7 +26,7 @@ fn skip_strings(text: &[u8]) -> Option<&[u8]>
     skip_more_strings(skip_string(items)?)
 }
 
-/// What follows the strings that come with a comma before each, and the closing bracket.
+/// What follows further strings, each after a comma, and the closing bracket.
 fn skip_more_strings(text: &[u8]) -> Option<&[u8]>
     ensures { option_copied result ≡ rest_of (rest_of_items (without_value string_end) (length text.now) text.now) }
 {
@@ -75,7 +75,7 @@ fn skip_inputs(text: &[u8]) -> Option<&[u8]>
     skip_more_inputs(skip_input(items)?)
 }
 
-/// What follows the inputs that come with a comma before each, and the closing bracket.
+/// What follows further inputs, each after a comma, and the closing bracket.
 fn skip_more_inputs(text: &[u8]) -> Option<&[u8]>
     ensures { option_copied result ≡ rest_of (rest_of_items (without_value input_end) (length text.now) text.now) }
 {
@@ -101,7 +101,7 @@ fn skip_variables(text: &[u8]) -> Option<&[u8]>
     skip_more_variables(skip_variable(items)?)
 }
 
-/// What follows the variables that come with a comma before each, and the closing bracket.
+/// What follows further variables, each after a comma, and the closing bracket.
 fn skip_more_variables(text: &[u8]) -> Option<&[u8]>
     ensures { option_copied result ≡ rest_of (rest_of_items (without_value variable_end) (length text.now) text.now) }
 {

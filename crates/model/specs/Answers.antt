@@ -30,7 +30,7 @@ info_of p o =
       ca = o.ca;
     }
 
--- of a path that isn't valid, which is refused, these three say something all the same
+-- for a path that isn't valid the request is refused; these functions have a value for it too
 abbrev pub record_at : Path → Option Object → Answer
 record_at p (Some o) = record_of (info_of p o)
 record_at p None = changed

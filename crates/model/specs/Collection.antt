@@ -34,7 +34,8 @@ Collects = (s : Settings) (w : World) (c : Caller) (ignores : Bool) (reply : Rep
     → Step s w c (collect ignores None) reply new → IsDone reply → CollectsExactly s w new
 
 -- With a limit some dead paths are deleted, and none that another path refers to which is left: each live object is
--- unchanged, and so does each other that is left; roots and profiles are the same. A limit of no bytes removes nothing.
+-- unchanged, and so is each other object that is left; roots and profiles are the same. A limit of no bytes removes
+-- nothing.
 pub record CollectsSome (s : Settings) (w : World) (limit : ℕ) (new : World) : Type 0 where
   pub kept : (p : Path) → IsTrue (lives s w p) → finite.get new.objects p ≡ finite.get w.objects p
   pub left : (p : Path) → IsTrue (has new p) → finite.get new.objects p ≡ finite.get w.objects p

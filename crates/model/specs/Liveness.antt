@@ -66,8 +66,8 @@ usage_of w ps = record { paths = length ps; bytes = bytes_in w ps }
 
 -- ---- collection
 
--- The paths that a collection removes, in order: all dead ones; with a limit those of the groups that go one after
--- another until that many bytes are free.
+-- The paths that a collection removes, in order: all dead ones; with a limit those of the groups that are deleted one
+-- after another until that many bytes are free.
 abbrev pub collected_paths : Settings → World → Option ℕ → List Path
 collected_paths s w None = dead_paths s w
 collected_paths s w (Some limit) = limited_paths (graph_of w) (λ p. not (lives s w p)) (size_of w) limit

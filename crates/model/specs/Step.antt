@@ -1,4 +1,4 @@
--- One step of a store, and runs of steps.
+-- A step of a store, and runs of steps.
 use Rattle.std.specs.Prelude.{◌≡◌, List, [], ◌∷◌, Option, Some, None}
 use Rattle.model.specs.World.{World}
 use Rattle.policy.specs.Settings.{Settings}

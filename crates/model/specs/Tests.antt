@@ -63,7 +63,7 @@ abbrev pub is_verified : List ℕ → Path → Object → Option ContentAddress 
 is_verified dir p o None = true
 is_verified dir p o (Some ca) = verifies ca dir p (finite.keys o.references) o.nar
 
--- each reference is valid, the path itself apart; not asked of a path that is valid already
+-- each reference is valid, except the path itself; not asked of a path that is valid already
 abbrev pub is_complete : World → Path → List Path → Bool
 is_complete w p refs = has w p || list_all (λ r. has w r || same r p) refs
 

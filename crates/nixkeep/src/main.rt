@@ -1,4 +1,4 @@
-//! The program `nixkeep`: hands its words and its standard streams to the library `tool`.
+//! The program `nixkeep`: passes its words and its standard streams to the library `tool`.
 #![tactic(auto)]
 
 use std::process::ExitCode;

@@ -37,7 +37,7 @@ pub record IsPathOf (kind dir name : List ℕ) (refs : List (List ℕ)) (inner b
   pub in_order : InPathOrder refs ordered
   pub of : HasFingerprint (fingerprint_of kind dir ordered inner name) name base
 
--- ---- the same as functions
+-- ---- paths of objects, as functions
 
 -- the references of a list in path order, each once
 unfoldable pub in_path_order : List (List ℕ) → List (List ℕ)

@@ -21,7 +21,7 @@ set_of R items = finite.from_entries (map (λ k. (k, tt)) items)
 
 -- ---- roots
 
--- which table a root is in
+-- the kind of a root, by the table that it is in
 pub data Kind : Type 0 where
   permanent : Kind
   user : Kind

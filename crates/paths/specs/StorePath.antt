@@ -21,6 +21,6 @@ is_derivation base = lists.ends_with nat_eq base (codes ".drv")
 abbrev pub full_path : List ℕ → List ℕ → List ℕ
 full_path dir base = dir ++ codes "/" ++ base
 
--- what a path text says below a store directory, or all of it where it isn't below
+-- the part of a path text below a store directory, or all of it if it isn't below
 abbrev pub base_of : List ℕ → List ℕ → List ℕ
 base_of dir text = if begins text (dir ++ codes "/") then drop (length dir + 1) text else text

@@ -69,8 +69,7 @@ impl From<Base32Error> for CaError {
 /// Why a content address isn't that of an object.
 #[derive(Clone, Copy, PartialEq, Eq, Debug, Error)]
 pub enum VerifyError {
-    /// The digest or the path differs, or the address is of a text and the archive is none of a regular file that
-    /// isn't executable.
+    /// The digest or the path differs, or the address is of a text and the archive isn't that of a regular file that isn't executable.
     #[error("ca-mismatch")]
     CaMismatch,
     /// Memory was refused.
@@ -111,7 +110,7 @@ impl Ca {
     ///
     /// # Errors
     ///
-    /// `BadCa` exactly where the text is no address, and `Memory`.
+    /// `BadCa` exactly if the text isn't an address; `Memory` if memory was refused.
     pub fn parse(alloc: Global, text: &str) -> Result<Ca, CaError>
         ensures ok { IfOk result (λ ca. address_of text.now ≡ Some ca) }
         ensures bad { IfErr result (λ e. (e ≡ CaError.Memory) ⊎ ((e ≡ CaError.BadCa) × (address_of text.now ≡ None))) }
@@ -244,9 +243,9 @@ impl Ca {
     ///
     /// # Errors
     ///
-    /// `CaMismatch` exactly where the digest differs from that of the contents (of a text) or the archive (of a
-    /// source), the path differs from the one made of them, or the address is of a text and `nar` isn't the archive
-    /// of a regular file that isn't executable; and `Memory`.
+    /// `CaMismatch` exactly if the digest differs from that of the contents (of a text) or the archive (of a source), the path differs from
+    /// the one made of them, or the address is of a text and `nar` isn't the archive of a regular file that isn't executable; `Memory` if
+    /// memory was refused.
     pub fn verify(
         &self,
         alloc: Global,
@@ -269,8 +268,7 @@ impl Ca {
         }
     }
 
-    /// Tests as `verify` does, by what was found of the archive. For the address of a source that need not say anything
-    /// of its contents.
+    /// Tests as `verify` does, by the facts of the archive. For the address of a source the facts needn't have the digest of contents.
     ///
     /// ```rust
     /// use paths::{Ca, Facts, StoreDir, StorePath};
@@ -285,7 +283,7 @@ impl Ca {
     ///
     /// # Errors
     ///
-    /// `CaMismatch` exactly where `verify` answers it of the archive, and `Memory`.
+    /// `CaMismatch` exactly if `verify` returns it for the archive; `Memory` if memory was refused.
     pub fn verify_facts(
         &self,
         alloc: Global,
@@ -342,7 +340,7 @@ fn plain_contents<'a>(node: &Node<'a>) -> Option<&'a [u8]>
     }
 }
 
-/// The contents, where some bytes are the archive of a regular file that isn't executable.
+/// The contents, if some bytes are the archive of a regular file that isn't executable.
 fn contents_in(alloc: Global, nar: &[u8]) -> Result<Option<&[u8]>, AllocError>
     ensures { IfOk result (λ found. option_copied found ≡ plain_contents (outcome_of nar.now)) }
 {

@@ -7,10 +7,10 @@ ghost use Rattle.paths.specs.Base32.{value_of, number_of, read_after, digit_coun
 use std::alloc::{AllocError, Global};
 use thiserror::Error;
 
-/// Why a text spells no such bytes.
+/// Why a text isn't the base 32 of that number of bytes.
 #[derive(Clone, Copy, PartialEq, Eq, Debug, Error)]
 pub enum Base32Error {
-    /// A byte is no digit.
+    /// A byte isn't a digit.
     #[error("bad-digit")]
     BadDigit,
     /// The text has another count of digits.
@@ -112,7 +112,7 @@ pub(crate) fn all_digits(text: &[u8]) -> bool
     text.iter().all(|digit| is_digit(*digit))
 }
 
-/// Appends a digit to a number, and gives what has no room.
+/// Appends a digit to a number, and returns the carry that has no room.
 fn append_digit(bytes: &mut [u8], digit: u8) -> u8
     requires { digit < 32 }
     ensures { number_of bytes.new + 256 ^ length bytes.old * result ≡ number_of bytes.old * 32 + digit }
@@ -139,9 +139,8 @@ fn append_digit(bytes: &mut [u8], digit: u8) -> u8
 ///
 /// # Errors
 ///
-/// The first that applies of `BadDigit`, where a byte is no digit, `BadLength`, where their number isn't that of
-/// `count` bytes, and `Overflow`, where the number that they spell needs more bytes; and `Memory`, which isn't
-/// answered for the first two.
+/// The first that applies: `BadDigit` if a byte isn't a digit; `BadLength` if there are more or fewer digits than `count` bytes need;
+/// `Overflow` if the number that they spell needs more bytes. `Memory` if memory was refused, never ahead of the first two.
 pub fn unbase32(alloc: Global, text: &str, count: usize) -> Result<Vec<u8>, Base32Error>
     requires { count ≤ 64 }
     ensures ok { IfOk result (λ bytes. spec.unbase32 text.now count ≡ Ok bytes.items) }
@@ -174,7 +173,7 @@ fn zeros(alloc: Global, count: usize) -> Result<Vec<u8>, AllocError>
     vec![in alloc; 0; count]
 }
 
-/// Appends digits to the number 0, and says whether it had room.
+/// Appends digits to the number 0, and returns whether it had room.
 fn append_digits(bytes: &mut [u8], digits: &[u8]) -> bool
     requires zero { number_of bytes.old ≡ 0 }
     requires digits { all_digits digits.now ≡ true }

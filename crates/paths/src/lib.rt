@@ -1,4 +1,4 @@
-//! Store paths: names, base 32, content addresses, and the numbers that people write.
+//! Store paths: names, base 32, content addresses, and decimal numbers.
 #![tactic(auto)]
 
 mod computed_path;

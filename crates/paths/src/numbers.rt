@@ -1,4 +1,4 @@
-//! Numbers that people write: decimal digits without a leading zero.
+//! Decimal numbers: digits without a leading zero.
 #![tactic(auto)]
 
 ghost use Rattle.std.specs.Prelude.{◌≡◌, ◌==◌, ◌||◌, not, slice_index};

@@ -1,4 +1,4 @@
-//! Store names: what a store path says after its digits.
+//! Store names: the part of a store path after its digits.
 ghost use Rattle.std.specs.Prelude.{◌≡◌, ◌↔◌, List, ℕ, IfOk, string_bytes, true, false};
 ghost use Rattle.std.specs.List.{list_all};
 ghost use Rattle.paths.specs.declared.store_name.NameError.TheVariants.{Memory};
@@ -94,7 +94,7 @@ impl Name {
     ///
     /// # Errors
     ///
-    /// `BadStoreName` exactly where the text isn't a store name, and `Memory`.
+    /// `BadStoreName` exactly if the text isn't a store name; `Memory` if memory was refused.
     pub fn parse(alloc: Global, text: &str) -> Result<Name, NameError>
         ensures ok { IfOk result (λ n. (n ≡ text.now) × (is_store_name text.now ≡ true)) }
         ensures bad { (result ≡ Err NameError.BadStoreName) ↔ (is_store_name text.now ≡ false) }

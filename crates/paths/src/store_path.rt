@@ -32,7 +32,7 @@ fn is_base_name(bytes: &[u8]) -> bool
     is_store_name(name)
 }
 
-/// What a path text says below the store directory, or all of it where it isn't below.
+/// The part of a path text below the store directory, or all of it if it isn't below.
 fn base_of<'a>(dir: &StoreDir, text: &'a str) -> &'a str
     ensures { result.now ≡ base_of dir.now text.now }
 {
@@ -45,9 +45,8 @@ fn base_of<'a>(dir: &StoreDir, text: &'a str) -> &'a str
     }
 }
 
-/// A store path, such as `/nix/store/[32 digits]-hello`. It is its base name, the part below the store directory:
-/// 32 digits of base 32, `-`, a store name. It remembers no directory. Contracts see it as the bytes of its base
-/// name, by which paths are ordered.
+/// A store path, such as `/nix/store/[32 digits]-hello`. It is its base name, the part below the store directory: 32 digits of base 32,
+/// `-`, a store name. The value doesn't have the directory. Contracts see it as the bytes of its base name, by which paths are ordered.
 #[derive(Drop)]
 pub struct StorePath {
     base: String,
@@ -94,7 +93,7 @@ impl StorePath {
     ///
     /// # Errors
     ///
-    /// `BadStorePath` exactly where the text is neither, and `Memory`.
+    /// `BadStorePath` exactly if the text is neither; `Memory` if memory was refused.
     pub fn parse(alloc: Global, dir: &StoreDir, text: &str) -> Result<StorePath, StorePathError>
         ensures ok { IfOk result (λ p. (p ≡ base_of dir.now text.now) × (is_base_name p ≡ true)) }
         ensures bad { (result ≡ Err StorePathError.BadStorePath) ↔ (is_base_name (base_of dir.now text.now) ≡ false) }
@@ -115,7 +114,7 @@ impl StorePath {
     ///
     /// # Errors
     ///
-    /// `BadStorePath` exactly where the text is no base name, and `Memory`.
+    /// `BadStorePath` exactly if the text isn't a base name; `Memory` if memory was refused.
     pub fn from_base(alloc: Global, text: &str) -> Result<StorePath, StorePathError>
         ensures ok { IfOk result (λ p. (p ≡ text.now) × (is_base_name p ≡ true)) }
         ensures bad { (result ≡ Err StorePathError.BadStorePath) ↔ (is_base_name text.now ≡ false) }

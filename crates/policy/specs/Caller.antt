@@ -1,4 +1,4 @@
--- Who asks, as contracts see it.
+-- A caller, as contracts see it.
 use Rattle.std.specs.Prelude.{ℕ, Bool, true, ◌&&◌, List, Option, Some, None}
 use Rattle.paths.specs.Names.{is_plain_name}
 

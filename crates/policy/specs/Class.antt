@@ -1,4 +1,4 @@
--- Which user lists match a caller, and the caller's class.
+-- The user lists that match a caller, and the caller's class.
 use Rattle.std.specs.Prelude.{ℕ, Bool, true, false, ◌||◌, if◌then◌else◌, List, Option, Some, None}
 use Rattle.std.specs.List.{list_any}
 use Rattle.std.specs.Str.{bytes_eq}

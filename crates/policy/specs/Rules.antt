@@ -1,4 +1,4 @@
--- Who may ask what: the rules in the order in which they are tested, and the first that forbids.
+-- The rules in the order in which they are tested, and the first that forbids.
 use Rattle.std.specs.Prelude.{ℕ, Bool, true, false, not, ◌&&◌, ◌||◌, List, [], ◌∷◌, Option, Some, None}
 use Rattle.std.specs.List.{find}
 use Rattle.std.specs.Str.{bytes_eq}

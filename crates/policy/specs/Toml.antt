@@ -105,7 +105,7 @@ abbrev pub has_only_keys : Members → Bool
 has_only_keys no_members = true
 has_only_keys (member k value rest) = is_key k && has_only_keys rest
 
--- goes on with what is there, or ends with the key word
+-- continues with the value, or ends with the key word
 abbrev pub need : {A B : Type 0} → KeyWord → Option A → (A → Result B KeyWord) → Result B KeyWord
 need word None next = Err word
 need word (Some x) next = next x

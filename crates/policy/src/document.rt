@@ -10,7 +10,7 @@ use toml::Table;
 /// The greatest number of bytes that a configuration may have.
 pub const MAX_CONFIG_BYTES: usize = 1_048_576;
 
-/// The table of a document: `Bad(KeyWord::Syntax)` where the bytes are too many or no TOML document.
+/// The table of a document: `Bad(KeyWord::Syntax)` if there are too many bytes, or they aren't a TOML document.
 pub fn read_document(alloc: Global, bytes: &[u8]) -> Result<Table, ConfigError>
     ensures ok { IfOk result (λ t. document_of bytes.now ≡ Some (table_view t)) }
     ensures err { IfErr result

@@ -1,4 +1,4 @@
-//! The groups of a configuration, kept for quick look-ups.
+//! The groups of a configuration, stored for quick look-ups.
 ghost use Rattle.std.specs.Prelude.{◌≡◌, IfOk, OnOk, option_map, string_bytes};
 ghost use Rattle.std.specs.FinMap.{empty, insert, get, contains_key};
 ghost use Rattle.toml.specs.View.{view};

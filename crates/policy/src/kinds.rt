@@ -2,7 +2,7 @@
 ghost use Rattle.std.specs.Prelude.{◌≡◌};
 ghost use Rattle.policy.specs.Words.{class_word, rule_word};
 
-/// What a caller may do at most.
+/// The class of a caller: what they may do at most.
 #[derive(Clone, Copy, PartialEq, Eq, Debug)]
 pub enum Class {
     /// Matched by neither user list.
@@ -35,7 +35,7 @@ impl Class {
 /// A rule that a request has to keep, in the order in which the rules are tested.
 #[derive(Clone, Copy, PartialEq, Eq, Debug)]
 pub enum Rule {
-    /// A stranger may not connect: whatever it asks is denied.
+    /// A stranger may not connect: whatever they ask is denied.
     Connect,
     /// Only a trusted caller may import an object without a content address.
     TrustedImport,
@@ -75,7 +75,7 @@ impl Rule {
     }
 }
 
-/// What the rules ask of a request: its kind, and with some kinds an owner or a flag. It is lent from the request.
+/// What the rules ask of a request: its kind, and with some kinds an owner or a flag. Borrowed from the request.
 #[derive(Clone, Copy, Debug)]
 pub enum Op<'a> {
     /// A request that every caller who may connect may make.

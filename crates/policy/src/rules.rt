@@ -8,7 +8,7 @@ ghost use Rattle.policy.specs.declared.kinds.Class.TheVariants.{Allowed as allow
 use crate::caller::Caller;
 use crate::kinds::{Class, Op, Rule};
 
-/// What names an owner is for that owner.
+/// A request that names an owner is for that owner.
 fn own(caller: &Caller, owner: &str) -> Option<Rule>
     ensures { result ≡ (if bytes_eq owner.now caller.now.name then None else Some Rule.OwnRoot) }
 {

@@ -8,7 +8,7 @@ use Rattle.std.proofs.lemmas.List.{take_all}
 pub with : (t u a b : List ℕ) → t ≡ u ++ a → u ≡ b → t ≡ b ++ a
 with t u a b e f = e ∙ ap (λ v. v ++ a) f
 
--- a space between: the first, and each further one behind a space
+-- a space between: the first, and each further one after a space
 pub joined : (x : List ℕ) (xs : List (List ℕ)) → join_with_byte 32 (x ∷ xs) ≡ x ++ flat_map (λ p. 32 ∷ p) xs
 joined x [] = sym (append-nil x)
 joined x (y ∷ ys) = ap (λ v. x ++ (32 ∷ v)) (joined y ys)

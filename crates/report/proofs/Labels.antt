@@ -72,9 +72,9 @@ module _ (dir : List ℕ) (w : World) (sound : IsSound dir w) where
         target_lacks x.0.1 (sound.permanent_target x.0.0 x.0.1 at),
       )
 
-  owned_lacks : (front owner name : List ℕ) → IsTrue (omits 10 front) → IsTrue (is_plain_name owner) → IsTrue (is_plain_name name) → IsTrue (omits 10 (front ++ owner ++ codes "/" ++ name))
-  owned_lacks front owner name f o n =
-      omits_both 10 (front ++ owner ++ codes "/") name (omits_both 10 (front ++ owner) (codes "/") (omits_both 10 front owner f (plain_omits owner o)) refl) (plain_omits name n)
+  owned_lacks : (prefix owner name : List ℕ) → IsTrue (omits 10 prefix) → IsTrue (is_plain_name owner) → IsTrue (is_plain_name name) → IsTrue (omits 10 (prefix ++ owner ++ codes "/" ++ name))
+  owned_lacks prefix owner name f o n =
+      omits_both 10 (prefix ++ owner ++ codes "/") name (omits_both 10 (prefix ++ owner) (codes "/") (omits_both 10 prefix owner f (plain_omits owner o)) refl) (plain_omits name n)
 
   users : (r : Root) → Contains (map user_root (finite.entries w.user_roots)) r → Unbroken r
   users r c =
@@ -85,9 +85,9 @@ module _ (dir : List ℕ) (w : World) (sound : IsSound dir w) where
         target_lacks x.0.1 (sound.user_root_target x.0.0 x.0.1 at),
       )
 
-  numbered : (front : List ℕ) (n : ℕ) → IsTrue (omits 10 front) → IsTrue (omits 10 (front ++ codes "-" ++ decimal n ++ codes "-link"))
-  numbered front n f =
-      omits_both 10 (front ++ codes "-" ++ decimal n) (codes "-link") (omits_both 10 (front ++ codes "-") (decimal n) (omits_both 10 front (codes "-") f refl) (omits-decimal 10 n (omega arith))) refl
+  numbered : (prefix : List ℕ) (n : ℕ) → IsTrue (omits 10 prefix) → IsTrue (omits 10 (prefix ++ codes "-" ++ decimal n ++ codes "-link"))
+  numbered prefix n f =
+      omits_both 10 (prefix ++ codes "-" ++ decimal n) (codes "-link") (omits_both 10 (prefix ++ codes "-") (decimal n) (omits_both 10 prefix (codes "-") f refl) (omits-decimal 10 n (omega arith))) refl
 
   generations : (r : Root) → Contains (flat_map generation_roots (finite.entries w.profiles)) r → Unbroken r
   generations r c =

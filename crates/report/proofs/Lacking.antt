@@ -50,9 +50,9 @@ omits-decimal byte n low = onto_omits byte 64 n [] low refl
 
 -- ---- pieces
 
--- a text whose front, one byte and rest lack it
+-- a text whose prefix, one byte and rest are without the byte
 pub omits_pieces : (byte : ℕ) (text : List ℕ) (i : ℕ) → i < length text → IsTrue (omits byte (take i text)) → IsTrue (not (slice_index text i == byte)) → IsTrue (omits byte (drop (suc i) text))
     → IsTrue (omits byte text)
-omits_pieces byte text i inside front one rest =
-    let joined = omits_both byte (take i text) (slice_index text i ∷ drop (suc i) text) front (both (not (slice_index text i == byte)) (omits byte (drop (suc i) text)) one rest) in
+omits_pieces byte text i inside prefix one rest =
+    let joined = omits_both byte (take i text) (slice_index text i ∷ drop (suc i) text) prefix (both (not (slice_index text i == byte)) (omits byte (drop (suc i) text)) one rest) in
     subst (λ t. IsTrue (omits byte t)) (ap (λ d. take i text ++ d) (sym (drop-cons text i 0 inside)) ∙ take-append-drop i text) joined

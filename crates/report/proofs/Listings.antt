@@ -30,7 +30,7 @@ cut byte (c ∷ a) (d ∷ b) x y p q e =
     let rest = cut byte a b x y (and_parts (not (c == byte)) (omits byte a) p).1 (and_parts (not (d == byte)) (omits byte b) q).1 (tails e) in
     (ap₂ (λ u v. u ∷ v) (heads e) rest.0, rest.1)
 
--- the same front stands before both
+-- both begin with the same prefix
 prefix_off : (a x y : List ℕ) → a ++ x ≡ a ++ y → x ≡ y
 prefix_off [] x y e = e
 prefix_off (c ∷ a) x y e = prefix_off a x y (tails e)
@@ -45,7 +45,7 @@ module _ (dir : List ℕ) (unbroken : IsTrue (omits 10 dir)) where
   full_lacks : (p : Path) → IsTrue (omits 10 p) → IsTrue (omits 10 (full_path dir p))
   full_lacks p h = omits_both 10 (dir ++ codes "/") p (omits_both 10 dir (codes "/") unbroken refl) h
 
-  -- the first full path of a text, and what stands behind its line
+  -- the first full path of a text, and what follows its line
   first_path : (p q : Path) (x y : List ℕ) → IsTrue (omits 10 p) → IsTrue (omits 10 q)
       → full_path dir p ++ 10 ∷ x ≡ full_path dir q ++ 10 ∷ y → (p ≡ q) × (x ≡ y)
   first_path p q x y h g e =

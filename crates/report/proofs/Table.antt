@@ -15,11 +15,11 @@ numbered = refl
 
 -- ---- each is one line
 
-front : Refusal → List ℕ
-front r = codes "refused: " ++ decimal (number r) ++ codes " " ++ name r ++ detail r
+prefix : Refusal → List ℕ
+prefix r = codes "refused: " ++ decimal (number r) ++ codes " " ++ name r ++ detail r
 
-of_word : (word : KeyWord) → IsTrue (omits 10 (front (BadConfig word)))
-unfolding front digits
+of_word : (word : KeyWord) → IsTrue (omits 10 (prefix (BadConfig word)))
+unfolding prefix digits
 of_word Syntax = refl
 of_word UnknownKey = refl
 of_word StoreDir = refl
@@ -29,8 +29,8 @@ of_word KeepOutputs = refl
 of_word KeepDerivations = refl
 of_word Groups = refl
 
-one : (r : Refusal) → IsTrue (omits 10 (front r))
-unfolding front digits
+one : (r : Refusal) → IsTrue (omits 10 (prefix r))
+unfolding prefix digits
 one (BadConfig word) = of_word word
 one Truncated = refl
 one BadTag = refl
@@ -75,8 +75,8 @@ one BadBodyHead = refl
 one BadSession = refl
 
 pub are_lines : RefusalsAreLines
-unfolding front
-are_lines r = record { line = front r; ends = refl; one = one r }
+unfolding prefix
+are_lines r = record { line = prefix r; ends = refl; one = one r }
 
 -- ---- each is another line
 

@@ -92,7 +92,7 @@ StopsAreLines = (s : Settings) (w : World) (c : Caller) (q : Request) (reply : R
 
 -- ---- listings
 
--- each path lacks a line feed
+-- no path has a line feed
 abbrev pub are_unbroken : List Path → Bool
 are_unbroken ps = list_all (omits 10) ps
 

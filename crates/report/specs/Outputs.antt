@@ -6,13 +6,13 @@ use Rattle.report.specs.declared.failures.Failure.{Failure}
 use Rattle.report.specs.declared.failures.Failure.TheVariants.{Memory, Output}
 use Rattle.report.specs.Failures.{failure_line}
 
--- a stream before a call and after it: the bytes that a reader has left, or those that a writer was given, where it
--- says them
+-- a stream before a call and after it: the bytes that a reader has left, or those that a writer was given, if the
+-- stream states them
 pub record Stream : Type 0 where
   pub old : Option (List ℕ)
   pub new : Option (List ℕ)
 
--- the stream of a reader or of a writer, by the bytes that it says
+-- the stream of a reader or of a writer, by the bytes that it states
 abbrev pub change_of : {A : Type 0} → (A → Option (List ℕ)) → A → A → Stream
 change_of bytes old new = record { old = bytes old; new = bytes new }
 

@@ -1,5 +1,4 @@
--- What says that a request wasn't done: the texts of denials and failures, a line each; `Refusals` has those of
--- refusals.
+-- The lines of denials and failures, which say that a request wasn't done. `Refusals.antt` has those of refusals.
 use Rattle.std.specs.Prelude.{ℕ, List, [], ◌++◌, codes, Option, Some, None}
 use Rattle.paths.specs.StorePath.{full_path}
 use Rattle.policy.specs.declared.kinds.Rule.{Rule}

@@ -42,14 +42,14 @@ consumed_more f ks i h = consumed f ks i h ∙ ap (λ n. map f (take n ks)) one
 
 -- ---- the paths that go
 
-module _ (o : OutlineValue) (rows again : List Row) (is : rows ≡ rows_in o) (is_again : again ≡ rows_in o) (places handed : List ℕ) (same_places : handed ≡ places) (named : List Path)
+module _ (o : OutlineValue) (rows again : List Row) (is : rows ≡ rows_in o) (is_again : again ≡ rows_in o) (places passed : List ℕ) (same_places : passed ≡ places) (named : List Path)
     (those : (test : Path → Bool) → ((p : Path) → filter (same p) (paths_of rows) ≡ [] → test p ≡ false) → list_any test (map (path_at rows) places) ≡ list_any test named) where
   goes : (p : Path) → refers_to_any (graph_of (rows_in o)) (map (path_at (rows_in o)) places) p ≡ refers_to_any (graph_of (rows_in o)) named p
   goes p =
       ap (λ rs. list_any (reaches references_only (graph_of (rows_in o)) p) (map (path_at rs) places)) (sym is)
       ∙ those (reaches references_only (graph_of (rows_in o)) p) (λ q none. unreached references_only o rows p q is none)
 
-  pub deleted_reported : (w : World) → outline_of w ≡ o → filter (refers_to_any (graph_of again) (map (path_at again) handed)) (paths_of again) ≡ spec.deleted_paths w named
+  pub deleted_reported : (w : World) → outline_of w ≡ o → filter (refers_to_any (graph_of again) (map (path_at again) passed)) (paths_of again) ≡ spec.deleted_paths w named
   deleted_reported w reported =
       (λ i. filter (refers_to_any (graph_of (is_again i)) (map (path_at (is_again i)) (same_places i))) (paths_of (is_again i)))
       ∙ (λ i. filter (λ p. goes p i) (paths_in o i))

@@ -23,12 +23,12 @@ single : (t : Option Refusal) → first_failing (t ∷ []) ≡ t
 single None = refl
 single (Some r) = refl
 
-module _ (named handed : List Path) (same : handed ≡ named) (w : World) where
+module _ (named passed : List Path) (same : passed ≡ named) (w : World) where
   -- what stops it
-  pub stopped_as : (s : Settings) (ignores : Bool) (stop : Stop) → Stops stop (unless (list_all (has w) handed) NotValid) → Stops stop (first_failing (unless (list_all (has w) named) NotValid ∷ []))
+  pub stopped_as : (s : Settings) (ignores : Bool) (stop : Stop) → Stops stop (unless (list_all (has w) passed) NotValid) → Stops stop (first_failing (unless (list_all (has w) named) NotValid ∷ []))
   stopped_as s ignores stop h = subst (Stops stop) (ap (λ (ps : List Path). unless (list_all (has w) ps) NotValid) same ∙ sym (single (unless (list_all (has w) named) NotValid))) h
 
-  module _ (f : Found) (found : (unless (list_all (has w) handed) NotValid ≡ None) × (found_view f ≡ (deleted_paths w handed, bytes_in w (deleted_paths w handed)))) where
+  module _ (f : Found) (found : (unless (list_all (has w) passed) NotValid ≡ None) × (found_view f ≡ (deleted_paths w passed, bytes_in w (deleted_paths w passed)))) where
     pub found_paths : f.paths.items ≡ deleted_paths w named
     found_paths = ap (λ (x : List Path × _). x.0) found.1 ∙ ap (deleted_paths w) same
 

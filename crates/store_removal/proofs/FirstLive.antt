@@ -111,6 +111,6 @@ module _ (s : Settings) (o : OutlineValue) (keep : Keep) (rows : List Row) (vali
   pub all_marked : (again : List Row) → again ≡ rows_in o → (m : Marking) → IsExact keep rows valid m → AreMarked again m (root_at valid) (first_root_of s w)
   all_marked again also m exact = subst (λ (rs : List Row). AreMarked rs m (root_at valid) (first_root_of s w)) (is ∙ sym also) (exactly m exact)
 
--- the root that stands at a place
+-- the root at a place
 pub root_present : (given : List Handed) (k : ℕ) (r : Handed) → k < length given → r ≡ get_or given k r → root_at (roots_view given) k ≡ root_view r
 root_present given k r inside is = get_or-map root_view given k r no_root inside ∙ ap root_view (sym is)

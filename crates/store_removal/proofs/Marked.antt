@@ -60,7 +60,7 @@ chosen_reported s o rows is flags lives wanted chosen choose =
     let paths : paths_of rows ≡ finite.keys o.objects = ap paths_of is ∙ paths_in o in
     choose (lives_in s o) (lives ∙ ap (map (lives_in s o)) (sym paths)) ∙ ap (filter (λ p. is_wanted wanted (lives_in s o p))) paths
 
--- ---- rows as they are handed in
+-- ---- rows as they are passed
 
 module _ (rows : List Handed) (i : ℕ) (h : i < length rows) where
   below_paths : i < length (paths_of (rows_view rows))

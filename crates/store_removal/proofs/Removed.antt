@@ -32,13 +32,13 @@ pub positive : {X : Type 0} (l : List X) → (length l == 0) ≡ false → 0 < l
 positive [] h = absurd (false≢true (sym h))
 positive (x ∷ xs) h = omega arith
 
--- where nothing goes, all stays
+-- if nothing is deleted, all stays
 none_deleted : (objects : Objects) → finite.retain_keys objects (λ p. not (holds [] p)) ≡ objects
 none_deleted objects = finite.same_map nat_list_cmp_total bytes_antisymmetric _ _ (λ q. get-keeping objects (λ p. not (holds [] p)) q)
 
 module _ {S : Type 0} (g : Ghosts S) (s : Settings) (c : Caller) (q : Request) (k : TablesValue S) (found : List Path) (bytes : ℕ) (a : Answer) (seen : answer_view a ≡ freed found bytes)
     (removes : (w : World) → outline_of w ≡ k.outline → Removes s w c q found bytes) where
-  -- nothing goes
+  -- nothing is deleted
   pub met_by_none : found ≡ [] → IsMet g s c q (Ok a) k k
   met_by_none none = record {
     dir = refl;
@@ -53,7 +53,7 @@ module _ {S : Type 0} (g : Ghosts S) (s : Settings) (c : Caller) (q : Request) (
   }
 
   -- these go
-  pub met_by_removing : (new : TablesValue S) (handed : List Path) → handed ≡ found → (r : Result (Unit {0}) Failed) → CommitsChange g k new r (λ w. without w handed)
+  pub met_by_removing : (new : TablesValue S) (passed : List Path) → passed ≡ found → (r : Result (Unit {0}) Failed) → CommitsChange g k new r (λ w. without w passed)
       → HasCause g q (reply_to (answered r a)) k new → IsMet g s c q (answered r a) k new
-  met_by_removing new handed same =
-      met_by_writing g s c q k new (λ w. without w handed) a (λ w is. (removes w is).passes) (λ w is. seen ∙ (removes w is).answers) (λ w is. ap (without w) same ∙ (removes w is).becomes)
+  met_by_removing new passed same =
+      met_by_writing g s c q k new (λ w. without w passed) a (λ w is. (removes w is).passes) (λ w is. seen ∙ (removes w is).answers) (λ w is. ap (without w) same ∙ (removes w is).becomes)

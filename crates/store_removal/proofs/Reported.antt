@@ -1,4 +1,4 @@
--- What an outline tells of the roots and of what lives in its world.
+-- What an outline says of the roots and of what is live in its world.
 use Rattle.std.proofs.Common.{◌≡◌, List, [], ◌∷◌, map, sym, ap, ◌∙◌, T}
 use Rattle.std.specs.Prelude.{not, filter}
 use Rattle.std.specs.FinMap as finite

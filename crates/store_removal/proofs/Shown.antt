@@ -32,7 +32,7 @@ any_kept f g keeps (r ∷ ps) = by (g r) (keeps r) (any_kept f g keeps ps)
     by true k later = ap (λ x. f r || x) later
     by false k later = later ∙ not_it (f r) k (list_any f ps)
 
--- a pair more, behind the others
+-- a pair more, after the others
 each_once_push : (ps : List Pair) (p : Pair) → each_once (ps ++ p ∷ []) ≡ cond (list_any (λ r. same_pair r p) (each_once ps)) (each_once ps) (each_once ps ++ p ∷ [])
 each_once_push [] p = refl
 each_once_push (q ∷ ps) p = ap (λ rs. q ∷ filter (λ r. not (same_pair q r)) rs) (each_once_push ps p) ∙ by (same_pair q p) refl

@@ -1,4 +1,4 @@
--- What an outline tells of sizes.
+-- What an outline says of sizes.
 use Rattle.std.proofs.Common.{◌≡◌, ℕ, List, length, Option, Some, None, option_map, refl, sym, ap, ◌∙◌}
 use Rattle.std.specs.List.{sum_by}
 use Rattle.std.specs.Option.{option_map_or}
@@ -26,6 +26,6 @@ sizes_reported w o is = ap (λ (x : OutlineValue). size_in x) (sym is) ∙ size_
 pub bytes_reported : (w : World) (o : OutlineValue) → outline_of w ≡ o → (ps : List Path) → bytes_within o ps ≡ spec.bytes_in w ps
 bytes_reported w o is ps = ap (λ (x : OutlineValue). bytes_within x ps) (sym is) ∙ ap (λ f. sum_by f ps) (size_reported w)
 
--- what is found behind a reference
+-- what is found by a reference
 pub size_found : (o : OutlineValue) (p : Path) (found : Option Outlined) → found ≡ finite.get o.objects p → size found ≡ size_in o p
 size_found o p found e = ap size e

@@ -12,7 +12,7 @@ abbrev pub first_value : {X Y : Type 0} → (X → Option Y) → List X → Opti
 first_value f [] = None
 first_value f (x ∷ xs) = option_or (f x) (first_value f xs)
 
--- marks say which root each path has: that at the path's place, and none where no row has the path
+-- the marks say which root keeps each path: the root at the path's place, or none if no row has the path
 pub record AreMarked (rows : List Row) (m : Marking) (root : ℕ → Root) (root_of : Path → Option Root) : Type 0 where
   pub present : (i : ℕ) → i < length rows → root_of (path_at rows i) ≡ option_map root (first_of m i)
   pub nowhere : (p : Path) → filter (same p) (paths_of rows) ≡ [] → root_of p ≡ None

@@ -36,11 +36,11 @@ use store_types::{Answer, Request, Stop};
 use tables::Tables;
 use tables_outline::Outline;
 
-/// The places of those of some paths that are rows'.
+/// The places of the given paths that rows have.
 fn places(alloc: Global, rows: &[Row], named: &[StorePath]) -> Result<Vec<usize>, AllocError>
     requires { Rise (paths_of (rows_view rows.now)) }
     ensures inside { IfOk result (λ v. All (λ k. k < length rows.now) v.items) }
-    // A test that none but a row's path passes, passes for one of them if it does for one of the paths.
+    // If a test passes for paths of rows alone, it passes for one of these places exactly if it does for one of the given paths.
     ensures those { IfOk result
         (λ v. (test : Path → Bool)
         → ((p : Path) → filter (same p) (paths_of (rows_view rows.now)) ≡ [] → test p ≡ false)

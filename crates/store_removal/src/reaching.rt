@@ -1,4 +1,4 @@
-//! Which roots reach a path.
+//! The roots that reach a path.
 
 ghost use Rattle.std.specs.Prelude.{◌≡◌, ◌<◌, All, IfOk, length, map};
 ghost use Rattle.live.specs.Arguments.{roots_view, rows_view};

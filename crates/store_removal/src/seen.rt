@@ -41,7 +41,7 @@ fn seen_label(alloc: Global, class: Class, root: Root) -> Result<String, AllocEr
     String::from_str(alloc, root.label)
 }
 
-/// One root, as a caller of a class sees it.
+/// The label and the target of a root, as a caller of a class sees them.
 pub(crate) fn seen_root(
     alloc: Global,
     class: Class,

@@ -1,4 +1,4 @@
--- Labels and targets that are handed in, and the runtime roots that they become.
+-- Labels and targets that are passed, and the runtime roots that they become.
 use Rattle.std.proofs.Common.{◌≡◌, List, [], ◌∷◌, ◌++◌, map, length, Bool, true, false, cond, ◌&&◌, refl, sym, ap, subst, ◌∙◌, append-nil, String, Global}
 use Rattle.std.specs.Prelude.{if◌then◌else◌, string_bytes}
 use Rattle.std.specs.declared.cmp.Ordering.{Ordering}
@@ -29,19 +29,19 @@ labels_mapped (p ∷ ps) = ap (λ b. is_runtime_label (string_bytes p.0) && b) (
 
 module _ {A B : Type 0} (f : A → B) (test : B → Bool) where
   -- those of some pairs, as entries of a set
-  abbrev pub fronts : List A → List (B × Unit {0})
-  fronts ps = map (λ (k : B). let e : B × Unit {0} = (k, tt) in e) (filter test (map f ps))
+  abbrev pub entries_of : List A → List (B × Unit {0})
+  entries_of ps = map (λ (k : B). let e : B × Unit {0} = (k, tt) in e) (filter test (map f ps))
 
   one : (b : Bool) (k : B) → map (λ (k : B). let e : B × Unit {0} = (k, tt) in e) (cond b (k ∷ []) []) ≡ cond b ((k, tt) ∷ []) []
   one true k = refl
   one false k = refl
 
   -- one pair more, at the end
-  pub pushed : (ps : List A) (p : A) → fronts (ps ++ p ∷ []) ≡ fronts ps ++ cond (test (f p)) ((f p, tt) ∷ []) []
+  pub pushed : (ps : List A) (p : A) → entries_of (ps ++ p ∷ []) ≡ entries_of ps ++ cond (test (f p)) ((f p, tt) ∷ []) []
   pushed [] p = one (test (f p)) (f p)
   pushed (x ∷ ps) p = by (test (f x)) (pushed ps p)
     where
-      by : (t : Bool) → fronts (ps ++ p ∷ []) ≡ fronts ps ++ cond (test (f p)) ((f p, tt) ∷ []) []
+      by : (t : Bool) → entries_of (ps ++ p ∷ []) ≡ entries_of ps ++ cond (test (f p)) ((f p, tt) ∷ []) []
           → map (λ (k : B). let e : B × Unit {0} = (k, tt) in e) (cond t (f x ∷ filter test (map f (ps ++ p ∷ []))) (filter test (map f (ps ++ p ∷ []))))
           ≡ map (λ (k : B). let e : B × Unit {0} = (k, tt) in e) (cond t (f x ∷ filter test (map f ps)) (filter test (map f ps))) ++ cond (test (f p)) ((f p, tt) ∷ []) []
       by true later = ap (λ (l : List (B × Unit {0})). (f x, tt) ∷ l) later

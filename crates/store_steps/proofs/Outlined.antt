@@ -1,4 +1,4 @@
--- What the outline of a world tells of it.
+-- What the outline of a world says of it.
 use Rattle.std.proofs.Common.{◌≡◌, List, map, Option, Some, None, is_some, option_map, sym, ap, ◌∙◌}
 use Rattle.std.specs.List.{list_all}
 use Rattle.std.specs.FinMap as finite

@@ -11,8 +11,7 @@ use Rattle.model.specs.Reply.{Failure, Reply, failed, memory, size, disk}
 use Rattle.tables.specs.Reasons.{IsWithin}
 use Rattle.tables.specs.TablesValue.{TablesValue}
 
--- whether a request touches the disk: with an archive or its listing it is answered from it, and a change is written to
--- it
+-- whether a request touches the disk: an archive or its listing is read from the disk, and a change is written to it
 abbrev pub touches_disk : Request → Bool
 touches_disk (info p) = false
 touches_disk list = false
@@ -39,9 +38,9 @@ puts_rows q = touches_disk q
 abbrev pub RunsOutOfRowids : Database → Type 0
 RunsOutOfRowids old = (db : Database) × IsWithin old db × (t : Table) × HasNoRowidLeft db t
 
--- Why something was not read of the disk, or a change not written: a size is named for a row that is put, over an open
--- connection. The disk is named for a fault of it in this call or an earlier one, for a limit on steps, or where no
--- rowid is left for a row that is put.
+-- Why a read from the disk failed, or the write of a change. `size`: the request puts rows, and the connection is
+-- open. `disk`: the disk failed in this call or an earlier one, the connection has a limit on steps, or no rowid is
+-- left for a row that is put.
 abbrev pub IsDiskReason : Request → Failure → State → State → Type 0
 IsDiskReason q memory old new = Unit {0}
 IsDiskReason q size old new = IsTrue (puts_rows q) × IsTrue old.is_open
@@ -49,7 +48,7 @@ IsDiskReason q disk old new =
     HasDiskCause old new ⊎ (IsSome old.step_limit ⊎ (IsTrue (puts_rows q) × RunsOutOfRowids old.now))
 
 module _ {S : Type 0} (g : Ghosts S) where
-  -- a failed call ran out of memory; or it touched the disk, and over a clean one a reason exists that it failed
+  -- a failed call ran out of memory; or it touched the disk, and if the disk is clean, it has a reason to fail
   abbrev pub HasCause : Request → Reply → TablesValue S → TablesValue S → Type 0
   HasCause q (failed memory) old new = Unit {0}
   HasCause q (failed f) old new =

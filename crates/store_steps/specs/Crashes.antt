@@ -13,7 +13,7 @@ use Rattle.model.specs.Answers.{answer}
 use Rattle.model.specs.Step.{Step}
 use Rattle.tables.specs.TablesValue.{LeavesWorld}
 
--- Sound rows of a world to which the call leads where it is done. There is none where a rule denies the request or one
+-- The sound rows of a world to which the call leads if it is done. There are none if a rule denies the request or one
 -- of its tests fails.
 pub record LeavesDone (dir : List ℕ) (old : Database) (left : Remains) (s : Settings) (w : World) (c : Caller)
     (q : Request) : Type 0 where
@@ -21,6 +21,6 @@ pub record LeavesDone (dir : List ℕ) (old : Database) (left : Remains) (s : Se
   pub step : Step s w c q (done (answer s w c q)) next
   pub rows : LeavesWorld dir old left next
 
--- a crash leaves the rows of what a request does that no rule forbids and none of whose tests fails
+-- a crash leaves the rows of the done case of a request that no rule forbids and none of whose tests fails
 abbrev pub LeavesPassed : List ℕ → Database → Remains → Settings → World → Request → Type 0
 LeavesPassed dir old left s w q = (refusal s w q ≡ None) × LeavesWorld dir old left (effect s w q)

@@ -1,4 +1,4 @@
--- What is answered from the disk, and steps over a disk that may lie.
+-- Answers that come from the disk, and steps over a disk that may return wrong bytes.
 use Rattle.std.specs.Prelude.{◌≡◌, Bool, true, false, List, [], ◌∷◌, IsTrue}
 use Rattle.model.specs.World.{World}
 use Rattle.policy.specs.Settings.{Settings}
@@ -9,14 +9,14 @@ use Rattle.model.specs.Answers.{answer}
 use Rattle.model.specs.Step.{Step}
 use Rattle.model.specs.Labels.{LookAlike}
 
--- whether a request is answered from the disk: with an archive, or its listing; all others are answered from memory
+-- whether a request is answered from the disk: one for an archive or its listing; all others are answered from memory
 abbrev pub reads_disk : Request → Bool
 reads_disk (nar p) = true
 reads_disk (ls p) = true
 reads_disk _ = false
 
--- A step. An answer from the disk is the right one if the disk is clean: so far it has given back what it was given.
--- All else is true over any disk: the rules, the tests, the failures, and what becomes of the world.
+-- A step over a disk. An answer from the disk is the right one if the disk is clean: it has returned so far what was
+-- written to it. All else is true over any disk: the rules, the tests, the failures, and what becomes of the world.
 abbrev pub StepOver : Type 0 → Settings → World → Caller → Request → Reply → World → Type 0
 StepOver is_clean s w c q (done a) next =
     Step s w c q (done (answer s w c q)) next × ((IsTrue (reads_disk q) → is_clean) → a ≡ answer s w c q)
@@ -30,7 +30,7 @@ RunOver is_clean s w (call ∷ calls) (reply ∷ replies) new =
 RunOver is_clean s w [] (reply ∷ replies) new = ⊥
 RunOver is_clean s w (call ∷ calls) [] new = ⊥
 
--- the replies of two runs of the same calls look alike, those from the disk if that is clean
+-- the replies of two runs of the same calls look alike; those from the disk do if the disk is clean
 abbrev pub LookAlikeOver : Type 0 → Settings → List (Caller × Request) → List Reply → List Reply → Type 0
 LookAlikeOver is_clean s [] [] [] = Unit {0}
 LookAlikeOver is_clean s (call ∷ calls) (a ∷ replies) (b ∷ others) =

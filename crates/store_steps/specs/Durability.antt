@@ -9,8 +9,8 @@ use Rattle.tables.specs.TablesValue.{TablesValue, HasWorld}
 use Rattle.tables.specs.Others.{KeepsOthers}
 
 module _ {S : Type 0} (g : Ghosts S) where
-  -- nothing was done: each world of the tables before is one of them now; and while the connection is open, the
-  -- database is the one that it was, and a crash leaves no more of it than before
+  -- nothing was done: the tables describe each world that they described before; and if the connection is open, its
+  -- database is as it was, and a crash leaves no more of it than before
   pub record IsUntouched (old new : TablesValue S) : Type 0 where
     pub reported : (w : World) → HasWorld g old w → HasWorld g new w
     pub same : IsTrue (state g new.connection).is_open → (state g new.connection).now ≡ (state g old.connection).now
@@ -23,8 +23,8 @@ module _ {S : Type 0} (g : Ghosts S) where
       HasCleanDisk (state g new.connection)
       → (IsTrue (state g new.connection).is_open × IsDurable (state g new.connection)) ⊎ IsUntouched old new
 
-  -- over a clean disk, while the connection is open, which it was before, what the database has of other programs is as
-  -- it was
+  -- over a clean disk, if the connection is open, it was open before, and what other programs have in the database is
+  -- as it was
   abbrev pub LeavesOthers : TablesValue S → TablesValue S → Type 0
   LeavesOthers old new =
       HasCleanDisk (state g new.connection) → IsTrue (state g new.connection).is_open

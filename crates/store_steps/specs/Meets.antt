@@ -1,4 +1,4 @@
--- What becomes over tables of a request that no rule forbids.
+-- A request that no rule forbids, over tables: the reply, and the tables afterwards.
 use Rattle.std.specs.Prelude.{◌≡◌, Some, None, Result, Ok, Err, IsTrue}
 use Rattle.sqlite_trees.specs.declared.store.Store.{Ghosts}
 use Rattle.sqlite.specs.State.{HasCleanDisk, Survives}
@@ -22,7 +22,8 @@ use Rattle.store_steps.specs.Crashes.{LeavesPassed}
 use Rattle.store_steps.specs.Disk.{reads_disk}
 use Rattle.store_steps.specs.Causes.{HasCause}
 
--- what becomes of it in a world: an answer from the disk is the right one if that is clean
+-- the request in a world, with its answer or stop, and the world afterwards: an answer from the disk is the right one
+-- if the disk is clean
 abbrev pub MeetsOver : Type 0 → Settings → World → Caller → Request → Result Answer Stop → World → Type 0
 MeetsOver is_clean s w c q (Ok a) new =
     (refusal s w q ≡ None) × ((IsTrue (reads_disk q) → is_clean) → answer_view a ≡ answer s w c q)
@@ -30,7 +31,7 @@ MeetsOver is_clean s w c q (Ok a) new =
 MeetsOver is_clean s w c q (Err (Refused r)) new = (refusal s w q ≡ Some r) × (new ≡ w)
 MeetsOver is_clean s w c q (Err (Failed f)) new = new ≡ w
 
--- what is replied
+-- the reply for an answer or a stop
 abbrev pub reply_to : Result Answer Stop → replied.Reply
 reply_to (Ok a) = replied.done (answer_view a)
 reply_to (Err (Refused r)) = replied.refused r
@@ -49,22 +50,22 @@ module _ {S : Type 0} (g : Ghosts S) where
   pub record IsMet (s : Settings) (c : Caller) (q : Request) (r : Result Answer Stop) (old new : TablesValue S)
       : Type 0 where
     pub dir : new.dir ≡ old.dir
-    -- of each world of the tables before, what becomes of it is a world of them now
+    -- from each world that the tables described before, the request leads to one that they describe now
     pub world : (w : World) → HasWorld g old w
         → (next : World) × MeetsOver (HasCleanDisk (state g new.connection)) s w c q r next × HasWorld g new next
     -- a failure has its cause
     pub cause : (w : World) → HasWorld g old w → HasCause g q (reply_to r) old new
-    -- whether it is done or not, what other programs have in the database is as it was
+    -- whether the request is done or not, what other programs have in the database is as it was
     pub others : LeavesOthers g old new
-    -- a refusal leaves them as they were
+    -- a refusal leaves the tables as they were
     pub still : IsRefused r → new ≡ old
     -- what is done outlives a crash
     pub stays_durable : IsAnswered r → StaysDurable g old new
-    -- a crash leaves what it could leave before, or what is done where no test fails
+    -- a crash leaves what it could leave before, or the tables of the done case, if no test fails
     pub survives : (w : World) → HasWorld g old w → Survives (state g old.connection) (state g new.connection)
         (λ db. LeavesPassed old.dir (state g old.connection).now db s w q)
 
-  -- something is read of the disk: the worlds of the tables are as before
+  -- a read from the disk: the tables describe the same worlds as before
   pub record OnlyReads (old new : TablesValue S) : Type 0 where
     pub dir : new.dir ≡ old.dir
     pub reported : (w : World) → HasWorld g old w → HasWorld g new w

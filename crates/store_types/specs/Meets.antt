@@ -14,8 +14,8 @@ use Rattle.store_types.specs.declared.replies.Stop.{Stop}
 use Rattle.store_types.specs.declared.replies.Stop.TheVariants.{Refused, Failed}
 use Rattle.store_types.specs.View.{answer_view}
 
--- What is done without the disk: the answer and the effect where no test fails; the refusal of the first that does; or
--- out of memory, and nothing changes.
+-- A request that needs no disk: the answer and the effect if no test fails; the refusal of the first test that fails;
+-- or out of memory, and nothing changes.
 abbrev pub Meets : Settings → World → Caller → Request → Result Answer Stop → World → Type 0
 Meets s w c q (Ok a) new = (refusal s w q ≡ None) × (answer_view a ≡ answer s w c q) × (new ≡ effect s w q)
 Meets s w c q (Err (Refused r)) new = (refusal s w q ≡ Some r) × (new ≡ w)

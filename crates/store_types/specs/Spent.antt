@@ -23,7 +23,7 @@ abbrev pub spent_reply : Settings → Caller → asked.Request → Reply
 spent_reply s c q =
     option_map_or (λ rule. denied rule None) (first_broken (class_of s c) c (operation_of q)) (failed memory)
 
--- of some calls each of a spent request had that reply
+-- each of these calls whose request is spent had that reply
 abbrev pub SpentAreAnswered : Settings → List (Caller × Request) → List Reply → Type 0
 SpentAreAnswered s [] [] = Unit {0}
 SpentAreAnswered s (call ∷ calls) (reply ∷ replies) =

@@ -1,5 +1,5 @@
--- How a fault of an archive, or of a derivation text, stops a request: with its refusal, and where memory was refused
--- as a failure.
+-- How a fault of an archive, or of a derivation text, stops a request: with its refusal, or with a failure if it is
+-- that memory was refused.
 use Rattle.std.specs.Option.{option_map_or}
 use Rattle.nar.specs.declared.error.NarError.{NarError}
 use Rattle.drv.specs.declared.error.DrvError.{DrvError}

@@ -10,7 +10,7 @@ piece_of i bytes = take 65536 (drop (65536 * i) bytes)
 abbrev pub count_of : List ℕ → ℕ
 count_of bytes = (length bytes + 65535) / 65536
 
--- The whole pieces, and the last one after them. Their number of bytes fits a length.
+-- The whole pieces, with the last one appended; the number of their bytes fits a length.
 pub record AreCut (whole : List (List ℕ)) (last : List ℕ) : Type 0 where
   pub each : AllByRecursion (λ p. length p ≡ 65536) whole
   pub last_fits : length last ≤ 65536

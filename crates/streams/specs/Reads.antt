@@ -16,9 +16,9 @@ TakesFewer most old new = (bs : List ℕ) × Consumes old new bs × (length bs <
 abbrev pub TakesSome : ℕ → Option (List ℕ) → Option (List ℕ) → Type 0
 TakesSome most old new = (bs : List ℕ) × Consumes old new bs × (0 < length bs) × (length bs ≤ most)
 
--- One read with room for a number of bytes: how many it took from the input and passed on, none at the input's end.
--- Where the reader failed, nothing was read and nothing passed on; where the sink was refused memory, the bytes that
--- came were read.
+-- The result of one read with room for a number of bytes: how many bytes it took from the input and passed on, or none
+-- at the end of the input. If the reader failed, nothing was read or passed on. If the sink was refused memory, the
+-- bytes that came were read.
 abbrev pub ReadsOn : ℕ → Option (List ℕ) → Option (List ℕ) → List ℕ → List ℕ → Result (Option ℕ) ReadError → Type 0
 ReadsOn room old new held held' (Ok (Some n)) =
     (bs : List ℕ) × Consumes old new bs × (length bs ≡ n) × (0 < n) × (n ≤ room) × (held' ≡ held ++ bs)
@@ -26,9 +26,9 @@ ReadsOn room old new held held' (Ok None) = Consumes old new [] × IsAtEnd new �
 ReadsOn room old new held held' (Err Input) = Keeps old new × (held' ≡ held)
 ReadsOn room old new held held' (Err Memory) = TakesSome room old new
 
--- What became of the bytes that were read from an input, of which no more than some number were to be. At success, and
--- where the reader failed, all were passed on; there are fewer of them only where the input is at its end, or the
--- reader failed. Where memory was refused, it was for bytes that came.
+-- The bytes that were read from an input, up to a greatest number, and whether they were passed on. At success, and if
+-- the reader failed, all were passed on. They are fewer than that number only if the input ended or the reader failed.
+-- If memory was refused, it was for bytes that came.
 abbrev pub PassesOn : ℕ → List ℕ → Option (List ℕ) → List ℕ → List ℕ → Result ℕ ReadError → Type 0
 PassesOn most bs new held held' (Ok n) = (n ≡ length bs) × (held' ≡ held ++ bs) × (n < most → IsAtEnd new)
 PassesOn most bs new held held' (Err Input) = (length bs < most) × (held' ≡ held ++ bs)

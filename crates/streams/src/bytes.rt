@@ -1,4 +1,4 @@
-//! Bytes that grow at the end, and are never asked for in one part.
+//! Bytes in pieces, to which bytes are appended. They never need one large buffer.
 
 ghost use Rattle.std.specs.Prelude.{◌≡◌, ◌+◌, ◌*◌, ◌<◌, ◌≤◌, ◌^◌, List, ℕ, [], ◌∷◌, ◌++◌, length, map, take, OnOk, OnErr, IfOk};
 ghost use Rattle.std.specs.List.{concat};
@@ -50,7 +50,7 @@ fn push_piece(whole: &mut Vec<Vec<u8>>, last: &mut Vec<u8>, next: Vec<u8>) -> Re
     }
 }
 
-/// Returns how much room the last piece has. Where it is full the next begins.
+/// Returns how much room the last piece has. If it is full, a new one begins.
 fn make_room(
     alloc: Global,
     whole: &mut Vec<Vec<u8>>,
@@ -71,7 +71,7 @@ fn make_room(
 }
 
 impl Pieces {
-    /// No bytes. It takes no memory yet.
+    /// No bytes. Allocates no memory.
     ///
     /// ```rust
     /// use streams::Pieces;
@@ -163,7 +163,7 @@ impl Pieces {
         self.piece(0)
     }
 
-    /// Appends bytes. Where memory is refused the bytes stay as they were.
+    /// Appends bytes. If memory is refused, the bytes stay as they were.
     ///
     /// ```rust
     /// use streams::Pieces;
@@ -201,8 +201,8 @@ impl Pieces {
         Ok(())
     }
 
-    /// Appends bytes that are given away: where they fit a piece and the last one is full, or there is none, they become
-    /// the next piece as they are, and are copied otherwise. Where memory is refused the bytes stay as they were.
+    /// Appends a buffer of bytes. If the bytes fit a piece, and the last piece is full or there is none, the buffer becomes the next piece
+    /// without a copy. Otherwise the bytes are copied. If memory is refused, the bytes stay as they were.
     ///
     /// ```rust
     /// use streams::Pieces;
@@ -232,7 +232,7 @@ impl Pieces {
         self.push(bytes.as_slice())
     }
 
-    /// Takes as many of the bytes as the last piece has room for, and gives the rest.
+    /// Appends as many of the bytes as the last piece has room for, and returns the rest.
     fn fill<'a>(&mut self, bytes: &'a [u8]) -> Result<&'a [u8], AllocError>
         requires some { 0 < length bytes.now }
         requires small { length self.old + length bytes.now < 2 ^ 64 }
@@ -261,7 +261,7 @@ impl Pieces {
         self.last.truncate(len % PIECE_SIZE);
     }
 
-    /// All bytes in one buffer, for what can't be read in pieces. It asks for all of their memory at once.
+    /// All bytes in one buffer, for readers that can't take pieces. Allocates all of their memory at once.
     ///
     /// ```rust
     /// use streams::Pieces;

@@ -12,7 +12,7 @@ pub enum ReadError {
     /// The reader failed, whatever the kind of its fault.
     #[error("input")]
     Input,
-    /// What came couldn't be held: memory was refused.
+    /// Memory was refused for bytes that came.
     #[error("memory")]
     Memory,
 }

@@ -7,7 +7,7 @@ use crate::limits::PIECE_SIZE;
 use crate::sink::Sink;
 use std::io::Read;
 
-/// One read into a window, whose bytes are passed on: how many came, or that the input is at its end.
+/// Reads once into a window, and passes the bytes on. Returns how many came, or `None` at the end of the input.
 fn read_on<R: Read, S: Sink>(
     input: &mut R,
     window: &mut [u8],
@@ -30,8 +30,8 @@ fn read_on<R: Read, S: Sink>(
 ///
 /// # Errors
 ///
-/// `Input` where the reader failed, whatever the kind of its fault, that of an interrupted read too: the sink has received all that came.
-/// `Memory` where the sink was refused memory for a piece that came.
+/// `Input` if the reader failed, whatever the kind of its error, an interrupted read too: the sink has received all bytes that came.
+/// `Memory` if the sink was refused memory for a piece that came.
 pub fn receive_at_most<R: Read, S: Sink>(
     input: &mut R,
     most: usize,

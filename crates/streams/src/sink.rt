@@ -1,9 +1,9 @@
-//! What bytes are passed on to.
+//! The trait of what receives bytes.
 ghost use Rattle.std.specs.Prelude.{◌≡◌, ◌++◌, ℕ, List, OnOk};
 
 use std::alloc::AllocError;
 
-/// What receives bytes, piece by piece.
+/// A receiver of bytes, piece by piece.
 pub trait Sink {
     /// All bytes that were received.
     ghost received: { Self → List ℕ };

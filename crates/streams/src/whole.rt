@@ -9,7 +9,7 @@ use std::alloc::{AllocError, Global};
 use std::io::Read;
 use std::marker::Model;
 
-/// What came of an input, of which no more than some number of bytes will. Contracts see the bytes.
+/// The bytes that came from an input, of which no more than some number will come. Contracts see the bytes.
 #[derive(Drop)]
 pub struct Held {
     bytes: Vec<u8>,
@@ -25,7 +25,7 @@ impl Model for Held {
 }
 
 impl Held {
-    /// No bytes yet. It takes no memory.
+    /// No bytes yet. Allocates no memory.
     pub fn new(alloc: Global, most: usize) -> Held
         ensures { result ≡ [] }
     {
@@ -42,7 +42,7 @@ impl Held {
         &self.bytes
     }
 
-    /// What has come, as its own.
+    /// The bytes that have come, owned.
     pub fn into_bytes(self) -> Vec<u8>
         ensures { result.items ≡ self }
     {
@@ -53,7 +53,7 @@ impl Held {
 impl Sink for Held {
     ghost received = { λ held. held };
 
-    /// The room grows by doubling, and never beyond what may come.
+    /// The buffer grows by doubling, and never beyond what may come.
     fn take(&mut self, piece: &[u8]) -> Result<(), AllocError> {
         let held = self.bytes.len();
         if self.bytes.capacity() - held < piece.len() {
@@ -68,8 +68,8 @@ impl Sink for Held {
 ///
 /// # Errors
 ///
-/// `Input` where the reader failed before these were read, whatever the kind of its fault; `Memory` where memory was refused for bytes
-/// that were read.
+/// `Input` if the reader failed before these were read, whatever the kind of its error; `Memory` if memory was refused for bytes that were
+/// read.
 pub fn read_at_most<R: Read>(
     alloc: Global,
     input: &mut R,

@@ -89,5 +89,5 @@ all_tables =
     meta ∷ object ∷ refs ∷ outs ∷ permanent ∷ user_root ∷ profile ∷ generation ∷ runtime ∷ piece ∷ temp_root ∷ []
 
 -- one of the eleven has this name
-abbrev pub is_our_name : List ℕ → Bool
-is_our_name name = list_any (λ t. bytes_eq t.name name) all_tables
+abbrev pub names_store_table : List ℕ → Bool
+names_store_table name = list_any (λ t. bytes_eq t.name name) all_tables

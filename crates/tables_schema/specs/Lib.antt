@@ -1,6 +1,6 @@
 pub mod Finding
 pub mod Forms
 pub mod Intact
-pub mod OurTables
+pub mod StoreTables
 pub mod Schemas
 pub mod Shapes

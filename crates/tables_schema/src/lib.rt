@@ -6,8 +6,8 @@ mod form;
 mod further;
 mod intact;
 mod nine;
-pub mod our_table;
 pub mod recognising;
 mod schema;
+pub mod store_table;
 
 pub use schema::Schema;

@@ -1,4 +1,4 @@
-//! By which of the three schemas a database has the store's tables.
+//! The schema, of the three, by which a database has the store's tables.
 
 ghost use Rattle.std.specs.Prelude.{◌≡◌, ◌≢◌, ◌↔◌, false};
 ghost use Rattle.sqlite.specs.Does.{lacks_sequence};
@@ -25,7 +25,7 @@ pub enum Recognised {
     Other,
 }
 
-/// By which schema the store's tables are there, where the nine are; `Other` where the further ones make none.
+/// The schema by which the store's tables exist, if the nine do; `Other` if the further ones fit no schema.
 fn by_further(schema: &Shown) -> Recognised
     ensures first { result ≡ Tables V1
         ↔ IsFree schema.now piece.name × IsFree schema.now temp_root.name × (lacks_sequence schema.now ≡ false) }

@@ -18,8 +18,8 @@ use Rattle.tables_world.specs.Rows.{Rows, SessionPath, settings, pieces_in, arch
 use Rattle.tables_schema.specs.declared.schema.Schema.{Schema}
 use Rattle.tables_schema.specs.Schemas.{has_pieces, has_temporary}
 
--- One object with its archive, its references and its outputs. That each reference is an object is asked of all rows of
--- references.
+-- An object with its archive, its references and its outputs. All rows of references are tested together: each
+-- reference is an object.
 pub record IsSoundRow (dir : List ℕ) (p : Path) (o : Stored) (nar : List ℕ) (references : Set bytes_cmp)
     (outputs : finite.FinMap bytes_cmp Path) : Type 0 where
   pub path : IsTrue (is_base_name p)

@@ -20,7 +20,7 @@ GoOn part n (e ∷ es) = (length part ≡ piece_size) × (e.0 ≡ pos n) × (1 �
 abbrev pub IsCut : List ℕ → List (ℤ × List ℕ) → Type 0
 IsCut row pieces = GoOn row 1 pieces
 
--- ---- the same by functions that compute
+-- ---- cuts of archives, by functions that compute
 
 -- what an object's row holds of its archive
 abbrev pub row_part : List ℕ → List ℕ

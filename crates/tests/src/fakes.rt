@@ -1,4 +1,4 @@
-//! Readers and writers that move few bytes a call, and fail at one of them. And who keeps bodies, and is refused memory.
+//! Readers and writers that move few bytes a call and fail at one of the calls, and a keeper of bodies that is refused memory.
 use std::alloc::AllocError;
 use std::io;
 use std::io::{ErrorKind, Read, Write};
@@ -55,7 +55,7 @@ impl Write for Narrow {
     }
 }
 
-/// What keeps a body, and is refused memory for more than `room` bytes.
+/// A keeper of a body that is refused memory for more than `room` bytes.
 #[derive(Drop)]
 pub struct Tight {
     pub held: Vec<u8>,

@@ -24,7 +24,7 @@ const SECOND_REPLY: &[u8] =
     b"HTTP/1.1 200 OK\r\ncontent-type: text/plain\r\ncontent-length: 46\r\n\r\n\
 /nix/store/12wigjpizrn8axaqxj288q1b751qmwya-a\n";
 
-/// The reply to a second message that lacks its last byte.
+/// The reply to a second message whose last byte is missing.
 const CUT_REPLY: &[u8] =
     b"HTTP/1.1 400 Bad Request\r\ncontent-type: text/plain\r\nconnection: close\r\n\
 content-length: 23\r\n\r\nrefused: 37 bad-length\n";
@@ -74,7 +74,7 @@ fn serve_all(alloc: Global, input: &mut Drip, output: &mut Narrow) -> Result<Ser
 /// How many bytes a call moves at most, and how many calls don't fail.
 type Pace = (usize, usize);
 
-/// As many bytes as are wanted, in any number of calls.
+/// No limit on bytes and calls.
 const ANY: Pace = (usize::MAX, usize::MAX);
 
 /// Serves a store from a reader and to a writer, whose call after its last has this fault, or takes no byte; and what

@@ -68,7 +68,7 @@ module _ (config : List ℕ) (input : Stream) (out : Option (List ℕ)) (p : Pri
 
 -- ---- words
 
--- what stands for a command line is refused for want of memory alone
+-- words that form a command line are refused only if memory runs out
 refused_line : (words : List (List ℕ)) (line : Line) (e : CommandError) → IsLine words line → IsUsageFault words e → e ≡ Memory
 refused_line words line (Usage fault) is among = absurd (subst (IsAmong (kind_of fault)) is.no_fault among)
 refused_line words line (Misuse fault) is found = let both : Ok line ≡ Err fault = sym is.is_line ∙ found.1 in cc

@@ -1,4 +1,4 @@
--- A front of what is added that is refused does for all of it.
+-- If a prefix of what is added is refused, all of it is refused in the same way.
 use Rattle.std.proofs.Common.{◌≡◌, ℕ, ◌+◌, ◌<◌, ◌≤◌, Bool, true, false, List, [], ◌∷◌, length, take, Option, Some, None, Result, Ok, Err, inl, inr, ap, subst, refl, sym, ◌∙◌, arith, take_all, length-take}
 use Rattle.std.specs.Prelude.{nat_le, not}
 use Rattle.std.proofs.lemmas.Bool.{cases_lt, lt-leb}
@@ -69,21 +69,21 @@ module _ (s : Settings) (w : World) (name : List ℕ) (refs : List Path) where
       is reported
 
   -- both are refused alike, whatever the rules say
-  steps_long : (c : Caller) (front all : List ℕ) → nat_le (text_archive_size front) limit ≡ false → nat_le (text_archive_size all) limit ≡ false
-      → (reply : Reply) (next : World) → Step s w c (add_text name refs front) reply next → Step s w c (add_text name refs all) reply next
-  steps_long c front all hf hl (denied rule root) next step = step
-  steps_long c front all hf hl (refused r) next step = (step.0, long_refused all hl ∙ sym (long_refused front hf) ∙ step.1, step.2)
-  steps_long c front all hf hl (failed f) next step = step
-  steps_long c front all hf hl (done a) next step = absurd (no_fault (nat_le (length refs) most_references) TooLarge (sym (long_refused front hf) ∙ step.1))
+  steps_long : (c : Caller) (prefix all : List ℕ) → nat_le (text_archive_size prefix) limit ≡ false → nat_le (text_archive_size all) limit ≡ false
+      → (reply : Reply) (next : World) → Step s w c (add_text name refs prefix) reply next → Step s w c (add_text name refs all) reply next
+  steps_long c prefix all hf hl (denied rule root) next step = step
+  steps_long c prefix all hf hl (refused r) next step = (step.0, long_refused all hl ∙ sym (long_refused prefix hf) ∙ step.1, step.2)
+  steps_long c prefix all hf hl (failed f) next step = step
+  steps_long c prefix all hf hl (done a) next step = absurd (no_fault (nat_le (length refs) most_references) TooLarge (sym (long_refused prefix hf) ∙ step.1))
 
-  steps_broken : (c : Caller) (front all : List ℕ) (e : NarError) → outcome_of front ≡ Err e → outcome_of all ≡ Err e
-      → (reply : Reply) (next : World) → Step s w c (add_source name refs front) reply next → Step s w c (add_source name refs all) reply next
-  steps_broken c front all e hf ha (denied rule root) next step = step
-  steps_broken c front all e hf ha (refused r) next step =
-      let fault = fault_is_refused front e hf in (step.0, broken_refused all e fault.0 ha fault.1 ∙ sym (broken_refused front e fault.0 hf fault.1) ∙ step.1, step.2)
-  steps_broken c front all e hf ha (failed f) next step = step
-  steps_broken c front all e hf ha (done a) next step =
-      let fault = fault_is_refused front e hf in absurd (no_fault (nat_le (length refs) most_references) fault.0 (sym (broken_refused front e fault.0 hf fault.1) ∙ step.1))
+  steps_broken : (c : Caller) (prefix all : List ℕ) (e : NarError) → outcome_of prefix ≡ Err e → outcome_of all ≡ Err e
+      → (reply : Reply) (next : World) → Step s w c (add_source name refs prefix) reply next → Step s w c (add_source name refs all) reply next
+  steps_broken c prefix all e hf ha (denied rule root) next step = step
+  steps_broken c prefix all e hf ha (refused r) next step =
+      let fault = fault_is_refused prefix e hf in (step.0, broken_refused all e fault.0 ha fault.1 ∙ sym (broken_refused prefix e fault.0 hf fault.1) ∙ step.1, step.2)
+  steps_broken c prefix all e hf ha (failed f) next step = step
+  steps_broken c prefix all e hf ha (done a) next step =
+      let fault = fault_is_refused prefix e hf in absurd (no_fault (nat_le (length refs) most_references) fault.0 (sym (broken_refused prefix e fault.0 hf fault.1) ∙ step.1))
 
 -- contents that are read to one byte above the limit do for all of them
 pub contents_step : (name : List ℕ) (refs : List Path) (all : List ℕ) → StepsAs (add_text name refs (take 16777105 all)) (add_text name refs all)
@@ -96,13 +96,13 @@ contents_step name refs all s w c reply next step =
     ]
 
 module _ (name : List ℕ) (refs : List Path) (all : List ℕ) (bytes : IsBytes (take 16777224 all)) where
-  front_step : (r : Result Tree NarError) → outcome_of (take 16777224 all) ≡ r → StepsAs (add_source name refs (take 16777224 all)) (add_source name refs all)
-  front_step (Ok t) is s w c reply next step =
+  prefix_step : (r : Result Tree NarError) → outcome_of (take 16777224 all) ≡ r → StepsAs (add_source name refs (take 16777224 all)) (add_source name refs all)
+  prefix_step (Ok t) is s w c reply next step =
       let whole : IsArchive t (take 16777224 all) = (outcome_archive (take 16777224 all) t bytes).0 is in
       let few : length (take 16777224 all) ≤ 16777216 = whole.fits in
       subst (λ b. Step s w c (add_source name refs b) reply next) (take_all 16777224 all (omega (arith, length-take 16777224 all))) step
-  front_step (Err e) is s w c reply next step = steps_broken s w name refs c (take 16777224 all) all e is (sym (outcome_prefix all) ∙ is) reply next step
+  prefix_step (Err e) is s w c reply next step = steps_broken s w name refs c (take 16777224 all) all e is (sym (outcome_prefix all) ∙ is) reply next step
 
   -- as many bytes as an archive may have, and 8 more, do for all of them
   pub archive_step : StepsAs (add_source name refs (take 16777224 all)) (add_source name refs all)
-  archive_step = front_step (outcome_of (take 16777224 all)) refl
+  archive_step = prefix_step (outcome_of (take 16777224 all)) refl

@@ -87,15 +87,15 @@ module _ (dir : List ℕ) (o : Text × List Text) where
   object_is n bases none same based ask =
       ap (λ f. option_map_or Err f (Ok (ask o.0 (map (base_of dir) o.1)))) none ∙ ap₂ (λ m rs. Ok (ask m rs)) (sym same) (sym based)
 
-  -- an object of a front of the input that does for all of it
-  pub object_asked : (fails : Type 0) (ask : List ℕ → List Path → List ℕ → Request) (known : Option (List ℕ)) (n : List ℕ) (bases : List Path) (front : List ℕ) (most : ℕ) (q : Made)
-      → on_object dir o ask ≡ Ok (ask n bases) → request_view q ≡ ask n bases front
-      → IfSome known (λ all. front ≡ take most all) → ((all : List ℕ) → front ≡ take most all → StepsAs (ask n bases front) (ask n bases all))
+  -- an object of a prefix of the input that is answered as all of it
+  pub object_asked : (fails : Type 0) (ask : List ℕ → List Path → List ℕ → Request) (known : Option (List ℕ)) (n : List ℕ) (bases : List Path) (prefix : List ℕ) (most : ℕ) (q : Made)
+      → on_object dir o ask ≡ Ok (ask n bases) → request_view q ≡ ask n bases prefix
+      → IfSome known (λ all. prefix ≡ take most all) → ((all : List ℕ) → prefix ≡ take most all → StepsAs (ask n bases prefix) (ask n bases all))
       → IsAskedOver fails (λ bytes. Gives (with_bytes bytes (on_object dir o ask))) known (Ok q)
-  object_asked fails ask None n bases front most q is made fronted steps =
-      (front, (ask n bases front, ap (with_bytes front) is, same_steps (request_view q) (ask n bases front) made))
-  object_asked fails ask (Some all) n bases front most q is made fronted steps =
-      (ask n bases all, ap (with_bytes all) is, by_same (request_view q) (ask n bases front) (ask n bases all) made (steps all fronted))
+  object_asked fails ask None n bases prefix most q is made is_prefix steps =
+      (prefix, (ask n bases prefix, ap (with_bytes prefix) is, same_steps (request_view q) (ask n bases prefix) made))
+  object_asked fails ask (Some all) n bases prefix most q is made is_prefix steps =
+      (ask n bases all, ap (with_bytes all) is, by_same (request_view q) (ask n bases prefix) (ask n bases all) made (steps all is_prefix))
 
 -- what the subcommand of an arm asks is asked
 pub arm : (t : Asked) (own : Ask) (dir : List ℕ) (c : Caller) (input : Stream) (made : Result Made Stop) → asks t ≡ Some own → IsAskedBy own dir c input made

@@ -28,7 +28,7 @@ whole_is (Some all) bytes short is =
     let cut : length bytes ≡ length (take 18446744073709551615 all) = ap length is in
     is ∙ take_all 18446744073709551615 all (omega (arith, cut, short, length-take 18446744073709551615 all))
 
--- what came behind nothing is all of the input
+-- what came after nothing is all of the input
 pub after_nothing : (known : Option (List ℕ)) (held taken : List ℕ) → held ≡ [] → IfSome known (λ all. taken ≡ held ++ all) → IfSome known (λ all. taken ≡ all)
 after_nothing None held taken none is = tt
 after_nothing (Some all) held taken none is = is ∙ ap (λ h. h ++ all) none
@@ -64,10 +64,10 @@ pub object_came : {A : Type 0} (dir : List ℕ) (o : Text × List Text) (ask : L
     → (came ≡ Err (Failed Input) → TakesFewer most input.old input.new) → IfOk came Good
     → ((x : A) → Good x → (all : List ℕ) → bytes_of x ≡ take most all → StepsAs (ask n bases (bytes_of x)) (ask n bases all))
     → IsAskedOver (InputFails (is_ok (on_object dir o ask)) most input) (λ bytes. Gives (with_bytes bytes (on_object dir o ask))) input.old made
-object_came dir o ask input n bases most bytes_of Good (Ok x) (Ok q) is view stopped front why lost good steps =
-    object_asked dir o (InputFails (is_ok (on_object dir o ask)) most input) ask input.old n bases (bytes_of x) most q is view front (steps x good)
-object_came dir o ask input n bases most bytes_of Good (Ok x) (Err stop) is view stopped front why lost good steps = absurd view
-object_came dir o ask input n bases most bytes_of Good (Err stop) made is view stopped front why lost good steps =
+object_came dir o ask input n bases most bytes_of Good (Ok x) (Ok q) is view stopped prefix why lost good steps =
+    object_asked dir o (InputFails (is_ok (on_object dir o ask)) most input) ask input.old n bases (bytes_of x) most q is view prefix (steps x good)
+object_came dir o ask input n bases most bytes_of Good (Ok x) (Err stop) is view stopped prefix why lost good steps = absurd view
+object_came dir o ask input n bases most bytes_of Good (Err stop) made is view stopped prefix why lost good steps =
     subst (λ m. IsAskedOver (InputFails (is_ok (on_object dir o ask)) most input) (λ bytes. Gives (with_bytes bytes (on_object dir o ask))) input.old m) (sym stopped)
     (gone (InputFails (is_ok (on_object dir o ask)) most input) (λ bytes. Gives (with_bytes bytes (on_object dir o ask))) input.old stop why
     (λ same. (ap is_ok is, lost (ap (λ e. Err e) same))))

@@ -28,7 +28,7 @@ AnswersRequest answered (Err refusal) w = Answers (Err (Refused refusal)) w
 abbrev pub AnswersRequested : (Request → Type 0) → (Result Request Refusal → Type 0) → Written → Type 0
 AnswersRequested answered asks w = (wanted : Result Request Refusal) × asks wanted × AnswersRequest answered wanted w
 
--- what is asked by the input is answered, whose bytes are some, where it doesn't say them
+-- what is asked by the input is answered: by its bytes, or by some bytes if the stream doesn't state them
 abbrev pub AnswersOver : (Request → Type 0) → (List ℕ → Result Request Refusal → Type 0) → Option (List ℕ) → Written
     → Type 0
 AnswersOver answered ask None w = (bytes : List ℕ) × AnswersRequested answered (ask bytes) w

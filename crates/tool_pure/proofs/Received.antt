@@ -5,7 +5,7 @@ use Rattle.std.specs.Io.KnownBytes.{Consumes, IsAtEnd}
 use Rattle.std.proofs.lemmas.Bool.{cases_lt}
 use Rattle.std.proofs.lemmas.List.{take-append-le}
 
--- it is a front of the input, up to the bound
+-- what came is a prefix of the input, up to the bound
 pub prefix_received : (most : ℕ) (old new : Option (List ℕ)) (bs taken : List ℕ) (n : ℕ) → Consumes old new bs → length bs ≤ most → n ≡ length bs → taken ≡ bs
     → (n < most → IsAtEnd new) → IfSome old (λ all. taken ≡ take most all)
 prefix_received most None new bs taken n read short count is end = tt
@@ -20,7 +20,7 @@ prefix_received most (Some all) (Some rest) bs taken n read short count is end =
           is ∙ sym (ap (take most) read ∙ take-append-le most bs rest reach ∙ take_all most bs short)
     ]
 
--- it is all of the input, behind what was there before
+-- what came is all of the input, after what was there before
 pub all_received : (old new : Option (List ℕ)) (bs held taken : List ℕ) → Consumes old new bs → IsAtEnd new → taken ≡ held ++ bs
     → IfSome old (λ all. taken ≡ held ++ all)
 all_received None new bs held taken read end is = tt

@@ -34,7 +34,7 @@ pub answers_to : (fault : Option Refusal) (most : ℕ) (answer : List ℕ → Re
 answers_to fault most answer result c (inl is) given = inl (gave_up (InputFails (is_none fault) most c.input) result c.written is given)
 answers_to fault most answer result c (inr is) given = inr (by_result fault answer c.input.old result c.written is given)
 
--- a stop by a fault that is there before the input is read, or for want of memory or of the input
+-- a stop by a fault that is found before the input is read, or since memory ran out or the input failed
 pub stopped_at : (fault : Option Refusal) (most : ℕ) (answer : List ℕ → Result (List ℕ) Stop) (input : Stream) (stop : Stop)
     → IsStopAt fault most input stop → IsFailure (InputFails (is_none fault) most input) (Err stop) ⊎ IsResultOf fault answer input.old (Err stop)
 stopped_at fault most answer input stop (inl is) = inl is
@@ -59,16 +59,16 @@ by_line fails (Ok line) a ok err = inr (sym ok)
 by_line fails (Err e) a ok (inl memory) = rw memory (inl tt)
 by_line fails (Err e) a ok (inr is) = inr (sym is)
 
--- a result by a front of the input that answers as all of it
+-- a result by a prefix of the input that is answered as all of it
 pub of_prefix : (fails : Type 0) (fault : Option Refusal) (answer : List ℕ → Result (List ℕ) Stop) (known : Option (List ℕ)) (result : Result (List ℕ) Stop) (most : ℕ) (bytes : List ℕ)
     → fault ≡ None → IfSome known (λ all. bytes ≡ take most all) → ((all : List ℕ) → bytes ≡ take most all → result ≡ answer bytes → result ≡ answer all)
     → IsFailure fails result ⊎ (result ≡ answer bytes) → IsFailure fails result ⊎ IsResultOf fault answer known result
-of_prefix fails fault answer known result most bytes none front same (inl is) = inl is
-of_prefix fails fault answer known result most bytes none front same (inr is) = inr (subst (λ f. IsResultOf f answer known result) (sym none) (by_known known front))
+of_prefix fails fault answer known result most bytes none prefix same (inl is) = inl is
+of_prefix fails fault answer known result most bytes none prefix same (inr is) = inr (subst (λ f. IsResultOf f answer known result) (sym none) (by_known known prefix))
   where
     by_known : (known : Option (List ℕ)) → IfSome known (λ all. bytes ≡ take most all) → IsResultOf None answer known result
-    by_known None front = (bytes, is)
-    by_known (Some all) front = same all front is
+    by_known None prefix = (bytes, is)
+    by_known (Some all) prefix = same all prefix is
 
 -- ---- what is read
 

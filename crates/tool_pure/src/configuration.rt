@@ -13,7 +13,7 @@ use std::io::Read;
 use std::rt::Files;
 use streams::{ReadError, read_at_most};
 
-/// One byte more than a configuration has at most.
+/// The number of bytes that are read at most: one more than a configuration may have.
 const MOST_READ: usize = MAX_CONFIG_BYTES + 1;
 
 /// The opened configuration file of a path, or why it wasn't opened. `None` if no path is given.

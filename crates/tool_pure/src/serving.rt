@@ -1,4 +1,4 @@
-//! One request over a store.
+//! A single request over a store.
 ghost use Rattle.model.specs.Reply as replied;
 ghost use Rattle.store_types.specs.View.{request_view};
 ghost use Rattle.store.specs.Calls.{Calls};

@@ -47,7 +47,7 @@ fn with_plain<'a>(alloc: Global, command: Command<'a>) -> Result<Command<'a>, Al
         .subcommand(plain(alloc, Verb::Report))
 }
 
-/// One more subcommand, if it could be made.
+/// Adds a subcommand, if it could be made.
 fn add<'a>(
     command: Command<'a>,
     subcommand: Result<Command<'a>, AllocError>,

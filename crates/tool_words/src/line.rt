@@ -100,7 +100,7 @@ pub struct RootArguments<'a> {
 pub enum Unrooted<'a> {
     /// A permanent root, which has no owner.
     Permanent,
-    /// A root of the user who is named, else of the caller.
+    /// A root of the named user, or of the caller if none is named.
     User(Option<&'a str>),
 }
 
@@ -178,7 +178,7 @@ pub struct DeleteArguments<'a> {
 /// Where requests come from.
 #[derive(Clone, Copy, PartialEq, Eq, Debug)]
 pub enum ServeArguments {
-    /// One connection, on standard input and output.
+    /// A single connection, on standard input and output.
     Streams,
     /// Connections to a port of this machine, one after another: the port, 1 to 65,535, and how many
     /// connections, 1 to 1,000,000.

@@ -31,13 +31,13 @@ entry_is e lacks =
     let value = ap (λ t. drop 1 t) (after_colon e.0 (32 ∷ e.1) lacks) in
     λ i. (key i, value i)
 
--- a line and those behind it
-pub line_continues : (front x text : List ℕ) → IsWithout 10 x → entries_from front (x ++ 10 ∷ text) ≡ entry_in (front ++ x) ∷ entries_from [] text
-line_continues front [] text lacks = ap (λ t. entry_in t ∷ entries_from [] text) (sym (append-nil front))
-line_continues front (b ∷ x) text lacks =
-    ap (λ c. cond c (entry_in front ∷ entries_from [] (x ++ 10 ∷ text)) (entries_from (front ++ b ∷ []) (x ++ 10 ∷ text))) (ne_eqb b 10 (lacks 0 (omega arith)))
-    ∙ line_continues (front ++ b ∷ []) x text (λ i h. lacks (suc i) (omega arith))
-    ∙ ap (λ t. entry_in t ∷ entries_from [] text) (append_assoc front (b ∷ []) x)
+-- a line and those after it
+pub line_continues : (prefix x text : List ℕ) → IsWithout 10 x → entries_from prefix (x ++ 10 ∷ text) ≡ entry_in (prefix ++ x) ∷ entries_from [] text
+line_continues prefix [] text lacks = ap (λ t. entry_in t ∷ entries_from [] text) (sym (append-nil prefix))
+line_continues prefix (b ∷ x) text lacks =
+    ap (λ c. cond c (entry_in prefix ∷ entries_from [] (x ++ 10 ∷ text)) (entries_from (prefix ++ b ∷ []) (x ++ 10 ∷ text))) (ne_eqb b 10 (lacks 0 (omega arith)))
+    ∙ line_continues (prefix ++ b ∷ []) x text (λ i h. lacks (suc i) (omega arith))
+    ∙ ap (λ t. entry_in t ∷ entries_from [] text) (append_assoc prefix (b ∷ []) x)
 
 -- entries that are printed are read again
 pub printed : (es : List Entry) → AreEntries es → entries_in (print_entries es) ≡ es
@@ -53,7 +53,7 @@ lines_are text es are is =
     let same : entries_in text ≡ es = ap entries_in is ∙ printed es are in
     (same, subst (AreLines text) (sym same) (are, is))
 
--- the lines in front of the rest of a text that was read
+-- the lines before the rest of a text that was read
 pub prefix_is : (text : List ℕ) (es : List Entry) (rest : List ℕ) → Read text es rest → take (length text - length rest) text ≡ print_entries es
 prefix_is text es rest read =
     let size : length text ≡ length (print_entries es) + length rest = ap length read.whole ∙ length-append (print_entries es) rest in
@@ -63,8 +63,8 @@ prefix_is text es rest read =
 -- a text of which all lines were read up to an empty one
 pub read_whole : (text : List ℕ) (es : List Entry) (rest line payload lines : List ℕ) → Read text es rest → rest ≡ line ++ 10 ∷ payload → line ≡ []
     → lines ≡ print_entries es → Reads text (entries_in lines) payload
-read_whole text es rest line payload lines read is none front =
-    let same = (lines_are lines es read.entries front).0 in
+read_whole text es rest line payload lines read is none prefix =
+    let same = (lines_are lines es read.entries prefix).0 in
     let reads : Reads text es payload = record {
       entries = read.entries;
       whole = read.whole ∙ ap (λ t. print_entries es ++ t) (is ∙ ap (λ t. t ++ 10 ∷ payload) none);

@@ -1,4 +1,4 @@
--- The front of a text and what follows it, and what is read of them.
+-- The prefix of a text and what follows it, and what is read of them.
 use Rattle.std.proofs.Common.{◌≡◌, ◌≢◌, ℕ, suc, ◌<◌, ◌==◌, false, cond, List, [], ◌∷◌, ◌++◌, length, refl, sym, ap, ◌∙◌, arith, append_assoc, append-nil, subst, length-append}
 use Rattle.std.proofs.lemmas.Bool.{ne_eqb}
 use Rattle.wire_bodies.specs.Lines.{IsWithout, Entry, entry_text, print_entries, AreEntries, Reads, spelled}
@@ -50,7 +50,7 @@ place_prefix WithinLine [] = refl
 place_prefix BeginsLine (b ∷ x) = place_prefix (next BeginsLine b) x
 place_prefix WithinLine (b ∷ x) = place_prefix (next WithinLine b) x
 
--- the front and the rest are the text
+-- the prefix and the rest are the text
 pub both : (p : Place) (x : List ℕ) → prefix_from p x ++ rest_from p x ≡ x
 both AfterPrefix x = refl
 both BeginsLine [] = refl
@@ -60,14 +60,14 @@ both WithinLine (b ∷ x) = ap (λ t. b ∷ t) (both (next WithinLine b) x)
 
 -- ---- a look at one byte after the other
 
--- A text is looked at up to a place within the front, or at its end: what was passed belongs to the front.
+-- A text is examined up to a place within the prefix, or at its end: what was passed belongs to the prefix.
 pub record Reached (p : Place) (text : List ℕ) (q : Place) (passed left : List ℕ) : Type 0 where
-  pub front : prefix_from p text ≡ passed ++ prefix_from q left
+  pub prefix : prefix_from p text ≡ passed ++ prefix_from q left
   pub rest : rest_from p text ≡ rest_from q left
   pub next_place : place_after p text ≡ place_after q left
 
 pub none_passed : (p : Place) (text : List ℕ) → Reached p text p [] text
-none_passed p text = record { front = refl; rest = refl; next_place = refl }
+none_passed p text = record { prefix = refl; rest = refl; next_place = refl }
 
 prefix_step : (q : Place) (b : ℕ) (left : List ℕ) → q ≢ AfterPrefix → prefix_from q (b ∷ left) ≡ b ∷ prefix_from (next q b) left
 prefix_step BeginsLine b left before = refl
@@ -82,7 +82,7 @@ rest_step AfterPrefix b left before = absurd (before refl)
 pub one_more : (p : Place) (text : List ℕ) (q : Place) (passed : List ℕ) (b : ℕ) (left : List ℕ) → q ≢ AfterPrefix
     → Reached p text q passed (b ∷ left) → Reached p text (next q b) (passed ++ b ∷ []) left
 one_more p text q passed b left before is = record {
-  front = is.front ∙ ap (λ t. passed ++ t) (prefix_step q b left before) ∙ sym (append_assoc passed (b ∷ []) (prefix_from (next q b) left));
+  prefix = is.prefix ∙ ap (λ t. passed ++ t) (prefix_step q b left before) ∙ sym (append_assoc passed (b ∷ []) (prefix_from (next q b) left));
   rest = is.rest ∙ rest_step q b left before;
   next_place = is.next_place;
 }
@@ -99,14 +99,14 @@ rest_nil AfterPrefix = refl
 
 -- the whole text is passed
 pub all_prefix : (p : Place) (text : List ℕ) (q : Place) (passed : List ℕ) → Reached p text q passed [] → passed ≡ prefix_from p text
-all_prefix p text q passed is = sym (is.front ∙ ap (λ t. passed ++ t) (prefix_nil q) ∙ append-nil passed)
+all_prefix p text q passed is = sym (is.prefix ∙ ap (λ t. passed ++ t) (prefix_nil q) ∙ append-nil passed)
 
 pub all_rest : (p : Place) (text : List ℕ) (q : Place) (passed : List ℕ) → Reached p text q passed [] → [] ≡ rest_from p text
 all_rest p text q passed is = sym (is.rest ∙ rest_nil q)
 
--- the front is passed
+-- the prefix is passed
 pub end_prefix : (p : Place) (text : List ℕ) (passed left : List ℕ) → Reached p text AfterPrefix passed left → passed ≡ prefix_from p text
-end_prefix p text passed left is = sym (is.front ∙ append-nil passed)
+end_prefix p text passed left is = sym (is.prefix ∙ append-nil passed)
 
 -- ---- one piece more
 
@@ -126,23 +126,23 @@ is_prefix_more old piece place is =
       next_place = ap (λ t. place_after BeginsLine t) new ∙ place_prefix BeginsLine (old ++ piece) ∙ place_append BeginsLine old piece ∙ ap (λ p. place_after p piece) is.next_place;
     }
 
--- ---- a text within the front
+-- ---- a text within the prefix
 
--- all of a text belongs to the front, from one place to another
+-- all of a text belongs to the prefix, from one place to another
 record Within (p : Place) (x : List ℕ) (q : Place) : Type 0 where
-  pub front : prefix_from p x ≡ x
+  pub prefix : prefix_from p x ≡ x
   pub rest : rest_from p x ≡ []
   pub next_place : place_after p x ≡ q
 
 prefix_within : (p q : Place) (x y : List ℕ) → Within p x q → prefix_from p (x ++ y) ≡ x ++ prefix_from q y
-prefix_within p q x y is = prefix_append p x y ∙ ap (λ t. t ++ prefix_from (place_after p x) y) is.front ∙ ap (λ r. x ++ prefix_from r y) is.next_place
+prefix_within p q x y is = prefix_append p x y ∙ ap (λ t. t ++ prefix_from (place_after p x) y) is.prefix ∙ ap (λ r. x ++ prefix_from r y) is.next_place
 
 rest_within : (p q : Place) (x y : List ℕ) → Within p x q → rest_from p (x ++ y) ≡ rest_from q y
 rest_within p q x y is = rest_append p x y ∙ ap (λ t. t ++ rest_from (place_after p x) y) is.rest ∙ ap (λ r. rest_from r y) is.next_place
 
 then_within : (p q r : Place) (x y : List ℕ) → Within p x q → Within q y r → Within p (x ++ y) r
 then_within p q r x y a b = record {
-  front = prefix_within p q x y a ∙ ap (λ t. x ++ t) b.front;
+  prefix = prefix_within p q x y a ∙ ap (λ t. x ++ t) b.prefix;
   rest = rest_within p q x y a ∙ b.rest;
   next_place = place_append p x y ∙ ap (λ s. place_after s y) a.next_place ∙ b.next_place;
 }
@@ -152,11 +152,11 @@ no_feed b other = ne_eqb b 10 other
 
 -- a line that has begun
 line_continues : (x : List ℕ) → IsWithout 10 x → Within WithinLine x WithinLine
-line_continues [] lacks = record { front = refl; rest = refl; next_place = refl }
+line_continues [] lacks = record { prefix = refl; rest = refl; next_place = refl }
 line_continues (b ∷ x) lacks =
     let step : next WithinLine b ≡ WithinLine = ap (λ c. cond c BeginsLine WithinLine) (no_feed b (lacks 0 (omega arith))) in
     let rest = line_continues x (λ i h. lacks (suc i) (omega arith)) in record {
-      front = ap (λ t. b ∷ t) (ap (λ p. prefix_from p x) step ∙ rest.front);
+      prefix = ap (λ t. b ∷ t) (ap (λ p. prefix_from p x) step ∙ rest.prefix);
       rest = ap (λ p. rest_from p x) step ∙ rest.rest;
       next_place = ap (λ p. place_after p x) step ∙ rest.next_place;
     }
@@ -167,7 +167,7 @@ line_within [] lacks some = absurd (omega arith)
 line_within (b ∷ x) lacks some =
     let step : next BeginsLine b ≡ WithinLine = ap (λ c. cond c AfterPrefix WithinLine) (no_feed b (lacks 0 (omega arith))) in
     let rest = line_continues x (λ i h. lacks (suc i) (omega arith)) in record {
-      front = ap (λ t. b ∷ t) (ap (λ p. prefix_from p x) step ∙ rest.front);
+      prefix = ap (λ t. b ∷ t) (ap (λ p. prefix_from p x) step ∙ rest.prefix);
       rest = ap (λ p. rest_from p x) step ∙ rest.rest;
       next_place = ap (λ p. place_after p x) step ∙ rest.next_place;
     }
@@ -176,12 +176,12 @@ entry_some : (e : Entry) → 0 < length (entry_text e)
 entry_some e = omega (arith, length-append e.0 (58 ∷ 32 ∷ e.1))
 
 entries_within : (es : List Entry) → AreEntries es → Within BeginsLine (print_entries es) BeginsLine
-entries_within [] are = record { front = refl; rest = refl; next_place = refl }
+entries_within [] are = record { prefix = refl; rest = refl; next_place = refl }
 entries_within (e ∷ es) are =
     then_within BeginsLine WithinLine BeginsLine (entry_text e) (10 ∷ print_entries es) (line_within (entry_text e) are.0.line (entry_some e))
-    (then_within WithinLine BeginsLine BeginsLine (10 ∷ []) (print_entries es) (record { front = refl; rest = refl; next_place = refl }) (entries_within es are.1))
+    (then_within WithinLine BeginsLine BeginsLine (10 ∷ []) (print_entries es) (record { prefix = refl; rest = refl; next_place = refl }) (entries_within es are.1))
 
--- ---- what is read of a front
+-- ---- what is read of a prefix
 
 -- what is read of a text that isn't empty
 reads_parts : (text : List ℕ) (es : List Entry) (q : List ℕ) → Reads text es q → Reads (prefix_of text) es [] × (q ≡ rest_of text)
@@ -195,12 +195,12 @@ reads_parts text es q reads =
 blank_reads : (es : List Entry) (q : List ℕ) → Reads (10 ∷ []) es q → q ≡ []
 blank_reads es q reads = (reads_once (10 ∷ []) es [] q [] reads (record { entries = tt; whole = refl })).1
 
--- Where a body is read, its entries are read of its front alone, and its payload is the rest.
+-- If a body is read, its entries are read from its prefix alone, and its payload is the rest.
 pub of_prefix : (text : List ℕ) (es : List Entry) (q : List ℕ) → Reads (spelled text) es q → Reads (spelled (prefix_of text)) es [] × (q ≡ rest_of text)
 of_prefix [] es q reads = let none = blank_reads es q reads in (subst (λ p. Reads (10 ∷ []) es p) none reads, none)
 of_prefix (b ∷ text) es q reads = reads_parts (b ∷ text) es q reads
 
--- Where entries are read of the front of a body, they are the body's, and its payload is the rest.
+-- If entries are read from the prefix of a body, they are the body's, and its payload is the rest.
 pub from_prefix : (text : List ℕ) (es : List Entry) (q : List ℕ) → Reads (spelled (prefix_of text)) es q → Reads (spelled text) es (rest_of text) × (q ≡ [])
 from_prefix [] es q reads = let none = blank_reads es q reads in (subst (λ p. Reads (10 ∷ []) es p) none reads, none)
 from_prefix (b ∷ text) es q reads =

@@ -6,7 +6,7 @@ use Rattle.std.proofs.lemmas.Bool.{ne_eqb}
 use Rattle.std.proofs.lemmas.Str.Pattern.{IsSplitOnceResult, split_after}
 use Rattle.wire_bodies.specs.Lines.{IsWithout, Entry, entry_text, IsEntry, print_entries, AreEntries, Reads}
 
--- a byte that a text lacks divides what it stands in once
+-- a byte that a text is without divides in one way what it occurs in
 pub divides : (byte : ℕ) (x y a b : List ℕ) → IsWithout byte x → IsWithout byte y → x ++ byte ∷ a ≡ y ++ byte ∷ b → (x ≡ y) × (a ≡ b)
 divides byte [] [] a b lx ly e = (refl, ap (λ t. drop 1 t) e)
 divides byte [] (d ∷ y) a b lx ly e = absurd (ly 0 (omega arith) (sym (ap (λ t. get_or t 0 0) e)))
@@ -78,7 +78,7 @@ pub no_colon : (line text : List ℕ) (r : Option (Bor (List ℕ) × Bor (List �
     → (k v : List ℕ) → line ≡ entry_text (k, v) → IsWithout 58 k → ⊥
 no_colon line text r same split none k v is lacks = rw none at (split_after 58 text k (32 ∷ v) r split (omega arith) (same ∙ is) lacks)
 
--- a split with no space behind it, no entry
+-- a split with no space after it is no entry
 pub no_space : (line text : List ℕ) (key rest : Bor (List ℕ)) → text ≡ line → IsSplitOnceResult 58 text (Some (key, rest))
     → ((t : List ℕ) → rest.now ≡ 32 ∷ t → ⊥) → (k v : List ℕ) → line ≡ entry_text (k, v) → IsWithout 58 k → ⊥
 no_space line text key rest same split none k v is lacks =

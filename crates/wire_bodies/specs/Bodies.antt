@@ -1,4 +1,4 @@
--- What the bodies of requests say.
+-- The bodies of requests: what each says.
 use Rattle.std.specs.Prelude.{◌≡◌, ℕ, true, List, [], ◌∷◌, map, codes, Some, String, string_bytes}
 use Rattle.paths.specs.Decimal.{decimal_of}
 use Rattle.paths.specs.ContentAddress.{address_of}
@@ -45,7 +45,7 @@ pub record IsDelete (dir : List ℕ) (es : List Entry) (head : DeleteHead) : Typ
   pub paths : each (path_text dir) (values (codes "path") es) ≡ Some head.paths.items
   pub ignore_liveness : optional flag_text (values (codes "ignore-liveness") es) ≡ Some head.ignore_liveness
 
--- the entries of a collection: how many bytes are to go, and a flag, if they are given
+-- the entries of a collection: how many bytes are to be freed, and a flag, if they are given
 pub record IsCollect (es : List Entry) (head : CollectHead) : Type 0 where
   pub known : are_known (codes "max-freed" ∷ codes "ignore-liveness" ∷ []) es ≡ true
   pub max_freed : optional decimal_of (values (codes "max-freed") es) ≡ Some head.max_freed

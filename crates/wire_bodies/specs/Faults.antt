@@ -1,4 +1,4 @@
--- What a fault of a value says of a body.
+-- The error of a body whose value has a fault.
 use Rattle.paths.specs.declared.store_path.StorePathError.{StorePathError}
 use Rattle.paths.specs.declared.store_path.StorePathError.TheVariants as path
 use Rattle.paths.specs.declared.store_name.NameError.{NameError}

@@ -49,7 +49,7 @@ is_colon b = b == 58
 abbrev pub entry_in : List ℕ → Entry
 entry_in line = (before_first is_colon line, drop 1 (after_first is_colon line))
 
--- the entries of the lines of a text, of whose first line a prefix comes before it
+-- the entries of the lines of a text; the start of its first line is given apart
 abbrev pub entries_from : List ℕ → List ℕ → List Entry
 entries_from line [] = []
 entries_from line (b ∷ text) =
@@ -71,12 +71,12 @@ abbrev pub FirstLine : List ℕ → Option (Bor (List ℕ) × Bor (List ℕ)) �
 FirstLine text None = IsWithout 10 text
 FirstLine text (Some parts) = (text ≡ parts.0.now ++ 10 ∷ parts.1.now) × IsWithout 10 parts.0.now
 
--- the parts of a line, or that it has none
+-- the key and the value of a line, or that it isn't an entry
 abbrev pub EntryOf : List ℕ → Option (Bor (List ℕ) × Bor (List ℕ)) → Type 0
 EntryOf line None = (k v : List ℕ) → line ≡ entry_text (k, v) → IsWithout 58 k → IsUtf8 line → ⊥
 EntryOf line (Some parts) = (line ≡ entry_text (parts.0.now, parts.1.now)) × IsWithout 58 parts.0.now × IsUtf8 line
 
--- the first entry is returned, and the lines begin after it; or there is none
+-- the first entry is returned, and the lines then begin after it; or no line is left
 abbrev pub Passes : List Entry → List Entry → Option (Bor (List ℕ) × Bor (List ℕ)) → Type 0
 Passes old new None = old ≡ []
 Passes old new (Some parts) = old ≡ (parts.0.now, parts.1.now) ∷ new

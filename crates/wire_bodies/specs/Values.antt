@@ -41,19 +41,19 @@ module _ {A : Type 0} (read : List ℕ → Option A) where
 
 -- ---- what the functions answer
 
--- what is there, or that nothing is
+-- the value that is present, or that none is
 abbrev pub Answers : {A B : Type 0} → (A → B) → Option B → Result A BodyError → Type 0
 Answers view present (Ok x) = present ≡ Some (view x)
 Answers view present (Err BadBodyHead) = present ≡ None
 Answers view present (Err Memory) = ⊤
 
--- none, the one or more of them
+-- no value, this one value, or more than one
 abbrev pub Are : List (List ℕ) → Found → Type 0
 Are [] found.None = ⊤
 Are (v ∷ []) (found.One w) = w.now ≡ v
 Are (v ∷ w ∷ vs) found.More = ⊤
 Are _ _ = ⊥
 
--- keys as they are lent
+-- the texts of borrowed keys
 abbrev pub texts : List (Bor (List ℕ)) → List (List ℕ)
 texts keys = map (λ key. key.now) keys

@@ -9,11 +9,11 @@ use crate::parts::body_of;
 use paths::StoreDir;
 use std::alloc::Global;
 
-/// The add that a body is, and the contents or the archive after its empty line, lent and not looked at.
+/// The add of a body, and the contents or the archive after its empty line, which are borrowed and not examined.
 ///
 /// # Errors
 ///
-/// `BadBodyHead` exactly where the body is none, and `Memory`.
+/// `BadBodyHead` exactly if the body isn't an add; `Memory` if memory was refused.
 pub fn named_body<'b>(
     alloc: Global,
     dir: &StoreDir,

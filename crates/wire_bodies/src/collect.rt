@@ -33,11 +33,11 @@ fn number_if_any(entries: &Lines<'_>, key: &str) -> Result<Option<u64>, BodyErro
     }
 }
 
-/// The collection that some entries are: `max-freed` and `ignore-liveness`, each at most once.
+/// The collection of some entries: `max-freed` and `ignore-liveness`, each at most once.
 ///
 /// # Errors
 ///
-/// `BadBodyHead` exactly where they are none.
+/// `BadBodyHead` exactly if the entries aren't those of a collection.
 pub fn collect_head(entries: &Lines<'_>) -> Result<CollectHead, BodyError>
     ensures ok { IfOk result (λ head. IsCollect entries.now head) }
     ensures bad { result ≡ Err BodyError.BadBodyHead → (head : CollectOf) → IsCollect entries.now head → ⊥ }

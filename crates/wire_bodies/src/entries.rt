@@ -14,7 +14,7 @@ pub enum Found<'b> {
     More,
 }
 
-/// Some values and another one after them.
+/// The values, with another one appended.
 fn with_one_more<'b>(found: Found<'b>, value: &'b str) -> Found<'b>
     ensures { (vs : List (List ℕ)) → Are vs found.entry → Are (vs ++ value.now ∷ []) result }
 {
@@ -40,7 +40,7 @@ pub fn find_value<'b>(entries: &Lines<'b>, key: &str) -> Found<'b>
     }
 }
 
-/// Whether a key is one of some.
+/// Whether a key is among `keys`.
 fn is_among(key: &str, keys: &[&str]) -> bool
     ensures { result ≡ list_any (bytes_eq key.now) (texts keys.now) }
 {
@@ -52,7 +52,7 @@ fn is_among(key: &str, keys: &[&str]) -> bool
     false
 }
 
-/// Whether each key of the entries is one of some. It looks at none after the first that isn't.
+/// Whether each key of the entries is among `keys`. No entry after the first other key is examined.
 pub fn are_known(entries: &Lines<'_>, keys: &[&str]) -> bool
     ensures { result ≡ are_known (texts keys.now) entries.now }
 {

@@ -25,11 +25,11 @@ pub struct DeleteHead {
     pub ignore_liveness: Option<bool>,
 }
 
-/// The add that some entries are: `name`, and any number of `reference`.
+/// The add of some entries: `name`, and any number of `reference`.
 ///
 /// # Errors
 ///
-/// `BadBodyHead` exactly where they are none, and `Memory`.
+/// `BadBodyHead` exactly if the entries aren't those of an add; `Memory` if memory was refused.
 pub fn named_head(
     alloc: Global,
     dir: &StoreDir,
@@ -51,7 +51,7 @@ pub fn named_head(
 ///
 /// # Errors
 ///
-/// `BadBodyHead` exactly where they name none, and `Memory`.
+/// `BadBodyHead` exactly if the entries don't name one path; `Memory` if memory was refused.
 pub fn path_head(alloc: Global, dir: &StoreDir, entries: &Lines<'_>) -> Result<StorePath, BodyError>
     ensures ok { IfOk result (λ path. IsPath dir.now entries.now path) }
     ensures bad { result ≡ Err BodyError.BadBodyHead → (path : List ℕ) → IsPath dir.now entries.now path → ⊥ }
@@ -62,11 +62,11 @@ pub fn path_head(alloc: Global, dir: &StoreDir, entries: &Lines<'_>) -> Result<S
     one_path(alloc, dir, entries, "path")
 }
 
-/// The deletion that some entries are: any number of `path`, and `ignore-liveness` at most once.
+/// The deletion of some entries: any number of `path`, and `ignore-liveness` at most once.
 ///
 /// # Errors
 ///
-/// `BadBodyHead` exactly where they are none, and `Memory`.
+/// `BadBodyHead` exactly if the entries aren't those of a deletion; `Memory` if memory was refused.
 pub fn delete_head(
     alloc: Global,
     dir: &StoreDir,

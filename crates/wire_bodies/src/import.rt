@@ -22,11 +22,11 @@ pub struct ImportHead {
     pub ca: Option<Ca>,
 }
 
-/// The import that some entries are: `path`, `nar-hash`, any number of `reference`, `deriver` and `ca` at most once.
+/// The import of some entries: `path`, `nar-hash`, any number of `reference`, `deriver` and `ca` at most once.
 ///
 /// # Errors
 ///
-/// `BadBodyHead` exactly where they are none, and `Memory`.
+/// `BadBodyHead` exactly if the entries aren't those of an import; `Memory` if memory was refused.
 pub fn import_head(
     alloc: Global,
     dir: &StoreDir,
@@ -47,11 +47,11 @@ pub fn import_head(
     })
 }
 
-/// The import that a body is, and the archive after its empty line, lent and not looked at.
+/// The import of a body, and the archive after its empty line, which is borrowed and not examined.
 ///
 /// # Errors
 ///
-/// `BadBodyHead` exactly where the body is none, and `Memory`.
+/// `BadBodyHead` exactly if the body isn't an import; `Memory` if memory was refused.
 pub fn import_body<'b>(
     alloc: Global,
     dir: &StoreDir,

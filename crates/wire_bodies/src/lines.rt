@@ -33,8 +33,8 @@ pub(crate) fn entry_of<'b>(line: &'b [u8]) -> Option<(&'b str, &'b str)>
     }
 }
 
-/// Lines that are known to have a key and a value each, lent as they are: there is no list of them. Contracts see
-/// the keys and values in their order.
+/// The lines of a body, each with a key and a value, borrowed from the body: no list of them is made. Contracts see the keys and values in
+/// their order.
 #[derive(Drop)]
 pub struct Lines<'b> {
     pub(crate) text: &'b [u8],
@@ -59,7 +59,7 @@ impl<'b> Lines<'b> {
         Lines { text: self.text }
     }
 
-    /// The key and the value of the first line, which is passed; none where no line is left.
+    /// The key and the value of the first line. The lines then begin after it. `None` if no line is left.
     pub fn take_entry(&mut self) -> Option<(&'b str, &'b str)>
         ensures { Passes self.old self.new result }
     {

@@ -13,12 +13,12 @@ enum Place {
     BeginsLine,
     /// In a line that has begun.
     WithinLine,
-    /// After the empty line: it is payload.
+    /// After the empty line, in the payload.
     AfterPrefix,
 }
 
-/// The beginning of a body that comes in pieces, however they are cut: its lines up to and with the first empty one. What
-/// follows is its payload. Contracts see the bytes of these lines that have come.
+/// The prefix of a body that comes in pieces, however they are cut: its lines up to and with the first empty one. What follows is the
+/// payload. Contracts see the bytes of the prefix that have come.
 #[derive(Drop)]
 pub struct Prefix {
     bytes: Vec<u8>,
@@ -59,7 +59,7 @@ fn place_after(place: Place, byte: u8) -> Place
     }
 }
 
-/// How many bytes of a piece, whose place is given, belong to these lines, and the place after them.
+/// How many bytes of a piece, which begins at this place, belong to the prefix, and the place after them.
 fn prefix_in(place: Place, piece: &[u8]) -> (usize, Place)
     ensures within { result.0 ≤ length piece.now }
     ensures prefix { take result.0 piece.now ≡ prefix_from place piece.now }
@@ -76,7 +76,7 @@ fn prefix_in(place: Place, piece: &[u8]) -> (usize, Place)
     (piece.len(), next_place)
 }
 
-/// The lines of a body up to and with the first empty one, lent. It looks at no byte after them.
+/// The lines of a body up to and with the first empty one, borrowed. No byte after them is examined.
 pub fn lines_of(body: &[u8]) -> &[u8]
     ensures { result.now ≡ prefix_of body.now }
 {
@@ -85,7 +85,7 @@ pub fn lines_of(body: &[u8]) -> &[u8]
 }
 
 impl Prefix {
-    /// No bytes yet. It takes no memory.
+    /// An empty prefix. Allocates no memory.
     pub fn new(alloc: Global) -> Prefix
         ensures { result ≡ [] }
     {
@@ -95,12 +95,11 @@ impl Prefix {
         }
     }
 
-    /// Takes what of the next piece belongs to these lines, and returns the rest of it, which is payload. It looks at
-    /// no byte after them.
+    /// Appends the part of the next piece that belongs to the prefix, and returns the rest of the piece, which is payload and not examined.
     ///
     /// # Errors
     ///
-    /// Memory was refused, which is never asked for after the empty line. The lines are then as before.
+    /// Memory was refused; none is needed after the empty line. The prefix is then as before.
     pub fn take<'a>(&mut self, piece: &'a [u8]) -> Result<&'a [u8], AllocError>
         ensures prefix { IfOk result (λ rest. self.new ≡ prefix_of (self.old ++ piece.now)) }
         ensures rest { IfOk result (λ rest. rest.now ≡ rest_of (self.old ++ piece.now)) }
@@ -116,7 +115,7 @@ impl Prefix {
         Ok(&piece[count..])
     }
 
-    /// The bytes of the lines that have come.
+    /// The bytes of the prefix that have come.
     pub fn bytes(&self) -> &[u8]
         ensures now { result.now ≡ self.now }
         ensures prefix { prefix_of self.now ≡ self.now }

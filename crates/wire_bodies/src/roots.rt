@@ -12,7 +12,7 @@ use crate::values::path_of;
 use paths::{StoreDir, StorePath};
 use std::alloc::Global;
 
-/// What comes before the first space, and after it.
+/// The parts of a text before the first space and after it.
 fn parts_at_space(text: &str) -> (&str, &str)
     ensures label { result.0.now ≡ before_first is_space text.now }
     ensures path { result.1.now ≡ after_first is_space text.now }
@@ -23,7 +23,7 @@ fn parts_at_space(text: &str) -> (&str, &str)
     }
 }
 
-/// The label and the path that a text names, with the first space between. The label isn't looked at.
+/// The label and the path that a text names, with the first space between. The label isn't examined.
 fn root_of(alloc: Global, dir: &StoreDir, text: &str) -> Result<(String, StorePath), BodyError>
     ensures { Answers (λ root. (string_bytes root.0, root.1)) (root_text dir.now text.now) result }
 {
@@ -58,7 +58,7 @@ fn each_root(
 ///
 /// # Errors
 ///
-/// `BadBodyHead` exactly where they aren't such entries, and `Memory`.
+/// `BadBodyHead` exactly if the entries aren't such; `Memory` if memory was refused.
 pub fn runtime_head(
     alloc: Global,
     dir: &StoreDir,

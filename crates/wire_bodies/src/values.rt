@@ -1,4 +1,4 @@
-//! What the values of a key stand for.
+//! The values that the texts of entries stand for.
 ghost use Rattle.std.specs.Prelude.{◌≡◌, option_map, Some, None, List};
 ghost use Rattle.wire_bodies.specs.Values.{Answers, values, single, optional, each};
 ghost use Rattle.wire_bodies.specs.Kinds.{path_text, name_text, hash_text, flag_text};
@@ -143,7 +143,7 @@ pub fn ca_if_any(alloc: Global, entries: &Lines<'_>, key: &str) -> Result<Option
     }
 }
 
-/// What the entry of a key sets, if there is one.
+/// The flag that the entry of a key sets, if there is one.
 pub fn flag_if_any(entries: &Lines<'_>, key: &str) -> Result<Option<bool>, BodyError>
     ensures { Answers (λ f. f) (optional flag_text (values key.now entries.now)) result }
 {

@@ -65,9 +65,9 @@ fn is_as(expected: &Expected, arrived: &Arrived) -> Result<bool, AllocError> {
 
 /// Contents are asked for in between, at each second place.
 fn cut(alloc: Global, archive: &[u8], place: usize) -> Result<Arrived, AllocError> {
-    let (front, rest) = archive.split_at(place.min(archive.len()));
+    let (start, rest) = archive.split_at(place.min(archive.len()));
     let mut intake = Intake::new(alloc);
-    intake.push(front)?;
+    intake.push(start)?;
     if place % 2 == 0 {
         intake.hash_contents();
     }
@@ -96,13 +96,13 @@ fn differing(
 fn show(rt: &(impl Print + AllocGlobal), expected: &Expected, near: usize) -> io::Result<()> {
     let alloc = rt.alloc();
     let len = expected.archive.len();
-    let behind = near.max(SEAM.saturating_sub(near));
-    let front = differing(alloc, expected, 0, near.min(len))?;
-    let back = differing(alloc, expected, behind, len)?;
+    let after = near.max(SEAM.saturating_sub(near));
+    let start = differing(alloc, expected, 0, near.min(len))?;
+    let back = differing(alloc, expected, after, len)?;
     let bytes = pushed(alloc, &expected.archive, 1, true)?;
     let is_same = is_as(expected, &bytes)?;
-    match front.or(back) {
-        Some(place) => println!(rt; "{len} bytes, cut behind byte {place}: something else"),
+    match start.or(back) {
+        Some(place) => println!(rt; "{len} bytes, cut after byte {place}: something else"),
         None if is_same => println!(rt; "{len} bytes: the same, however they are cut"),
         None => println!(rt; "{len} bytes, byte by byte: something else"),
     }
@@ -124,7 +124,7 @@ fn show_pieces(
     println!(rt; "{len} bytes in pieces of {size}: {reported}")
 }
 
-/// Says it of pieces of a byte, and of a byte less than those that are kept.
+/// Says whether an archive comes out as it has to, in pieces of one byte, and of a byte less than those that are stored.
 fn show_large(rt: &(impl Print + AllocGlobal), expected: &Expected) -> io::Result<()> {
     show_pieces(rt, expected, 1)?;
     show_pieces(rt, expected, SEAM - 1)

@@ -22,7 +22,7 @@ fn entries(alloc: Global, count: u32) -> Result<Vec<usize>, AllocError> {
     Ok(entries)
 }
 
-/// One pass over the entries, with a look at what a list holds for each one's target: how many are below `none`.
+/// The number of entries whose target has a mark below `none`: one pass over the entries, with a look at each target.
 fn passed(entries: &[usize], held: &[usize], none: usize) -> usize {
     let mut found = 0usize;
     for target in entries {

@@ -10,10 +10,10 @@ use std::alloc::{AllocError, Global};
 const ONE: &str =
     r#"Derive([("out","/nix/store/11111111111111111111111111111111-o","","")],[],[],"p","b",[],[])"#;
 
-/// One with two outputs of one name.
+/// A derivation with two outputs of one name.
 const TWICE: &str = r#"Derive([("out","","",""),("out","","","")],[],[],"p","b",[],[])"#;
 
-/// A directory with a directory and a link whose name is 300 bytes long, so that a checker holds much.
+/// A directory with a directory and a link whose name is 300 bytes long, so that a checker needs memory.
 fn archive_of_two(alloc: Global) -> Result<Vec<u8>, AllocError> {
     let words =
         "nix-archive-1 ( type directory entry ( name a node ( type directory ) ) entry ( name";
@@ -51,7 +51,7 @@ fn refused_while_reading(rt: HostRuntime) {
         }
         Err(e) => assert_eq!(rt; e, NarError::Memory),
     }
-    // A fault behind directories is told, or `Memory`.
+    // A fault after directories is returned, or else `Memory`.
     let faulty = prefix(&bytes, 600);
     let fault = fault_of(read(alloc, faulty));
     assert!(rt; fault == Some(NarError::Truncated) || fault == Some(NarError::Memory));
@@ -117,7 +117,7 @@ fn refused_while_checking(rt: HostRuntime) {
         let end = fault_of(checker.finish());
         assert_eq!(rt; end, if failed { Some(NarError::Memory) } else { None });
     }
-    // A fault is told, or `Memory`, and either is repeated.
+    // A fault is returned, or else `Memory`, and either is repeated.
     let mut checker = Checker::new(alloc);
     let _ = checker.feed(&bytes);
     let reported = fault_of(checker.feed(MY_FILE));

@@ -53,15 +53,14 @@ fn writers_that_fail(rt: HostRuntime) {
     }
 }
 
-/// What becomes of the body of the message that a reader gives, if it gives one. There is room for some bytes of it.
+/// What becomes of the body of the message that a reader gives, if it gives one. Memory is refused for more than some bytes of it.
 fn gives_message(
     alloc: Global,
     input: &mut Drip,
     room: usize,
 ) -> Result<Option<Fate>, ReceiveError> {
-    let mut window = [0; 512];
     let mut buffer = Vec::new(alloc);
-    let Received::Message(head, size) = receive_head(input, &mut window, &mut buffer)? else {
+    let Received::Message(head, size) = receive_head(input, &mut buffer)? else {
         return Ok(None);
     };
     let mut body = Tight {

@@ -8,14 +8,14 @@ use policy::Config;
 use std::alloc::Global;
 use std::test::Fail;
 
-/// Files, what is asked of the store that they hold, and what comes of it where nothing stops.
+/// Files, the calls on their store, and the results if nothing stops.
 #[derive(Drop)]
 pub struct Case {
-    /// What the files hold.
+    /// The contents of the files.
     pub start: Contents,
     /// Queries for their rows before they are opened as a store.
     pub queries: &'static [&'static str],
-    /// What these give.
+    /// The rows that these queries give.
     pub earlier: Vec<u8>,
     pub settings: &'static [u8],
     pub steps: &'static [Step],

@@ -1,8 +1,8 @@
-//! Calls over files, as far as they come.
+//! Calls over files, up to the first that fails.
 
 ghost use Rattle.std.specs.Prelude.{◌≡◌, IfOk};
 
-use crate::stops::disks::{DiskStore, Disks, close, connect, give_up};
+use crate::stops::disks::{DiskStore, Disks, close, connect, release_files};
 use crate::stops::requests::{Step, request_of};
 use crate::stores::push_reply;
 use paths::StoreDir;
@@ -14,19 +14,19 @@ use std::test::Fail;
 use store::{Failed, Reply, Store};
 use tables::{Cause, Tables, Unadopted, adopt};
 
-/// How far calls came.
+/// How many calls were answered, and what they left.
 #[derive(Drop)]
 pub struct Run {
     /// How many of them were answered, and the opening before them.
     pub made: usize,
     /// The replies as text.
     pub reported: Vec<u8>,
-    /// The files, given up.
+    /// The files, after the calls.
     pub files: Disks,
 }
 
-/// Makes a connection a store. Where that fails its files are returned, with the failure.
-fn take_up(
+/// Opens a connection as a store. If that fails, the files are returned, with the failure.
+fn adopt_connection(
     alloc: Global,
     conn: Connection<DiskStore>,
     dir: &StoreDir,
@@ -34,7 +34,7 @@ fn take_up(
     ensures { IfOk result (λ t. t.dir ≡ dir.now) }
 {
     if !conn.is_autocommit() {
-        return Err((give_up(conn), None));
+        return Err((release_files(conn), None));
     }
     match adopt(alloc, conn, dir) {
         Ok(tables) => Ok(tables),
@@ -44,12 +44,12 @@ fn take_up(
                 Cause::Failed(failure) => Some(failure),
                 _ => None,
             };
-            Err((give_up(conn), failure))
+            Err((release_files(conn), failure))
         }
     }
 }
 
-/// Opens files as a store. Where that fails they are returned, with the failure.
+/// Opens files as a store. If that fails, they are returned, with the failure.
 pub fn open(
     alloc: Global,
     files: Disks,
@@ -59,7 +59,7 @@ pub fn open(
         Ok(conn) => conn,
         Err((files, failure)) => return Err((files, Some(failure))),
     };
-    let tables = take_up(alloc, conn, store_dir(&config))?;
+    let tables = adopt_connection(alloc, conn, store_dir(&config))?;
     Ok(Store::new(alloc, config, tables))
 }
 
@@ -104,7 +104,7 @@ pub fn make_run(alloc: Global, files: Disks, settings: &[u8], steps: &[Step]) ->
             let files = if made == steps.len() {
                 close(conn)
             } else {
-                give_up(conn)
+                release_files(conn)
             };
             Ok(Run {
                 made: made.saturating_add(1),

@@ -11,7 +11,7 @@ pub type Disks = Files<Fuse<Memory>>;
 /// The store of a connection over them.
 pub type DiskStore = FileStore<Fuse<Memory>>;
 
-/// What the two files hold.
+/// The contents of the two files.
 #[derive(Drop)]
 pub struct Contents {
     pub log: Vec<u8>,
@@ -42,7 +42,7 @@ pub fn files_of(
     })
 }
 
-/// What the files hold now.
+/// The present contents of the files.
 pub fn held_in(alloc: Global, files: &Disks) -> Result<Contents, AllocError> {
     Ok(Contents {
         log: Vec::from_slice(alloc, files.log.inner().bytes())?,
@@ -50,7 +50,7 @@ pub fn held_in(alloc: Global, files: &Disks) -> Result<Contents, AllocError> {
     })
 }
 
-/// Both files lose what wasn't synced.
+/// Makes both files lose what wasn't synced.
 pub fn crash(files: &mut Disks) {
     files.log.crash();
     files.db.crash();
@@ -66,7 +66,7 @@ pub fn is_stopped(files: &mut Disks) -> bool {
     is_blown(&mut files.log) || is_blown(&mut files.db)
 }
 
-/// Opens the files. Where that fails they are returned, with the failure.
+/// Opens the files. If that fails, they are returned, with the failure.
 pub fn connect(alloc: Global, files: Disks) -> Result<Connection<DiskStore>, (Disks, Failed)> {
     if !files.may_be_used() {
         return Err((files, Failed::Disk));
@@ -77,8 +77,8 @@ pub fn connect(alloc: Global, files: Disks) -> Result<Connection<DiskStore>, (Di
     }
 }
 
-/// The files of a connection that is given up.
-pub fn give_up(conn: Connection<DiskStore>) -> Disks {
+/// The files of a connection, which is closed.
+pub fn release_files(conn: Connection<DiskStore>) -> Disks {
     conn.into_store().close()
 }
 

@@ -50,7 +50,7 @@ pub const FIRST: &[&str] = &[
     RUNTIME,
 ];
 
-/// By the second.
+/// All rows by the second schema.
 pub const SECOND: &[&str] = &[
     NAMES,
     META,
@@ -65,7 +65,7 @@ pub const SECOND: &[&str] = &[
     PIECES,
 ];
 
-/// By the third.
+/// All rows by the third schema.
 pub const THIRD: &[&str] = &[
     NAMES,
     META,

@@ -3,7 +3,7 @@ use Rattle.std.proofs.lemmas.Result.{IfOk-weaker}
 use Rattle.clap.specs.Simple.{App, Shape, app_of, with_subcommand}
 use Rattle.tool_words.proofs.grammar.with_plain.Goals as goal
 
--- what a subcommand is told of itself
+-- the settings of a subcommand
 abbrev top : App → Shape
 top a = a.top
 

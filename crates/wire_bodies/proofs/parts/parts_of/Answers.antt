@@ -31,12 +31,12 @@ returns-in_default c =
 pub invariant_of-result : goal.invariant_of-result
 invariant_of-result c =
     let read = c.lines.invariant in
-    let front = c.split_at.ensures.front ∙ prefix_is c.args.text.now read.0 c.lines.rest.now read.1 in
-    (lines_are c.split_at.result.0.now read.0 read.1.entries front).1
+    let prefix = c.split_at.ensures.front ∙ prefix_is c.args.text.now read.0 c.lines.rest.now read.1 in
+    (lines_are c.split_at.result.0.now read.0 read.1.entries prefix).1
 
 pub returns-then-is_empty : goal.returns-then-is_empty
 returns-then-is_empty c =
     let read = c.lines.invariant in
     let line = c.in-Some.line.now in
-    let front = c.split_at.ensures.front ∙ prefix_is c.args.text.now read.0 c.lines.rest.now read.1 in
-    read_whole c.args.text.now read.0 c.lines.rest.now line c.in-Some.after.now c.split_at.result.0.now read.1 c.in-Some.ensures.0 (nothing_in line c.is_empty.result c.is_empty.ensures c.if-is_empty.true) front
+    let prefix = c.split_at.ensures.front ∙ prefix_is c.args.text.now read.0 c.lines.rest.now read.1 in
+    read_whole c.args.text.now read.0 c.lines.rest.now line c.in-Some.after.now c.split_at.result.0.now read.1 c.in-Some.ensures.0 (nothing_in line c.is_empty.result c.is_empty.ensures c.if-is_empty.true) prefix

@@ -1,7 +1,7 @@
-//! Our tables by their names, and those of each schema.
+//! The store's tables by their names, and those of each schema.
 
 ghost use Rattle.std.specs.Prelude.{◌≡◌};
-ghost use Rattle.tables_schema.specs.OurTables.{schema_tables};
+ghost use Rattle.tables_schema.specs.StoreTables.{schema_tables};
 
 use crate::schema::Schema;
 
