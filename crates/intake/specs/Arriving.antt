@@ -14,20 +14,20 @@ abbrev pub MayHold : Option Sha256 → List ℕ → Type 0
 MayHold None bytes = ⊤
 MayHold (Some hasher) bytes = Holds256 hasher bytes
 
--- The checker has received these bytes, and was refused no memory. Of them each whole piece is hashed, and what it has
--- of a file's contents, where they are asked for.
+-- The checker has received these bytes, and was refused no memory. Each whole piece of them is hashed; so is its part
+-- of a file's contents, if their digest is asked for.
 pub record HasAccepted (checker : Checker) (hasher : Sha256) (contents : Option Sha256) (bytes : List ℕ) : Type 0 where
   pub fed : HasBeenFed checker bytes
   pub sound : ¬ HasFailed checker Memory
   pub hashed : Holds256 hasher (take (65536 * (length bytes / 65536)) bytes)
   pub contents_hashed : MayHold contents (contents_so_far (take (65536 * (length bytes / 65536)) bytes))
 
--- the bytes and a piece after them; nothing where the intake is spent
+-- the bytes and a piece after them; nothing if the intake is spent
 abbrev pub appended : Option (List ℕ) → List ℕ → Option (List ℕ)
 appended None piece = None
 appended (Some bytes) piece = Some (bytes ++ piece)
 
--- the bytes that have come; none where the intake is spent
+-- the bytes that have come; none if the intake is spent
 abbrev pub bytes_in : Option (List ℕ) → List ℕ
 bytes_in None = []
 bytes_in (Some bytes) = bytes

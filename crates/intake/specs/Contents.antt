@@ -16,15 +16,15 @@ plain_prefix =
 abbrev pub begins_plain : List ℕ → Bool
 begins_plain bytes = bytes_eq (take 88 bytes) plain_prefix
 
--- of the bytes after the length that follows the prefix, as many as it says
+-- as many of the bytes after the prefix and the length as the length says
 abbrev pub after_prefix : List ℕ → List ℕ
 after_prefix bytes = take (length_at (drop 88 bytes)) (drop 96 bytes)
 
--- the contents that have come: none, where the bytes don't begin so
+-- the contents that have come: none, if the bytes don't begin with that prefix
 abbrev pub contents_so_far : List ℕ → List ℕ
 contents_so_far bytes = if begins_plain bytes then after_prefix bytes else []
 
--- SHA-256 of the contents that have come, where the bytes begin so
+-- SHA-256 of the contents that have come, if the bytes begin with that prefix
 abbrev pub hash_so_far : List ℕ → Option (List ℕ)
 hash_so_far bytes = if begins_plain bytes then Some (sha256 (contents_so_far bytes)) else None
 

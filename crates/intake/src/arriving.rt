@@ -7,7 +7,7 @@ ghost use Rattle.intake.specs.Arriving.{HasAccepted};
 ghost use Rattle.intake.specs.Described.{DescribesBytes, facts_for};
 
 use crate::checking::{fault_at_end, feed};
-use crate::digests::{contents_up_to, finalized, hash_asked, hash_pieces, plain_hash};
+use crate::digests::{Part, contents_up_to, finalized, hash_asked, hash_pieces, plain_hash};
 use nar::{Checker, NarError};
 use paths::{Facts, Method};
 use sha2::{Digest, Sha256};
@@ -22,15 +22,15 @@ pub struct Arrived {
     pub fault: Option<NarError>,
     /// The SHA-256 digest of the bytes.
     pub nar_hash: [u8; 32],
-    /// The digest of the contents with which the bytes begin as the archive of a file that isn't executable, where it was asked for.
+    /// The digest of the contents, if it was asked for and the bytes begin as the archive of a file that isn't executable.
     pub contents_hash: Option<[u8; 32]>,
     /// The bytes themselves.
     pub pieces: Pieces,
 }
 
 impl Arrived {
-    /// What is found of the bytes for a content address. Where they are the archive of a file that isn't executable, and
-    /// the digest of its contents wasn't asked for, these are hashed here.
+    /// The facts of the bytes for a content address. If they are the archive of a file that isn't executable, and the digest of its
+    /// contents wasn't asked for, the contents are hashed here.
     pub fn facts(&self) -> Facts
         ensures { DescribesBytes self.now → result ≡ facts_of self.now.pieces }
     {
@@ -41,8 +41,8 @@ impl Arrived {
         }
     }
 
-    /// What is found of the bytes for a content address of this method. For `Text` these are `facts`; for `Source` no
-    /// contents are hashed, and `plain` is `None`.
+    /// The facts of the bytes for a content address of this method. For `Text` they are those of `facts`; for `Source` no contents are
+    /// hashed, and `plain` is `None`.
     ///
     /// ```rust
     /// use intake::Intake;
@@ -67,8 +67,8 @@ impl Arrived {
     }
 }
 
-/// The bytes so far; contracts see them. Each is checked as it comes, hashed with its piece, and then only kept. The
-/// contents of a file are hashed too where that is asked for.
+/// The bytes so far, which contracts see. Each byte is checked as it comes, and hashed with its piece. The contents of a file are hashed
+/// too, if that is asked for.
 #[derive(Drop)]
 pub struct Arriving {
     alloc: Global,
@@ -89,7 +89,7 @@ impl Model for Arriving {
     ghost invariant = { λ a. HasAccepted a.checker a.hasher a.contents a.pieces };
 }
 
-/// Takes the next piece: what was known of the pieces so far is known of all. Where memory is refused, the parts no longer agree.
+/// Takes the next piece. If memory is refused, the parts no longer agree.
 fn accept_piece(
     checker: &mut Checker,
     hasher: &mut Sha256,
@@ -105,8 +105,13 @@ fn accept_piece(
     pieces.push(piece)?;
     feed(checker, piece)?;
     let now = pieces.len() / PIECE_SIZE;
-    hash_pieces(hasher, pieces, whole, now);
-    hash_asked(contents, pieces, whole, now);
+    let part = Part {
+        pieces: &*pieces,
+        from: whole,
+        to: now,
+    };
+    hash_pieces(hasher, part);
+    hash_asked(contents, part);
     Ok(())
 }
 
@@ -124,7 +129,7 @@ impl Arriving {
         }
     }
 
-    /// Takes the next piece. Where memory is refused no bytes are left.
+    /// Takes the next piece. If memory is refused, no bytes are left.
     pub fn push(&mut self, piece: &[u8]) -> Result<(), AllocError>
         ensures { OnOk result (self.new ≡ self.old ++ piece.now) }
     {
@@ -143,8 +148,7 @@ impl Arriving {
         }
     }
 
-    /// From now on the contents of a file that isn't executable are hashed as they come. What has come of them is hashed
-    /// here.
+    /// Hashes the contents of a file that isn't executable, from now on as they come. Contents that have come already are hashed here.
     pub fn hash_contents(&mut self)
         ensures { self.new ≡ self.old }
     {
@@ -153,14 +157,14 @@ impl Arriving {
         }
     }
 
-    /// What has come are bytes: a law, that does nothing.
+    /// A law: what has come are bytes. The function does nothing.
     pub fn are_bytes(&self)
         ensures { IsBytes self.now }
     {
         let _len = self.pieces.len();
     }
 
-    /// What is found at the end. Of the bytes it looks only at what isn't hashed yet.
+    /// The facts at the end. Only bytes that aren't hashed yet are read.
     pub fn finish(self) -> Arrived
         ensures pieces { result.pieces ≡ self }
         ensures reported { DescribesBytes result }
@@ -173,8 +177,13 @@ impl Arriving {
             ..
         } = self;
         let whole = pieces.len() / PIECE_SIZE;
-        hash_pieces(&mut hasher, &pieces, whole, pieces.count());
-        hash_asked(&mut contents, &pieces, whole, pieces.count());
+        let rest = Part {
+            pieces: &pieces,
+            from: whole,
+            to: pieces.count(),
+        };
+        hash_pieces(&mut hasher, rest);
+        hash_asked(&mut contents, rest);
         Arrived {
             fault: fault_at_end(checker),
             nar_hash: hasher.finalize(),

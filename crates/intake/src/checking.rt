@@ -1,4 +1,4 @@
-//! A checker that is fed each byte, and asked at the end alone.
+//! A checker that is fed each byte, and asked only at the end.
 
 ghost use Rattle.std.specs.Prelude.{◌≡◌, ◌++◌, List, ℕ, OnOk};
 ghost use Rattle.nar.specs.declared.error.NarError.TheVariants.{Memory as memory};

@@ -1,4 +1,4 @@
-//! What is found of bytes that are held already.
+//! The facts of bytes in memory.
 
 ghost use Rattle.std.specs.Prelude.{◌≡◌, IfOk};
 ghost use Rattle.intake.specs.Described.{DescribesBytes};
@@ -11,8 +11,7 @@ use std::alloc::{AllocError, Global};
 use streams::Pieces;
 
 impl Arrived {
-    /// What is found of these bytes. Each piece is checked and hashed once, where it lies, and none is copied; the digest of contents
-    /// isn't among it.
+    /// The facts of these bytes, without the digest of contents. Each piece is checked and hashed once, and none is copied.
     ///
     /// # Errors
     ///

@@ -1,4 +1,4 @@
-//! An archive on its way in: checked, hashed and kept as it arrives.
+//! An archive on its way in: checked, hashed and stored as it arrives.
 #![tactic(auto)]
 
 mod arriving;

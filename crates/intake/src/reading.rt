@@ -1,4 +1,4 @@
-//! What reads an archive whole.
+//! Functions that read an archive whole.
 
 ghost use Rattle.std.specs.Prelude.{◌≡◌, ◌++◌, Ok, Err, OnOk, IfOk, IfErr, codes, string_bytes};
 ghost use Rattle.std.specs.Option.{option_copied};
@@ -13,7 +13,7 @@ use nar::{NarError, Node};
 use std::alloc::{AllocError, Global};
 use streams::Pieces;
 
-/// Appends the listing of an archive that is held in pieces. One buffer with all of its bytes is made, and given back.
+/// Appends the listing of an archive that is held in pieces. One buffer with all of its bytes is made, and dropped.
 ///
 /// # Errors
 ///
@@ -40,8 +40,8 @@ fn contents<'a>(node: &Node<'a>) -> Option<&'a [u8]>
     }
 }
 
-/// The contents, where an archive is that of a regular file, executable or not: the text of a derivation. Take the
-/// archive from `Pieces::joined`.
+/// The contents, if an archive is that of a regular file, executable or not: so the text of a derivation is read. `Pieces::joined` gives
+/// the archive.
 ///
 /// # Errors
 ///

@@ -10,9 +10,9 @@ use std::alloc::{AllocError, Global};
 use std::marker::Model;
 use streams::Sink;
 
-/// An archive that comes in pieces, however they are cut. Each byte is checked and kept as it comes, also where it is no
-/// archive, and hashed with the 65,536 with which it is kept. Where memory is refused once, the intake is spent: from
-/// then on it only answers so. Contracts see the bytes that have come, or nothing where it is spent.
+/// An archive that comes in pieces, however they are cut. Each byte is checked and stored as it comes, also if the bytes aren't an archive,
+/// and is hashed with its piece of 65,536 bytes. If memory is refused once, the intake is spent: from then on each call answers that.
+/// Contracts see the bytes that have come, or none if it is spent.
 #[derive(Drop)]
 pub struct Intake {
     so_far: Option<Arriving>,
@@ -26,7 +26,7 @@ impl Model for Intake {
     ghost view = { λ i. i.so_far };
 }
 
-/// Lets go what has come. A function apart from `push`, which would else clear room for it at each call.
+/// Drops what has come. This is a function apart from `push`, which would otherwise clear room for it at each call.
 #[cold]
 #[inline(never)]
 fn spend(so_far: &mut Option<Arriving>)
@@ -36,7 +36,7 @@ fn spend(so_far: &mut Option<Arriving>)
 }
 
 impl Intake {
-    /// No bytes yet. It takes no memory.
+    /// No bytes yet. Allocates no memory.
     ///
     /// ```rust
     /// use store::Intake;
@@ -104,8 +104,8 @@ impl Intake {
         Ok(())
     }
 
-    /// From now on the contents of a file that isn't executable are hashed as they come, for who knows that the address
-    /// of a text will ask for them. So `Arrived::facts` looks at no byte again.
+    /// Hashes the contents of a file that isn't executable as they come, from now on. Call it if the address of a text will need their
+    /// digest: then `Arrived::facts` reads no byte again.
     ///
     /// ```rust
     /// use nar::Node;
@@ -127,7 +127,7 @@ impl Intake {
         }
     }
 
-    /// What has come are bytes: a law, that does nothing.
+    /// A law: what has come are bytes. The function does nothing.
     pub fn are_bytes(&self)
         ensures { IsBytes (bytes_in self.now) }
     {
@@ -136,7 +136,7 @@ impl Intake {
         }
     }
 
-    /// The end of the archive: its fault or none, its digest, and its bytes. It takes no memory.
+    /// The end of the archive: its fault or none, its digest, and its bytes. Allocates no memory.
     ///
     /// ```rust
     /// use sha2::{Digest, Sha256};

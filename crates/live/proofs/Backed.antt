@@ -4,8 +4,7 @@ use Rattle.std.specs.Prelude.{All, count_by, nat_le}
 use Rattle.live.specs.Graph.{Keep}
 use Rattle.live.specs.Places.{AllInside, Entries}
 use Rattle.live.specs.Marking.{Frontier, IsDequeued, NoneWaits, all_reached}
-use Rattle.live.specs.Backward.{IsBackward, IsTurned, sources_at}
-use Rattle.live.specs.declared.turning.Reversed.{Reversed}
+use Rattle.live.specs.Backward.{IsBackward, IsTurned, Reversed, sources_at}
 use Rattle.live.proofs.OneRoot.{waiting_count}
 use Rattle.live.proofs.Backs.{IsBack, finish, smaller, sources_inside, step_taken}
 

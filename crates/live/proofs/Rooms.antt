@@ -5,9 +5,8 @@ use Rattle.std.specs.List.{slice_range}
 use Rattle.std.proofs.lemmas.Bool.{cases_eq, cases_lt}
 use Rattle.std.proofs.lemmas.List.{get_or_past, get_or_append_left, get_or_push, length_push}
 use Rattle.std.proofs.lemmas.List.Edits.{between_none}
-use Rattle.live.specs.Backward.{AreEmpty, AreLaid, no_range, range_at}
+use Rattle.live.specs.Backward.{AreEmpty, AreLaid, Reversed, no_range, range_at}
 use Rattle.live.specs.declared.turning.Range.{Range}
-use Rattle.live.specs.declared.turning.Reversed.{Reversed}
 use Rattle.live.proofs.Members.{no_member}
 
 -- so many lists that have nothing, with room up to a limit
@@ -72,11 +71,11 @@ module _ (n old limit : ℕ) (ranges : List Range) (m : AreBegun n old ranges) (
     };
   }
 
-pub all_begun : (into : Reversed) (n limit : ℕ) → AreBegun n limit into.ranges.items → length into.sources.items ≡ limit → AreEmpty into × AreLaid into.ranges.items (length into.sources.items)
+pub all_begun : (into : Reversed) (n limit : ℕ) → AreBegun n limit into.ranges → length into.sources ≡ limit → AreEmpty into × AreLaid into.ranges (length into.sources)
 all_begun into n limit m e = (
   record {
     none = λ k x c. no_member x (subst (λ (xs : List ℕ). Contains xs x)
-        (ap (slice_range into.sources.items (range_at into.ranges.items k).start) (m.empty k) ∙ between_none into.sources.items (range_at into.ranges.items k).start) c);
+        (ap (slice_range into.sources (range_at into.ranges k).start) (m.empty k) ∙ between_none into.sources (range_at into.ranges k).start) c);
   },
-  subst (AreLaid into.ranges.items) (sym e) m.laid,
+  subst (AreLaid into.ranges) (sym e) m.laid,
 )

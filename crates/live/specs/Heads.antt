@@ -1,8 +1,10 @@
--- The first bytes of texts as numbers: where these differ, texts are ordered as they are. And texts as they are lent.
+-- The first bytes of texts as numbers: if these differ, they have the order of the texts. And the bytes of borrowed
+-- texts.
 use Rattle.std.specs.Prelude.{◌≡◌, ℕ, zero, suc, ◌+◌, ◌*◌, ◌^◌, ◌<◌, List, [], length, map}
 use Rattle.std.specs.List.{slice_index, slice_index_or}
 use Rattle.std.specs.Borrow.{Bor}
 use Rattle.live.specs.Graph.{Path}
+use Rattle.live.specs.Numbering.{Rise}
 
 -- the number that some bytes are from a place on, each a digit of base 256; past the end there are zeros
 abbrev pub digits_from : (count : ℕ) → ℕ → List ℕ → ℕ
@@ -26,3 +28,13 @@ pub record AreHeads (paths : List Path) (heads : List ℕ) : Type 0 where
 -- the texts of some paths
 pub record AreTexts (paths : List Path) (texts : List (Bor (List ℕ))) : Type 0 where
   pub are : map (λ t. t.now) texts ≡ paths
+
+-- paths that strictly rise, with their heads
+pub record AreHeaded (paths : List Path) (firsts : List ℕ) : Type 0 where
+  pub rise : Rise paths
+  pub heads : AreHeads paths firsts
+
+-- paths that strictly rise, with their heads and their texts
+pub record AreIndexed (paths : List Path) (firsts : List ℕ) (lent : List (Bor (List ℕ))) : Type 0 where
+  pub headed : AreHeaded paths firsts
+  pub texts : AreTexts paths lent

@@ -1,4 +1,4 @@
--- Collection up to a limit: dead paths go in groups, one group after another, until enough bytes are free.
+-- Collection up to a limit: dead paths are deleted in groups, one group after another, until enough bytes are free.
 use Rattle.std.specs.Prelude.{◌≡◌, ℕ, ◌-◌, ◌<◌, nat_lt, Bool, not, ◌&&◌, if◌then◌else◌, List, [], ◌∷◌, Option, Some, None, ◌⊎◌}
 use Rattle.std.specs.List.{filter, find, list_any, sum_by}
 use Rattle.std.specs.Option.{option_map, option_map_or, option_or}
@@ -39,7 +39,7 @@ DeletesGroups g dead size left wanted (group ∷ groups) =
     (0 < wanted) × (next_group g dead left ≡ Some group)
     × DeletesGroups g dead size (without group left) (wanted - sum_by size group) groups
 
--- ---- the same by a function that computes
+-- ---- groups, by a function that computes
 
 -- the groups, at most as many as turns
 unfoldable pub groups_by : Graph → (Path → Bool) → (Path → ℕ) → (turns : List Path) → List Path → ℕ → List (List Path)
@@ -51,11 +51,11 @@ groups_by g dead size (turn ∷ turns) left wanted =
     (next_group g dead left) []
     else []
 
--- the groups that go from a graph up to a limit; each takes a path, so there are no more than paths
+-- the groups that are deleted from a graph up to a limit; each has a path, so there are no more of them than paths
 abbrev pub limited_groups : Graph → (Path → Bool) → (Path → ℕ) → ℕ → List (List Path)
 limited_groups g dead size limit = groups_by g dead size (finite.keys g) (finite.keys g) limit
 
--- whether some group takes a path
+-- whether some group has a path
 abbrev pub is_among : List (List Path) → Path → Bool
 is_among groups p = list_any (λ group. holds group p) groups
 

@@ -1,6 +1,6 @@
 -- What a collection up to a limit has left after each step, by places.
 use Rattle.std.proofs.Common.{Vec, Global}
-use Rattle.std.specs.Prelude.{nat_lt, ◌-◌, ◌≡◌, ℕ, ◌+◌, ◌<◌, ◌==◌, Bool, false, if◌then◌else◌, List, [], ◌∷◌, length, map, IsTrue, Contains}
+use Rattle.std.specs.Prelude.{nat_lt, ◌-◌, ◌≡◌, ℕ, ◌+◌, ◌<◌, ◌==◌, ◌&&◌, Bool, false, not, if◌then◌else◌, List, [], ◌∷◌, length, map, IsTrue, Contains}
 use Rattle.std.specs.List.{slice_index, slice_index_or, filter, sum_by, count_by, range_with_len}
 use Rattle.std.specs.Option.{option_map_or}
 use Rattle.std.specs.Ordering.{nat_cmp}
@@ -12,8 +12,8 @@ use Rattle.live.specs.Places.{Entries, entries_at}
 use Rattle.live.specs.Limited.{next_group, without}
 use Rattle.live.specs.Numbering.{Row, Rise, numbered, path_at, paths_of}
 
--- which places are dead, and which are left; how many references of others left there are to each; and places to which
--- there are none, in a heap with the least on top
+-- the places that are dead, and those that are left; how many references of others left there are to each; and places
+-- to which there are none, in a heap with the least on top
 pub record Remaining : Type 0 where
   pub dead : List Bool
   pub left : List Bool
@@ -43,7 +43,7 @@ times_left es left t q = if is_in left q then times es q t else 0
 abbrev pub referred : List Entries → List Bool → ℕ → ℕ
 referred es left t = sum_by (times_left es left t) (range_with_len 0 (length left))
 
--- What is left is right, but that some references still count whose object is gone.
+-- What is left is right, but that some references still count whose object was deleted.
 pub record IsRemaining (es : List Entries) (owed : ℕ → ℕ) (s : Remaining) : Type 0 where
   pub deads : length s.dead ≡ length es
   pub places : length s.left ≡ length es
@@ -58,6 +58,33 @@ pub record IsRemaining (es : List Entries) (owed : ℕ → ℕ) (s : Remaining) 
 
 abbrev pub nothing_owed : ℕ → ℕ
 nothing_owed t = 0
+
+-- what is left is right, with a place of an object
+pub record IsRemainingAt (es : List Entries) (owed : ℕ → ℕ) (i : ℕ) (s : Remaining) : Type 0 where
+  pub place : i < length es
+  pub remaining : IsRemaining es owed s
+
+-- what is left is right, and each path has a size
+pub record IsSized (es : List Entries) (bytes : List ℕ) (s : Remaining) : Type 0 where
+  pub sizes : length bytes ≡ length es
+  pub remaining : IsRemaining es nothing_owed s
+
+-- the same paths are dead, and what is left is right
+pub record StaysDead (es : List Entries) (old new : Remaining) : Type 0 where
+  pub dead : new.dead ≡ old.dead
+  pub remaining : IsRemaining es nothing_owed new
+
+-- the same paths are dead, and the same are left
+pub record StaysLeft (es : List Entries) (old new : Remaining) : Type 0 where
+  pub dead : new.dead ≡ old.dead
+  pub left : new.left ≡ old.left
+  pub remaining : IsRemaining es nothing_owed new
+
+-- the same paths are dead, and of those left the ones that pass a test were deleted
+pub record Deletes (es : List Entries) (test : ℕ → Bool) (old new : Remaining) : Type 0 where
+  pub dead : new.dead ≡ old.dead
+  pub left : (i : ℕ) → i < length es → is_in new.left i ≡ (is_in old.left i && not (test i))
+  pub remaining : IsRemaining es nothing_owed new
 
 -- the places left, in order
 abbrev pub places_left : List Bool → List ℕ
@@ -100,7 +127,7 @@ group_at rows v = map (path_at rows) v.items
 
 -- ---- what the groups that go leave, by paths
 
--- the paths left after the groups that go in some turns
+-- the paths left after the groups that are deleted in some turns
 unfoldable pub left_after : Graph → (Path → Bool) → (Path → ℕ) → (turns : List Path) → List Path → ℕ → List Path
 left_after g dead size [] left wanted = left
 left_after g dead size (turn ∷ turns) left wanted =

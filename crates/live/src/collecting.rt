@@ -1,11 +1,12 @@
-//! The groups that go in a collection up to a limit, one after another.
+//! The groups that a collection up to a limit deletes, one after another.
 ghost use Rattle.std.specs.Prelude.{◌≡◌, ◌∷◌, ◌<◌, ◌-◌, ◌&&◌, ◌==◌, not, ℕ, Bool, List, length, map, All, IfOk, OnOk, IfSome};
 ghost use Rattle.std.specs.List.{filter, list_any, range_with_len, slice_index, sum_by};
 ghost use Rattle.std.specs.Option.{option_map};
 ghost use Rattle.live.specs.Graph.{Path, references_only};
 ghost use Rattle.live.specs.Reach.{reaches};
 ghost use Rattle.live.specs.Limited.{next_group};
-ghost use Rattle.live.specs.Remaining.{IsRemaining, Represents, group_at, is_in, left_after, nothing_owed, places_left};
+ghost use Rattle.live.specs.Places.{IsPlace};
+ghost use Rattle.live.specs.Remaining.{Deletes, IsRemaining, IsSized, Represents, StaysDead, StaysLeft, group_at, is_in, left_after, nothing_owed, places_left};
 ghost use Rattle.live.specs.Numbering.{Rise, Row, graph_of, numbered, path_at, paths_of};
 
 use crate::backward::backward;
@@ -17,8 +18,7 @@ use std::alloc::{AllocError, Global};
 impl Remaining {
     /// The places left whose paths reach a path by references.
     fn reaching(&self, alloc: Global, graph: &Graph, place: usize) -> Result<Vec<usize>, AllocError>
-        requires place { place < length graph.now }
-        requires places { length self.now.left ≡ length graph.now }
+        requires { IsPlace graph.now place (length self.now.left) }
         ensures inside { IfOk result (λ v. All (λ t. t < length graph.now) v.items) }
         ensures reaching { IfOk result (λ v. (rows : List Row) → Rise (paths_of rows) → graph.now ≡ numbered rows →
             v.items ≡ filter
@@ -45,9 +45,7 @@ impl Remaining {
     /// The places of the next group, if a dead path is left.
     fn next_group(&mut self, alloc: Global, graph: &Graph) -> Result<Option<Vec<usize>>, AllocError>
         requires { IsRemaining graph.now nothing_owed self.old }
-        ensures dead { OnOk result (self.new.dead ≡ self.old.dead) }
-        ensures left { OnOk result (self.new.left ≡ self.old.left) }
-        ensures remaining { OnOk result (IsRemaining graph.now nothing_owed self.new) }
+        ensures same { OnOk result (StaysLeft graph.now self.old self.new) }
         ensures inside { IfOk result (λ o. IfSome o (λ v. All (λ t. t < length graph.now) v.items)) }
         ensures group { IfOk result
             (λ o. (sizes : List ℕ) (rows : List Row) (is_dead : Path → Bool) (size : Path → ℕ)
@@ -64,7 +62,7 @@ impl Remaining {
         }
     }
 
-    /// Deletes a group. What is still wanted is less by its size.
+    /// Deletes a group, and returns the number of bytes that are then still wanted.
     fn remove_all(
         &mut self,
         graph: &Graph,
@@ -72,13 +70,9 @@ impl Remaining {
         sizes: &[u64],
         wanted: u64,
     ) -> Result<u64, AllocError>
-        requires remaining { IsRemaining graph.now nothing_owed self.old }
+        requires sized { IsSized graph.now sizes.now self.old }
         requires group { All (λ t. t < length graph.now) group.now }
-        requires sizes { length sizes.now ≡ length graph.now }
-        ensures dead { OnOk result (self.new.dead ≡ self.old.dead) }
-        ensures left { OnOk result ((i : ℕ) → i < length graph.now
-            → is_in self.new.left i ≡ (is_in self.old.left i && not (list_any (λ j. j == i) group.now))) }
-        ensures remaining { OnOk result (IsRemaining graph.now nothing_owed self.new) }
+        ensures deleted { OnOk result (Deletes graph.now (λ i. list_any (λ j. j == i) group.now) self.old self.new) }
         ensures wanted { IfOk result (λ w. w ≡ wanted - sum_by (slice_index sizes.now) group.now) }
     {
         let mut wanted = wanted;
@@ -89,7 +83,7 @@ impl Remaining {
         Ok(wanted)
     }
 
-    /// Deletes the next group, if more is wanted. Returns what is still wanted: nothing, where no dead path is left.
+    /// Deletes the next group, if more bytes are wanted. Returns the number of bytes that are still wanted: 0 if no dead path is left.
     pub(crate) fn turn(
         &mut self,
         alloc: Global,
@@ -97,10 +91,8 @@ impl Remaining {
         sizes: &[u64],
         wanted: u64,
     ) -> Result<u64, AllocError>
-        requires remaining { IsRemaining graph.now nothing_owed self.old }
-        requires sizes { length sizes.now ≡ length graph.now }
-        ensures dead { OnOk result (self.new.dead ≡ self.old.dead) }
-        ensures remaining { OnOk result (IsRemaining graph.now nothing_owed self.new) }
+        requires { IsSized graph.now sizes.now self.old }
+        ensures dead { OnOk result (StaysDead graph.now self.old self.new) }
         ensures turn { IfOk result
             (λ w. (rows : List Row) (is_dead : Path → Bool) (size : Path → ℕ)
             → Represents graph.now self.old.dead sizes.now rows is_dead size → (turn : Path) (turns : List Path) →

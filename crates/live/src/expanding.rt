@@ -1,7 +1,7 @@
-//! What a walk looks at when it takes an object.
-ghost use Rattle.std.specs.Prelude.{◌≡◌, ◌+◌, ◌≤◌, ◌<◌, [], length, OnOk, if◌then◌else◌};
+//! A step of a walk: the entries of an object.
+ghost use Rattle.std.specs.Prelude.{◌≡◌, ◌+◌, [], length, OnOk, if◌then◌else◌};
 ghost use Rattle.std.specs.List.{slice_range};
-ghost use Rattle.live.specs.Places.{edges_at, entries_at, held};
+ghost use Rattle.live.specs.Places.{IsPlace, IsRange, edges_at, entries_at, held};
 ghost use Rattle.live.specs.Keeping.{keep_view};
 ghost use Rattle.live.specs.Marking.{all_reached, reported};
 
@@ -11,35 +11,7 @@ use crate::walk::Walk;
 use std::alloc::AllocError;
 
 impl Walk {
-    /// Some of an object's entries are looked at, and their targets reached.
-    fn look(
-        &mut self,
-        walker: &mut Walker,
-        graph: &Graph,
-        none: usize,
-        root: usize,
-        place: usize,
-        from: usize,
-        to: usize,
-    ) -> Result<(), AllocError>
-        requires place { place < length graph.now }
-        requires places { length self.old.first ≡ length graph.now }
-        requires from { from ≤ to }
-        requires to { to ≤ length (held (entries_at graph.now place)) }
-        ensures places { OnOk result (length self.new.first ≡ length graph.now) }
-        ensures reached { OnOk result (self.new
-            ≡ all_reached none root self.old (slice_range (held (entries_at graph.now place)) from to)) }
-        ensures counted { OnOk result (reported walker.new
-            ≡ reported (walker.old + length (slice_range (held (entries_at graph.now place)) from to))) }
-    {
-        for entry in from..to {
-            let target = walker.entry(graph, place, entry);
-            self.reach(none, root, target)?;
-        }
-        Ok(())
-    }
-
-    /// Marks what the entries from one place up to another lead to, where entries of this kind count.
+    /// Some of an object's entries are looked at, where entries of this kind count, and their targets reached.
     fn look_if(
         &mut self,
         walker: &mut Walker,
@@ -51,10 +23,8 @@ impl Walk {
         to: usize,
         counts: bool,
     ) -> Result<(), AllocError>
-        requires place { place < length graph.now }
+        requires range { IsRange graph.now place from to }
         requires places { length self.old.first ≡ length graph.now }
-        requires from { from ≤ to }
-        requires to { to ≤ length (held (entries_at graph.now place)) }
         ensures places { OnOk result (length self.new.first ≡ length graph.now) }
         ensures reached { OnOk result (self.new
             ≡ all_reached none root self.old
@@ -63,8 +33,12 @@ impl Walk {
             ≡ reported (walker.old + length
             (if counts then slice_range (held (entries_at graph.now place)) from to else []))) }
     {
-        if counts {
-            return self.look(walker, graph, none, root, place, from, to);
+        if !counts {
+            return Ok(());
+        }
+        for entry in from..to {
+            let target = walker.entry(graph, place, entry);
+            self.reach(none, root, target)?;
         }
         Ok(())
     }
@@ -79,15 +53,14 @@ impl Walk {
         root: usize,
         place: usize,
     ) -> Result<(), AllocError>
-        requires place { place < length graph.now }
-        requires places { length self.old.first ≡ length graph.now }
+        requires { IsPlace graph.now place (length self.old.first) }
         ensures reached { OnOk result (self.new
             ≡ all_reached none root self.old (edges_at (keep_view keep) graph.now place)) }
         ensures counted { OnOk result (reported walker.new
             ≡ reported (walker.old + (1 + length (edges_at (keep_view keep) graph.now place)))) }
     {
         let has = walker.object(graph, place);
-        self.look(walker, graph, none, root, place, 0, has.references)?;
+        self.look_if(walker, graph, none, root, place, 0, has.references, true)?;
         self.look_if(
             walker,
             graph,

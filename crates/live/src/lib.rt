@@ -1,4 +1,4 @@
-//! Which paths the roots keep alive.
+//! The paths that the roots keep alive.
 #![tactic(auto)]
 
 mod asking;
@@ -27,8 +27,8 @@ pub use laws::{
 };
 pub use limited_laws::{
     a_limit_beyond_all_removes_all, a_limit_of_nothing_removes_nothing,
-    limited_collections_have_one_answer, limits_remove_dead_paths, referrers_go_with_it_or_before,
-    what_stays_refers_to_nothing_deleted,
+    limited_collections_have_one_answer, limits_remove_dead_paths,
+    referrers_are_deleted_with_it_or_before, what_stays_refers_to_nothing_deleted,
 };
 pub use limiting::limited;
 pub use marking::{Marks, mark};

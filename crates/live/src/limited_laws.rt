@@ -31,8 +31,8 @@ pub fn what_stays_refers_to_nothing_deleted()
         IsTrue (is_edge references_only g q p) → Contains (limited_paths g dead size limit) p → ⊥ }
 {}
 
-/// What refers to a member of a group goes with that group or with one before: without cycles, before it.
-pub fn referrers_go_with_it_or_before()
+/// What refers to a member of a group is deleted with that group or with one before: without cycles, before it.
+pub fn referrers_are_deleted_with_it_or_before()
     ensures { (g : Graph) (dead : Path → Bool) (size : Path → ℕ) (limit k : ℕ) (q p : Path) → IsTrue (is_valid g q)
         → IsTrue (refers g q p) →
         IsTrue (holds (slice_index_or (limited_groups g dead size limit) k []) p)

@@ -27,7 +27,7 @@ impl Model for Marks {
 }
 
 impl Marks {
-    /// The place of the first root that reaches a path, or none where the path is dead.
+    /// The place of the first root that reaches a path, or `None` if the path is dead.
     ///
     /// ```rust
     /// use live::{Graph, Keep, Roots, Row};

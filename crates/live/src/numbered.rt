@@ -1,9 +1,8 @@
 //! The graph by places, and the one way to read it.
 ghost use Rattle.std.specs.Prelude.{◌≡◌, ℕ, ◌+◌, ◌<◌, ◌++◌, List, length, map, nat_lt};
-ghost use Rattle.std.specs.List.{slice_index};
 ghost use Rattle.live.specs.Places.{AllInside, Entries, entries_at, held};
 ghost use Rattle.live.specs.Flat.{IsFlat, entries_in};
-ghost use Rattle.live.specs.Marking.{reported};
+ghost use Rattle.live.specs.Marking.{IsRead, reported};
 
 mod conditions;
 mod guesses;
@@ -121,8 +120,7 @@ impl Walker {
     /// The target of a root.
     pub(crate) fn root(&mut self, roots: &Roots, root: usize) -> usize
         requires { root < length roots.now }
-        ensures value { result ≡ slice_index roots.now root }
-        ensures counted { self.new ≡ reported (self.old + 1) }
+        ensures { IsRead roots.now root self.old self.new result }
     {
         self.steps = self.steps.saturating_add(1);
         roots.targets[root]
@@ -147,11 +145,9 @@ impl Walker {
 
     /// The place of an object's entry of this number.
     pub(crate) fn entry(&mut self, graph: &Graph, place: usize, entry: usize) -> usize
-        requires place { place < length graph.now }
-        requires entry { entry < length (held (entries_at graph.now place)) }
-        ensures value { result ≡ slice_index (held (entries_at graph.now place)) entry }
+        requires { entry < length (held (entries_at graph.now place)) }
+        ensures read { IsRead (held (entries_at graph.now place)) entry self.old self.new result }
         ensures inside { result < length graph.now }
-        ensures counted { self.new ≡ reported (self.old + 1) }
     {
         self.steps = self.steps.saturating_add(1);
         let first = graph.spans[place].references;

@@ -1,6 +1,7 @@
 //! How many references there are to each path.
 ghost use Rattle.std.specs.Prelude.{◌≡◌, ℕ, ◌+◌, ◌<◌, length, IfOk, OnOk, vec_len};
 ghost use Rattle.std.specs.List.{slice_index, sum_by, range_with_len};
+ghost use Rattle.live.specs.Places.{IsPlace};
 ghost use Rattle.live.specs.Remaining.{times};
 
 use crate::numbered::{Graph, Walker};
@@ -13,8 +14,7 @@ fn count(
     graph: &Graph,
     place: usize,
 ) -> Result<(), AllocError>
-    requires place { place < length graph.now }
-    requires places { length referrers.old.items ≡ length graph.now }
+    requires { IsPlace graph.now place (length referrers.old.items) }
     ensures places { OnOk result (length referrers.new.items ≡ length graph.now) }
     ensures counted { OnOk result ((t : ℕ) → t < length graph.now
         → slice_index referrers.new.items t ≡ slice_index referrers.old.items t + times graph.now place t) }

@@ -1,11 +1,11 @@
 //! What a collection up to a limit has left after each step.
-ghost use Rattle.std.specs.Prelude.{◌≡◌, ℕ, ◌+◌, ◌-◌, ◌<◌, ◌&&◌, ◌==◌, not, if◌then◌else◌, ◌∷◌, false, length, IsTrue, IfOk, OnOk, IfSome, IfNone, is_none, slice_set};
+ghost use Rattle.std.specs.Prelude.{◌≡◌, ℕ, ◌+◌, ◌-◌, ◌<◌, ◌==◌, if◌then◌else◌, ◌∷◌, false, length, IsTrue, IfOk, OnOk, IfSome, IfNone, is_none, slice_set};
 ghost use Rattle.std.specs.List.{slice_index, slice_index_or};
 ghost use Rattle.std.specs.List.Sorted.{IsPermutation};
 ghost use Rattle.std.specs.BinaryHeap.{IsHeap, heap_items};
 ghost use Rattle.live.specs.Places.{Entries, entries_at};
 ghost use Rattle.live.specs.Marking.{first_of};
-ghost use Rattle.live.specs.Remaining.{IsNextUnreferred, IsLeastDead, IsRemaining, NoneUnreferred, NoneDead, Remaining, at, is_in, least_first, nothing_owed, times};
+ghost use Rattle.live.specs.Remaining.{Deletes, IsNextUnreferred, IsLeastDead, IsRemaining, IsRemainingAt, NoneUnreferred, NoneDead, Remaining, StaysLeft, at, is_in, least_first, nothing_owed, times};
 
 use crate::marking::Marks;
 use crate::numbered::{Graph, Walker};
@@ -80,11 +80,8 @@ impl Remaining {
 
     /// Stops counting the references of an object that was deleted.
     fn forget(&mut self, graph: &Graph, place: usize) -> Result<(), AllocError>
-        requires place { place < length graph.now }
-        requires remaining { IsRemaining graph.now (times graph.now place) self.old }
-        ensures dead { OnOk result (self.new.dead ≡ self.old.dead) }
-        ensures left { OnOk result (self.new.left ≡ self.old.left) }
-        ensures remaining { OnOk result (IsRemaining graph.now nothing_owed self.new) }
+        requires { IsRemainingAt graph.now (times graph.now place) place self.old }
+        ensures { OnOk result (StaysLeft graph.now self.old self.new) }
     {
         let mut walker = Walker::new();
         let has = walker.object(graph, place);
@@ -99,26 +96,21 @@ impl Remaining {
 
     /// Deletes a path, if it is left.
     pub(crate) fn remove(&mut self, graph: &Graph, place: usize) -> Result<(), AllocError>
-        requires place { place < length graph.now }
-        requires remaining { IsRemaining graph.now nothing_owed self.old }
-        ensures dead { OnOk result (self.new.dead ≡ self.old.dead) }
-        ensures left { OnOk result ((i : ℕ) → i < length graph.now
-            → is_in self.new.left i ≡ (is_in self.old.left i && not (place == i))) }
-        ensures remaining { OnOk result (IsRemaining graph.now nothing_owed self.new) }
+        requires { IsRemainingAt graph.now nothing_owed place self.old }
+        ensures { OnOk result (Deletes graph.now (λ i. place == i) self.old self.new) }
     {
-        if self.left[place] {
-            self.left[place] = false;
-            self.forget(graph, place)?;
+        if !self.left[place] {
+            return Ok(());
         }
+        self.left[place] = false;
+        self.forget(graph, place)?;
         Ok(())
     }
 
     /// The least dead path left to which no other path left refers.
     pub(crate) fn next_unreferred(&mut self, graph: &Graph) -> Option<usize>
         requires { IsRemaining graph.now nothing_owed self.old }
-        ensures dead { self.new.dead ≡ self.old.dead }
-        ensures left { self.new.left ≡ self.old.left }
-        ensures remaining { IsRemaining graph.now nothing_owed self.new }
+        ensures same { StaysLeft graph.now self.old self.new }
         ensures some { IfSome result (IsNextUnreferred self.new) }
         ensures none { IfNone result (NoneUnreferred self.new) }
     {

@@ -1,13 +1,13 @@
 //! How much room the lists of sources take.
-ghost use Rattle.std.specs.Prelude.{◌≡◌, ◌<◌, length, IfOk};
+ghost use Rattle.std.specs.Prelude.{◌≡◌, length, IfOk};
+ghost use Rattle.live.specs.Places.{IsPlace};
 
 use crate::numbered::{Graph, Walker};
 use std::alloc::{AllocError, Global};
 
 /// An object's entries take room at their targets.
 fn add_room(room: &mut Vec<usize>, walker: &mut Walker, graph: &Graph, place: usize)
-    requires place { place < length graph.now }
-    requires places { length room.old.items ≡ length graph.now }
+    requires { IsPlace graph.now place (length room.old.items) }
     ensures { length room.new.items ≡ length graph.now }
 {
     let has = walker.object(graph, place);

@@ -1,6 +1,5 @@
 //! The marks of a walk, and what waits.
 ghost use Rattle.std.specs.Prelude.{◌≡◌, ◌<◌, length, replicate, false, All, IfNone, IfOk, IfSome, OnOk};
-ghost use Rattle.live.specs.Listed.{IsListed};
 ghost use Rattle.live.specs.Marking.{Frontier, IsDequeued, NoneWaits, all_reached, reached};
 
 use crate::waiting::Waiting;
@@ -17,9 +16,9 @@ pub(crate) struct Walk {
 impl Model for Walk {
     ghost Value = { Frontier };
 
-    ghost view = { λ w. record { first = w.first.items; waiting = w.waiting.waiting.items } };
+    ghost view = { λ w. record { first = w.first.items; waiting = w.waiting.waiting } };
 
-    ghost invariant = { λ w. IsListed w.waiting × (length w.waiting.waiting.items ≡ length w.first.items) };
+    ghost invariant = { λ w. length w.waiting.waiting ≡ length w.first.items };
 }
 
 impl Walk {

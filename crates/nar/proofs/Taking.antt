@@ -1,6 +1,6 @@
 -- Parts that were read one after the other, and a fault behind them.
 use Rattle.std.proofs.Common.{◌≡◌, ℕ, ◌+◌, ◌-◌, ◌^◌, ◌<◌, false, List, [], ◌∷◌, ◌++◌, length, Some, Result, Ok, Err, refl, sym, ap, ◌∙◌, subst, append_assoc, append-nil, arith}
-use Rattle.std.specs.Prelude.{IsErrAnd, IfErr}
+use Rattle.std.specs.Prelude.{IsErrAnd, IfOk, IfErr, MatchResult}
 use Rattle.std.specs.Str.{bytes_eq}
 use Rattle.std.proofs.lemmas.List.{length-append}
 use Rattle.std.proofs.lemmas.Grind.{flat_map-append}
@@ -67,3 +67,16 @@ tested w {room = room} {bytes = bytes} {left = left} {rest = rest} r is = subst 
 -- a fault at the first symbols, whatever else is to come
 pub fault_append : (σ τ : List Symbol) (room : ℕ) (bytes : List ℕ) (e : NarError) → FaultOf σ room bytes e → FaultOf (σ ++ τ) room bytes e
 fault_append σ τ room bytes e h = λ fault κ. subst (λ (v : List Symbol). FaultAt v room bytes e) (sym (append_assoc σ τ κ)) (h fault (τ ++ κ))
+
+-- both outcomes of a result, one by one
+pub if_ok : {T : Type 0} (r : Result T NarError) (P : T → Type 0) (Q : NarError → Type 0) → MatchResult r P Q → IfOk r P
+if_ok (Ok x) P Q h = h
+if_ok (Err e) P Q h = tt
+
+pub if_err : {T : Type 0} (r : Result T NarError) (P : T → Type 0) (Q : NarError → Type 0) → MatchResult r P Q → IfErr r Q
+if_err (Ok x) P Q h = tt
+if_err (Err e) P Q h = h
+
+pub matched : {T : Type 0} (r : Result T NarError) (P : T → Type 0) (Q : NarError → Type 0) (e : NarError) → IsErrAnd r (λ d. d ≡ e) → Q e → MatchResult r P Q
+matched (Ok x) P Q e is h = absurd is
+matched (Err d) P Q e is h = subst Q (sym is) h

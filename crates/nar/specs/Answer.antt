@@ -3,6 +3,6 @@ use Rattle.std.specs.Prelude.{◌≢◌}
 use Rattle.nar.specs.declared.error.NarError.{NarError}
 use Rattle.nar.specs.declared.error.NarError.TheVariants.{Memory}
 
--- the fact of the fault, where the error isn't out of memory
+-- the fact about the fault, unless the error is out of memory
 abbrev pub IfFault : NarError → (NarError → Type 0) → Type 0
 IfFault e P = e ≢ Memory → P e

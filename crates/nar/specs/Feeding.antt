@@ -18,7 +18,7 @@ pub record Fed (symbols : List Symbol) (room : ℕ) (rest : List ℕ) (bytes : L
   pub are_bytes : AreBytes parts
   pub size : length (spelling parts) + room ≡ limit
 
--- The rest is less than a string, or nothing where no string may come.
+-- The rest is less than a string; it is empty if no string may come.
 abbrev pub Waits : List Symbol → ℕ → List ℕ → Type 0
 Waits [] room rest = rest ≡ []
 Waits (x ∷ κ) room rest = string_at room rest ≡ Err Truncated
@@ -37,7 +37,7 @@ pub record Counts (k : Count) (room : ℕ) (rest : List ℕ) : Type 0 where
   pub fits : size_of (length_at rest) ≤ room
   pub clean : k.is_clean ≡ list_all (λ b. b == 0) (drop k.text rest)
 
--- A string has begun whose bytes are counted: the rest, which nobody holds.
+-- A string has begun whose bytes are counted: they are the rest, and aren't stored.
 pub record IsCounting (k : Count) (nest : Nest) (room : ℕ) (bytes : List ℕ) : Type 0 where
   pub rest : List ℕ
   pub fed : Fed (symbols_of nest) room rest bytes
@@ -46,7 +46,7 @@ pub record IsCounting (k : Count) (nest : Nest) (room : ℕ) (bytes : List ℕ) 
   pub some : symbols_of nest ≢ []
   pub is_counted : IsTrue (counts_at nest (k.text - 8))
 
--- So far the bytes are good, up to what is held of a string, or counted.
+-- The bytes are good so far, up to the part of a string that is stored or counted.
 abbrev pub IsReachedBy : Option Count → Nest → ℕ → List ℕ → List ℕ → Type 0
 IsReachedBy None nest room held bytes = Fed (symbols_of nest) room held bytes × Waits (symbols_of nest) room held
 IsReachedBy (Some k) nest room held bytes = (held ≡ []) × IsCounting k nest room bytes

@@ -1,4 +1,5 @@
--- How much room a tree's archive leaves, where the tree is legal and not too deep: what the test of a tree computes.
+-- The room that a tree's archive leaves below the limit, if the tree is legal and not too deep: what the test of a
+-- tree computes.
 use Rattle.std.specs.Prelude.{ℕ, ◌+◌, ◌-◌, List, length, Bool, true, false, Option, Some, None, nat_lt, ◌&&◌, if◌then◌else◌, option_and_then}
 use Rattle.std.specs.List.{list_all}
 use Rattle.nar.specs.String.{size_of}
@@ -8,7 +9,7 @@ use Rattle.nar.specs.Tree.{Tree, regular, symlink, directory, Entries, no_entrie
 abbrev pub are_bytes : List ℕ → Bool
 are_bytes s = list_all (λ b. nat_lt b 256) s
 
--- what a number of bytes leaves of the room
+-- the room after a number of bytes, if they fit
 abbrev pub less : ℕ → ℕ → Option ℕ
 less room size = if nat_lt room size then None else Some (room - size)
 

@@ -7,7 +7,8 @@ use Rattle.nar.specs.declared.nest.Phase.TheVariants as phases
 use Rattle.nar.specs.Archive.{Part}
 use Rattle.nar.specs.Steps.{Symbol, word, any, kind, file, entries, entry_name, node_word, consumed, check}
 
--- the names of the open entries, the innermost first: each is closed, and its directory goes on
+-- the symbols after the names of the open entries, the innermost first: each entry is closed, and its directory
+-- continues
 abbrev pub under : List (List ℕ) → List Symbol
 under [] = []
 under (n ∷ names) = word (codes ")") ∷ entries (length names + 1) (Some n) ∷ under names
@@ -33,8 +34,8 @@ symbols phases.NodeWord last names =
     node_word (length names + 1) ∷ word (codes "(") ∷ word (codes "type") ∷ kind (length names + 1) ∷ under names
 symbols phases.Under last names = under names
 
--- whether the string of this length is counted there and not held: contents and targets, and what is longer than
--- each fixed string
+-- whether a string of this length is counted there and not stored: contents and targets, and what is longer than each
+-- fixed string
 abbrev pub is_counted : Phase → ℕ → Bool
 is_counted phases.Data len = true
 is_counted phases.Name len = false

@@ -14,7 +14,7 @@ pub record HasReadBefore (p : Progress) (rest all : List ℕ) : Type 0 where
   pub is : all ≡ consumed ++ rest
   pub has_read : HasRead p consumed
 
--- how many steps it may take without a byte: one, where a string is counted
+-- how many steps the checker may take without a byte: one, if a string is counted
 abbrev pub turns_by : Option Count → ℕ
 turns_by None = 0
 turns_by (Some k) = 1

@@ -1,4 +1,4 @@
--- What a step of reading took from the beginning, and what it found wrong.
+-- The prefix that a step of reading consumed, and the fault that it found.
 use Rattle.std.specs.Prelude.{◌≡◌, ℕ, ◌+◌, List, [], ◌∷◌, ◌++◌, length, Option, Ok, codes, IsTrue}
 use Rattle.std.specs.List.{AllByRecursion}
 use Rattle.nar.specs.declared.error.NarError.{NarError}

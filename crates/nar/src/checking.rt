@@ -13,8 +13,8 @@ use std::alloc::Global;
 
 /// Checks an archive that comes in pieces, however they are cut.
 ///
-/// A checker holds no contents: a file's bytes, a target's and those of an overlong string are counted. So its memory
-/// is bounded by the longest name and the depth.
+/// A checker stores no contents: the bytes of files, of targets and of overlong strings are counted. So its memory is bounded by the
+/// longest name and the depth.
 #[derive(Drop)]
 pub struct Checker {
     progress: Progress,
@@ -25,7 +25,7 @@ impl Checker {
     ghost use Rattle.nar.specs.Progress.{HasReadBefore};
     ghost use Rattle.nar.specs.Checking.{HasBeenFed, HasFailed, Ends};
 
-    /// A checker that has been fed nothing. It takes no memory yet.
+    /// A checker that has been fed nothing. Allocates no memory yet.
     ///
     /// ```rust
     /// use nar::{Checker, NarError};
@@ -43,8 +43,8 @@ impl Checker {
         }
     }
 
-    /// Takes the next piece, and returns the fault of the pieces so far, unless they only want more. After an
-    /// error it repeats that error.
+    /// Takes the next piece, and returns the fault of the pieces so far, if they have one that further pieces can't mend. After an error,
+    /// each call returns that error.
     ///
     /// ```rust
     /// use nar::{Checker, NarError};
@@ -65,7 +65,7 @@ impl Checker {
             (λ e. IfFault e
             (λ f. (all : List ℕ) → HasBeenFed self.old all → IsFault (all ++ piece.now) f × (f ≢ Truncated))) }
         ensures failed { IfErr result (HasFailed self.new) }
-        // A checker has failed only where it reported an error.
+        // A checker has failed only if it reported an error.
         ensures sound { OnOk result ((e : Fault) → ¬ HasFailed self.new e) }
         ensures repeats { (e : Fault) → HasFailed self.old e → (result ≡ Err e) × HasFailed self.new e }
     {
@@ -97,8 +97,7 @@ impl Checker {
         Ok(())
     }
 
-    /// The end of the pieces: `Ok` where they are an archive, and otherwise their fault. After an error of `feed`
-    /// it repeats that error.
+    /// The end of the pieces: `Ok` if they are an archive, otherwise their fault. After an error of `feed` it returns that error.
     ///
     /// ```rust
     /// use nar::{Checker, Node};
@@ -113,7 +112,7 @@ impl Checker {
     /// ```
     pub fn finish(self) -> Result<(), NarError>
         ensures answer { (all : List ℕ) → HasBeenFed self all → Ends result all }
-        // `Memory` is returned only where a `feed` has returned it: the end allocates nothing.
+        // `Memory` is returned only if a `feed` has returned it: the end allocates nothing.
         ensures memory { result ≡ Err memory → HasFailed self memory }
         ensures repeats { (e : Fault) → HasFailed self e → result ≡ Err e }
     {

@@ -1,4 +1,4 @@
-//! A string whose bytes are counted and not held.
+//! A string whose bytes are counted and not stored.
 
 ghost use Rattle.std.specs.Prelude.{◌≡◌, ◌+◌, ◌-◌, ◌≤◌, ℕ, List, ◌++◌, length};
 

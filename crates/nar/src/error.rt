@@ -12,28 +12,28 @@ pub enum NarError {
     /// The input ends before the next string does.
     #[error("truncated")]
     Truncated,
-    /// A string that isn't one of those that are allowed there.
+    /// A string isn't one of those that are allowed at its place.
     #[error("bad-tag")]
     BadTag,
-    /// A byte that isn't zero after a string, where only zeros fill it up to a multiple of 8.
+    /// A padding byte isn't zero: after a string, zeros fill up to a multiple of 8.
     #[error("bad-padding")]
     BadPadding,
-    /// A name that is empty, `.` or `..`, or holds a `/` or a zero byte.
+    /// A name is empty, `.` or `..`, or has a `/` or a zero byte.
     #[error("bad-name")]
     BadName,
-    /// A name that isn't above the one before it in its directory, by bytes.
+    /// A name isn't above the one before it in its directory, by bytes.
     #[error("not-sorted")]
     NotSorted,
-    /// More than 256 nodes inside one another.
+    /// More than 256 nodes are inside one another.
     #[error("too-deep")]
     TooDeep,
-    /// Bytes after the end of the archive.
+    /// Bytes follow the end of the archive.
     #[error("trailing")]
     Trailing,
-    /// A string that would end past byte 16,777,216.
+    /// A string would end past byte 16,777,216.
     #[error("too-large")]
     TooLarge,
-    /// Memory was refused: it says nothing of the bytes.
+    /// Memory was refused, which says nothing about the bytes.
     #[error("memory")]
     Memory,
 }

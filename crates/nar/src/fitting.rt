@@ -1,6 +1,6 @@
 //! Whether a tree has an archive.
 
-ghost use Rattle.std.specs.Prelude.{◌≡◌, ◌↔◌, ◌+◌, ◌≤◌, ℕ, None, IsTrue, length};
+ghost use Rattle.std.specs.Prelude.{◌≡◌, ◌↔◌, ◌+◌, ℕ, None, IsTrue, length};
 ghost use Rattle.std.specs.Option.{option_copied};
 ghost use Rattle.nar.specs.String.{size_of};
 ghost use Rattle.nar.specs.Tree.{IsBytes};
@@ -23,7 +23,7 @@ fn size_of_string(text: &[u8]) -> usize
     8 + 8 * text.len().div_ceil(8)
 }
 
-/// Whether an entry of this name may follow the last one, in a directory that is the given node inside one another.
+/// Whether an entry of this name may follow the last one, in a directory at this depth.
 fn may_follow(depth: usize, last: Option<&[u8]>, name: &[u8]) -> bool
     ensures { result ≡ may_enter depth (option_copied last.entry) name.now }
 {
@@ -36,10 +36,9 @@ fn may_follow(depth: usize, last: Option<&[u8]>, name: &[u8]) -> bool
     depth < 256
 }
 
-/// What the entries leave of the room, in a directory that is the given node inside one another.
+/// The room that the entries leave, in a directory at this depth.
 #[cycle(fitter)]
 fn room_after_entries(entries: &[Entry<'_>], depth: usize, room: usize) -> Option<usize>
-    requires { depth ≤ 256 }
     ensures { result ≡ entries_room depth None room (trees_of entries.now) }
 {
     let mut left = room;
@@ -55,10 +54,9 @@ fn room_after_entries(entries: &[Entry<'_>], depth: usize, room: usize) -> Optio
     Some(left)
 }
 
-/// What the node leaves of the room, being the given one inside one another.
+/// The room that the node leaves, at this depth.
 #[cycle(fitter)]
 fn room_after_node(node: &Node<'_>, depth: usize, room: usize) -> Option<usize>
-    requires { depth ≤ 256 }
     ensures { result ≡ room_after depth room (tree_of node.now) }
 {
     match node {
@@ -77,8 +75,8 @@ fn room_after_node(node: &Node<'_>, depth: usize, room: usize) -> Option<usize>
     }
 }
 
-/// Whether the tree has an archive: its names keep the rule of names and rise strictly in each directory, at most
-/// 256 of its nodes are nested in one another, and its archive has at most 16,777,216 bytes. It takes no memory.
+/// Whether the tree has an archive: its names are legal and rise strictly in each directory, at most 256 of its nodes are nested in one
+/// another, and its archive has at most 16,777,216 bytes. Takes no memory.
 ///
 /// ```rust
 /// use nar::{Entry, Node};
@@ -95,10 +93,9 @@ pub fn is_writable(node: &Node<'_>) -> bool
     room_after_node(node, 1, MAX_ARCHIVE - FIRST).is_some()
 }
 
-/// How many bytes the archive of the tree has, where it has one.
+/// The number of bytes of the archive of the tree, if it has one.
 pub fn archive_size(node: &Node<'_>) -> usize
-    requires { IsWritable (tree_of node.now) }
-    ensures { result ≡ length (spelling (archive (tree_of node.now))) }
+    ensures { IsWritable (tree_of node.now) → result ≡ length (spelling (archive (tree_of node.now))) }
 {
     let left = room_after_node(node, 1, MAX_ARCHIVE - FIRST).unwrap_or(0);
     MAX_ARCHIVE.saturating_sub(left)

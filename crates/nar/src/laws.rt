@@ -15,7 +15,7 @@ pub fn each_input_is_an_archive_or_has_one_fault()
         → ((t : Tree) × IsArchive t input) ⊎ ((e : Fault) × IsFault input e) }
     ensures not_both { (input : List ℕ) (t : Tree) (e : Fault) → IsBytes input → IsArchive t input → ¬ IsFault input e }
     ensures one_fault { (input : List ℕ) (e f : Fault) → IsBytes input → IsFault input e → IsFault input f → e ≡ f }
-    // Running out of memory says nothing of the input.
+    // That memory ran out says nothing about the input.
     ensures no_memory { (input : List ℕ) → ¬ IsFault input memory }
 {}
 
@@ -43,9 +43,8 @@ pub fn the_archive_of_a_file()
         → outcome_of (spelling (archive (regular false contents))) ≡ Err too_large }
 {}
 
-/// The first 16,777,224 bytes of an input decide what it is, so a caller who has more need not hold them: these
-/// are as many as an archive may have, and 8 more, since a string that begins at the limit has a length before it
-/// is found too large.
+/// The first 16,777,224 bytes of an input decide what it is, so a caller needn't store more. They are 8 more than an archive may have,
+/// since a string that begins at the limit has a length before it is found too large.
 pub fn a_prefix_decides()
     ensures { (input : List ℕ) → outcome_of (take (limit + 8) input) ≡ outcome_of input }
 {}

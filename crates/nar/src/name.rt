@@ -13,7 +13,7 @@ fn is_unbroken(name: &[u8]) -> bool
     name.iter().all(|b| *b != b'/' && *b != 0)
 }
 
-/// Whether it is a name: not empty, `.` or `..`, and without a `/` or a zero byte.
+/// Whether some bytes are a name: not empty, `.` or `..`, and without a `/` or a zero byte.
 pub fn is_name(name: &[u8]) -> bool
     ensures { result ≡ name_test name.now }
 {

@@ -138,8 +138,7 @@ pub struct Nest {
 }
 
 impl Nest {
-    ghost use Rattle.nar.specs.NestView.{symbols_of, counts_at};
-    ghost use Rattle.nar.specs.Answer.{IfFault};
+    ghost use Rattle.nar.specs.NestView.{symbols_of, counts_at, Takes};
     ghost use Rattle.nar.specs.Steps.{start};
 
     pub fn new(alloc: Global) -> Nest
@@ -164,8 +163,7 @@ impl Nest {
 
     fn accept_name(&mut self, alloc: Global, text: &[u8]) -> Result<(), NarError>
         requires { self.old.phase ≡ phases.Name }
-        ensures ok { OnOk result (next (symbols_of self.old) text.now ≡ Ok (symbols_of self.new)) }
-        ensures err { IfErr result (λ e. IfFault e (λ f. next (symbols_of self.old) text.now ≡ Err f)) }
+        ensures { Takes self.old self.new text.now result }
     {
         if !is_name(text) {
             return Err(NarError::BadName);
@@ -187,8 +185,7 @@ impl Nest {
     fn leave(&mut self, text: &[u8]) -> Result<(), NarError>
         requires phase { self.old.phase ≡ phases.Under }
         requires some { symbols_of self.old ≢ [] }
-        ensures ok { OnOk result (next (symbols_of self.old) text.now ≡ Ok (symbols_of self.new)) }
-        ensures err { IfErr result (λ e. IfFault e (λ f. next (symbols_of self.old) text.now ≡ Err f)) }
+        ensures { Takes self.old self.new text.now result }
     {
         if text != CLOSE {
             return Err(NarError::BadTag);
@@ -198,8 +195,8 @@ impl Nest {
         Ok(())
     }
 
-    /// Whether a string of this length is counted there and not held: contents and targets, and what is longer
-    /// than each of the fixed strings.
+    /// Whether a string of this length is counted there and not stored: contents and targets, and what is longer than each of the fixed
+    /// strings.
     pub fn is_counted(&self, len: usize) -> bool
         ensures { result ≡ counts_at self.now len }
     {
@@ -210,7 +207,7 @@ impl Nest {
         }
     }
 
-    /// Takes a string of this length whose bytes were counted and not held.
+    /// Takes a string of this length whose bytes were counted and not stored.
     pub fn skip(&mut self, len: usize) -> Result<(), NarError>
         ensures ok { OnOk result ((s : List ℕ) → length s ≡ len → IsTrue (counts_at self.old len)
             → next (symbols_of self.old) s ≡ Ok (symbols_of self.new)) }
@@ -230,8 +227,7 @@ impl Nest {
     /// Takes the next string.
     pub fn step(&mut self, alloc: Global, text: &[u8]) -> Result<(), NarError>
         requires { symbols_of self.old ≢ [] }
-        ensures ok { OnOk result (next (symbols_of self.old) text.now ≡ Ok (symbols_of self.new)) }
-        ensures err { IfErr result (λ e. IfFault e (λ f. next (symbols_of self.old) text.now ≡ Err f)) }
+        ensures { Takes self.old self.new text.now result }
     {
         match self.phase {
             Phase::Name => self.accept_name(alloc, text),

@@ -62,7 +62,7 @@ fn strings_of<'a>(
     }
 }
 
-/// The count of the string that has begun, where its bytes are counted and not held.
+/// The count of the string that has begun, if its bytes are counted and not stored.
 fn count_of(nest: &Nest, place: Place<'_>) -> Option<Count>
     ensures counts { IfSome result (λ k. Counts k place.entry.room place.entry.rest.now) }
     ensures early { IfSome result (λ k. length place.entry.rest.now < k.size) }
@@ -95,7 +95,7 @@ fn count_of(nest: &Nest, place: Place<'_>) -> Option<Count>
     })
 }
 
-/// How many bytes the string that has begun still wants: those of its length, and then the others. One at least.
+/// How many bytes the string that has begun still needs: those of its length, and then the others. One at least.
 fn wanted(held: &[u8]) -> usize
     ensures { 0 < result }
 {
@@ -140,7 +140,7 @@ impl Progress {
         self.nest.is_done()
     }
 
-    /// Takes the whole strings at the beginning, and returns what is to be held of the one that has begun.
+    /// Takes the whole strings at the beginning, and returns the bytes to store of the one that has begun.
     fn look<'a>(&mut self, bytes: &'a [u8]) -> Result<&'a [u8], NarError>
         ensures ok { IfOk result (λ rest. (all : List ℕ) → Fed (symbols_of self.old.nest) self.old.room bytes.now all
             → IsReachedBy self.new.count self.new.nest self.new.room rest.now all) }
@@ -165,7 +165,7 @@ impl Progress {
         }
     }
 
-    /// Takes strings from a piece where none has begun.
+    /// Takes strings from a piece, when no string has begun.
     fn read_on(&mut self, piece: &[u8]) -> Result<(), NarError>
         requires { self.old.held.items ≡ [] }
         ensures ok { OnOk result ((all : List ℕ) → Fed (symbols_of self.old.nest) self.old.room piece.now all
@@ -180,7 +180,7 @@ impl Progress {
         Ok(())
     }
 
-    /// Takes bytes that go on with the string whose bytes are held.
+    /// Takes further bytes of the string whose bytes are stored.
     fn fill(&mut self, prefix: &[u8]) -> Result<(), NarError>
         ensures ok { OnOk result ((all : List ℕ)
             → Fed (symbols_of self.old.nest) self.old.room (self.old.held.items ++ prefix.now) all
@@ -194,7 +194,7 @@ impl Progress {
         held.extend_from_slice(prefix)?;
         let rest = self.look(&held)?;
         if rest.is_empty() {
-            // What was allocated for it serves the next string.
+            // Its buffer is used for the next string.
             held.clear();
             self.held = held;
         } else if rest.len() < held.len() {

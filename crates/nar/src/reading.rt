@@ -1,6 +1,6 @@
 //! Reading, by recursion over the bytes that are left.
 
-ghost use Rattle.std.specs.Prelude.{◌≡◌, ◌<◌, ◌≤◌, ◌+◌, ◌-◌, ℕ, [], ◌∷◌, length, Ok, Err, IfOk, IfErr, codes};
+ghost use Rattle.std.specs.Prelude.{◌≡◌, ◌<◌, ◌+◌, ◌-◌, ℕ, [], ◌∷◌, length, Ok, Err, IfOk, IfErr, codes};
 ghost use Rattle.std.specs.Option.{option_copied};
 ghost use Rattle.nar.specs.declared.error.NarError.{NarError as Cause};
 ghost use Rattle.nar.specs.Fault.{IsFault};
@@ -96,23 +96,23 @@ fn name_of<'a>(at: Place<'a>, last: Option<&[u8]>) -> Result<(&'a [u8], Place<'a
     Ok((name, after))
 }
 
-/// The word `node` before a node that is the given one inside one another.
+/// The word `node` before a node of a directory at this depth.
 fn node_word_of(at: Place<'_>, depth: usize) -> Result<Place<'_>, NarError>
     ensures ok { IfOk result
-        (λ x. (depth ≤ 256) × Reads at.entry.room at.entry.rest.now (node depth ∷ []) x.room x.rest.now) }
-    ensures err { IfErr result (FaultOf (node_word depth ∷ []) at.entry.room at.entry.rest.now) }
+        (λ x. (depth < 256) × Reads at.entry.room at.entry.rest.now (node (depth + 1) ∷ []) x.room x.rest.now) }
+    ensures err { IfErr result (FaultOf (node_word (depth + 1) ∷ []) at.entry.room at.entry.rest.now) }
 {
     let (word, after) = string_of(at)?;
     if word != NODE {
         return Err(NarError::BadTag);
     }
-    if depth > 256 {
+    if depth >= 256 {
         return Err(NarError::TooDeep);
     }
     Ok(after)
 }
 
-/// What follows the word `entry`, in a directory that is the given node inside one another.
+/// The part after the word `entry`, in a directory at this depth.
 #[cycle(reader)]
 fn entry_of<'a>(
     alloc: Global,
@@ -120,7 +120,6 @@ fn entry_of<'a>(
     depth: usize,
     last: Option<&[u8]>,
 ) -> Result<(Entry<'a>, Place<'a>), NarError>
-    requires { depth ≤ 256 }
     ensures ok { IfOk result
         (λ x. ReadsEntry (option_copied last.entry) depth at.entry.room at.entry.rest.now (pair_of x.0) x.1.room
         x.1.rest.now) }
@@ -130,20 +129,19 @@ fn entry_of<'a>(
     let opened = word_of(at, OPEN)?;
     let worded = word_of(opened, NAME)?;
     let (name, named) = name_of(worded, last)?;
-    let noded = node_word_of(named, depth + 1)?;
+    let noded = node_word_of(named, depth)?;
     let (node, ended) = node_of(alloc, noded, depth + 1)?;
     let closed = word_of(ended, CLOSE)?;
     Ok((Entry { name, node }, closed))
 }
 
-/// What follows the word `directory`, at a node that is the given one inside one another.
+/// The part after the word `directory`, of a node at this depth.
 #[cycle(reader)]
 fn directory_of(
     alloc: Global,
     at: Place<'_>,
     depth: usize,
 ) -> Result<(Node<'_>, Place<'_>), NarError>
-    requires { depth ≤ 256 }
     ensures ok { IfOk result
         (λ x. ReadsKind (codes "directory") depth at.entry.room at.entry.rest.now (tree_of x.0) x.1.room x.1.rest.now) }
     ensures err { IfErr result (FaultOf (entries depth None ∷ []) at.entry.room at.entry.rest.now) }
@@ -166,10 +164,9 @@ fn directory_of(
     }
 }
 
-/// A node that is the given one inside one another.
+/// A node at this depth.
 #[cycle(reader)]
 fn node_of(alloc: Global, at: Place<'_>, depth: usize) -> Result<(Node<'_>, Place<'_>), NarError>
-    requires { depth ≤ 256 }
     ensures ok { IfOk result
         (λ x. ReadsNode depth at.entry.room at.entry.rest.now (tree_of x.0) x.1.room x.1.rest.now) }
     ensures err { IfErr result (FaultOf (fixed (codes "(") ∷ fixed (codes "type") ∷ kind depth
@@ -193,7 +190,7 @@ fn node_of(alloc: Global, at: Place<'_>, depth: usize) -> Result<(Node<'_>, Plac
     Err(NarError::BadTag)
 }
 
-/// The tree whose archive the input is, its names, targets and contents lent from the input; or the first fault.
+/// The tree whose archive the input is, with names, targets and contents borrowed from the input; or the first fault.
 ///
 /// The format is the Nix archive (NAR) of the Nix manual, with at most 16,777,216 bytes and at most 256 nodes
 /// inside one another.
@@ -223,9 +220,9 @@ pub fn read(alloc: Global, input: &[u8]) -> Result<Node<'_>, NarError>
     read_whole(alloc, input)
 }
 
+/// The tree whose archive the input is, or a fault of the input.
 fn read_whole(alloc: Global, input: &[u8]) -> Result<Node<'_>, NarError>
-    ensures found { IfOk result (λ node. IsArchive (tree_of node) input.now) }
-    ensures fault { IfErr result (λ e. IfFault e (IsFault input.now)) }
+    ensures { MatchResult result (λ node. IsArchive (tree_of node) input.now) (λ e. IfFault e (IsFault input.now)) }
 {
     let at = Place {
         rest: input,

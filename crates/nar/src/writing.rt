@@ -1,11 +1,11 @@
 //! Writing: strings one after the other, by recursion over the tree.
 
-ghost use Rattle.std.specs.Prelude.{◌≡◌, ◌∷◌, ℕ, ◌++◌, ◌+◌, OnOk, OnErr, codes};
+ghost use Rattle.std.specs.Prelude.{◌≡◌, ◌∷◌, ◌++◌, ◌+◌, OnOk, OnErr, codes};
 ghost use Rattle.nar.specs.String.{string};
 ghost use Rattle.nar.specs.Tree.{regular, symlink};
 ghost use Rattle.nar.specs.Archive.{bracketed, kind_parts, entries_parts, archive, spelling, other, IsWritable};
 ghost use Rattle.nar.specs.Reading.{entry_rest};
-ghost use Rattle.nar.specs.Writing.{Writes, Extends, joined};
+ghost use Rattle.nar.specs.Writing.{Appends, AppendsParts, joined};
 ghost use Rattle.nar.specs.View.{tree_of, pair_of, trees_of};
 
 use crate::fitting::archive_size;
@@ -17,8 +17,7 @@ use crate::words::{
 use std::alloc::AllocError;
 
 fn put_string(out: &mut Vec<u8>, text: &[u8]) -> Result<(), AllocError>
-    ensures ok { OnOk result (out.new.items ≡ out.old.items ++ string text.now) }
-    ensures err { OnErr result (Extends out.old.items out.new.items) }
+    ensures { Appends out.old.items out.new.items result (string text.now) }
 {
     let padding = (8 - text.len() % 8) % 8;
     out.extend_from_slice(&(text.len() as u64).to_le_bytes())?;
@@ -28,8 +27,7 @@ fn put_string(out: &mut Vec<u8>, text: &[u8]) -> Result<(), AllocError>
 }
 
 fn put_strings(out: &mut Vec<u8>, texts: &[&[u8]]) -> Result<(), AllocError>
-    ensures ok { OnOk result (out.new.items ≡ out.old.items ++ joined texts.now) }
-    ensures err { OnErr result (Extends out.old.items out.new.items) }
+    ensures { Appends out.old.items out.new.items result (joined texts.now) }
 {
     for text in texts {
         put_string(out, text)?;
@@ -38,10 +36,8 @@ fn put_strings(out: &mut Vec<u8>, texts: &[&[u8]]) -> Result<(), AllocError>
 }
 
 fn put_file(out: &mut Vec<u8>, executable: bool, contents: &[u8]) -> Result<(), AllocError>
-    ensures ok { (depth : ℕ)
-        → OnOk result
-        (Writes out.old.items out.new.items (bracketed (kind_parts depth (regular executable contents.now)))) }
-    ensures err { OnErr result (Extends out.old.items out.new.items) }
+    ensures { AppendsParts out.old.items out.new.items result
+        (λ depth. bracketed (kind_parts depth (regular executable contents.now))) }
 {
     if executable {
         put_strings(
@@ -56,18 +52,16 @@ fn put_file(out: &mut Vec<u8>, executable: bool, contents: &[u8]) -> Result<(), 
 }
 
 fn put_symlink(out: &mut Vec<u8>, target: &[u8]) -> Result<(), AllocError>
-    ensures ok { (depth : ℕ)
-        → OnOk result (Writes out.old.items out.new.items (bracketed (kind_parts depth (symlink target.now)))) }
-    ensures err { OnErr result (Extends out.old.items out.new.items) }
+    ensures { AppendsParts out.old.items out.new.items result
+        (λ depth. bracketed (kind_parts depth (symlink target.now))) }
 {
     put_strings(out, &[OPEN, TYPE, SYMLINK, TARGET, target, CLOSE])
 }
 
 #[cycle(writer)]
 fn put_entries(out: &mut Vec<u8>, entries: &[Entry<'_>]) -> Result<(), AllocError>
-    ensures ok { (depth : ℕ)
-        → OnOk result (Writes out.old.items out.new.items (entries_parts depth (trees_of entries.now))) }
-    ensures err { OnErr result (Extends out.old.items out.new.items) }
+    ensures { AppendsParts out.old.items out.new.items result
+        (λ depth. entries_parts depth (trees_of entries.now)) }
 {
     for entry in entries {
         put_entry(out, entry)?;
@@ -77,10 +71,8 @@ fn put_entries(out: &mut Vec<u8>, entries: &[Entry<'_>]) -> Result<(), AllocErro
 
 #[cycle(writer)]
 fn put_entry(out: &mut Vec<u8>, entry: &Entry<'_>) -> Result<(), AllocError>
-    ensures ok { (depth : ℕ)
-        → OnOk result (Writes out.old.items out.new.items (other (codes "entry")
-        ∷ entry_rest depth (pair_of entry.now))) }
-    ensures err { OnErr result (Extends out.old.items out.new.items) }
+    ensures { AppendsParts out.old.items out.new.items result
+        (λ depth. other (codes "entry") ∷ entry_rest depth (pair_of entry.now)) }
 {
     put_strings(out, &[ENTRY, OPEN, NAME, entry.name, NODE])?;
     put_node(out, &entry.node)?;
@@ -89,10 +81,8 @@ fn put_entry(out: &mut Vec<u8>, entry: &Entry<'_>) -> Result<(), AllocError>
 
 #[cycle(writer)]
 fn put_directory(out: &mut Vec<u8>, entries: &[Entry<'_>]) -> Result<(), AllocError>
-    ensures ok { (depth : ℕ)
-        → OnOk result (Writes out.old.items out.new.items (bracketed (other (codes "directory")
-        ∷ entries_parts depth (trees_of entries.now)))) }
-    ensures err { OnErr result (Extends out.old.items out.new.items) }
+    ensures { AppendsParts out.old.items out.new.items result
+        (λ depth. bracketed (other (codes "directory") ∷ entries_parts depth (trees_of entries.now))) }
 {
     put_strings(out, &[OPEN, TYPE, DIRECTORY])?;
     put_entries(out, entries)?;
@@ -101,9 +91,8 @@ fn put_directory(out: &mut Vec<u8>, entries: &[Entry<'_>]) -> Result<(), AllocEr
 
 #[cycle(writer)]
 fn put_node(out: &mut Vec<u8>, node: &Node<'_>) -> Result<(), AllocError>
-    ensures ok { (depth : ℕ)
-        → OnOk result (Writes out.old.items out.new.items (bracketed (kind_parts depth (tree_of node.now)))) }
-    ensures err { OnErr result (Extends out.old.items out.new.items) }
+    ensures { AppendsParts out.old.items out.new.items result
+        (λ depth. bracketed (kind_parts depth (tree_of node.now))) }
 {
     match node {
         Node::Regular {
@@ -116,8 +105,7 @@ fn put_node(out: &mut Vec<u8>, node: &Node<'_>) -> Result<(), AllocError>
 }
 
 fn put_archive(out: &mut Vec<u8>, node: &Node<'_>) -> Result<(), AllocError>
-    ensures ok { OnOk result (Writes out.old.items out.new.items (archive (tree_of node.now))) }
-    ensures err { OnErr result (Extends out.old.items out.new.items) }
+    ensures { Appends out.old.items out.new.items result (spelling (archive (tree_of node.now))) }
 {
     put_string(out, MAGIC)?;
     put_node(out, node)
@@ -125,9 +113,8 @@ fn put_archive(out: &mut Vec<u8>, node: &Node<'_>) -> Result<(), AllocError>
 
 /// Appends the archive of the tree: its one spelling, of at most 16,777,216 bytes.
 ///
-/// The tree's names keep the rule of names and rise strictly in each directory, at most 256 of its nodes are nested
-/// inside one another, and its archive isn't too large: `is_writable` is the test. Where memory is refused the
-/// buffer's bytes stay as they were.
+/// The tree's names are legal and rise strictly in each directory, at most 256 of its nodes are nested inside one another, and its archive
+/// isn't too large: `is_writable` is the test. If memory is refused, the buffer stays as it was.
 ///
 /// ```rust
 /// use nar::Node;

@@ -67,7 +67,7 @@ module _ {S : Type 0} (g : Ghosts S) (s : Settings) (c : Caller) (q : Request) w
       → IsForbidden s w c q (Some (denied Live (Some root)))
   forbidden_living root w allowed living = (denied_live s w c q allowed living.0, sym living.1, refl)
 
-  -- whether a path lives couldn't be told
+  -- whether a path is live couldn't be found
   pub forbidden_failing : first_broken (class_of s c) c (operation_of q) ≡ None → (w : World) → IsForbidden s w c q (Some (failed memory))
   forbidden_failing allowed w = (refl, (none_or_live s w c q allowed, refl))
 

@@ -21,7 +21,7 @@ module _ (was is : Type 0) (clean : is → was) (s : Settings) where
   run_later w [] (reply ∷ replies) next h = h
   run_later w (call ∷ calls) [] next h = h
 
--- a run, and a step behind it
+-- a run, and a step after it
 run_more : (is_clean : Type 0) (s : Settings) (w mid next : World) (calls : List (Caller × Request)) (replies : List Reply) (call : Caller × Request) (reply : Reply)
     → RunOver is_clean s w calls replies mid → StepOver is_clean s mid call.0 call.1 reply next → RunOver is_clean s w (calls ++ call ∷ []) (replies ++ reply ∷ []) next
 run_more is_clean s w mid next [] [] call reply h step = (next, subst (λ v. StepOver is_clean s v call.0 call.1 reply next) h step, refl)

@@ -19,8 +19,8 @@ module _ {S : Type 0} (g : Ghosts S) where
   -- a caller's request had this reply
   pub record Calls (c : Caller) (q : Request) (reply : Reply) (old new : StoreView S) : Type 0 where
     pub settings : new.settings ≡ old.settings
-    -- of each world of the tables before, a step to one of the tables now; an answer from the disk is right if that is
-    -- clean
+    -- from each world that the tables described before, a step to one that they describe now; an answer from the disk
+    -- is right if the disk is clean
     pub step : (w : World) → HasWorld g old.tables w
         → (next : World) × StepOver (HasCleanDisk (state g new.tables.connection)) old.settings w c q reply next
         × HasWorld g new.tables next

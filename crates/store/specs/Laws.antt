@@ -17,20 +17,20 @@ abbrev pub read_disk : List (Caller × Request) → Bool
 read_disk calls = list_any (λ (call : Caller × Request). reads_disk call.1) calls
 
 module _ {S : Type 0} (g : Ghosts S) where
-  -- over a clean disk a step over the disk is a step, and so it is over any where the answer isn't from it
+  -- a step over a disk is a step, if the disk is clean or the answer isn't from it
   abbrev pub AreSteps : Type 0
   AreSteps = (h : Held S) (s : Settings) (w : World) (c : Caller) (q : Request) (reply : Reply) (next : World)
       → (IsTrue (reads_disk q) → HasCleanDisk (state g h)) → StepOver (HasCleanDisk (state g h)) s w c q reply next
       → Step s w c q reply next
 
-  -- what a run promises where none of the answers is from the disk
+  -- a run over a disk is a run, if the disk is clean or no answer is from it
   abbrev pub AreRuns : Type 0
   AreRuns = (h : Held S) (s : Settings) (w : World) (calls : List (Caller × Request)) (replies : List Reply)
       (next : World)
       → (IsTrue (read_disk calls) → HasCleanDisk (state g h))
       → RunOver (HasCleanDisk (state g h)) s w calls replies next → Run s w calls replies next
 
-  -- where the disk is always clean, each run over it is a run
+  -- each run over the disk is a run, which is true if the disk is always clean
   abbrev pub AreAllRuns : Type 0
   AreAllRuns =
       (h : Held S) (s : Settings) (w : World) (calls : List (Caller × Request)) (replies : List Reply) (next : World)

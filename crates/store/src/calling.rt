@@ -177,8 +177,8 @@ impl<S: Alter> Store<S> {
     /// ```
     pub fn call(&mut self, caller: &Caller, request: Request) -> Reply
         ensures settings { self.new.settings ≡ self.old.settings }
-        // From each world that the tables described, a step to one that they describe now; an answer from the disk is right if that
-        // is clean.
+        // From each world that the tables described, a step to one that they describe now; an answer from the disk is right if the disk is
+        // clean.
         ensures step { (w : World) → HasWorld S.Store self.old.tables w → (next : World)
             × StepOver (HasCleanDisk (state S.Store self.new.tables.connection))
             self.old.settings w caller.now (request_view request) (reply_view result) next
@@ -187,7 +187,7 @@ impl<S: Alter> Store<S> {
         ensures spent { IsTrue (is_spent request)
             → (reply_view result ≡ spent_reply self.old.settings caller.now (request_view request))
             × (self.new ≡ self.old) }
-        // A failure is out of memory; or the request touches the disk, and over a clean one a reason exists.
+        // A failure is out of memory; or the request touches the disk and, if the disk is clean, has a reason to fail.
         ensures cause { (w : World) → HasWorld S.Store self.old.tables w
             → HasCause S.Store (request_view request) (reply_view result) self.old.tables self.new.tables }
         ensures still { IsStill (reply_view result) → self.new ≡ self.old }

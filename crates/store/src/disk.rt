@@ -1,22 +1,18 @@
 //! Reads from the disk: archives and their listings.
 
-ghost use Rattle.std.specs.Prelude.{◌≡◌, IfErr, IfOk, IsTrue, string_bytes};
+ghost use Rattle.std.specs.Prelude.{◌≡◌, IfErr, IfOk, string_bytes};
 ghost use Rattle.nar.specs.Outcome.{outcome_of};
 ghost use Rattle.policy.specs.Settings.{Settings};
-ghost use Rattle.model.specs.World.{World, has};
+ghost use Rattle.model.specs.World.{World};
 ghost use Rattle.tables_outline.specs.Outline.{outline_of};
 ghost use Rattle.model.specs.Answers.{listing_at, archive_at};
 ghost use Rattle.model.specs.Tests.{refusal};
 ghost use Rattle.store_types.specs.Tested.{Tested};
-ghost use Rattle.sqlite.specs.State.{HasCleanDisk};
-ghost use Rattle.sqlite.specs.Held.{state};
 ghost use Rattle.policy.specs.Caller.{Caller};
-ghost use Rattle.tables.specs.Frames.{FailsToAsk};
-ghost use Rattle.tables.specs.TablesValue.{HasWorld};
-ghost use Rattle.store_steps.specs.Meets.{IsMet, OnlyReads};
+ghost use Rattle.store_steps.specs.Meets.{IsMet};
 ghost use Rattle.model.specs.Request as asked;
 ghost use Rattle.std.specs.FinMap as finite;
-ghost use Rattle.store.specs.Listing.{FailsToList};
+ghost use Rattle.store.specs.Listing.{FailsToList, ReadsArchive};
 
 use nar::NarError;
 use paths::StorePath;
@@ -53,11 +49,8 @@ pub(crate) fn list(alloc: Global, nar: &Pieces) -> Result<String, Failed>
 
 /// The archive of a valid path. `Disk` if the tables have none, which only a faulty disk causes.
 fn read<S: Alter>(tables: &mut Tables<S>, path: &StorePath) -> Result<Pieces, Failed>
-    ensures reads { OnlyReads S.Store tables.old tables.new }
-    ensures archive { HasCleanDisk (state S.Store tables.new.connection) → IfOk result (λ nar. (w : World)
-        → HasWorld S.Store tables.old w → nar ≡ archive_at (finite.get w.objects path.now)) }
-    ensures cause { (w : World) → HasWorld S.Store tables.old w → IsTrue (has w path.now)
-        → FailsToAsk S.Store tables.old tables.new result }
+    ensures { ReadsArchive S.Store path.now result (λ nar w. nar ≡ archive_at (finite.get w.objects path.now))
+        tables.old tables.new }
 {
     let Some(nar) = tables.archive(path)? else {
         return Err(Failed::Disk);
@@ -79,13 +72,9 @@ fn read_listing<S: Alter>(
     tables: &mut Tables<S>,
     path: &StorePath,
 ) -> Result<String, Failed>
-    ensures reads { OnlyReads S.Store tables.old tables.new }
-    ensures listing { HasCleanDisk (state S.Store tables.new.connection) → IfOk result (λ text. (w : World)
-        → HasWorld S.Store tables.old w
-        → string_bytes text ≡ listing_at (outcome_of (archive_at (finite.get w.objects path.now)))) }
-    // In a sound world it is an archive.
-    ensures cause { (w : World) → HasWorld S.Store tables.old w → IsTrue (has w path.now)
-        → FailsToAsk S.Store tables.old tables.new result }
+    ensures { ReadsArchive S.Store path.now result
+        (λ text w. string_bytes text ≡ listing_at (outcome_of (archive_at (finite.get w.objects path.now))))
+        tables.old tables.new }
 {
     let nar = read(tables, path)?;
     list(alloc, &nar)

@@ -40,7 +40,8 @@ impl<S: Alter> Store<S> {
     /// Memory was refused for the replies. Then no call was made.
     pub fn run(&mut self, calls: Vec<(Caller, Request)>) -> Result<Vec<Reply>, AllocError>
         ensures settings { self.new.settings ≡ self.old.settings }
-        // From each world of the tables before a run to one of the tables now; answers from the disk are right if that is clean.
+        // From each world that the tables described before, a run to one that they describe now; answers from the disk are right if the
+        // disk is clean.
         ensures runs { IfOk result (λ replies. (w : World) → HasWorld S.Store self.old.tables w → (next : World)
             × RunOver (HasCleanDisk (state S.Store self.new.tables.connection))
             self.old.settings w (map call_view calls.items) (map reply_view replies.items) next

@@ -99,7 +99,7 @@ module _ {S : Type 0} (g : Ghosts S) (path : Path) (o : Outlined) (k : TablesVal
         survives = survives_put frame.survives;
       }
 
--- a request that adds what was handed in
+-- a request that adds what was passed
 pub met_by_adding : {S : Type 0} (g : Ghosts S) (s : Settings) (c : Caller) (q : Request) (r : Result Answer Stop) (k new : TablesValue S) (a asked : Added)
     → ((w : World) → outline_of w ≡ k.outline → (refusal s w q ≡ None) × (a ≡ asked))
     → ((w : World) → effect s w q ≡ with_object w asked) → ((w : World) → answer s w c q ≡ replied.path asked.path)

@@ -12,7 +12,7 @@ use Rattle.store_adds.specs.declared.summaries.Added.{Added}
 abbrev pub added_view : Added → adds.Added
 added_view a = record { path = a.path; object = with_archive a.nar a.object }
 
--- each reference is a path of the outline, the path itself apart; not asked of a path that the outline has
+-- each reference, except the path itself, is a path of the outline; not required if the outline has the path already
 abbrev pub is_complete_in : OutlineValue → Path → List Path → Bool
 is_complete_in o p refs =
     finite.contains_key o.objects p || list_all (λ r. finite.contains_key o.objects r || same r p) refs

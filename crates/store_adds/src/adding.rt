@@ -1,7 +1,6 @@
 //! Adds.
 
-ghost use Rattle.std.specs.Prelude.{◌≡◌, length};
-ghost use Rattle.sha2.specs.Sha256.{sha256};
+ghost use Rattle.std.specs.Prelude.{◌≡◌};
 ghost use Rattle.policy.specs.Caller.{Caller};
 ghost use Rattle.model.specs.World.{World};
 ghost use Rattle.model.specs.Sound.{IsSound};
@@ -23,9 +22,7 @@ use tables::Tables;
 
 /// Adds an object at its path, unless the path is valid already. The answer is the path.
 pub fn add<S: Alter>(tables: &mut Tables<S>, added: Added) -> Result<Answer, Stop>
-    requires size { added.object.size ≡ length added.nar }
-    requires hash { added.object.hash ≡ sha256 added.nar }
-    requires sound { (w : World) → HasWorld S.Store tables.old w
+    requires { (w : World) → HasWorld S.Store tables.old w
         → IsSound tables.old.dir (with_object w (added_view added)) }
     ensures { IsAdded S.Store (added_view added) result tables.old tables.new }
 {

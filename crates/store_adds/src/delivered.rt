@@ -1,6 +1,6 @@
 //! Tests of an imported object.
 
-ghost use Rattle.std.specs.Prelude.{◌≡◌, ◌||◌, Some, None, IfOk, IfErr, IsTrue, not, is_none};
+ghost use Rattle.std.specs.Prelude.{◌≡◌, ◌||◌, Some, None, IfOk, IsTrue, not, is_none};
 ghost use Rattle.sha2.specs.Sha256.{sha256};
 ghost use Rattle.paths.specs.StorePath.{is_base_name};
 ghost use Rattle.paths.specs.ContentAddress.{verifies};
@@ -10,19 +10,15 @@ ghost use Rattle.model.specs.Adds.{added_import};
 ghost use Rattle.model.specs.Tests as tests;
 ghost use Rattle.model.specs.Tests.{unless};
 ghost use Rattle.store_types.specs.Tested.{Passes, Tested};
-ghost use Rattle.tables_sql.specs.declared.failure.Failed.TheVariants.{Memory as memory};
-ghost use Rattle.store_types.specs.declared.replies.Stop.TheVariants.{Failed as failed};
 ghost use Rattle.intake.specs.Described.{DescribesBytes};
 ghost use Rattle.store_adds.specs.Delivered.{delivered_view};
 ghost use Rattle.store_types.specs.View.{import_view};
 
-use crate::arrivals::arrived;
 use crate::references::are_others;
 use intake::Arrived;
 use paths::{Ca, StoreDir, StorePath, VerifyError};
-use std::alloc::Global;
+use std::alloc::{AllocError, Global};
 use store_types::{Imported, Refusal, Stop};
-use tables_sql::failure::Failed;
 
 fn is_same(a: &[u8], b: &[u8]) -> bool
     ensures { result ≡ same a.now b.now }
@@ -42,11 +38,10 @@ pub(crate) struct Delivered {
 }
 
 /// The imported object with its whole archive. The call fails if memory ran out while the archive arrived.
-pub(crate) fn at_end(import: Imported) -> Result<Delivered, Stop>
+pub(crate) fn at_end(import: Imported) -> Result<Delivered, AllocError>
     ensures same { IfOk result (λ d. delivered_view d ≡ import_view import) }
     ensures reported { IfOk result (λ d. DescribesBytes d.nar) }
     ensures spent { import.nar ≡ None → IfOk result (λ d. ⊥) }
-    ensures failed { IfErr result (λ stop. stop ≡ failed memory) }
 {
     let Imported {
         path,
@@ -56,7 +51,7 @@ pub(crate) fn at_end(import: Imported) -> Result<Delivered, Stop>
         ca,
         nar,
     } = import;
-    let nar = arrived(nar)?;
+    let nar = nar.finish()?;
     Ok(Delivered {
         path,
         nar_hash,
@@ -81,7 +76,7 @@ impl Delivered {
 
     /// Tests that the archive has the given digest.
     pub(crate) fn has_digest(&self) -> Result<(), Refusal>
-        requires { DescribesBytes self.now.nar }
+        requires { self.now.nar.nar_hash ≡ sha256 self.now.nar.pieces }
         ensures { Tested result
             (unless (same (sha256 (delivered_view self.now).nar) (delivered_view self.now).nar_hash)
             Refusal.NarHashMismatch) }
@@ -119,19 +114,17 @@ impl Delivered {
     }
 
     /// Whether `ca` is a content address of the object.
-    fn fits(&self, alloc: Global, dir: &StoreDir, ca: &Ca) -> Result<bool, Stop>
-        requires { DescribesBytes self.now.nar }
-        ensures fits { IfOk result
+    fn fits(&self, alloc: Global, dir: &StoreDir, ca: &Ca) -> Result<bool, AllocError>
+        ensures { DescribesBytes self.now.nar → IfOk result
             (λ fits. fits
             ≡ verifies ca.now dir.now (delivered_view self.now).path (delivered_view self.now).refs
             (delivered_view self.now).nar) }
-        ensures failed { IfErr result (λ stop. stop ≡ failed memory) }
     {
         let facts = self.nar.facts_for(ca.method());
         match ca.verify_facts(alloc, dir, &self.path, &self.refs, &facts) {
             Ok(()) => Ok(true),
             Err(VerifyError::CaMismatch) => Ok(false),
-            Err(VerifyError::Memory) => Err(Stop::Failed(Failed::Memory)),
+            Err(VerifyError::Memory) => Err(AllocError),
         }
     }
 }

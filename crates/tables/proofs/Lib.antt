@@ -11,7 +11,6 @@ pub mod Causes
 pub mod Chosen
 pub mod Covered
 pub mod Cuts
-pub mod Failing
 pub mod FoundTables
 pub mod Free
 pub mod InTheWay

@@ -10,7 +10,7 @@ use Rattle.sqlite.specs.Effect.{Database}
 use Rattle.sqlite.specs.State.{State, HasCleanDisk, Survives}
 use Rattle.sqlite.specs.Held.{Held, state}
 use Rattle.tables_sql.specs.Contents.{Contents, contents_of}
-use Rattle.tables_schema.specs.Forms.{piece, temp_root, is_our_name}
+use Rattle.tables_schema.specs.Forms.{piece, temp_root, names_store_table}
 use Rattle.tables_sql.specs.Frozen.{IsFrozen, SparesUnshown}
 use Rattle.tables_sql.specs.Calls.{HasFurther, IsReady, IsUnderWay, IsWhole, IsCommitted, KeepsForeignRows, Changes}
 use Rattle.tables_sql.proofs.Frozen.{frozen_of, listed_of}
@@ -91,7 +91,7 @@ pub nothing_changed : (a b : Database) → b ≡ a → KeepsOthers a b
 nothing_changed a b is = subst (KeepsOthers a) (sym is) (record {
   schema = refl;
   listed = refl;
-  foreign_rows = all_of (λ (t : Table). is_our_name t.name ≡ false → a.trees t.tree ≡ a.trees t.tree) (λ t other. refl) a.schema.tables;
+  foreign_rows = all_of (λ (t : Table). names_store_table t.name ≡ false → a.trees t.tree ≡ a.trees t.tree) (λ t other. refl) a.schema.tables;
   frozen = record { rows = λ tree it. refl; texts = λ row present foreign. present; version = refl };
 })
 

@@ -1,14 +1,17 @@
 -- What each call that opens a connection as a store requires of the connection, and what it promises.
-use Rattle.std.specs.Prelude.{◌≡◌, ℕ, false, List, Result, IsTrue, IfOk, IfErr, MatchResult}
+use Rattle.std.specs.Prelude.{◌≡◌, ℕ, false, List, Result, IsTrue, IfOk, IfErr, OnOk, MatchResult}
 use Rattle.sqlite_trees.specs.declared.store.Store.{Ghosts}
-use Rattle.sqlite.specs.State.{State, HasCleanDisk, Survives}
+use Rattle.sqlite.specs.State.{State, HasCleanDisk, IsUnchanged, Survives}
 use Rattle.sqlite.specs.Held.{Held, state}
 use Rattle.tables_schema.specs.Finding.{HasNone}
 use Rattle.tables_schema.specs.declared.schema.Schema.{Schema}
 use Rattle.tables_sql.specs.Calls.{Remains, IsDurable, IsReady, KeepsShown}
+use Rattle.tables_rows.specs.Frames.{LeftAsItWas}
 use Rattle.tables.specs.TablesValue.{TablesValue}
-use Rattle.tables.specs.Opening.{IsFoundBy, IsCause}
+use Rattle.tables.specs.Opening.{IsFoundBy, AreRead, IsCause}
+use Rattle.tables.specs.declared.refusing.Cause.{Cause}
 use Rattle.tables.specs.declared.refusing.Unadopted.{Unadopted}
+use Rattle.tables.specs.declared.rows.Loaded.{Loaded}
 
 module _ {S : Type 0} (g : Ghosts S) where
   -- no transaction is under way, and the store's tables are those of a schema
@@ -22,6 +25,15 @@ module _ {S : Type 0} (g : Ghosts S) where
     pub idle : conn.in_transaction ≡ false
     pub none : HasCleanDisk (state g conn) → HasNone (state g conn).now.schema
     pub settled : HasCleanDisk (state g conn) → (state g conn).now ≡ (state g conn).committed
+
+  -- The rows are read and tested by a schema. They are those of a directory, or there is a cause. Nothing changes.
+  pub record ReadsStore (old new : Held S) (result : Result Loaded Cause) (schema : Schema) (named : List ℕ)
+      : Type 0 where
+    pub frame : LeftAsItWas g old new
+    pub dir : IfOk result (λ r. r.dir ≡ named)
+    pub reported : HasCleanDisk (state g new) → IfOk result (λ r. AreRead schema r.dir (state g old).now r.outline)
+    pub unchanged : HasCleanDisk (state g new) → OnOk result (IsUnchanged (state g old) (state g new))
+    pub cause : HasCleanDisk (state g new) → IfErr result (IsCause named (state g old) (state g new))
 
   -- A connection in a state is opened as the store of a directory, or isn't.
   pub record Adopts (named : List ℕ) (old : State) (result : Result (TablesValue S) (Unadopted S))

@@ -1,11 +1,15 @@
 -- Entries as callers pass and receive them: roots by their names, generations by their numbers, objects with their
 -- archives.
-use Rattle.std.specs.Prelude.{ℕ, List, Option, Some, None}
+use Rattle.std.specs.Prelude.{◌≡◌, ℕ, List, Option, Some, None, length}
 use Rattle.std.specs.FinMap as finite
 use Rattle.model.specs.World.{Path, Pair, Profile, World}
 use Rattle.model.specs.World as world
 use Rattle.model.specs.Profiles.{profile_at, put_at, switched}
 use Rattle.model.specs.Effects.{with_permanent, without_permanent, with_user_root, without_user_root, with_profile}
+use Rattle.tables_sql.specs.Contents.{Contents, Stored}
+use Rattle.tables_world.specs.Pieces.{IsCut}
+use Rattle.tables_world.specs.Rows.{archive_in, pieces_in}
+use Rattle.tables_world.specs.Worlds.{rows_of}
 use Rattle.tables_outline.specs.Outline.{Outlined, with_archive}
 use Rattle.tables.specs.declared.entries.Object.{Object}
 use Rattle.tables.specs.declared.named_roots.RootName.{RootName}
@@ -37,6 +41,12 @@ with_numbers owned given current = with_profile_by owned (numbered given current
 -- a world in which a path has an object: an archive, and what its summary says
 abbrev pub with_archived : Path → List ℕ → Outlined → World → World
 with_archived path nar o w = record w { objects = finite.insert w.objects path (with_archive nar o) }
+
+-- the contents hold the whole archive of a path, if it has an object: cut in pieces, and of this size in bytes
+pub record HoldsArchive (path : Path) (size : ℕ) (c : Contents) : Type 0 where
+  pub cut : (o : Stored) → finite.get c.objects path ≡ Some o
+      → IsCut o.nar (finite.entries (pieces_in (rows_of c) path))
+  pub sized : (o : Stored) → finite.get c.objects path ≡ Some o → length (archive_in (rows_of c) path o) ≡ size
 
 -- an object of the world: the archive, and what its summary says
 abbrev pub object_view : Object → world.Object

@@ -2,11 +2,12 @@
 use Rattle.std.specs.Prelude.{◌≡◌, false, Result, IsTrue, OnOk, OnErr}
 use Rattle.std.specs.Borrow.{MutBor}
 use Rattle.sqlite_trees.specs.declared.store.Store.{Ghosts}
+use Rattle.sqlite.specs.Effect.{Database}
 use Rattle.sqlite.specs.State.{HasCleanDisk, Survives}
 use Rattle.sqlite.specs.Held.{Held, state}
 use Rattle.tables_sql.specs.Contents.{Contents, contents_of}
 use Rattle.tables_sql.specs.declared.failure.Failed.{Failed}
-use Rattle.tables_rows.specs.Frames.{FailsInReads, IsInside, Makes, StaysInside}
+use Rattle.tables_rows.specs.Frames.{FailsInReads, IsInside, MayRead}
 use Rattle.tables_sql.specs.Calls.{IsDurable, IsReady, IsWhole, KeepsShown, LeavesRows}
 use Rattle.model.specs.World.{World}
 use Rattle.model.specs.Sound.{IsSound}
@@ -15,28 +16,30 @@ use Rattle.tables.specs.TablesValue.{TablesValue, HasWorld, IsWritten, LeavesWor
 use Rattle.tables.specs.Others.{KeepsOthers}
 
 module _ {S : Type 0} (g : Ghosts S) where
-  -- ---- a write of rows, inside a transaction
+  -- ---- rows, inside a transaction
 
-  -- a transaction is under way over the store's tables, and no fault has shut the connection
-  pub record IsOpenInside (old : MutBor (Held S)) : Type 0 where
+  -- a transaction is under way over the store's tables, no fault has shut the connection, and this is so of the
+  -- contents
+  pub record IsOpenInside (old : MutBor (Held S)) (holds : Contents → Type 0) : Type 0 where
     pub under_way : IsInside g old
     pub is_open : HasCleanDisk (state g old.now) → IsTrue (state g old.now).is_open
+    pub fits : HasCleanDisk (state g old.now) → holds (contents_of (state g old.now).now)
 
-  -- A write inside a transaction: the change is made there, or it fails for a reason, by the rows that it puts.
-  pub record Writes {T : Type 0} (old new : MutBor (Held S)) (result : Result T Failed)
-      (change : Contents → Contents) (rows : Rows) : Type 0 where
-    pub frame : StaysInside g old new result
-    pub done : Makes g old new result change
-    pub cause : HasReason g old.now new.now result rows
+  -- ---- rows, over a connection
 
-  -- ---- a write of rows, over a connection
+  -- no transaction is under way, and unless a fault has shut the connection its tables are the store's, and committed,
+  -- and this is so of its database
+  pub record MayReadWith (old : Held S) (has : Database → Type 0) : Type 0 where
+    pub frame : MayRead g old
+    pub tables : HasCleanDisk (state g old) → IsTrue (state g old).is_open → has (state g old).now
 
   -- no transaction is under way, and unless a fault has shut the connection all of the store's tables are there and
-  -- committed
-  pub record MayCommit (old : Held S) : Type 0 where
+  -- committed, and this is so of their contents
+  pub record MayCommit (old : Held S) (holds : Contents → Type 0) : Type 0 where
     pub idle : old.in_transaction ≡ false
     pub ready : HasCleanDisk (state g old) → IsTrue (state g old).is_open → IsReady (state g old)
     pub whole : HasCleanDisk (state g old) → IsTrue (state g old).is_open → IsWhole (state g old).now
+    pub fits : HasCleanDisk (state g old) → IsTrue (state g old).is_open → holds (contents_of (state g old).now)
 
   -- The change is committed in one transaction, or nothing is. It ends outside a transaction.
   pub record CommitsRows {T E : Type 0} (old new : Held S) (result : Result T E)

@@ -42,9 +42,7 @@ pub(crate) fn commit<S: Alter, C: Change>(
     conn: &mut Connection<S>,
     change: &C,
 ) -> Result<(), Failed>
-    requires frame { MayCommit S.Store conn.old }
-    requires fits { HasCleanDisk (state S.Store conn.old) → IsTrue (state S.Store conn.old).is_open
-        → C.fits change.now (contents_of (state S.Store conn.old).now) }
+    requires { MayCommit S.Store conn.old (C.fits change.now) }
     ensures frame { CommitsRows S.Store conn.old conn.new result (C.change change.now) }
     ensures cause { HasReason S.Store conn.old conn.new result (C.rows change.now) }
 {

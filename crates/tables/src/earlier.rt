@@ -1,15 +1,13 @@
 //! Opening tables of an earlier schema, which migrates them to schema 3.
 
-ghost use Rattle.std.specs.Prelude.{◌≡◌, ◌≢◌, List, ℕ, false, IsTrue, IfOk, IfErr, OnOk, OnErr};
+ghost use Rattle.std.specs.Prelude.{◌≡◌, ◌≢◌, false, IsTrue, IfOk, IfErr, OnOk, OnErr};
 ghost use Rattle.sqlite.specs.State.{HasCleanDisk, Survives};
 ghost use Rattle.sqlite.specs.Held.{state};
-ghost use Rattle.tables_sql.specs.Contents.{contents_of};
-ghost use Rattle.tables_sql.specs.Calls.{KeepsShown, IsReady};
+ghost use Rattle.tables_sql.specs.Calls.{KeepsShown};
 ghost use Rattle.tables_schema.specs.declared.schema.Schema.TheVariants.{V3};
-ghost use Rattle.tables_world.specs.Worlds.{IsSoundBy};
-ghost use Rattle.tables_make.specs.Migrated.{IsMigrated, LeavesMigrated};
-ghost use Rattle.tables_make.specs.Migrating.{FailsToMigrate};
-ghost use Rattle.tables.specs.Opening.{IsFoundBy, AreRead, OpensMigrated, LeavesMigration, IsCause};
+ghost use Rattle.tables_make.specs.Migrated.{IsMigrated};
+ghost use Rattle.tables_make.specs.Commits.{Migrates};
+ghost use Rattle.tables.specs.Opening.{AreRead, OpensMigrated, LeavesMigration, IsCause};
 ghost use Rattle.tables.specs.Adopted.{Adopts, HasTables};
 
 use crate::keeping::Tables;
@@ -23,22 +21,10 @@ use tables_sql::failure::Failed;
 
 /// Migrates the tables of a schema to schema 3. Tables of schema 3 stay as they are.
 fn bring<S: Alter>(alloc: Global, conn: &mut Connection<S>, schema: Schema) -> Result<(), Failed>
-    requires idle { conn.old.in_transaction ≡ false }
+    requires tables { HasTables S.Store schema conn.old }
     requires is_open { HasCleanDisk (state S.Store conn.old) → IsTrue (state S.Store conn.old).is_open }
-    requires ready { HasCleanDisk (state S.Store conn.old) → IsReady (state S.Store conn.old) }
-    requires found { HasCleanDisk (state S.Store conn.old) → IsFoundBy schema (state S.Store conn.old).now }
-    ensures idle { conn.new.in_transaction ≡ false }
-    ensures done { HasCleanDisk (state S.Store conn.new)
-        → OnOk result ((dir : List ℕ) → IsSoundBy schema dir (contents_of (state S.Store conn.old).now)
-        → IsMigrated schema dir (state S.Store conn.old) (state S.Store conn.new)) }
-    ensures failed { HasCleanDisk (state S.Store conn.new)
-        → OnErr result (KeepsShown (state S.Store conn.old) (state S.Store conn.new)) }
+    ensures migrates { Migrates S.Store conn.old conn.new result schema }
     ensures needed { OnErr result (schema ≢ V3) }
-    ensures cause { HasCleanDisk (state S.Store conn.new)
-        → IfErr result (FailsToMigrate schema (state S.Store conn.old) (state S.Store conn.new)) }
-    ensures survives { Survives (state S.Store conn.old) (state S.Store conn.new)
-        (λ db. (dir : List ℕ) → IsSoundBy schema dir (contents_of (state S.Store conn.old).now)
-        → LeavesMigrated schema dir (state S.Store conn.old).now db) }
 {
     match schema {
         Schema::V1 => tables_make::from_first(alloc, conn),

@@ -1,6 +1,5 @@
 //! Opening a database with the store's tables of schema 3, or with none of them.
 
-ghost use Rattle.std.specs.Prelude.{◌≡◌};
 ghost use Rattle.sqlite.specs.Held.{state};
 ghost use Rattle.tables_make.specs.Making.{LeavesMade};
 ghost use Rattle.tables_schema.specs.declared.schema.Schema.TheVariants.{V3};
@@ -37,18 +36,20 @@ pub(crate) fn open_existing<S: Alter>(
     }
 }
 
-/// Makes the store's tables, and opens them. `own` is a copy of `dir`, kept in the tables.
-fn make_new<S: Alter>(
+/// Makes the store's tables in a database that has none of them, and opens them.
+pub(crate) fn open_new<S: Alter>(
     alloc: Global,
     mut conn: Connection<S>,
     dir: &StoreDir,
-    own: StoreDir,
 ) -> Result<Tables<S>, Unadopted<S>>
-    requires own { own ≡ dir.now }
-    requires found { HasNoTables S.Store conn }
+    requires { HasNoTables S.Store conn }
     ensures { Adopts S.Store dir.now (state S.Store conn) result (OpensNew S.Store (state S.Store conn).now)
         (LeavesMade dir.now (state S.Store conn).now) }
 {
+    let Ok(own) = dir.clone() else {
+        let cause = Cause::Failed(Failed::Memory);
+        return Err(Unadopted { conn, cause });
+    };
     match making::make(&mut conn, dir.as_str()) {
         Ok(()) => {
             let outline = Outline::new(alloc);
@@ -56,25 +57,6 @@ fn make_new<S: Alter>(
         }
         Err(failure) => {
             let cause = Cause::Failed(failure);
-            Err(Unadopted { conn, cause })
-        }
-    }
-}
-
-/// Makes the store's tables in a database that has none of them, and opens them.
-pub(crate) fn open_new<S: Alter>(
-    alloc: Global,
-    conn: Connection<S>,
-    dir: &StoreDir,
-) -> Result<Tables<S>, Unadopted<S>>
-    requires { HasNoTables S.Store conn }
-    ensures { Adopts S.Store dir.now (state S.Store conn) result (OpensNew S.Store (state S.Store conn).now)
-        (LeavesMade dir.now (state S.Store conn).now) }
-{
-    match dir.clone() {
-        Ok(own) => make_new(alloc, conn, dir, own),
-        Err(_) => {
-            let cause = Cause::Failed(Failed::Memory);
             Err(Unadopted { conn, cause })
         }
     }

@@ -3,14 +3,11 @@
 
 ghost use Rattle.std.specs.Prelude.{◌<◌, ℕ, ℤ, List, IsTrue, not};
 ghost use Rattle.std.specs.FinMap as finite;
-ghost use Rattle.sqlite.specs.State.{HasCleanDisk};
-ghost use Rattle.sqlite.specs.Held.{state};
 ghost use Rattle.live.specs.Graph.{same};
-ghost use Rattle.tables_sql.specs.Contents.{contents_of};
 ghost use Rattle.tables_world.specs.Pieces.{piece_size};
 ghost use Rattle.tables_make.specs.Reasons.{NoRow};
-ghost use Rattle.tables_make.specs.Frames.{MayCut};
-ghost use Rattle.tables.specs.Frames.{IsOpenInside, Writes};
+ghost use Rattle.tables_make.specs.Frames.{MayCut, Writes};
+ghost use Rattle.tables.specs.Frames.{IsOpenInside};
 
 use sqlite::{Alter, Transaction};
 use streams::PIECE_SIZE;
@@ -24,10 +21,9 @@ pub(crate) fn delete_references<S: Alter>(
     base: &str,
     object: &Summary,
 ) -> Result<(), Failed>
-    requires frame { IsOpenInside S.Store tx.old.conn }
-    requires reported { HasCleanDisk (state S.Store tx.old.conn.now) → (r : List ℕ)
-        → IsTrue (finite.contains_key (contents_of (state S.Store tx.old.conn.now).now).refs (base.now, r))
-        → IsTrue (finite.contains_key object.now.references r) }
+    requires { IsOpenInside S.Store tx.old.conn
+        (λ c. (r : List ℕ) → IsTrue (finite.contains_key c.refs (base.now, r))
+        → IsTrue (finite.contains_key object.now.references r)) }
     ensures { Writes S.Store tx.old.conn tx.new.conn result
         (λ c. record c { refs = finite.retain_keys c.refs (λ k. not (same k.0 base.now)) })
         NoRow }
@@ -44,10 +40,9 @@ pub(crate) fn delete_outputs<S: Alter>(
     base: &str,
     object: &Summary,
 ) -> Result<(), Failed>
-    requires frame { IsOpenInside S.Store tx.old.conn }
-    requires reported { HasCleanDisk (state S.Store tx.old.conn.now) → (name : List ℕ)
-        → IsTrue (finite.contains_key (contents_of (state S.Store tx.old.conn.now).now).outs (base.now, name))
-        → IsTrue (finite.contains_key object.now.outputs name) }
+    requires { IsOpenInside S.Store tx.old.conn
+        (λ c. (name : List ℕ) → IsTrue (finite.contains_key c.outs (base.now, name))
+        → IsTrue (finite.contains_key object.now.outputs name)) }
     ensures { Writes S.Store tx.old.conn tx.new.conn result
         (λ c. record c { outs = finite.retain_keys c.outs (λ k. not (same k.0 base.now)) })
         NoRow }
@@ -64,10 +59,8 @@ pub(crate) fn delete_pieces<S: Alter>(
     base: &str,
     object: &Summary,
 ) -> Result<(), Failed>
-    requires frame { MayCut S.Store tx.old.conn }
-    requires reported { HasCleanDisk (state S.Store tx.old.conn.now) → (n : ℤ)
-        → IsTrue (finite.contains_key (contents_of (state S.Store tx.old.conn.now).now).pieces (base.now, n))
-        → piece_size < object.now.size }
+    requires { MayCut S.Store tx.old.conn
+        (λ c. (n : ℤ) → IsTrue (finite.contains_key c.pieces (base.now, n)) → piece_size < object.now.size) }
     ensures { Writes S.Store tx.old.conn tx.new.conn result
         (λ c. record c { pieces = finite.retain_keys c.pieces (λ k. not (same k.0 base.now)) })
         NoRow }

@@ -3,13 +3,11 @@
 ghost use Rattle.std.specs.Prelude.{◌≡◌, length, map, string_bytes};
 ghost use Rattle.std.specs.List.{zip};
 ghost use Rattle.std.specs.FinMap as finite;
-ghost use Rattle.sqlite.specs.State.{HasCleanDisk};
-ghost use Rattle.sqlite.specs.Held.{state};
-ghost use Rattle.tables_sql.specs.Contents.{contents_of};
 ghost use Rattle.tables.specs.Rewritten.{AreFree, put_references, put_outputs};
 ghost use Rattle.tables_make.specs.Reasons.{RowsOf};
 ghost use Rattle.tables.specs.RowsPut.{ReferenceRow, OutputRow};
-ghost use Rattle.tables.specs.Frames.{IsOpenInside, Writes};
+ghost use Rattle.tables_make.specs.Frames.{Writes};
+ghost use Rattle.tables.specs.Frames.{IsOpenInside};
 
 use crate::change::Change;
 use crate::cutting::put_pieces;
@@ -27,9 +25,7 @@ pub(crate) fn put_references<S: Alter>(
     base: &str,
     targets: &[StorePath],
 ) -> Result<(), Failed>
-    requires frame { IsOpenInside S.Store tx.old.conn }
-    requires free { HasCleanDisk (state S.Store tx.old.conn.now)
-        → AreFree (contents_of (state S.Store tx.old.conn.now).now).refs (map (λ t. (base.now, t)) targets.now) }
+    requires { IsOpenInside S.Store tx.old.conn (λ c. AreFree c.refs (map (λ t. (base.now, t)) targets.now)) }
     ensures { Writes S.Store tx.old.conn tx.new.conn result
         (λ c. record c { refs = put_references base.now targets.now c.refs })
         (RowsOf (ReferenceRow base.now) targets.now) }
@@ -48,11 +44,9 @@ pub(crate) fn put_outputs<S: Alter>(
     names: &[String],
     outputs: &[StorePath],
 ) -> Result<(), Failed>
-    requires frame { IsOpenInside S.Store tx.old.conn }
+    requires frame { IsOpenInside S.Store tx.old.conn
+        (λ c. AreFree c.outs (map (λ e. (base.now, e.0)) (zip (map string_bytes names.now) outputs.now))) }
     requires count { length outputs.now ≡ length names.now }
-    requires free { HasCleanDisk (state S.Store tx.old.conn.now)
-        → AreFree (contents_of (state S.Store tx.old.conn.now).now).outs
-        (map (λ e. (base.now, e.0)) (zip (map string_bytes names.now) outputs.now)) }
     ensures { Writes S.Store tx.old.conn tx.new.conn result
         (λ c. record c { outs = put_outputs base.now (zip (map string_bytes names.now) outputs.now) c.outs })
         (RowsOf (OutputRow base.now) (zip (map string_bytes names.now) outputs.now)) }

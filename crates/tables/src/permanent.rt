@@ -2,7 +2,7 @@
 
 ghost use Rattle.std.specs.FinMap as finite;
 ghost use Rattle.tables_rows.specs.Frames.{IsInside};
-ghost use Rattle.tables.specs.Frames.{Writes};
+ghost use Rattle.tables_make.specs.Frames.{Writes};
 ghost use Rattle.tables.specs.RowsPut.{PermanentRow};
 
 use crate::change::Change;

@@ -4,7 +4,7 @@ ghost use Rattle.std.specs.Prelude.{pos};
 ghost use Rattle.std.specs.FinMap as finite;
 ghost use Rattle.tables.specs.RowsPut.{ProfileRow};
 ghost use Rattle.tables_rows.specs.Frames.{IsInside};
-ghost use Rattle.tables.specs.Frames.{Writes};
+ghost use Rattle.tables_make.specs.Frames.{Writes};
 
 use crate::change::Change;
 use sqlite::{Alter, Transaction};

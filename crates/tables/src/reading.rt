@@ -1,19 +1,19 @@
 //! Reading of archives.
 
-ghost use Rattle.std.specs.Prelude.{◌≡◌, ◌++◌, is_some, IfOk, IsTrue, Some, length, option_map};
+ghost use Rattle.std.specs.Prelude.{◌≡◌, ◌++◌, is_some, IfOk, IsTrue, option_map};
 ghost use Rattle.std.specs.List.{flat_map};
 ghost use Rattle.std.specs.FinMap as finite;
-ghost use Rattle.sqlite.specs.State.{HasCleanDisk, Survives, IsUnchanged};
+ghost use Rattle.sqlite.specs.State.{HasCleanDisk, Survives};
 ghost use Rattle.sqlite.specs.Held.{state};
 ghost use Rattle.tables_schema.specs.Forms.{piece};
-ghost use Rattle.tables_rows.specs.Frames.{FailsInReads, LeftAsItWas, MayRead};
-ghost use Rattle.tables_sql.specs.Contents.{Stored, contents_of};
 ghost use Rattle.tables_sql.specs.Calls.{HasFurther, KeepsShown};
 ghost use Rattle.model.specs.World.{World};
-ghost use Rattle.tables_world.specs.Pieces.{IsCut};
-ghost use Rattle.tables_world.specs.Rows.{archive_in, pieces_in};
+ghost use Rattle.tables_sql.specs.Contents.{contents_of};
+ghost use Rattle.tables_rows.specs.Frames.{FindsInReads};
+ghost use Rattle.tables_world.specs.Rows.{archive_in};
 ghost use Rattle.tables_world.specs.Worlds.{rows_of};
-ghost use Rattle.tables.specs.Frames.{FailsToAsk};
+ghost use Rattle.tables.specs.Entries.{HoldsArchive};
+ghost use Rattle.tables.specs.Frames.{FailsToAsk, MayReadWith};
 ghost use Rattle.tables.specs.TablesValue.{HasWorld};
 
 use crate::keeping::Tables;
@@ -46,21 +46,10 @@ pub(crate) fn read_archive<S: Alter>(
     base: &str,
     size: usize,
 ) -> Result<Option<Pieces>, Failed>
-    requires frame { MayRead S.Store conn.old }
-    requires exists { HasCleanDisk (state S.Store conn.old) → IsTrue (state S.Store conn.old).is_open
-        → HasFurther (state S.Store conn.old).now piece }
-    requires cut { HasCleanDisk (state S.Store conn.old) → IsTrue (state S.Store conn.old).is_open
-        → (o : Stored) → finite.get (contents_of (state S.Store conn.old).now).objects base.now ≡ Some o
-        → IsCut o.nar (finite.entries (pieces_in (rows_of (contents_of (state S.Store conn.old).now)) base.now)) }
-    requires size { HasCleanDisk (state S.Store conn.old) → IsTrue (state S.Store conn.old).is_open
-        → (o : Stored) → finite.get (contents_of (state S.Store conn.old).now).objects base.now ≡ Some o
-        → length (archive_in (rows_of (contents_of (state S.Store conn.old).now)) base.now o) ≡ size }
-    ensures frame { LeftAsItWas S.Store conn.old conn.new }
-    ensures reads { HasCleanDisk (state S.Store conn.new)
-        → IfOk result (λ nar. IsUnchanged (state S.Store conn.old) (state S.Store conn.new)
-        × (nar ≡ option_map (archive_in (rows_of (contents_of (state S.Store conn.old).now)) base.now)
-        (finite.get (contents_of (state S.Store conn.old).now).objects base.now))) }
-    ensures cause { FailsInReads S.Store conn.old conn.new result }
+    requires { MayReadWith S.Store conn.old
+        (λ db. HasFurther db piece × HoldsArchive base.now size (contents_of db)) }
+    ensures { FindsInReads S.Store conn.old conn.new result
+        (λ c nar. nar ≡ option_map (archive_in (rows_of c) base.now) (finite.get c.objects base.now)) }
 {
     let found = objects::get(alloc, conn, base)?;
     let Some(object) = found else {

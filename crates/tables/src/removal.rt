@@ -1,19 +1,15 @@
 //! Deletion of objects, from the rows and from the outline.
 
-ghost use Rattle.std.specs.Prelude.{◌≡◌, IsTrue, not};
+ghost use Rattle.std.specs.Prelude.{◌≡◌, not};
 ghost use Rattle.std.specs.FinMap as finite;
-ghost use Rattle.sqlite.specs.State.{HasCleanDisk};
-ghost use Rattle.sqlite.specs.Held.{state};
 ghost use Rattle.live.specs.Graph.{holds};
 ghost use Rattle.tables_schema.specs.Forms.{piece};
 ghost use Rattle.tables_sql.specs.Calls.{HasFurther};
 ghost use Rattle.tables_sql.specs.Contents.{contents_of};
-ghost use Rattle.tables_make.specs.Reasons.{HasReason};
-ghost use Rattle.tables_make.specs.Frames.{MayCut};
-ghost use Rattle.tables.specs.Frames.{CommitsRows, MayCommit, Writes};
-ghost use Rattle.tables_make.specs.Reasons.{NoRow};
+ghost use Rattle.tables_make.specs.Reasons.{HasReason, NoRow};
+ghost use Rattle.tables_make.specs.Frames.{IsInsideWith, MayCut, Writes};
+ghost use Rattle.tables.specs.Frames.{CommitsRows, MayCommit};
 ghost use Rattle.tables.specs.Rewritten.{Covers, without_object, without_objects};
-ghost use Rattle.tables_rows.specs.Frames.{IsInside};
 
 use crate::change;
 use crate::change::Change;
@@ -31,11 +27,8 @@ fn delete_object<S: Alter>(
     outline: &Outline,
     path: &StorePath,
 ) -> Result<(), Failed>
-    requires under_way { IsInside S.Store tx.old.conn }
-    requires exists { HasCleanDisk (state S.Store tx.old.conn.now) → IsTrue (state S.Store tx.old.conn.now).is_open
-        → HasFurther (state S.Store tx.old.conn.now).now piece }
-    requires covers { HasCleanDisk (state S.Store tx.old.conn.now) → IsTrue (state S.Store tx.old.conn.now).is_open
-        → Covers outline.now (contents_of (state S.Store tx.old.conn.now).now) }
+    requires { IsInsideWith S.Store tx.old.conn
+        (λ db. HasFurther db piece × Covers outline.now (contents_of db)) }
     ensures { Writes S.Store tx.old.conn tx.new.conn result (λ c. without_object path.now c) NoRow }
 {
     let base = path.as_str();
@@ -54,9 +47,7 @@ fn delete_objects<S: Alter>(
     outline: &Outline,
     paths: &[StorePath],
 ) -> Result<(), Failed>
-    requires frame { MayCut S.Store tx.old.conn }
-    requires covers { HasCleanDisk (state S.Store tx.old.conn.now)
-        → Covers outline.now (contents_of (state S.Store tx.old.conn.now).now) }
+    requires { MayCut S.Store tx.old.conn (Covers outline.now) }
     ensures { Writes S.Store tx.old.conn tx.new.conn result (λ c. without_objects paths.now c) NoRow }
 {
     'paths: for path in paths {
@@ -126,9 +117,7 @@ pub(crate) fn delete_rows<S: Alter>(
     outline: &Outline,
     paths: &[StorePath],
 ) -> Result<(), Failed>
-    requires frame { MayCommit S.Store conn.old }
-    requires covers { HasCleanDisk (state S.Store conn.old) → IsTrue (state S.Store conn.old).is_open
-        → Covers outline.now (contents_of (state S.Store conn.old).now) }
+    requires { MayCommit S.Store conn.old (Covers outline.now) }
     ensures frame { CommitsRows S.Store conn.old conn.new result (without_objects paths.now) }
     ensures cause { HasReason S.Store conn.old conn.new result NoRow }
 {

@@ -1,14 +1,15 @@
 //! Reading and testing of all rows, and the comparison of the directory.
 
-ghost use Rattle.std.specs.Prelude.{◌≡◌, ◌↔◌, List, ℕ, IsTrue, IfOk, IfErr, OnOk, MatchOption};
-ghost use Rattle.sqlite.specs.State.{HasCleanDisk, IsUnchanged};
+ghost use Rattle.std.specs.Prelude.{◌≡◌, ◌↔◌, List, ℕ, IsTrue, IfOk, MatchOption};
+ghost use Rattle.sqlite.specs.State.{HasCleanDisk};
 ghost use Rattle.sqlite.specs.Held.{state};
 ghost use Rattle.tables_sql.specs.Contents.{contents_of};
 ghost use Rattle.tables_world.specs.Worlds.{IsSoundBy, world_in};
 ghost use Rattle.tables_outline.specs.Outline.{outline_of};
-ghost use Rattle.tables.specs.Opening.{HasFurtherOf, AreRead, IsCause};
-ghost use Rattle.tables_rows.specs.Frames.{LeftAsItWas, MayRead, ReadsOnly};
-ghost use Rattle.tables.specs.Adopted.{HasTables};
+ghost use Rattle.tables.specs.Opening.{HasFurtherOf};
+ghost use Rattle.tables_rows.specs.Frames.{ReadsOnly};
+ghost use Rattle.tables.specs.Frames.{MayReadWith};
+ghost use Rattle.tables.specs.Adopted.{HasTables, ReadsStore};
 
 use crate::refusing::Cause;
 use paths::StoreDir;
@@ -33,9 +34,7 @@ fn read<S: Alter>(
     conn: &mut Connection<S>,
     schema: Schema,
 ) -> Result<Option<Loaded>, Failed>
-    requires frame { MayRead S.Store conn.old }
-    requires further { HasCleanDisk (state S.Store conn.old) → IsTrue (state S.Store conn.old).is_open
-        → HasFurtherOf schema (state S.Store conn.old).now }
+    requires { MayReadWith S.Store conn.old (HasFurtherOf schema) }
     ensures read { ReadsOnly S.Store conn.old conn.new result }
     ensures reported { HasCleanDisk (state S.Store conn.new) → IfOk result (λ o. MatchOption o
         ((dir : List ℕ) → ¬ IsSoundBy schema dir (contents_of (state S.Store conn.old).now))
@@ -70,14 +69,7 @@ pub(crate) fn read_as<S: Alter>(
     schema: Schema,
 ) -> Result<Loaded, Cause>
     requires { HasTables S.Store schema conn.old }
-    ensures frame { LeftAsItWas S.Store conn.old conn.new }
-    ensures dir { IfOk result (λ r. r.dir ≡ dir.now) }
-    ensures reported { HasCleanDisk (state S.Store conn.new)
-        → IfOk result (λ r. AreRead schema r.dir (state S.Store conn.old).now r.outline) }
-    ensures unchanged { HasCleanDisk (state S.Store conn.new)
-        → OnOk result (IsUnchanged (state S.Store conn.old) (state S.Store conn.new)) }
-    ensures cause { HasCleanDisk (state S.Store conn.new)
-        → IfErr result (IsCause dir.now (state S.Store conn.old) (state S.Store conn.new)) }
+    ensures { ReadsStore S.Store conn.old conn.new result schema dir.now }
 {
     let Some(loaded) = read(alloc, conn, schema)? else {
         return Err(Cause::BadSchema);

@@ -2,14 +2,12 @@
 
 ghost use Rattle.std.specs.Prelude.{◌≡◌, map};
 ghost use Rattle.std.specs.FinMap as finite;
-ghost use Rattle.sqlite.specs.State.{HasCleanDisk};
-ghost use Rattle.sqlite.specs.Held.{state};
-ghost use Rattle.tables_sql.specs.Contents.{contents_of};
 ghost use Rattle.tables_outline.specs.Maps.{labelled_bytes};
 ghost use Rattle.tables.specs.Rewritten.{put_pairs};
 ghost use Rattle.tables_make.specs.Reasons.{RowsOf};
 ghost use Rattle.tables.specs.RowsPut.{RuntimeRow};
-ghost use Rattle.tables.specs.Frames.{IsOpenInside, Writes};
+ghost use Rattle.tables_make.specs.Frames.{Writes};
+ghost use Rattle.tables.specs.Frames.{IsOpenInside};
 
 use crate::change::Change;
 use paths::StorePath;
@@ -23,9 +21,7 @@ pub(crate) fn put_runtime<S: Alter>(
     tx: &mut Transaction<'_, S>,
     roots: &BTreeSet<(String, StorePath)>,
 ) -> Result<(), Failed>
-    requires frame { IsOpenInside S.Store tx.old.conn }
-    requires none { HasCleanDisk (state S.Store tx.old.conn.now)
-        → (contents_of (state S.Store tx.old.conn.now).now).runtime ≡ finite.empty }
+    requires { IsOpenInside S.Store tx.old.conn (λ c. c.runtime ≡ finite.empty) }
     ensures { Writes S.Store tx.old.conn tx.new.conn result
         (λ c. record c { runtime = put_pairs (map labelled_bytes roots.now.keys) c.runtime })
         (RowsOf RuntimeRow (map labelled_bytes roots.now.keys)) }

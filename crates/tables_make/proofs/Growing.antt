@@ -7,7 +7,7 @@ use Rattle.sqlite_schema.specs.declared.schema.Schema.{Schema}
 use Rattle.sqlite_schema.specs.declared.schema.Table.{Table}
 use Rattle.sqlite.specs.State.{State, HasCleanDisk, Survives}
 use Rattle.sqlite.proofs.StateLemmas.{survives_then}
-use Rattle.tables_schema.specs.Forms.{is_our_name}
+use Rattle.tables_schema.specs.Forms.{names_store_table}
 use Rattle.tables_sql.specs.Contents.{Contents, contents_of}
 use Rattle.tables_sql.specs.Frozen.{IsFrozen}
 use Rattle.tables_sql.specs.Calls.{Changes, KeepsForeignRows, Leaves}
@@ -17,13 +17,13 @@ use Rattle.tables_make.specs.Further.{MakesFurther, grown}
 use Rattle.tables_make.proofs.Creates.{tables_after}
 use Rattle.tables_make.proofs.FrozenThen.{frozen_before}
 
-module _ (tables : List Table) (named : (s : Schema) → AllByRecursion (λ t. is_our_name t.name ≡ true) (placed s tables)) where
+module _ (tables : List Table) (named : (s : Schema) → AllByRecursion (λ t. names_store_table t.name ≡ true) (placed s tables)) where
   -- the tables that were made are the store's, and theirs keep their rows
   pub foreign_grown : (a b : State) → MakesFurther tables a b → KeepsForeignRows (grown tables a.now) b.now
   foreign_grown a b h =
-      subst (AllByRecursion (λ (t : Table). is_our_name t.name ≡ false → b.now.trees t.tree ≡ a.now.trees t.tree)) (sym (tables_after a.now.schema tables))
-      (all-append (λ (t : Table). is_our_name t.name ≡ false → b.now.trees t.tree ≡ a.now.trees t.tree) a.now.schema.tables _ h.foreign_rows
-      (all_weaker (λ (t : Table). is_our_name t.name ≡ true) (λ t. is_our_name t.name ≡ false → b.now.trees t.tree ≡ a.now.trees t.tree) (λ t of_store other. absurd (let e = sym of_store ∙ other in cc)) (placed a.now.schema tables) (named a.now.schema)))
+      subst (AllByRecursion (λ (t : Table). names_store_table t.name ≡ false → b.now.trees t.tree ≡ a.now.trees t.tree)) (sym (tables_after a.now.schema tables))
+      (all-append (λ (t : Table). names_store_table t.name ≡ false → b.now.trees t.tree ≡ a.now.trees t.tree) a.now.schema.tables _ h.foreign_rows
+      (all_weaker (λ (t : Table). names_store_table t.name ≡ true) (λ t. names_store_table t.name ≡ false → b.now.trees t.tree ≡ a.now.trees t.tree) (λ t of_store other. absurd (let e = sym of_store ∙ other in cc)) (placed a.now.schema tables) (named a.now.schema)))
 
   -- what a crash leaves of the changed tables, seen from before the further ones were made
   pub leaves_grown : (a b c : State) (f : Contents → Contents) (db : Trees) → MakesFurther tables a b → Changes b c f → Leaves c.now db (contents_of c.now) → Leaves (grown tables a.now) db (f (contents_of a.now))

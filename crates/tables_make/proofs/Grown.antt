@@ -11,7 +11,7 @@ use Rattle.sqlite.specs.Effect.{Database}
 use Rattle.sqlite.specs.State.{State, HasCleanDisk, IsUnchanged, KeepsCommit, Survives}
 use Rattle.sqlite.specs.Held.{Held, state}
 use Rattle.sqlite.proofs.StateLemmas.{survives_then}
-use Rattle.tables_schema.specs.Forms.{piece, temp_root, is_our_name}
+use Rattle.tables_schema.specs.Forms.{piece, temp_root, names_store_table}
 use Rattle.tables_sql.specs.Contents.{Contents, contents_of}
 use Rattle.tables_sql.specs.Frozen.{IsFrozen, SparesFrozen}
 use Rattle.tables_sql.specs.Calls.{HasFurther, KeepsFurther, KeepsForeignRows, IsUnderWay, Changes, IsCommitted, IsWhole, KeepsShown, Leaves}
@@ -31,7 +31,7 @@ use Rattle.tables_make.specs.Migrated.{Grows, IsGrown}
 module _ (tables : List Table) (a b c : State) (f : Contents → Contents) (made : MakesFurther tables a b) (changed : Changes b c f) where
   foreign_still : KeepsForeignRows a.now c.now
   foreign_still =
-      let P : Table → Type 0 = λ t. is_our_name t.name ≡ false → c.now.trees t.tree ≡ b.now.trees t.tree in
+      let P : Table → Type 0 = λ t. names_store_table t.name ≡ false → c.now.trees t.tree ≡ b.now.trees t.tree in
       let all = subst (λ (ts : List Table). AllByRecursion P ts) (ap (λ (s : Schema). s.tables) made.schema ∙ tables_after a.now.schema tables) changed.foreign_rows in
       foreign_then a.now (record b.now { schema = a.now.schema }) c.now refl made.foreign_rows (one_list P a.now.schema.tables (placed a.now.schema tables) all).0
 
@@ -91,19 +91,19 @@ grown_as tables x y a b is h = subst (λ (z : Contents). IsGrown tables z a b) i
 -- ---- what a crash leaves
 
 -- the tables that are made are the store's
-pub both_named : (s : Schema) → AllByRecursion (λ t. is_our_name t.name ≡ true) (placed s (piece ∷ temp_root ∷ []))
+pub both_named : (s : Schema) → AllByRecursion (λ t. names_store_table t.name ≡ true) (placed s (piece ∷ temp_root ∷ []))
 both_named s = (refl, (refl, tt))
 
-pub last_named : (s : Schema) → AllByRecursion (λ t. is_our_name t.name ≡ true) (placed s (temp_root ∷ []))
+pub last_named : (s : Schema) → AllByRecursion (λ t. names_store_table t.name ≡ true) (placed s (temp_root ∷ []))
 last_named s = (refl, tt)
 
-module _ (tables : List Table) (named : (s : Schema) → AllByRecursion (λ t. is_our_name t.name ≡ true) (placed s tables)) (contents : Contents) where
+module _ (tables : List Table) (named : (s : Schema) → AllByRecursion (λ t. names_store_table t.name ≡ true) (placed s tables)) (contents : Contents) where
   foreign_grown : (a b : State) → Grows tables contents a b → KeepsForeignRows (grown tables a.now) b.now
   foreign_grown a b h =
-      let P : Table → Type 0 = λ t. is_our_name t.name ≡ false → b.now.trees t.tree ≡ a.now.trees t.tree in
+      let P : Table → Type 0 = λ t. names_store_table t.name ≡ false → b.now.trees t.tree ≡ a.now.trees t.tree in
       subst (λ (ts : List Table). AllByRecursion P ts) (sym (tables_after a.now.schema tables))
       (two_lists P a.now.schema.tables (placed a.now.schema tables) h.foreign_rows
-      (all_weaker (λ (t : Table). is_our_name t.name ≡ true) P (λ t of_store other. absurd (let e = sym of_store ∙ other in cc)) (placed a.now.schema tables) (named a.now.schema)))
+      (all_weaker (λ (t : Table). names_store_table t.name ≡ true) P (λ t of_store other. absurd (let e = sym of_store ∙ other in cc)) (placed a.now.schema tables) (named a.now.schema)))
 
   leaves_grown : (a b : State) (db : Trees) → Grows tables contents a b → Leaves b.now db (contents_of b.now) → Leaves (grown tables a.now) db contents
   leaves_grown a b db h l = record {
@@ -122,7 +122,7 @@ module _ (tables : List Table) (named : (s : Schema) → AllByRecursion (λ t. i
       (λ clean db l. leaves_grown a b db (h (clean_before b c (λ db. Leaves b.now db (contents_of b.now)) last clean)) l) first last
 
 -- the whole transaction, from before it was begun
-pub survives_whole : {S : Type 0} (g : Ghosts S) (conn start : Held S) (tables : List Table) (named : (s : Schema) → AllByRecursion (λ t. is_our_name t.name ≡ true) (placed s tables)) (f : Contents → Contents) (b c : State) → start ≡ record conn { in_transaction = true }
+pub survives_whole : {S : Type 0} (g : Ghosts S) (conn start : Held S) (tables : List Table) (named : (s : Schema) → AllByRecursion (λ t. names_store_table t.name ≡ true) (placed s tables)) (f : Contents → Contents) (b c : State) → start ≡ record conn { in_transaction = true }
     → (HasCleanDisk b → Grows tables (f (contents_of (state g start).now)) (state g start) b) → Survives (state g start) b (λ _. ⊥) → Survives b c (λ db. Leaves b.now db (contents_of b.now))
     → Survives (state g conn) c (λ db. Leaves (grown tables (state g conn).now) db (f (contents_of (state g conn).now)))
 survives_whole {S} g conn start tables named f b c is h first last =

@@ -8,9 +8,9 @@ use Rattle.sqlite_schema.specs.declared.schema.Table.{Table}
 use Rattle.sqlite_trees.proofs.ListLemmas.{all_of}
 use Rattle.sqlite.specs.State.{State, ExecutesInside}
 use Rattle.tables_schema.specs.Forms.{strict, meta}
-use Rattle.tables_schema.specs.OurTables.{form}
-use Rattle.tables_schema.specs.declared.our_table.StoreTable.{StoreTable}
-use Rattle.tables_schema.specs.declared.our_table.StoreTable.TheVariants.{Meta}
+use Rattle.tables_schema.specs.StoreTables.{form}
+use Rattle.tables_schema.specs.declared.store_table.StoreTable.{StoreTable}
+use Rattle.tables_schema.specs.declared.store_table.StoreTable.TheVariants.{Meta}
 use Rattle.tables_sql.specs.declared.failure.Failed.{Failed}
 use Rattle.tables_sql.specs.declared.failure.Failed.TheVariants.{Memory, Size, Disk}
 use Rattle.tables_sql.specs.Failures.{without_size, IsWriteFailure}

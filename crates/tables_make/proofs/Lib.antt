@@ -14,6 +14,7 @@ pub mod MakingFailures
 pub mod MakingTexts
 pub mod MakingTogether
 pub mod MigratingFailures
+pub mod Migrations
 pub mod Pieces
 pub mod Reasons
 pub mod Rewritten

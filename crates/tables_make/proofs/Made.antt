@@ -12,7 +12,7 @@ use Rattle.sqlite_catalog.specs.Change.{created, next_tree}
 use Rattle.sqlite_tied.specs.Compute.{everything}
 use Rattle.sqlite.specs.Effect.{Database, IsDatabase}
 use Rattle.sqlite.specs.State.{State}
-use Rattle.tables_schema.specs.Forms.{meta, object, refs, outs, permanent, user_root, profile, generation, runtime, piece, temp_root, store_tables, further_tables, all_tables, is_our_name}
+use Rattle.tables_schema.specs.Forms.{meta, object, refs, outs, permanent, user_root, profile, generation, runtime, piece, temp_root, store_tables, further_tables, all_tables, names_store_table}
 use Rattle.tables_schema.specs.Intact.{IsIntact}
 use Rattle.tables_schema.specs.Finding.{IsFree, HasNone}
 use Rattle.tables_sql.specs.Contents.{Bytes, contents_of, map_of, rows_named}
@@ -97,10 +97,10 @@ module _ (dir : Bytes) (s : Schema) (d : Database) (sound : IsDatabase d) (stand
     temp_roots = made_further d temp_root exists.1.1 temp_roots;
   }
 
-pub foreign_of : (old : Database) (trees : Trees) (ts : List Table) → AllByRecursion (λ t. trees t.tree ≡ old.trees t.tree) ts → AllByRecursion (λ t. is_our_name t.name ≡ false → trees t.tree ≡ old.trees t.tree) ts
-foreign_of old trees ts kept = all_weaker (λ (t : Table). trees t.tree ≡ old.trees t.tree) (λ t. is_our_name t.name ≡ false → trees t.tree ≡ old.trees t.tree) (λ t same other. same) ts kept
+pub foreign_of : (old : Database) (trees : Trees) (ts : List Table) → AllByRecursion (λ t. trees t.tree ≡ old.trees t.tree) ts → AllByRecursion (λ t. names_store_table t.name ≡ false → trees t.tree ≡ old.trees t.tree) ts
+foreign_of old trees ts kept = all_weaker (λ (t : Table). trees t.tree ≡ old.trees t.tree) (λ t. names_store_table t.name ≡ false → trees t.tree ≡ old.trees t.tree) (λ t same other. same) ts kept
 
-own_placed : (s : Schema) → AllByRecursion (λ t. is_our_name t.name ≡ true) (placed s all_tables)
+own_placed : (s : Schema) → AllByRecursion (λ t. names_store_table t.name ≡ true) (placed s all_tables)
 unfolding everything
 own_placed s = (refl, (refl, (refl, (refl, (refl, (refl, (refl, (refl, (refl, (refl, (refl, tt)))))))))))
 
@@ -132,9 +132,9 @@ leaves_made dir old trees sound none utf8 h =
       readable = whole_readable d whole;
       left = record {
         of_store = contents_made dir old.schema d h.sound stand h.settings h.empty;
-        foreign_rows = subst (AllByRecursion (λ (t : Table). is_our_name t.name ≡ false → trees t.tree ≡ old.trees t.tree)) (sym (tables_after old.schema all_tables))
-            (all-append (λ (t : Table). is_our_name t.name ≡ false → trees t.tree ≡ old.trees t.tree) old.schema.tables _ (foreign_of old trees old.schema.tables h.kept)
-            (all_weaker (λ (t : Table). is_our_name t.name ≡ true) (λ t. is_our_name t.name ≡ false → trees t.tree ≡ old.trees t.tree) (λ t of_store other. absurd (let e = sym of_store ∙ other in cc)) (placed old.schema all_tables) (own_placed old.schema)));
+        foreign_rows = subst (AllByRecursion (λ (t : Table). names_store_table t.name ≡ false → trees t.tree ≡ old.trees t.tree)) (sym (tables_after old.schema all_tables))
+            (all-append (λ (t : Table). names_store_table t.name ≡ false → trees t.tree ≡ old.trees t.tree) old.schema.tables _ (foreign_of old trees old.schema.tables h.kept)
+            (all_weaker (λ (t : Table). names_store_table t.name ≡ true) (λ t. names_store_table t.name ≡ false → trees t.tree ≡ old.trees t.tree) (λ t of_store other. absurd (let e = sym of_store ∙ other in cc)) (placed old.schema all_tables) (own_placed old.schema)));
         frozen = record { rows = λ tree is. (h.frozen sound).rows tree (frozen_before old.schema all_tables tree is); texts = (h.frozen sound).texts; version = (h.frozen sound).version };
       };
     }

@@ -5,10 +5,10 @@ use Rattle.sqlite_trees.specs.Sound.{fits_kind, is_free_name, same_name, begins}
 use Rattle.sqlite_schema.specs.declared.schema.Schema.{Schema}
 use Rattle.sqlite_schema.specs.declared.schema.Table.{Table}
 use Rattle.sqlite_tied.specs.Compute.{everything}
-use Rattle.tables_schema.specs.OurTables.{form}
+use Rattle.tables_schema.specs.StoreTables.{form}
 use Rattle.tables_schema.specs.Finding.{IsFree}
-use Rattle.tables_schema.specs.declared.our_table.StoreTable.{StoreTable}
-use Rattle.tables_schema.specs.declared.our_table.StoreTable.TheVariants.{Meta}
+use Rattle.tables_schema.specs.declared.store_table.StoreTable.{StoreTable}
+use Rattle.tables_schema.specs.declared.store_table.StoreTable.TheVariants.{Meta}
 use Rattle.tables_make.specs.Making.{making_text}
 use Rattle.tables_make.proofs.Creates.{IsMakingIn, making, create_means}
 use Rattle.tables_make.proofs.MakingFailures.{IsAccepted}

@@ -9,7 +9,7 @@ use Rattle.sqlite_trees.specs.Tree.{Trees}
 use Rattle.sqlite.specs.Effect.{Database}
 use Rattle.sqlite.specs.State.{State, IsUnchanged, Survives}
 use Rattle.sqlite.specs.Held.{Held, state}
-use Rattle.tables_schema.specs.Forms.{is_our_name}
+use Rattle.tables_schema.specs.Forms.{names_store_table}
 use Rattle.tables_schema.specs.declared.schema.Schema.{Schema}
 use Rattle.tables_sql.specs.Contents.{Contents, contents_of}
 use Rattle.tables_sql.specs.Failures.{HasDiskCause, FailsFor, FailsToCommit}
@@ -25,7 +25,7 @@ use Rattle.tables_make.proofs.Reasons.{within_then}
 
 -- the tables that a schema lacks are the store's
 abbrev AreOwn : Schema → Type 0
-AreOwn from = (s : Shown) → AllByRecursion (λ t. is_our_name t.name ≡ true) (placed s (missing_tables from))
+AreOwn from = (s : Shown) → AllByRecursion (λ t. names_store_table t.name ≡ true) (placed s (missing_tables from))
 
 -- ---- rows that weren't put next to the tables that were made
 

@@ -10,7 +10,7 @@ use Rattle.sqlite_trees.proofs.ListLemmas.{all_of}
 use Rattle.sqlite.specs.Effect.{Database}
 use Rattle.sqlite.specs.State.{State, Survives}
 use Rattle.sqlite.specs.Held.{Held, state}
-use Rattle.tables_schema.specs.Forms.{is_our_name}
+use Rattle.tables_schema.specs.Forms.{names_store_table}
 use Rattle.sqlite.specs.Values.{or_null}
 use Rattle.tables_sql.specs.Contents.{Contents}
 use Rattle.tables_sql.specs.Entries.{text_or_null}
@@ -25,7 +25,7 @@ use Rattle.tables_make.specs.Reasons.{Rows, RowsOf, IsWithin, IsReason}
 
 -- the database itself is one that the transaction shows
 here : (db : Database) → IsWithin db db
-here db = record { schema = refl; foreign_rows = all_of (λ (t : Table). is_our_name t.name ≡ false → db.trees t.tree ≡ db.trees t.tree) (λ t other. refl) db.schema.tables }
+here db = record { schema = refl; foreign_rows = all_of (λ (t : Table). names_store_table t.name ≡ false → db.trees t.tree ≡ db.trees t.tree) (λ t other. refl) db.schema.tables }
 
 -- a call that puts no row
 pub removal_reason : (rows : Rows) (a b : State) (f : Failed) → FailsFor a b f → IsReason rows a b f

@@ -9,7 +9,7 @@ use Rattle.sqlite_trees.proofs.ListLemmas.{all_of}
 use Rattle.sqlite_schema.specs.declared.schema.Table.{Table}
 use Rattle.sqlite.specs.Effect.{Database}
 use Rattle.sqlite.specs.State.{State, IsUnchanged}
-use Rattle.tables_schema.specs.Forms.{piece, temp_root, is_our_name}
+use Rattle.tables_schema.specs.Forms.{piece, temp_root, names_store_table}
 use Rattle.tables_sql.specs.Contents.{Stored, Contents, contents_of, texts_cmp}
 use Rattle.tables_sql.specs.Calls.{IsStoreDatabase, IsUnderWay, HasFurther, KeepsFurther, KeepsForeignRows, Changes}
 use Rattle.tables_sql.proofs.Orders.{texts_total, texts_antisymmetric}
@@ -30,7 +30,7 @@ changes_nothing a b under same =
       is_open = same.0.is_open;
       schema = ap (λ (x : Database). x.schema) now;
       contents = ap contents_of now;
-      foreign_rows = subst (λ (x : Database). KeepsForeignRows a.now x) (sym now) (all_of (λ (t : Table). is_our_name t.name ≡ false → a.now.trees t.tree ≡ a.now.trees t.tree) (λ t other. refl) a.now.schema.tables);
+      foreign_rows = subst (λ (x : Database). KeepsForeignRows a.now x) (sym now) (all_of (λ (t : Table). names_store_table t.name ≡ false → a.now.trees t.tree ≡ a.now.trees t.tree) (λ t other. refl) a.now.schema.tables);
       unshown = λ tree hidden. ap (λ (x : Database). x.trees tree) now;
       of_store = subst IsStoreDatabase (sym now) (under.of_store same.0.was_open);
       further = (λ present. subst (λ (x : Database). HasFurther x piece) (sym now) present, (λ present. subst (λ (x : Database). HasFurther x temp_root) (sym now) present, tt));

@@ -1,5 +1,5 @@
 pub use Rattle.tables_schema.specs.Forms
-pub use Rattle.tables_schema.specs.OurTables
+pub use Rattle.tables_schema.specs.StoreTables
 pub use Rattle.tables_schema.specs.Intact
 pub use Rattle.tables_schema.specs.Finding
 pub use Rattle.tables_sql.specs.Contents
@@ -7,6 +7,7 @@ pub use Rattle.tables_sql.specs.Texts
 pub use Rattle.tables_sql.specs.Frozen
 pub use Rattle.tables_sql.specs.Calls
 pub use Rattle.tables_sql.specs.Failures
+pub mod Commits
 pub mod Cutting
 pub mod Frames
 pub mod Further

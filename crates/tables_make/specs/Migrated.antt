@@ -4,9 +4,10 @@ use Rattle.sqlite_schema.specs.declared.schema.Table.{Table}
 use Rattle.sqlite.specs.Effect.{Database}
 use Rattle.sqlite.specs.State.{State}
 use Rattle.tables_schema.specs.Forms.{piece, temp_root}
+use Rattle.tables_schema.specs.Finding.{HasFirst, HasSecond}
 use Rattle.tables_sql.specs.Contents.{Contents, contents_of}
 use Rattle.tables_sql.specs.Frozen.{SparesFrozen}
-use Rattle.tables_sql.specs.Calls.{IsReady, IsWhole, KeepsForeignRows, Remains, Leaves}
+use Rattle.tables_sql.specs.Calls.{HasFurther, IsReady, IsWhole, KeepsForeignRows, Remains, Leaves}
 use Rattle.tables_make.specs.Making.{all_created}
 use Rattle.tables_make.specs.Further.{grown}
 use Rattle.tables_world.specs.Rows.{Rows, migrated}
@@ -39,6 +40,12 @@ abbrev pub missing_tables : Schema → List Table
 missing_tables V1 = piece ∷ temp_root ∷ []
 missing_tables V2 = temp_root ∷ []
 missing_tables V3 = []
+
+-- the tables are those of an earlier schema, and the names of those that it lacks are free
+abbrev pub HasEarlier : Schema → Database → Type 0
+HasEarlier V1 db = HasFirst db.schema
+HasEarlier V2 db = HasSecond db.schema × HasFurther db piece
+HasEarlier V3 db = ⊥
 
 -- Inside a transaction, which goes on: these tables were made after all that was there, and the store's were left with
 -- these contents. All eleven exist, and other tables have the rows that they had, also where the schema doesn't show

@@ -49,11 +49,21 @@ abbrev pub MigratedRows : Schema → Contents → Rows
 MigratedRows V1 c t row = AllCutRows c t row ⊎ SettingRow t row
 MigratedRows _ c t row = SettingRow t row
 
+-- ---- what was not cut yet
+
+-- a path has no further piece
+abbrev pub HasNoPieces : Path → Contents → Type 0
+HasNoPieces p c = (n : ℤ) → finite.get c.pieces (p, n) ≡ None
+
+-- an object exists at a path, and if its archive is longer than a row takes it was not cut yet
+pub record HasUncut (p : Path) (o : Stored) (c : Contents) : Type 0 where
+  pub present : finite.get c.objects p ≡ Some o
+  pub free : piece_size < length o.nar → HasNoPieces p c
+
 -- no archive that is longer than a row takes was cut yet
 abbrev pub IsUncut : Contents → Type 0
 IsUncut c =
-    (p : Path) (o : Stored) → finite.get c.objects p ≡ Some o → piece_size < length o.nar → (n : ℤ)
-    → finite.get c.pieces (p, n) ≡ None
+    (p : Path) (o : Stored) → finite.get c.objects p ≡ Some o → piece_size < length o.nar → HasNoPieces p c
 
 -- ---- why it fails
 

@@ -1,16 +1,16 @@
 //! The store's tables are made next to whatever tables there are.
 
-ghost use Rattle.std.specs.Prelude.{◌≡◌, ◌<◌, true, map, length, [], ◌∷◌, ℕ, Ok, OnOk, IfErr};
+ghost use Rattle.std.specs.Prelude.{◌≡◌, ◌<◌, true, map, length, [], ◌∷◌, ℕ, Ok};
 ghost use Rattle.sqlite.specs.State.{HasCleanDisk, ExecutesInside};
 ghost use Rattle.sqlite.specs.Held.{state};
-ghost use Rattle.tables_schema.specs.OurTables.{form};
+ghost use Rattle.tables_schema.specs.StoreTables.{form};
 ghost use Rattle.tables_sql.specs.declared.failure.Failed.{Failed};
 ghost use Rattle.tables_sql.specs.Failures.{IsWriteFailure, without_size};
 ghost use Rattle.tables_make.specs.Making.{making_text, have_distinct_names, IsMaking, Makes, FailsToMakeThese};
-ghost use Rattle.tables_make.specs.Frames.{IfFailed, KeepsInside, OnDone};
+ghost use Rattle.tables_make.specs.Frames.{StepsInside};
 
 use sqlite::{Alter, Transaction};
-use tables_schema::our_table::StoreTable;
+use tables_schema::store_table::StoreTable;
 use tables_sql::failure::Failed;
 use tables_sql::statement::without_size;
 
@@ -57,14 +57,9 @@ fn text(table: StoreTable) -> &'static str
 
 fn create<S: Alter>(tx: &mut Transaction<'_, S>, text: &str) -> Result<(), Failed>
     requires { HasCleanDisk (state S.Store tx.old.conn.now) → (state S.Store tx.old.conn.now).in_transaction ≡ true }
-    ensures frame { KeepsInside S.Store tx.old.conn tx.new.conn }
-    ensures ran { HasCleanDisk (state S.Store tx.new.conn.now)
-        → OnOk result ((count : ℕ)
-        × ExecutesInside 0 text.now [] (state S.Store tx.old.conn.now) (state S.Store tx.new.conn.now) (Ok count)) }
-    ensures cause { HasCleanDisk (state S.Store tx.new.conn.now)
-        → IfErr result
-        (λ f. (g : Failed) × (f ≡ without_size g)
-        × IsWriteFailure text.now [] (state S.Store tx.old.conn.now) (state S.Store tx.new.conn.now) g) }
+    ensures { StepsInside S.Store tx.old.conn tx.new.conn result
+        (λ old new. (count : ℕ) × ExecutesInside 0 text.now [] old new (Ok count))
+        (λ old new f. (g : Failed) × (f ≡ without_size g) × IsWriteFailure text.now [] old new g) }
 {
     match tx.execute(text, &[]) {
         Ok(_) => Ok(()),
@@ -76,9 +71,8 @@ fn create<S: Alter>(tx: &mut Transaction<'_, S>, text: &str) -> Result<(), Faile
 pub(crate) fn one<S: Alter>(tx: &mut Transaction<'_, S>, table: StoreTable) -> Result<(), Failed>
     requires { HasCleanDisk (state S.Store tx.old.conn.now)
         → IsMaking (form table ∷ []) (state S.Store tx.old.conn.now) }
-    ensures frame { KeepsInside S.Store tx.old.conn tx.new.conn }
-    ensures makes { OnDone S.Store tx.old.conn.now tx.new.conn.now result (Makes (form table ∷ [])) }
-    ensures cause { IfFailed S.Store tx.old.conn.now tx.new.conn.now result (FailsToMakeThese (form table ∷ []) ⊥ ⊥) }
+    ensures { StepsInside S.Store tx.old.conn tx.new.conn result
+        (Makes (form table ∷ [])) (FailsToMakeThese (form table ∷ []) ⊥ ⊥) }
 {
     create(tx, text(table))
 }
@@ -92,10 +86,8 @@ pub(crate) fn all<S: Alter>(
     requires distinct { have_distinct_names (map form tables.now) ≡ true }
     requires making { HasCleanDisk (state S.Store tx.old.conn.now)
         → IsMaking (map form tables.now) (state S.Store tx.old.conn.now) }
-    ensures frame { KeepsInside S.Store tx.old.conn tx.new.conn }
-    ensures makes { OnDone S.Store tx.old.conn.now tx.new.conn.now result (Makes (map form tables.now)) }
-    ensures cause { IfFailed S.Store tx.old.conn.now tx.new.conn.now result
-        (FailsToMakeThese (map form tables.now) ⊥ ⊥) }
+    ensures { StepsInside S.Store tx.old.conn tx.new.conn result
+        (Makes (map form tables.now)) (FailsToMakeThese (map form tables.now) ⊥ ⊥) }
 {
     'tables: for table in tables {
         one(tx, *table)?;

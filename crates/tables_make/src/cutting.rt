@@ -1,18 +1,16 @@
 //! Archives, cut: an object's row keeps the first part, and the rest goes into pieces.
 
-ghost use Rattle.std.specs.Prelude.{◌≡◌, ◌<◌, ℤ, IsTrue, length, map, string_bytes, Some, None};
-ghost use Rattle.std.specs.FinMap as finite;
-ghost use Rattle.sqlite.specs.State.{HasCleanDisk};
+ghost use Rattle.std.specs.Prelude.{◌<◌, length, map, string_bytes};
 ghost use Rattle.sqlite.specs.Held.{state};
 ghost use Rattle.tables_schema.specs.Forms.{piece};
+ghost use Rattle.tables_sql.specs.Calls.{HasFurther};
 ghost use Rattle.tables_sql.specs.Contents.{contents_of};
 ghost use Rattle.tables_sql.specs.Entries.{stored_of};
-ghost use Rattle.tables_world.specs.Pieces.{piece_size, pieces_by};
+ghost use Rattle.tables_world.specs.Pieces.{pieces_by};
 ghost use Rattle.tables_make.specs.Cutting.{put_pieces, cut_row, cut_object, cut_objects};
-ghost use Rattle.tables_make.specs.Migrating.{AllCutRows, CutRows, IsUncut, LongRows, PieceRow};
-ghost use Rattle.tables_make.specs.Reasons.{HasReason, RowsOf};
-ghost use Rattle.tables_rows.specs.Frames.{HasTable, IsInside, Makes, StaysInside};
-ghost use Rattle.tables_make.specs.Frames.{MayCut};
+ghost use Rattle.tables_make.specs.Migrating.{AllCutRows, CutRows, HasNoPieces, HasUncut, IsUncut, LongRows, PieceRow};
+ghost use Rattle.tables_make.specs.Reasons.{RowsOf};
+ghost use Rattle.tables_make.specs.Frames.{MayCut, IsInsideWith, Writes};
 
 use sqlite::{Alter, Transaction};
 use std::alloc::Global;
@@ -27,13 +25,9 @@ pub(crate) fn put_pieces<S: Alter>(
     base: &str,
     bytes: &[u8],
 ) -> Result<(), Failed>
-    requires frame { MayCut S.Store tx.old.conn }
-    requires free { HasCleanDisk (state S.Store tx.old.conn.now) → (n : ℤ)
-        → finite.get (contents_of (state S.Store tx.old.conn.now).now).pieces (base.now, n) ≡ None }
-    ensures frame { StaysInside S.Store tx.old.conn tx.new.conn result }
-    ensures done { Makes S.Store tx.old.conn tx.new.conn result
-        (λ c. record c { pieces = put_pieces base.now (pieces_by bytes.now 1 bytes.now) c.pieces }) }
-    ensures cause { HasReason S.Store tx.old.conn.now tx.new.conn.now result
+    requires { MayCut S.Store tx.old.conn (HasNoPieces base.now) }
+    ensures { Writes S.Store tx.old.conn tx.new.conn result
+        (λ c. record c { pieces = put_pieces base.now (pieces_by bytes.now 1 bytes.now) c.pieces })
         (RowsOf (PieceRow base.now) (pieces_by bytes.now 1 bytes.now)) }
 {
     let mut rest = bytes;
@@ -51,15 +45,10 @@ pub(crate) fn put_pieces<S: Alter>(
 
 /// Puts an object again whose archive is longer than a row takes: its first part, and the pieces of the rest.
 pub(crate) fn put_cut<S: Alter>(tx: &mut Transaction<'_, S>, object: &Object) -> Result<(), Failed>
-    requires frame { MayCut S.Store tx.old.conn }
+    requires frame { MayCut S.Store tx.old.conn (HasNoPieces (stored_of object.now).0) }
     requires long { 65536 < length object.now.nar.items }
-    requires free { HasCleanDisk (state S.Store tx.old.conn.now) → (n : ℤ)
-        → finite.get (contents_of (state S.Store tx.old.conn.now).now).pieces ((stored_of object.now).0, n) ≡ None }
-    ensures frame { StaysInside S.Store tx.old.conn tx.new.conn result }
-    ensures done { Makes S.Store tx.old.conn tx.new.conn result
-        (cut_row (stored_of object.now).0 (stored_of object.now).1) }
-    ensures cause { HasReason S.Store tx.old.conn.now tx.new.conn.now result
-        (CutRows (stored_of object.now).0 (stored_of object.now).1) }
+    ensures { let it = stored_of object.now in
+        Writes S.Store tx.old.conn tx.new.conn result (cut_row it.0 it.1) (CutRows it.0 it.1) }
 {
     let base = object.base.as_str();
     let (first, rest) = object.nar.split_at(PIECE_SIZE);
@@ -73,17 +62,9 @@ pub(crate) fn cut_found<S: Alter>(
     tx: &mut Transaction<'_, S>,
     object: &Object,
 ) -> Result<(), Failed>
-    requires frame { MayCut S.Store tx.old.conn }
-    requires present { HasCleanDisk (state S.Store tx.old.conn.now)
-        → finite.get (contents_of (state S.Store tx.old.conn.now).now).objects (stored_of object.now).0
-        ≡ Some (stored_of object.now).1 }
-    requires free { HasCleanDisk (state S.Store tx.old.conn.now) → piece_size < length (stored_of object.now).1.nar
-        → (n : ℤ)
-        → finite.get (contents_of (state S.Store tx.old.conn.now).now).pieces ((stored_of object.now).0, n) ≡ None }
-    ensures frame { StaysInside S.Store tx.old.conn tx.new.conn result }
-    ensures done { Makes S.Store tx.old.conn tx.new.conn result (cut_object (stored_of object.now).0) }
-    ensures cause { HasReason S.Store tx.old.conn.now tx.new.conn.now result
-        (LongRows (stored_of object.now).0 (stored_of object.now).1) }
+    requires { MayCut S.Store tx.old.conn (HasUncut (stored_of object.now).0 (stored_of object.now).1) }
+    ensures { let it = stored_of object.now in
+        Writes S.Store tx.old.conn tx.new.conn result (cut_object it.0) (LongRows it.0 it.1) }
 {
     if object.nar.len() > PIECE_SIZE {
         put_cut(tx, object)
@@ -98,13 +79,8 @@ pub(crate) fn cut<S: Alter>(
     tx: &mut Transaction<'_, S>,
     base: &str,
 ) -> Result<(), Failed>
-    requires under_way { IsInside S.Store tx.old.conn }
-    requires exists { HasTable S.Store tx.old.conn.now piece }
-    requires uncut { HasCleanDisk (state S.Store tx.old.conn.now) → IsTrue (state S.Store tx.old.conn.now).is_open
-        → IsUncut (contents_of (state S.Store tx.old.conn.now).now) }
-    ensures frame { StaysInside S.Store tx.old.conn tx.new.conn result }
-    ensures done { Makes S.Store tx.old.conn tx.new.conn result (cut_object base.now) }
-    ensures cause { HasReason S.Store tx.old.conn.now tx.new.conn.now result
+    requires { IsInsideWith S.Store tx.old.conn (λ db. HasFurther db piece × IsUncut (contents_of db)) }
+    ensures { Writes S.Store tx.old.conn tx.new.conn result (cut_object base.now)
         (AllCutRows (contents_of (state S.Store tx.old.conn.now).now)) }
 {
     let found = objects::get_within(alloc, tx, base)?;
@@ -120,12 +96,8 @@ pub(crate) fn cut_all<S: Alter>(
     tx: &mut Transaction<'_, S>,
     bases: &[String],
 ) -> Result<(), Failed>
-    requires frame { MayCut S.Store tx.old.conn }
-    requires uncut { HasCleanDisk (state S.Store tx.old.conn.now)
-        → IsUncut (contents_of (state S.Store tx.old.conn.now).now) }
-    ensures frame { StaysInside S.Store tx.old.conn tx.new.conn result }
-    ensures done { Makes S.Store tx.old.conn tx.new.conn result (cut_objects (map string_bytes bases.now)) }
-    ensures cause { HasReason S.Store tx.old.conn.now tx.new.conn.now result
+    requires { MayCut S.Store tx.old.conn IsUncut }
+    ensures { Writes S.Store tx.old.conn tx.new.conn result (cut_objects (map string_bytes bases.now))
         (AllCutRows (contents_of (state S.Store tx.old.conn.now).now)) }
 {
     'bases: for base in bases {

@@ -2,8 +2,8 @@
 
 ghost use Rattle.tables_make.specs.Cutting.{renumbered};
 ghost use Rattle.tables_make.specs.Migrating.{SettingRow};
-ghost use Rattle.tables_make.specs.Reasons.{HasReason};
-ghost use Rattle.tables_rows.specs.Frames.{IsInside, Makes, StaysInside};
+ghost use Rattle.tables_rows.specs.Frames.{IsInside};
+ghost use Rattle.tables_make.specs.Frames.{Writes};
 
 use sqlite::{Alter, Transaction};
 use tables_rows::meta;
@@ -13,9 +13,7 @@ use tables_sql::failure::Failed;
 /// Makes the setting of the schema that of the third, whatever it was.
 pub(crate) fn renumber<S: Alter>(tx: &mut Transaction<'_, S>) -> Result<(), Failed>
     requires { IsInside S.Store tx.old.conn }
-    ensures frame { StaysInside S.Store tx.old.conn tx.new.conn result }
-    ensures done { Makes S.Store tx.old.conn tx.new.conn result renumbered }
-    ensures cause { HasReason S.Store tx.old.conn.now tx.new.conn.now result SettingRow }
+    ensures { Writes S.Store tx.old.conn tx.new.conn result renumbered SettingRow }
 {
     meta::delete(tx, "schema")?;
     meta::insert(tx, "schema", Schema::V3.text())

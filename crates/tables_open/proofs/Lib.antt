@@ -1,7 +1,7 @@
 pub mod Asking
 pub mod OneAfterAnother
 pub mod Opened
-pub mod OurRows
+pub mod StoreRows
 pub mod OwnRowids
 pub mod ReadableRows
 pub mod RowQueries

@@ -1,5 +1,5 @@
 -- Tests of one table after another: what those that were passed say of what the connection showed at first, and why one fails.
-use Rattle.std.proofs.Common.{◌≡◌, ◌↔◌, ◌⊎◌, inl, inr, ◌+◌, ◌&&◌, ℕ, List, ◌∷◌, Bool, true, false, IsTrue, take, drop, refl, sym, subst}
+use Rattle.std.proofs.Common.{◌≡◌, ◌↔◌, ◌⊎◌, ◌<◌, ◌≤◌, inl, inr, ◌+◌, ◌&&◌, ℕ, arith, List, ◌∷◌, length, Bool, true, false, IsTrue, take, drop, refl, sym, subst}
 use Rattle.std.specs.List.{AllByRecursion}
 use Rattle.std.proofs.lemmas.Bool.{and_from}
 use Rattle.sqlite.specs.Effect.{Database}
@@ -13,12 +13,15 @@ use Rattle.tables_sql.proofs.RowByRow.{unchanged_before}
 use Rattle.tables_sql.proofs.TestFailures.{fails_after}
 use Rattle.tables_sql.proofs.Truths.{and_so}
 use Rattle.tables_sql.proofs.Lists.{one_list}
-use Rattle.std.proofs.lemmas.List.{take-append-drop}
+use Rattle.std.proofs.lemmas.List.{drop_all, take-append-drop}
 
 -- ---- what is left of a list
 
 pub left_over : {T : Type 0} (P : T → Type 0) (n : ℕ) (ts : List T) → AllByRecursion P ts → AllByRecursion P (drop n ts)
 left_over P n ts all = (one_list P (take n ts) (drop n ts) (subst (AllByRecursion P) (sym (take-append-drop n ts)) all)).1
+
+pub none_left : {T : Type 0} (P : T → Type 0) (n : ℕ) (ts : List T) → length ts ≤ n → AllByRecursion P (drop n ts)
+none_left P n ts long = subst (AllByRecursion P) (sym (drop_all n ts long)) tt
 
 -- ---- the tests of a list of tables
 
@@ -30,6 +33,15 @@ module _ {T : Type 0} (Keyed Readable : Database → T → Type 0) (ts : List T)
     pub kept : KeepsShown a b
     pub keyed : AllByRecursion (Keyed a.now) (drop n ts) → AllByRecursion (Keyed a.now) ts
     pub reported : IsTrue readable × AllByRecursion (Readable a.now) (drop n ts) ↔ AllByRecursion (Readable a.now) ts
+
+  -- all were
+  pub all_tested : (n : ℕ) (b : State) (p : Bool) → 0 < length ts → length ts ≤ n → AreTested n b p → IsUnchanged a b × AllByRecursion (Keyed a.now) ts × (IsTrue p ↔ AllByRecursion (Readable a.now) ts)
+  all_tested n b p some long it =
+      let up : IsTrue a.is_open = elim it.begun [ inl none ↦ absurd (omega (arith, some, long, none)) | inr up ↦ up ] in (
+        it.rests up,
+        it.keyed (none_left (Keyed a.now) n ts long),
+        (λ yes. it.reported.0 (yes, none_left (Readable a.now) n ts long), λ all. (it.reported.1 all).0),
+      )
 
   module _ (n : ℕ) (b d : State) (p : Bool) (t : T) (split : drop n ts ≡ t ∷ drop (n + 1) ts) (it : AreTested n b p) where
     -- one more was tested

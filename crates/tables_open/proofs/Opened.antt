@@ -13,8 +13,8 @@ use Rattle.tables_schema.specs.declared.schema.Schema.{Schema}
 use Rattle.tables_schema.specs.declared.schema.Schema.TheVariants.{V1, V2, V3}
 use Rattle.tables_schema.specs.Intact.{IsIntact}
 use Rattle.tables_sql.specs.Texts.{AreReadable, AreReadableRows, HasReadableRows}
-use Rattle.tables_schema.specs.declared.our_table.StoreTable.{StoreTable}
-use Rattle.tables_schema.specs.OurTables.{schema_tables, form}
+use Rattle.tables_schema.specs.declared.store_table.StoreTable.{StoreTable}
+use Rattle.tables_schema.specs.StoreTables.{schema_tables, form}
 use Rattle.tables_open.specs.Tables.{HasOwnRowids, HasReadableTexts}
 use Rattle.tables_open.specs.Opened.{IsRecognised, IsBySchema, IsReadyBy, IsFound}
 use Rattle.sqlite.specs.Effect.{Database, IsDatabase}

@@ -17,12 +17,12 @@ use Rattle.tables_sql.proofs.PieceKeyLemmas as piece_keys
 use Rattle.tables_sql.proofs.TempRootLemmas as temp_roots
 use Rattle.tables_sql.proofs.Typed.{objects_typed, pieces_typed}
 use Rattle.tables_sql.proofs.ReadableValues.{blob_readable}
-use Rattle.tables_schema.specs.declared.our_table.StoreTable.{StoreTable}
-use Rattle.tables_schema.specs.declared.our_table.StoreTable.TheVariants.{Meta, Object, Refs, Outs, Permanent, UserRoot, Profile, Generation, Runtime, Piece, TempRoot}
-use Rattle.tables_schema.specs.OurTables.{form}
+use Rattle.tables_schema.specs.declared.store_table.StoreTable.{StoreTable}
+use Rattle.tables_schema.specs.declared.store_table.StoreTable.TheVariants.{Meta, Object, Refs, Outs, Permanent, UserRoot, Profile, Generation, Runtime, Piece, TempRoot}
+use Rattle.tables_schema.specs.StoreTables.{form}
 use Rattle.tables_open.specs.Tables.{rows_text}
 use Rattle.tables_open.proofs.ReadableRows.{AreOfUtf8, all_cells}
-use Rattle.tables_open.proofs.OurRows.{our_rows}
+use Rattle.tables_open.proofs.StoreRows.{our_rows}
 use Rattle.tables_open.proofs.Tested.{IsTest, test_by}
 
 -- ---- the objects, whose archives are not shown: they are no texts

@@ -3,7 +3,7 @@ pub use Rattle.sqlite_disk.specs.declared.calls.Calls as DiskCalls
 pub use Rattle.sqlite_disk.specs.declared.modelled.Modelled
 pub use Rattle.sqlite_disk.specs.declared.start.Start as DiskStart
 pub use Rattle.tables_schema.specs.Forms
-pub use Rattle.tables_schema.specs.OurTables
+pub use Rattle.tables_schema.specs.StoreTables
 pub use Rattle.tables_schema.specs.Intact
 pub use Rattle.tables_schema.specs.Finding
 pub use Rattle.tables_sql.specs.Contents

@@ -42,8 +42,8 @@ use Rattle.tables_sql.specs.Texts.{AreReadable}
 use Rattle.tables_sql.specs.Calls.{IsKeyed, IsWhole, HasFurther, IsReady, KeepsShown}
 use Rattle.tables_sql.specs.Failures.{opening_failure, FailsToTest}
 
--- Which error of `sqlite` one of the host's is at opening: out of memory where it says so, busy where another program
--- has the file open, else that the file can't be opened.
+-- The error of `sqlite` for an error of the host at opening: out of memory if it says so, busy if another program has
+-- the file open, else that the file can't be opened.
 abbrev pub IsOpeningError : OpenError → Error → Type 0
 IsOpeningError host.OutOfMemory e = e ≡ SqliteFailure OutOfMemory
 IsOpeningError host.Busy e = e ≡ SqliteFailure DatabaseBusy

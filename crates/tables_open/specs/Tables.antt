@@ -1,12 +1,12 @@
 -- The store's tables as they are tested: by a query of their rowids and texts.
 use Rattle.std.specs.Prelude.{ℕ, List, codes}
 use Rattle.sqlite.specs.Effect.{Database}
-use Rattle.tables_schema.specs.OurTables.{form}
+use Rattle.tables_schema.specs.StoreTables.{form}
 use Rattle.tables_sql.specs.Contents.{rows_named}
 use Rattle.tables_sql.specs.Texts.{AreReadableRows}
 use Rattle.tables_sql.specs.Calls.{IsKeyed}
-use Rattle.tables_schema.specs.declared.our_table.StoreTable.{StoreTable}
-use Rattle.tables_schema.specs.declared.our_table.StoreTable.TheVariants.{Meta, Object, Refs, Outs, Permanent, UserRoot, Profile, Generation, Runtime, Piece, TempRoot}
+use Rattle.tables_schema.specs.declared.store_table.StoreTable.{StoreTable}
+use Rattle.tables_schema.specs.declared.store_table.StoreTable.TheVariants.{Meta, Object, Refs, Outs, Permanent, UserRoot, Profile, Generation, Runtime, Piece, TempRoot}
 
 -- the query for the rowid and each text of each row
 abbrev pub rows_text : StoreTable → List ℕ

@@ -1,7 +1,7 @@
 //! How many pages the database at a path has, by the headers of its file and of its log.
 //!
-//! The file isn't open yet, and none of what is read here is trusted: only how many pages are kept hangs on it. To close a file lets go
-//! of its locks, so this is done before it is opened. A pipe would wait for a writer: only regular files are opened.
+//! The file isn't open yet, and none of what is read here is trusted: only the number of pages that are kept depends on it. To close a file
+//! drops its locks, so this is done before it is opened. A pipe would wait for a writer: only regular files are opened.
 
 ghost use Rattle.std.specs.Prelude.{◌≤◌};
 
@@ -19,15 +19,24 @@ const LOG_HEADER: u64 = 32;
 /// The bytes before each page in the log.
 const FRAME_HEADER: u64 = 24;
 
-/// What was measured of a database.
+/// The size of a page of a database, which `sqlite` bounds.
+#[derive(Clone, Copy)]
+pub struct PageSize {
+    /// The size in bytes: 512 to 65,536.
+    pub bytes: u64,
+    pub ghost least: { 512 ≤ bytes },
+    pub ghost most: { bytes ≤ 65536 },
+}
+
+/// The measures of a database.
 #[derive(Clone, Copy)]
 pub struct Measured {
     /// The length of its file.
     pub len: u64,
     /// How many pages it has by its log, 0 where the log doesn't say.
     pub logged: u32,
-    /// The bytes of a page.
-    pub page: u64,
+    /// The size of a page.
+    pub page: PageSize,
 }
 
 /// What the header of a file says of the bytes of a page.
@@ -47,22 +56,19 @@ fn measure_file(rt: &HostRuntime, path: &str) -> io::Result<(u64, u64)> {
     Ok((found.len(), stated_page(&mut File::open(rt, path)?)?))
 }
 
-/// As `sqlite` reads it: 1 means 65,536, and what is no size of a page means that of a new file.
-fn page_of(stated: u64) -> u64
-    ensures { (512 ≤ result) × (result ≤ 65536) }
-{
-    match stated {
+/// The size of a page as `sqlite` reads it: 1 means 65,536, and what is no size of a page means that of a new file.
+fn page_of(stated: u64) -> PageSize {
+    let bytes = match stated {
         1 => 65536,
         512..=32768 => stated,
         _ => NEW_PAGE,
-    }
+    };
+    PageSize { bytes }
 }
 
 /// How many pages the last commit in a log left, which has room for `frames` frames; 0 where it has none. The frames that were written
 /// since the log was last copied into the file have the salts of its header, and come before older ones.
-fn pages_in(log: &File, frames: u32, page: u64) -> io::Result<u32>
-    requires { page ≤ 65536 }
-{
+fn pages_in(log: &File, frames: u32, page: PageSize) -> io::Result<u32> {
     let mut head = [0; 24];
     log.read_exact_at(&mut head, 0)?;
     let (mut new, mut rest, mut pages) = (0, frames, 0);
@@ -71,7 +77,7 @@ fn pages_in(log: &File, frames: u32, page: u64) -> io::Result<u32>
         let mut frame = [0; 16];
         log.read_exact_at(
             &mut frame,
-            LOG_HEADER + u64::from(middle) * (page + FRAME_HEADER),
+            LOG_HEADER + u64::from(middle) * (page.bytes + FRAME_HEADER),
         )?;
         if frame[8..] == head[16..] {
             pages = u32::from_be_bytes([frame[4], frame[5], frame[6], frame[7]]);
@@ -84,23 +90,19 @@ fn pages_in(log: &File, frames: u32, page: u64) -> io::Result<u32>
 }
 
 /// How many pages the file at a path has by its log, which lies next to the file that a link leads to.
-fn measure_log(rt: &HostRuntime, path: &str, page: u64) -> io::Result<u32>
-    requires { page ≤ 65536 }
-{
+fn measure_log(rt: &HostRuntime, path: &str, page: PageSize) -> io::Result<u32> {
     let file = fs::canonicalize(rt, path)?;
     let name = format!(in rt.alloc(); "{}-wal", file.as_str())?;
     let found = fs::metadata(rt, name.as_str())?;
     if !found.is_file() {
         return Ok(0);
     }
-    let frames = u32::try_from(found.len() / (page + FRAME_HEADER)).unwrap_or(u32::MAX);
+    let frames = u32::try_from(found.len() / (page.bytes + FRAME_HEADER)).unwrap_or(u32::MAX);
     pages_in(&File::open(rt, name.as_str())?, frames, page)
 }
 
 /// What is found of the database at a path.
-pub fn measure(rt: &HostRuntime, path: &str) -> Measured
-    ensures { (512 ≤ result.page) × (result.page ≤ 65536) }
-{
+pub fn measure(rt: &HostRuntime, path: &str) -> Measured {
     let (len, stated) = measure_file(rt, path).unwrap_or((0, NEW_PAGE));
     let page = page_of(stated);
     let logged = measure_log(rt, path, page).unwrap_or(0);

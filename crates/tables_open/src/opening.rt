@@ -1,20 +1,20 @@
 //! Opening a connection: by which schema its database has the store's tables, and that their rows are distinct and their texts read.
 
-ghost use Rattle.std.specs.Prelude.{◌≡◌, ◌≢◌, ◌↔◌, false, IsTrue, IfOk, IfErr, OnOk};
-ghost use Rattle.sqlite.specs.State.{HasCleanDisk, IsLive, IsUnchanged};
+ghost use Rattle.std.specs.Prelude.{◌≡◌, ◌≢◌, ◌↔◌, false, IfOk, IfErr};
+ghost use Rattle.sqlite.specs.State.{HasCleanDisk, IsLive};
 ghost use Rattle.sqlite.specs.Held.{state};
 ghost use Rattle.tables_schema.specs.Finding.{HasNone, HasFirst, HasSecond, HasThird};
-ghost use Rattle.tables_open.specs.Opened.{IsFound, IsRecognised, FailsToOpen};
+ghost use Rattle.tables_open.specs.Opened.{IsRecognised};
 ghost use Rattle.tables_sql.specs.Failures.{FailsToTest};
 ghost use Rattle.tables_schema.specs.declared.recognising.Recognised.TheVariants.{Nothing, Tables};
 ghost use Rattle.tables_schema.specs.declared.schema.Schema.TheVariants.{V1, V2, V3};
-ghost use Rattle.tables_open.specs.Frames.{LeavesShown, MayTest};
+ghost use Rattle.tables_open.specs.Frames.{IsSettled, MayTest, OnlyLooks, FindsTables};
 
 use crate::testing;
 use sqlite::{Alter, Connection};
 use std::alloc::Global;
-use tables_schema::our_table::schema_tables;
 use tables_schema::recognising::Recognised;
+use tables_schema::store_table::schema_tables;
 use tables_schema::{Schema, recognising};
 use tables_sql::failure::Failed;
 
@@ -25,15 +25,9 @@ fn inspect_tables<S: Alter>(
     conn: &mut Connection<S>,
     schema: Schema,
 ) -> Result<Recognised, Failed>
-    requires frame { MayTest S.Store conn.old }
-    requires recognised { IsRecognised (Tables schema) (state S.Store conn.old).now.schema }
-    ensures frame { LeavesShown S.Store conn.old conn.new }
-    ensures unchanged { HasCleanDisk (state S.Store conn.new)
-        → OnOk result (IsUnchanged (state S.Store conn.old) (state S.Store conn.new)) }
-    ensures found { HasCleanDisk (state S.Store conn.new) → IfOk result (λ r. IsFound r (state S.Store conn.new)) }
+    requires { MayTest S.Store conn.old (IsRecognised (Tables schema)) }
     ensures some { IfOk result (λ r. r ≢ Nothing) }
-    ensures cause { HasCleanDisk (state S.Store conn.new)
-        → IfErr result (FailsToOpen (state S.Store conn.old) (state S.Store conn.new)) }
+    ensures tested { FindsTables S.Store conn.old conn.new result }
 {
     if testing::all(alloc, conn, schema_tables(schema))? {
         Ok(Recognised::Tables(schema))
@@ -44,12 +38,8 @@ fn inspect_tables<S: Alter>(
 
 /// Succeeds only if no fault has shut the connection. Nothing changes.
 fn probe<S: Alter>(conn: &mut Connection<S>) -> Result<(), Failed>
-    requires idle { conn.old.in_transaction ≡ false }
-    requires settled { HasCleanDisk (state S.Store conn.old) → IsTrue (state S.Store conn.old).is_open
-        → (state S.Store conn.old).now ≡ (state S.Store conn.old).committed }
-    ensures frame { LeavesShown S.Store conn.old conn.new }
-    ensures unchanged { HasCleanDisk (state S.Store conn.new)
-        → OnOk result (IsUnchanged (state S.Store conn.old) (state S.Store conn.new)) }
+    requires { IsSettled S.Store conn.old }
+    ensures looks { OnlyLooks S.Store conn.old conn.new result }
     ensures cause { HasCleanDisk (state S.Store conn.new)
         → IfErr result (FailsToTest (state S.Store conn.old) (state S.Store conn.new) ⊥) }
 {
@@ -57,7 +47,7 @@ fn probe<S: Alter>(conn: &mut Connection<S>) -> Result<(), Failed>
     Ok(())
 }
 
-/// By which schema the connection has the store's tables, whatever they hold.
+/// The schema by which the connection has the store's tables, whatever they hold.
 pub fn recognise<S: Alter>(conn: &Connection<S>) -> Recognised
     ensures nothing { result ≡ Nothing ↔ HasNone (state S.Store conn.now).now.schema }
     ensures first { result ≡ Tables V1 ↔ HasFirst (state S.Store conn.now).now.schema }
@@ -73,13 +63,8 @@ pub fn recognise<S: Alter>(conn: &Connection<S>) -> Recognised
 /// an earlier one has shut the connection, where a limit on steps stops it, and if two rows of a store's table share a rowid or a rowid is no integer.
 pub fn open<S: Alter>(alloc: Global, conn: &mut Connection<S>) -> Result<Recognised, Failed>
     requires idle { conn.old.in_transaction ≡ false }
-    ensures frame { LeavesShown S.Store conn.old conn.new }
-    ensures unchanged { HasCleanDisk (state S.Store conn.new)
-        → OnOk result (IsUnchanged (state S.Store conn.old) (state S.Store conn.new)) }
-    ensures found { HasCleanDisk (state S.Store conn.new) → IfOk result (λ r. IsFound r (state S.Store conn.new)) }
+    ensures found { FindsTables S.Store conn.old conn.new result }
     ensures nothing { IfOk result (λ r. r ≡ Nothing ↔ HasNone (state S.Store conn.old).now.schema) }
-    ensures cause { HasCleanDisk (state S.Store conn.new)
-        → IfErr result (FailsToOpen (state S.Store conn.old) (state S.Store conn.new)) }
 {
     // Outside a transaction, what is shown is what the last commit left.
     let settled = conn.is_autocommit();

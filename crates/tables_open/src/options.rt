@@ -5,7 +5,7 @@
 //! pages it reads most pages many times. With a place for each page it reads each one once. A file that is too long for
 //! that is no better off with some more places, since whoever goes through all pages in turn finds none of them again.
 
-ghost use Rattle.std.specs.Prelude.{◌≡◌, ◌≤◌, ℕ, IfOk, IfErr};
+ghost use Rattle.std.specs.Prelude.{◌≡◌, ℕ, IfOk, IfErr};
 ghost use Rattle.tables_open.specs.Pages.{cached_pages};
 
 use crate::measuring::{Measured, measure};
@@ -33,12 +33,12 @@ const CHECKPOINT_FRAMES: usize = 1000;
 /// How many pages of a database are kept: all of them where that is within the bounds. After a large transaction its log has
 /// more than its file has.
 fn cached_pages(found: &Measured) -> usize
-    requires { 512 ≤ found.now.page }
-    ensures { result ≡ cached_pages found.now.len found.now.logged found.now.page }
+    ensures { result ≡ cached_pages found.now.len found.now.logged found.now.page.bytes }
 {
-    let pages = (found.len / found.page).max(u64::from(found.logged)) + ROOM;
-    let least = LEAST_BYTES / found.page;
-    let kept = if pages <= MOST_BYTES / found.page {
+    let page = found.page.bytes;
+    let pages = (found.len / page).max(u64::from(found.logged)) + ROOM;
+    let least = LEAST_BYTES / page;
+    let kept = if pages <= MOST_BYTES / page {
         pages.max(least)
     } else {
         least
@@ -53,8 +53,7 @@ fn cached_pages(found: &Measured) -> usize
 /// The system gives no random number.
 pub fn options(rt: &HostRuntime, path: &str) -> Result<Options, Error>
     ensures kept { IfOk result
-        (λ it. (found : Measured) × (512 ≤ found.page) × (found.page ≤ 65536)
-        × (it.cache_pages ≡ cached_pages found.len found.logged found.page)) }
+        (λ it. (found : Measured) × (it.cache_pages ≡ cached_pages found.len found.logged found.page.bytes)) }
     ensures log { IfOk result (λ it. (it.spill_pages ≡ 1000) × (it.checkpoint_frames ≡ 1000)) }
     ensures cause { IfErr result (λ e. e ≡ Error.SqliteFailure ErrorCode.CannotOpen) }
 {

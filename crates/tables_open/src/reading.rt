@@ -4,14 +4,14 @@ ghost use Rattle.std.specs.Prelude.{◌≡◌, ◌↔◌, ◌⊎◌, [], List, I
 ghost use Rattle.std.specs.List.{AllByRecursion};
 ghost use Rattle.sqlite_value.specs.declared.value.Value.TheVariants.{Int};
 ghost use Rattle.sqlite_value.specs.Order.{Row as Values, column};
-ghost use Rattle.sqlite.specs.State.{HasCleanDisk, Survives};
+ghost use Rattle.sqlite.specs.State.{HasCleanDisk};
 ghost use Rattle.sqlite.specs.Held.{state};
 ghost use Rattle.tables_sql.specs.declared.failure.Failed.TheVariants.{Memory, Disk};
-ghost use Rattle.tables_sql.specs.Calls.{KeepsShown};
 ghost use Rattle.tables_sql.specs.Failures.{IsQueryFailure};
 ghost use Rattle.tables_sql.specs.Queries.{IsSelect, HasBegunWith, IsAnswered};
 ghost use Rattle.tables_sql.specs.Texts.{IsReadableRow};
 ghost use Rattle.tables_open.specs.Opened.{ShowIds};
+ghost use Rattle.tables_open.specs.Frames.{IsSettled, LeavesShown};
 
 use crate::rowids::{differ, read_id};
 use crate::texts::are_readable;
@@ -45,8 +45,9 @@ pub(crate) fn check<S: Alter>(
     conn: &mut Connection<S>,
     text: &str,
 ) -> Result<bool, Failed>
-    requires { IsSelect text.now }
-    ensures idle { conn.old.in_transaction ≡ false → conn.new.in_transaction ≡ false }
+    requires reads { IsSelect text.now }
+    requires frame { IsSettled S.Store conn.old }
+    ensures frame { LeavesShown S.Store conn.old conn.new }
     ensures shown { HasCleanDisk (state S.Store conn.new)
         → IfOk result
         (λ all. (rows : List Values) × IsAnswered text.now [] (state S.Store conn.old) (state S.Store conn.new) rows
@@ -55,10 +56,6 @@ pub(crate) fn check<S: Alter>(
         → IfErr result (λ f. IsQueryFailure text.now [] (state S.Store conn.old) (state S.Store conn.new) f
         ⊎ ((rows : List Values) × HasBegunWith text.now [] (state S.Store conn.old) (state S.Store conn.new) rows
         × ((f ≡ Memory) ⊎ ((f ≡ Disk) × ¬ ShowIds rows)))) }
-    ensures same { HasCleanDisk (state S.Store conn.new)
-        → (IsTrue (state S.Store conn.old).is_open → (state S.Store conn.old).now ≡ (state S.Store conn.old).committed)
-        → KeepsShown (state S.Store conn.old) (state S.Store conn.new) }
-    ensures survives { Survives (state S.Store conn.old) (state S.Store conn.new) (λ _. ⊥) }
 {
     let empty = Tested {
         ids: Vec::new(alloc),

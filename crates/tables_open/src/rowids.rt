@@ -1,4 +1,4 @@
-//! Whether each row of the store's tables has a rowid of its own, an integer: deletes rest on it.
+//! Whether each row of the store's tables has a rowid of its own, an integer: deletes depend on that.
 
 ghost use Rattle.std.specs.Prelude.{◌≡◌, ◌↔◌, ◌⊎◌, IfOk, IfErr, IsTrue, length};
 ghost use Rattle.std.specs.List.{AllAdjacentBelow, IsDistinct};

@@ -7,7 +7,8 @@ use Rattle.tables_sql.specs.declared.failure.Failed.{Failed}
 use Rattle.tables_sql.specs.Contents.{Contents}
 use Rattle.tables_world.specs.Worlds.{rows_of}
 use Rattle.tables_world.specs.Parts.{AreSoundRoots}
-use Rattle.tables_roots.specs.Loaded.{Objects, are_temporary, AreObjects, AreAllSound}
+use Rattle.tables_roots.specs.Loaded.{Objects, are_roots, are_temporary, AreObjects, AreAllSound}
+use Rattle.tables_roots.proofs.SoundRoots.{roots_sound}
 use Rattle.tables_roots.proofs.Sessions.{sessions_sound, no_session}
 
 module _ (objects : Objects) (c : Contents) where
@@ -16,6 +17,10 @@ module _ (objects : Objects) (c : Contents) where
 
   abbrev pub ToldAll : Bool → Type 0
   ToldAll ok = AreObjects objects c → (IsTrue ok ↔ AreAllSound (rows_of c))
+
+  -- by their tests
+  pub roots_decide : (ok : Bool) → ok ≡ are_roots objects c → Reported ok
+  roots_decide ok is are = (λ h. (roots_sound objects c are).0 (sym is ∙ h), λ sound. is ∙ (roots_sound objects c are).1 sound)
 
   pub all_unsound : (ok : Bool) → ok ≡ false → Reported ok → ToldAll false
   all_unsound ok failed reported are = (

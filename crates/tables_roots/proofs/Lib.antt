@@ -1,6 +1,7 @@
 pub mod AllReads
 pub mod EachEntry
 pub mod Filled
+pub mod Loads
 pub mod PutAll
 pub mod Rows
 pub mod Sessions

@@ -1,10 +1,6 @@
 -- Three tests, one after another: which of them decides.
 use Rattle.std.proofs.Common.{◌≡◌, Bool, true, false, ◌&&◌, sym, ap, ◌∙◌}
 
--- the first of several tests failed
-pub first_failed : (x y : Bool) → x ≡ false → false ≡ (x && y)
-first_failed x y first = sym (ap (λ b. b && y) first)
-
 -- of three tests the second failed
 pub second_failed : (x y z : Bool) → x ≡ true → y ≡ false → false ≡ (x && (y && z))
 second_failed x y z first second = sym (ap (λ b. b && (y && z)) first ∙ ap (λ b. b && z) second)

@@ -113,6 +113,18 @@ are_roots objects c = are_fixed objects c && are_moving objects c
 abbrev pub are_temporary : Objects → Contents → Bool
 are_temporary objects c = list_all (is_temporary_root objects) (finite.entries c.temp_roots)
 
+-- an outline, and the permanent roots and user roots of the rows
+abbrev pub with_fixed : OutlineValue → Contents → OutlineValue
+with_fixed o c = record o { permanent = c.permanent; user_roots = c.user_roots }
+
+-- an outline, and the profiles of the rows with their generations
+abbrev pub with_profiles : OutlineValue → Contents → OutlineValue
+with_profiles o c = record o { profiles = (world_in c).profiles }
+
+-- an outline, and the profiles and runtime roots of the rows
+abbrev pub with_moving : OutlineValue → Contents → OutlineValue
+with_moving o c = record (with_profiles o c) { runtime = c.runtime }
+
 -- an outline, and all roots of the rows but the temporary ones
 abbrev pub with_explicit : OutlineValue → Contents → OutlineValue
 with_explicit o c =
@@ -126,6 +138,13 @@ with_explicit o c =
 -- an outline, and all roots of the rows
 abbrev pub with_roots : OutlineValue → Contents → OutlineValue
 with_roots o c = record (with_explicit o c) { temporary = (world_in c).temporary }
+
+-- an outline that has no roots, or temporary ones alone
+pub record HasNoExplicit (o : OutlineValue) : Type 0 where
+  pub permanent : o.permanent ≡ finite.empty
+  pub user_roots : o.user_roots ≡ finite.empty
+  pub profiles : o.profiles ≡ finite.empty
+  pub runtime : o.runtime ≡ finite.empty
 
 -- the roots of the rows are sound, and so is what sessions keep
 pub record AreAllSound (c : Rows) : Type 0 where

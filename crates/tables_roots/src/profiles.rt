@@ -1,13 +1,9 @@
 //! Profiles, and their generations.
 
-ghost use Rattle.std.specs.Prelude.{◌≡◌, IsTrue, IfOk};
+ghost use Rattle.std.specs.Prelude.{◌≡◌};
 ghost use Rattle.std.specs.FinMap as finite;
-ghost use Rattle.sqlite.specs.State.{HasCleanDisk};
-ghost use Rattle.sqlite.specs.Held.{state};
-ghost use Rattle.tables_sql.specs.Contents.{contents_of};
-ghost use Rattle.tables_world.specs.Worlds.{world_in};
-ghost use Rattle.tables_roots.specs.Loaded.{are_profiles};
-ghost use Rattle.tables_rows.specs.Frames.{MayRead, ReadsOnly};
+ghost use Rattle.tables_roots.specs.Loaded.{are_profiles, with_profiles};
+ghost use Rattle.tables_roots.specs.Loading.{MayLoad, Loads};
 
 use crate::numbers::number_of;
 use crate::table::{RootTable, load_table};
@@ -66,14 +62,8 @@ pub fn read<S: Alter>(
     conn: &mut Connection<S>,
     outline: &mut Outline,
 ) -> Result<bool, Failed>
-    requires frame { MayRead S.Store conn.old }
-    requires empty { HasCleanDisk (state S.Store conn.old) → outline.old.profiles ≡ finite.empty }
-    ensures read { ReadsOnly S.Store conn.old conn.new result }
-    ensures reported { HasCleanDisk (state S.Store conn.new) → IfOk result
-        (λ ok. ok ≡ are_profiles outline.old.objects (contents_of (state S.Store conn.old).now)) }
-    ensures loaded { HasCleanDisk (state S.Store conn.new) → IfOk result
-        (λ ok. IsTrue ok → outline.new
-        ≡ record outline.old { profiles = (world_in (contents_of (state S.Store conn.old).now)).profiles }) }
+    requires { MayLoad S.Store conn.old outline.old (λ o _. o.profiles ≡ finite.empty) }
+    ensures { Loads S.Store conn.old conn.new result outline.old outline.new are_profiles with_profiles }
 {
     if !load_table::<Profile, S>(alloc, conn, outline)? {
         return Ok(false);

@@ -8,9 +8,9 @@ ghost use Rattle.tables_schema.specs.Forms.{temp_root};
 ghost use Rattle.tables_sql.specs.Contents.{contents_of};
 ghost use Rattle.tables_sql.specs.Calls.{HasFurther};
 ghost use Rattle.tables_schema.specs.Schemas.{has_temporary};
-ghost use Rattle.tables_world.specs.Worlds.{rows_of, world_in};
-ghost use Rattle.tables_world.specs.Parts.{AreSoundRoots};
-ghost use Rattle.tables_roots.specs.Loaded.{are_fixed, are_moving, with_explicit, with_roots, AreAllSound, AreObjects};
+ghost use Rattle.tables_world.specs.Worlds.{rows_of};
+ghost use Rattle.tables_roots.specs.Loaded.{are_fixed, are_moving, are_roots, with_fixed, with_moving, with_explicit, with_roots, HasNoExplicit, AreAllSound, AreObjects};
+ghost use Rattle.tables_roots.specs.Loading.{MayLoad, Loads};
 ghost use Rattle.tables_rows.specs.Frames.{MayRead, ReadsOnly};
 
 use crate::profiles;
@@ -31,18 +31,9 @@ fn load_fixed<S: Alter>(
     conn: &mut Connection<S>,
     outline: &mut Outline,
 ) -> Result<bool, Failed>
-    requires frame { MayRead S.Store conn.old }
-    requires permanent { HasCleanDisk (state S.Store conn.old) → outline.old.permanent ≡ finite.empty }
-    requires user_roots { HasCleanDisk (state S.Store conn.old) → outline.old.user_roots ≡ finite.empty }
-    ensures read { ReadsOnly S.Store conn.old conn.new result }
-    ensures reported { HasCleanDisk (state S.Store conn.new) → IfOk result
-        (λ ok. ok ≡ are_fixed outline.old.objects (contents_of (state S.Store conn.old).now)) }
-    ensures loaded { HasCleanDisk (state S.Store conn.new) → IfOk result
-        (λ ok. IsTrue ok → outline.new
-        ≡ record outline.old {
-          permanent = (contents_of (state S.Store conn.old).now).permanent;
-          user_roots = (contents_of (state S.Store conn.old).now).user_roots;
-        }) }
+    requires { MayLoad S.Store conn.old outline.old
+        (λ o _. (o.permanent ≡ finite.empty) × (o.user_roots ≡ finite.empty)) }
+    ensures { Loads S.Store conn.old conn.new result outline.old outline.new are_fixed with_fixed }
 {
     if !load_table::<PermanentRoot, S>(alloc, conn, outline)? {
         return Ok(false);
@@ -56,18 +47,9 @@ fn load_moving<S: Alter>(
     conn: &mut Connection<S>,
     outline: &mut Outline,
 ) -> Result<bool, Failed>
-    requires frame { MayRead S.Store conn.old }
-    requires profiles { HasCleanDisk (state S.Store conn.old) → outline.old.profiles ≡ finite.empty }
-    requires runtime { HasCleanDisk (state S.Store conn.old) → outline.old.runtime ≡ finite.empty }
-    ensures read { ReadsOnly S.Store conn.old conn.new result }
-    ensures reported { HasCleanDisk (state S.Store conn.new) → IfOk result
-        (λ ok. ok ≡ are_moving outline.old.objects (contents_of (state S.Store conn.old).now)) }
-    ensures loaded { HasCleanDisk (state S.Store conn.new) → IfOk result
-        (λ ok. IsTrue ok → outline.new
-        ≡ record outline.old {
-          profiles = (world_in (contents_of (state S.Store conn.old).now)).profiles;
-          runtime = (contents_of (state S.Store conn.old).now).runtime;
-        }) }
+    requires { MayLoad S.Store conn.old outline.old
+        (λ o _. (o.profiles ≡ finite.empty) × (o.runtime ≡ finite.empty)) }
+    ensures { Loads S.Store conn.old conn.new result outline.old outline.new are_moving with_moving }
 {
     if !profiles::read(alloc, conn, outline)? {
         return Ok(false);
@@ -81,17 +63,8 @@ fn load_explicit<S: Alter>(
     conn: &mut Connection<S>,
     outline: &mut Outline,
 ) -> Result<bool, Failed>
-    requires frame { MayRead S.Store conn.old }
-    requires permanent { HasCleanDisk (state S.Store conn.old) → outline.old.permanent ≡ finite.empty }
-    requires user_roots { HasCleanDisk (state S.Store conn.old) → outline.old.user_roots ≡ finite.empty }
-    requires profiles { HasCleanDisk (state S.Store conn.old) → outline.old.profiles ≡ finite.empty }
-    requires runtime { HasCleanDisk (state S.Store conn.old) → outline.old.runtime ≡ finite.empty }
-    ensures read { ReadsOnly S.Store conn.old conn.new result }
-    ensures reported { HasCleanDisk (state S.Store conn.new) → IfOk result
-        (λ ok. AreObjects outline.old.objects (contents_of (state S.Store conn.old).now)
-        → (IsTrue ok ↔ AreSoundRoots (rows_of (contents_of (state S.Store conn.old).now)))) }
-    ensures loaded { HasCleanDisk (state S.Store conn.new) → IfOk result
-        (λ ok. IsTrue ok → outline.new ≡ with_explicit outline.old (contents_of (state S.Store conn.old).now)) }
+    requires { MayLoad S.Store conn.old outline.old (λ o _. HasNoExplicit o) }
+    ensures { Loads S.Store conn.old conn.new result outline.old outline.new are_roots with_explicit }
 {
     if !load_fixed(alloc, conn, outline)? {
         return Ok(false);

@@ -4,10 +4,11 @@ ghost use Rattle.std.specs.Prelude.{◌≡◌, Bool, IsTrue, IfOk, ⊤};
 ghost use Rattle.sqlite.specs.Effect.{Database};
 ghost use Rattle.sqlite.specs.State.{HasCleanDisk};
 ghost use Rattle.sqlite.specs.Held.{state};
-ghost use Rattle.tables_sql.specs.Contents.{Contents, contents_of};
-ghost use Rattle.tables_rows.specs.Frames.{MayRead, LeftAsItWas, Reads, FailsWithCause, ReadsOnly};
+ghost use Rattle.tables_sql.specs.Contents.{Contents};
+ghost use Rattle.tables_rows.specs.Frames.{MayRead, Finds};
 ghost use Rattle.tables_outline.specs.Outline.{OutlineValue};
 ghost use Rattle.tables_roots.specs.Loaded.{Objects, all_pass, all_put, LoadAs};
+ghost use Rattle.tables_roots.specs.Loading.{MayLoad, Loads};
 
 use sqlite::{Alter, Connection};
 use std::alloc::{AllocError, Global};
@@ -39,10 +40,8 @@ pub trait RootTable: Sized + Drop {
         requires frame { MayRead S.Store conn.old }
         requires exists { HasCleanDisk (state S.Store conn.old) → IsTrue (state S.Store conn.old).is_open
             → needs (state S.Store conn.old).now }
-        ensures frame { LeftAsItWas S.Store conn.old conn.new }
-        ensures reads { Reads S.Store conn.old conn.new result (λ c rows. (o : OutlineValue) → fits o c
-            → LoadAs passes put rows.items o (are_sound o.objects c) (with_rows o c)) }
-        ensures cause { FailsWithCause S.Store conn.old conn.new result };
+        ensures { Finds S.Store conn.old conn.new result (λ c rows. (o : OutlineValue) → fits o c
+            → LoadAs passes put rows.items o (are_sound o.objects c) (with_rows o c)) };
 
     /// Whether the row passes. If so, its root is put into the outline.
     fn take(self, alloc: Global, outline: &mut Outline) -> Result<bool, AllocError>
@@ -77,16 +76,10 @@ pub fn load_table<T: RootTable, S: Alter>(
     conn: &mut Connection<S>,
     outline: &mut Outline,
 ) -> Result<bool, Failed>
-    requires frame { MayRead S.Store conn.old }
+    requires roots { MayLoad S.Store conn.old outline.old T.fits }
     requires exists { HasCleanDisk (state S.Store conn.old) → IsTrue (state S.Store conn.old).is_open
         → T.needs (state S.Store conn.old).now }
-    requires fits { HasCleanDisk (state S.Store conn.old)
-        → T.fits outline.old (contents_of (state S.Store conn.old).now) }
-    ensures read { ReadsOnly S.Store conn.old conn.new result }
-    ensures reported { HasCleanDisk (state S.Store conn.new) → IfOk result
-        (λ ok. ok ≡ T.are_sound outline.old.objects (contents_of (state S.Store conn.old).now)) }
-    ensures loaded { HasCleanDisk (state S.Store conn.new) → IfOk result
-        (λ ok. IsTrue ok → outline.new ≡ T.with_rows outline.old (contents_of (state S.Store conn.old).now)) }
+    ensures { Loads S.Store conn.old conn.new result outline.old outline.new T.are_sound T.with_rows }
 {
     let rows = T::all(alloc, conn)?;
     let sound = load_rows::<T>(alloc, outline, rows)?;

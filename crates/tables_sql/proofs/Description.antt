@@ -27,7 +27,7 @@ use Rattle.sqlite.specs.Rows.{stamped}
 use Rattle.sqlite.specs.declared.error.Error.{Error}
 use Rattle.sqlite.specs.Effect.{Database, value_rows}
 use Rattle.sqlite.specs.State.{State, ExecutesInside, FailsToQuery, IsUnchanged}
-use Rattle.tables_schema.specs.Forms.{strict, is_our_name}
+use Rattle.tables_schema.specs.Forms.{strict, names_store_table}
 use Rattle.tables_schema.specs.Intact.{IsKnown, IsNamed, IsIntact, HasTables, tree_named}
 use Rattle.tables_sql.specs.Contents.{Contents, contents_of, map_of, rows_named}
 use Rattle.tables_sql.specs.Texts.{IsReadable, AreReadableRows}
@@ -74,7 +74,7 @@ pub record Description (K X : Type 0) : Type 1 where
   pub put : Contents → finite.FinMap order X → Contents
   pub held : (db : Database) → IsIn db.schema → of (contents_of db) ≡ map_of order kind entry (rows_named db name)
   -- it is one of the store
-  pub named : is_our_name name ≡ true
+  pub named : names_store_table name ≡ true
   pub exists : (s : Schema) → IsIn s → IsIntact s (strict name columns key)
   pub keyed : (db : Database) → IsStoreDatabase db → IsOwn db → IsKeyed (rows_named db name)
   pub kept : (db : Database) → IsStoreDatabase db → IsOwn db → AreKept kind (λ r. (entry r).0) (length columns) (rows_named db name)

@@ -8,7 +8,7 @@ use Rattle.sqlite_schema.specs.declared.schema.Schema.{Schema}
 use Rattle.sqlite_schema.specs.declared.schema.Table.{Table}
 use Rattle.sqlite.specs.Effect.{Database}
 use Rattle.sqlite.specs.State.{State}
-use Rattle.tables_schema.specs.Forms.{strict, is_our_name}
+use Rattle.tables_schema.specs.Forms.{strict, names_store_table}
 use Rattle.tables_schema.specs.Intact.{IsIntact, HasTables, tree_named}
 use Rattle.tables_sql.specs.Contents.{Contents, contents_of, map_of, rows_named}
 use Rattle.tables_sql.specs.Calls.{IsKeyed, IsStoreDatabase}
@@ -19,7 +19,7 @@ use Rattle.tables_sql.proofs.Description.{Description}
 -- its form, the order of its keys, what its rows are, which of the maps they make, and that it stands, is kept and is written so
 abbrev pub one_of_nine : {K X : Type 0} (t : Table) {order : K → K → Ordering} → IsTotalOrder order → finite.IsAntisymmetric order → (kind : Row → Bool) (entry : Row → K × X)
     → (of : Contents → finite.FinMap order X) (put : Contents → finite.FinMap order X → Contents)
-    → is_our_name t.name ≡ true
+    → names_store_table t.name ≡ true
     → ((db : Database) → HasTables db.schema → of (contents_of db) ≡ map_of order kind entry (rows_named db t.name))
     → ((s : Schema) → HasTables s → IsIntact s (strict t.name t.columns t.primary))
     → ((db : Database) → IsStoreDatabase db → IsKeyed (rows_named db t.name))

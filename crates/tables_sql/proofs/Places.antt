@@ -12,7 +12,7 @@ use Rattle.sqlite_schema.specs.declared.schema.Column.{Column}
 use Rattle.sqlite_schema.specs.Names.{same_name, table_named}
 use Rattle.sqlite_rules.specs.Lists.{Has}
 use Rattle.sqlite.specs.State.{State}
-use Rattle.tables_schema.specs.Forms.{store_tables, piece, temp_root, is_our_name}
+use Rattle.tables_schema.specs.Forms.{store_tables, piece, temp_root, names_store_table}
 use Rattle.tables_schema.specs.Intact.{IsIntact, HasTables, tree_named}
 use Rattle.tables_sql.specs.Contents.{Contents, contents_of, rows_named, rows_if_any}
 use Rattle.tables_sql.specs.Texts.{IsReadable, AreReadableRows, HasReadableRows}
@@ -54,15 +54,15 @@ module _ (s : Schema) (a : Table) (exists : IsIntact s a) where
       let idle = list_all_at _ s.tables other.at _ other.known.named.1 exists.idle in
       absurd (let f = rw (eq-eqb _ _ e, names) at idle in cc)
 
-  kept : (p : Table → Type 0) (ts : List Table) → list_all (λ t. not (t.tree == tree) || bytes_eq t.name a.name) ts ≡ true → AllByRecursion (λ t. t.tree ≢ tree → p t) ts → is_our_name a.name ≡ true → AllByRecursion (λ t. is_our_name t.name ≡ false → p t) ts
+  kept : (p : Table → Type 0) (ts : List Table) → list_all (λ t. not (t.tree == tree) || bytes_eq t.name a.name) ts ≡ true → AllByRecursion (λ t. t.tree ≢ tree → p t) ts → names_store_table a.name ≡ true → AllByRecursion (λ t. names_store_table t.name ≡ false → p t) ts
   kept p [] idle h of_store = tt
   kept p (t ∷ ts) idle h of_store = (λ other. h.0 (λ e. differs e other (and_so _ _ idle).0), kept p ts (and_so _ _ idle).1 h.1 of_store)
     where
-      differs : t.tree ≡ tree → is_our_name t.name ≡ false → (not (t.tree == tree) || bytes_eq t.name a.name) ≡ true → ⊥
+      differs : t.tree ≡ tree → names_store_table t.name ≡ false → (not (t.tree == tree) || bytes_eq t.name a.name) ≡ true → ⊥
       differs e other idle =
           let named : bytes_eq t.name a.name ≡ true = let f = idle in rw (eq-eqb _ _ e) at f in
           let is : t.name ≡ a.name = bytes_same _ _ named in
-          absurd (let f = sym of_store ∙ ap is_our_name (sym is) ∙ other in cc)
+          absurd (let f = sym of_store ∙ ap names_store_table (sym is) ∙ other in cc)
 
   at_tree : (p : ℕ → Type 0) (b : Table) → IsIntact s b → AllByRecursion (λ (t : Table). t.tree ≢ tree → p t.tree) s.tables → tree_named s b.name ≢ tree → p (tree_named s b.name)
   at_tree p b other h = all-slice_get (λ (t : Table). t.tree ≢ tree → p t.tree) s.tables other.at _ other.known.named.1 h
@@ -102,7 +102,7 @@ module _ (a : Table) (old new : State) (rows : List Row) (exists : IsIntact old.
           go false is later = later
 
   -- and so has each of theirs
-  pub foreign_kept : is_our_name a.name ≡ true → KeepsForeignRows old.now new.now
+  pub foreign_kept : names_store_table a.name ≡ true → KeepsForeignRows old.now new.now
   foreign_kept = kept old.now.schema a exists (λ t. new.now.trees t.tree ≡ old.now.trees t.tree) old.now.schema.tables exists.idle sets.others
 
   -- what holds of the columns and the rows of each table of the store holds after the write, where the write keeps it of its own
@@ -135,7 +135,7 @@ module _ (a : Table) (old new : State) (rows : List Row) (exists : IsIntact old.
   }
 
   -- what the write makes of what the store's tables hold
-  pub changed : (change : Contents → Contents) → IsStoreDatabase old.now → (IsKeyed (rows_named old.now a.name) → IsKeyed rows) → (AreReadableRows a (rows_named old.now a.name) → AreReadableRows a rows) → is_our_name a.name ≡ true → contents_of new.now ≡ change (contents_of old.now) → Changes old new change
+  pub changed : (change : Contents → Contents) → IsStoreDatabase old.now → (IsKeyed (rows_named old.now a.name) → IsKeyed rows) → (AreReadableRows a (rows_named old.now a.name) → AreReadableRows a rows) → names_store_table a.name ≡ true → contents_of new.now ≡ change (contents_of old.now) → Changes old new change
   unfolding KeepsFurther
   changed change of_store keyed readable named contents = record {
     was_open = sets.was_open;

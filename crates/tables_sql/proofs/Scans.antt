@@ -1,6 +1,6 @@
 -- What a query over one table shows, and how it leaves the tables.
 use Rattle.std.proofs.Common.{◌≡◌, ◌⊎◌, inl, inr, ℕ, List, [], ◌∷◌, ◌++◌, map, flat_map, Bool, true, false, cond, Some, None, Option, refl, sym, ap, subst, ◌∙◌, IsPermutation, Result, Ok, Err, OnOk}
-use Rattle.std.specs.Prelude.{IfErr}
+use Rattle.std.specs.Prelude.{IfOk, IfErr, OnErr, IsErrAnd}
 use Rattle.std.specs.List.{list_all}
 use Rattle.std.proofs.lemmas.List.Sorted.{IsPermutation-sym}
 use Rattle.sqlite_value.specs.Order.{Row}
@@ -114,3 +114,16 @@ on_ok (Err e) P Q f h = tt
 pub err_with : {T E : Type 0} (r : Result T E) (P Q : E → Type 0) → ((e : E) → P e → Q e) → IfErr r P → IfErr r Q
 err_with (Ok x) P Q f h = tt
 err_with (Err e) P Q f h = f e h
+
+pub on_err_of : {T E : Type 0} (r : Result T E) (P : Type 0) → P → OnErr r P
+on_err_of (Ok x) P h = tt
+on_err_of (Err e) P h = h
+
+pub ok_with : {T E : Type 0} (r : Result T E) (P Q : T → Type 0) → ((x : T) → P x → Q x) → IfOk r P → IfOk r Q
+ok_with (Ok x) P Q f h = f x h
+ok_with (Err e) P Q f h = tt
+
+-- a call that failed
+pub not_ok : {T E : Type 0} (r : Result T E) (Q : E → Type 0) (P : Type 0) → IsErrAnd r Q → OnOk r P
+not_ok (Ok x) Q P h = absurd h
+not_ok (Err e) Q P h = tt

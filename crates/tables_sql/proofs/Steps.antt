@@ -9,7 +9,7 @@ use Rattle.sqlite_schema.specs.declared.schema.Table.{Table}
 use Rattle.sqlite.specs.Effect.{Database, IsDatabase}
 use Rattle.sqlite.specs.State.{State, HasCleanDisk, KeepsCommit, Survives}
 use Rattle.sqlite.proofs.StateLemmas.{survives_then, survives_weaker}
-use Rattle.tables_schema.specs.Forms.{is_our_name}
+use Rattle.tables_schema.specs.Forms.{names_store_table}
 use Rattle.tables_sql.specs.Contents.{Contents, contents_of}
 use Rattle.tables_sql.specs.Frozen.{IsUnshown}
 use Rattle.tables_sql.specs.Calls.{IsStoreDatabase, IsReady, IsUnderWay, KeepsForeignRows, Leaves, LeavesRows, Changes, KeepsShown, KeepsFurther}
@@ -17,7 +17,7 @@ use Rattle.tables_sql.proofs.Frozen.{frozen_next, frozen_of, listed_of}
 
 pub foreign_then : (a b c : Database) → b.schema ≡ a.schema → KeepsForeignRows a b → KeepsForeignRows b c → KeepsForeignRows a c
 foreign_then a b c is h k =
-    let foreign = λ (x y : Database) (t : Table). is_our_name t.name ≡ false → y.trees t.tree ≡ x.trees t.tree in
+    let foreign = λ (x y : Database) (t : Table). names_store_table t.name ≡ false → y.trees t.tree ≡ x.trees t.tree in
     all_both (foreign a b) (foreign b c) (foreign a c) (λ t p q other. q other ∙ p other) a.schema.tables h (subst (λ (s : Schema). AllByRecursion (foreign b c) s.tables) is k)
 
 -- two changes in a row are one
@@ -64,7 +64,7 @@ changes_none s under is_open = record {
   is_open = is_open;
   schema = refl;
   contents = refl;
-  foreign_rows = all_of (λ (t : Table). is_our_name t.name ≡ false → s.now.trees t.tree ≡ s.now.trees t.tree) (λ t other. refl) s.now.schema.tables;
+  foreign_rows = all_of (λ (t : Table). names_store_table t.name ≡ false → s.now.trees t.tree ≡ s.now.trees t.tree) (λ t other. refl) s.now.schema.tables;
   unshown = λ tree hidden. refl;
   of_store = under.of_store is_open;
   further = (λ present. present, (λ present. present, tt));
@@ -98,7 +98,7 @@ shown_then a b c h k = record {
 -- ---- what a crash leaves of a commit
 
 leaves_now : (d : Database) (db : Trees) → db ≡ d.trees → Leaves d db (contents_of d)
-leaves_now d db is = subst (λ (trees : Trees). Leaves d trees (contents_of d)) (sym is) (record { of_store = refl; foreign_rows = all_of (λ (t : Table). is_our_name t.name ≡ false → d.trees t.tree ≡ d.trees t.tree) (λ t other. refl) d.schema.tables; frozen = record { rows = λ tree is. refl; texts = λ row present foreign. present; version = refl } })
+leaves_now d db is = subst (λ (trees : Trees). Leaves d trees (contents_of d)) (sym is) (record { of_store = refl; foreign_rows = all_of (λ (t : Table). names_store_table t.name ≡ false → d.trees t.tree ≡ d.trees t.tree) (λ t other. refl) d.schema.tables; frozen = record { rows = λ tree is. refl; texts = λ row present foreign. present; version = refl } })
 
 pub leaves_by : (old new : State) → Survives old new (λ db. db ≡ old.now.trees) → Survives old new (λ db. Leaves old.now db (contents_of old.now))
 leaves_by old new h = survives_weaker old new _ _ (λ clean db is. leaves_now old.now db is) h

@@ -19,7 +19,7 @@ use Rattle.tables_sql.specs.declared.failure.Failed.{Failed}
 use Rattle.tables_sql.specs.declared.failure.Failed.TheVariants.{Memory, Size, Disk}
 use Rattle.tables_schema.specs.Forms.{strict}
 use Rattle.tables_schema.specs.Intact.{IsIntact, tree_named}
-use Rattle.tables_sql.specs.Failures.{failure_of, FailsWith, IsWriteFailure, without_size}
+use Rattle.tables_sql.specs.Failures.{failure_of, FailsWith, IsDeletionFailure, without_size}
 use Rattle.tables_sql.proofs.Means.{IsMeant}
 use Rattle.tables_sql.proofs.ReadFailures.{store_failed}
 use Rattle.tables_sql.proofs.Statements.{Compiles}
@@ -166,7 +166,7 @@ fails_unsized old new refused Disk h = h
 -- ---- what the calls answer
 
 -- a delete that failed
-pub removal_failed : {T : Type 0} (r : Result T Failed) (old new : State) (text : List ℕ) (params : Row) → IfErr r (λ f. (g : Failed) × (f ≡ without_size g) × IsWriteFailure text params old new g)
+pub removal_failed : {T : Type 0} (r : Result T Failed) (old new : State) (text : List ℕ) (params : Row) → IfErr r (IsDeletionFailure text params old new)
     → ((e : Error) → ExecutesInside 0 text params old new (Err e) → FailsWith old new (old.is_open ≡ false) (IsSome old.step_limit) (failure_of e)) → IfErr r (FailsWith old new ⊥ (IsSome old.step_limit))
 removal_failed (Ok x) old new text params h fails = tt
 removal_failed (Err f) old new text params h fails =

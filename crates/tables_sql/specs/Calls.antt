@@ -10,13 +10,13 @@ use Rattle.sqlite_trees.specs.Objects.{catalog_tree}
 use Rattle.sqlite.specs.Effect.{Database, IsDatabase}
 use Rattle.sqlite.specs.State.{State}
 use Rattle.sqlite_schema.specs.declared.schema.Table.{Table}
-use Rattle.tables_schema.specs.Forms.{piece, temp_root, store_tables, further_tables, is_our_name}
+use Rattle.tables_schema.specs.Forms.{piece, temp_root, store_tables, further_tables, names_store_table}
 use Rattle.tables_schema.specs.Intact.{HasTables, IsIntact}
 use Rattle.tables_sql.specs.Contents.{Contents, contents_of, rows_named}
 use Rattle.tables_sql.specs.Frozen.{SparesUnshown, SparesFrozen}
 use Rattle.tables_sql.specs.Texts.{AreReadableRows, HasReadableRows}
 
--- what a disk holds once its connection is gone, as an opening after a crash finds it
+-- what a disk holds once its connection is dropped, as an opening after a crash finds it
 abbrev pub Remains : Type 0
 Remains = Trees
 
@@ -29,7 +29,7 @@ pub record IsKeyed (rows : List Row) : Type 0 where
   pub ints : (a : Row) → Has rows a → IsTrue (is_int (rowid a))
   pub distinct_rowids : IsDistinct (eq_by_cmp value_cmp) (map rowid rows)
 
--- all nine tables are in the schema, each row obeys it, rowids are apart, and each text is UTF-8
+-- all nine tables are in the schema, each row obeys it, rowids are distinct, and each text is UTF-8
 pub record IsStoreDatabase (db : Database) : Type 0 where
   pub sound : IsDatabase db
   pub has : HasTables db.schema
@@ -65,7 +65,7 @@ pub record IsUnderWay (s : State) : Type 0 where
 -- each table with a name that is none of the store's has the rows that it had
 abbrev pub KeepsForeignRows : Database → Database → Type 0
 KeepsForeignRows old new =
-    AllByRecursion (λ t. is_our_name t.name ≡ false → new.trees t.tree ≡ old.trees t.tree) old.schema.tables
+    AllByRecursion (λ t. names_store_table t.name ≡ false → new.trees t.tree ≡ old.trees t.tree) old.schema.tables
 
 -- what a crash may leave, or a commit: the store's tables hold this, each other table has the rows that it had, and
 -- what the schema doesn't show is kept

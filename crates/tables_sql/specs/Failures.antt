@@ -1,4 +1,4 @@
--- Which failure an error of the database is, and what a failure says of its call.
+-- The failure for each error of the database, and what a failure says of its call.
 use Rattle.std.specs.Prelude.{⊤, ℕ, ◌≡◌, ◌⊎◌, true, false, List, ◌∷◌, Option, Some, None, IsSome, IsTrue, Err}
 use Rattle.std.specs.List.{list_any}
 use Rattle.sqlite_value.specs.declared.value.Value.TheVariants.{Int}
@@ -24,7 +24,7 @@ failure_of (SqliteFailure OutOfMemory) = Memory
 failure_of (SqliteFailure TooBig) = Size
 failure_of _ = Disk
 
--- which failure kept a file from being opened, or none where it is something else than a database
+-- the failure that kept a file from being opened, or none if the file is something else than a database
 abbrev pub opening_failure : Error → Option Failed
 opening_failure (SqliteFailure OutOfMemory) = Some Memory
 opening_failure (SqliteFailure TooBig) = Some Size
@@ -47,6 +47,10 @@ abbrev pub without_size : Failed → Failed
 without_size Memory = Memory
 without_size Size = Disk
 without_size Disk = Disk
+
+-- a delete of this text answered an error, and this is its failure
+abbrev pub IsDeletionFailure : List ℕ → Row → State → State → Failed → Type 0
+IsDeletionFailure text params old new f = (g : Failed) × (f ≡ without_size g) × IsWriteFailure text params old new g
 
 -- a fault of the disk came in this call, or an earlier one had shut the connection
 abbrev pub HasDiskCause : State → State → Type 0

@@ -4,6 +4,7 @@ pub mod Calls
 pub mod Contents
 pub mod Entries
 pub mod Failures
+pub mod Frames
 pub mod Frozen
 pub mod Queries
 pub mod Reading

@@ -1,4 +1,4 @@
--- Which rows of an answer can be read as entries of one kind, in order. Columns are counted from 0, and none is the
+-- The rows of an answer that can be read as entries of one kind, in order. Columns are counted from 0, and none is the
 -- rowid.
 use Rattle.std.specs.Prelude.{◌≡◌, ◌⊎◌, true, Bool, List, length, String, string_bytes, IsUtf8}
 use Rattle.std.specs.List.{AllByRecursion, AllZip, AllAdjacentBelow}

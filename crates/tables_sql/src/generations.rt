@@ -11,7 +11,7 @@ use crate::failure::Failed;
 use sqlite::Row;
 use std::cmp::Ordering;
 
-/// One generation: its profile's owner and name, its number, and the base name of its target.
+/// A generation: its profile's owner and name, its number, and the base name of its target.
 #[derive(Debug, Drop)]
 pub struct Generation {
     pub owner: String,

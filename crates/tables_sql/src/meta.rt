@@ -8,7 +8,7 @@ use crate::entry::Entry;
 use crate::failure::Failed;
 use sqlite::Row;
 
-/// One setting: a word, and its value.
+/// A setting: a word, and its value.
 #[derive(Debug, Drop)]
 pub struct Setting {
     pub word: String,

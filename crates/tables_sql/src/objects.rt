@@ -9,7 +9,7 @@ use crate::entry::Entry;
 use crate::failure::Failed;
 use sqlite::Row;
 
-/// One object: the base name of its path, its archive, the archive's SHA-256, and its deriver and content address where it has one.
+/// An object: the base name of its path, its archive, the archive's SHA-256, and its deriver and content address where it has one.
 #[derive(Debug, Drop)]
 pub struct Object {
     pub base: String,
@@ -41,7 +41,7 @@ impl Entry for Object {
     }
 }
 
-/// One object without its archive.
+/// An object without its archive.
 #[derive(Debug, Drop)]
 pub struct Listed {
     pub base: String,

@@ -10,7 +10,7 @@ use crate::failure::Failed;
 use sqlite::Row;
 use std::cmp::Ordering;
 
-/// One output: the base name of a derivation's path, the output's name, and the base name of its path.
+/// An output: the base name of a derivation's path, the output's name, and the base name of its path.
 #[derive(Debug, Drop)]
 pub struct Output {
     pub base: String,

@@ -9,7 +9,7 @@ use crate::entry::Entry;
 use crate::failure::Failed;
 use sqlite::Row;
 
-/// One permanent root: its name, and the base name of its target.
+/// A permanent root: its name, and the base name of its target.
 #[derive(Debug, Drop)]
 pub struct PermanentRoot {
     pub name: String,

@@ -10,7 +10,7 @@ use crate::failure::Failed;
 use sqlite::Row;
 use std::cmp::Ordering;
 
-/// One piece of an archive: the base name of the object's path, the piece's number, and its bytes.
+/// A piece of an archive: the base name of the object's path, the piece's number, and its bytes.
 #[derive(Debug, Drop)]
 pub struct Piece {
     pub base: String,

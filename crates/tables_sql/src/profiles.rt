@@ -11,7 +11,7 @@ use crate::failure::Failed;
 use sqlite::Row;
 use std::cmp::Ordering;
 
-/// One profile: its owner, its name, and the number of its current generation.
+/// A profile: its owner, its name, and the number of its current generation.
 #[derive(Debug, Drop)]
 pub struct Profile {
     pub owner: String,

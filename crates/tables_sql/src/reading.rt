@@ -1,16 +1,14 @@
 //! Queries outside a transaction: their rows are read one at a time.
 
-ghost use Rattle.std.specs.Prelude.{◌≡◌, ◌⊎◌, ◌++◌, ◌∷◌, [], true, false, List, IsTrue, IfOk, IfErr, OnOk, length};
-ghost use Rattle.std.specs.List.{AllZip, AllAdjacentBelow};
+ghost use Rattle.std.specs.Prelude.{◌≡◌, ◌⊎◌, ◌++◌, ◌∷◌, [], false, List, IfOk, IfErr, OnOk};
 ghost use Rattle.sqlite_value.specs.declared.value.Value.{Value};
 ghost use Rattle.sqlite_value.specs.Order.{Row as Values};
 ghost use Rattle.sqlite.specs.State.{HasCleanDisk, Survives};
 ghost use Rattle.sqlite.specs.Held.{state};
 ghost use Rattle.sqlite.specs.Values.{bound};
 ghost use Rattle.tables_sql.specs.declared.failure.Failed.TheVariants.{Memory, Disk};
-ghost use Rattle.tables_sql.specs.Reading.{IsAmiss};
 ghost use Rattle.tables_sql.specs.Failures.{IsQueryFailure};
-ghost use Rattle.tables_sql.specs.Calls.{KeepsShown};
+ghost use Rattle.tables_sql.specs.Frames.{SelectsEntries};
 ghost use Rattle.tables_sql.specs.Queries.{IsSelect, HasBegunWith, IsAnswered};
 
 use crate::entry::Entry;
@@ -77,24 +75,8 @@ pub fn select<S: Alter, T: Entry>(
     params: &[ValueRef<'_>],
 ) -> Result<Vec<T>, Failed>
     requires { IsSelect text.now }
-    ensures idle { conn.old.in_transaction ≡ false → conn.new.in_transaction ≡ false }
-    ensures shown { HasCleanDisk (state S.Store conn.new)
-        → IfOk result
-        (λ all. (rows : List Values)
-        × IsAnswered text.now (bound params.now) (state S.Store conn.old) (state S.Store conn.new) rows
-        × AllZip T.is_shown rows all.items) }
-    ensures rises { HasCleanDisk (state S.Store conn.new)
-        → IfOk result (λ all. AllAdjacentBelow (λ x y. true ≡ T.is_below x y) all.items (length all.items)) }
-    ensures cause { HasCleanDisk (state S.Store conn.new)
-        → IfErr result
-        (λ f. IsQueryFailure text.now (bound params.now) (state S.Store conn.old) (state S.Store conn.new) f
-        ⊎ ((rows : List Values)
-        × HasBegunWith text.now (bound params.now) (state S.Store conn.old) (state S.Store conn.new) rows
-        × ((f ≡ Memory) ⊎ ((f ≡ Disk) × IsAmiss T.is_legible T.is_shown T.is_below rows)))) }
-    ensures same { HasCleanDisk (state S.Store conn.new)
-        → (IsTrue (state S.Store conn.old).is_open → (state S.Store conn.old).now ≡ (state S.Store conn.old).committed)
-        → KeepsShown (state S.Store conn.old) (state S.Store conn.new) }
-    ensures survives { Survives (state S.Store conn.old) (state S.Store conn.new) (λ _. ⊥) }
+    ensures { SelectsEntries S.Store conn.old conn.new result
+        text.now (bound params.now) T.is_legible T.is_shown T.is_below }
 {
     read_into(conn, text, params, Vec::new(alloc))
 }

@@ -10,7 +10,7 @@ use crate::failure::Failed;
 use sqlite::Row;
 use std::cmp::Ordering;
 
-/// One reference: the base name of an object's path, and that of a path that it refers to.
+/// A reference: the base name of an object's path, and that of a path that it refers to.
 #[derive(Debug, Drop)]
 pub struct Reference {
     pub base: String,

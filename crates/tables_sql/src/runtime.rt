@@ -11,7 +11,7 @@ use crate::failure::Failed;
 use sqlite::Row;
 use std::cmp::Ordering;
 
-/// One runtime root: its label, and the base name of its target.
+/// A runtime root: its label, and the base name of its target.
 #[derive(Debug, Drop)]
 pub struct RuntimeRoot {
     pub label: String,

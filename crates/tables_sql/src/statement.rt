@@ -1,13 +1,13 @@
 //! The ways to run a statement inside a transaction.
 
-ghost use Rattle.std.specs.Prelude.{◌≡◌, ◌≢◌, IfErr, OnOk, OnErr, Ok, ℕ, true};
-ghost use Rattle.sqlite.specs.State.{HasCleanDisk, IsUnchanged, KeepsCommit, Survives, ExecutesInside};
+ghost use Rattle.std.specs.Prelude.{◌≡◌, ◌≢◌, IfErr, OnOk};
+ghost use Rattle.sqlite.specs.State.{HasCleanDisk, IsUnchanged};
 ghost use Rattle.sqlite.specs.Held.{state};
 ghost use Rattle.sqlite.specs.Values.{bound};
 ghost use Rattle.sqlite.specs.declared.error.Error.TheVariants.{SqliteFailure};
 ghost use Rattle.sqlite.specs.declared.error.ErrorCode.TheVariants.{OperationInterrupted};
-ghost use Rattle.tables_sql.specs.Failures.{failure_of, FailsWith, IsWriteFailure, IsAdditionFailure, without_size};
-ghost use Rattle.tables_sql.specs.Calls.{IsUnderWay};
+ghost use Rattle.tables_sql.specs.Failures.{failure_of, FailsWith, IsWriteFailure, IsDeletionFailure, IsAdditionFailure, without_size};
+ghost use Rattle.tables_sql.specs.Frames.{IsInside, StaysInside, Executes};
 
 use crate::failure::Failed;
 use sqlite::types::ValueRef;
@@ -19,18 +19,8 @@ pub fn run<S: Alter>(
     text: &str,
     params: &[ValueRef<'_>],
 ) -> Result<(), Failed>
-    requires { HasCleanDisk (state S.Store tx.old.conn.now) → IsUnderWay (state S.Store tx.old.conn.now) }
-    ensures same_reference { tx.new.conn.ghost_name ≡ tx.old.conn.ghost_name }
-    ensures ran { HasCleanDisk (state S.Store tx.new.conn.now)
-        → OnOk result ((count : ℕ)
-        × ExecutesInside 0 text.now (bound params.now) (state S.Store tx.old.conn.now) (state S.Store tx.new.conn.now)
-        (Ok count)) }
-    ensures cause { HasCleanDisk (state S.Store tx.new.conn.now)
-        → IfErr result
-        (IsWriteFailure text.now (bound params.now) (state S.Store tx.old.conn.now) (state S.Store tx.new.conn.now)) }
-    ensures failed { HasCleanDisk (state S.Store tx.new.conn.now)
-        → OnErr result (KeepsCommit (state S.Store tx.old.conn.now) (state S.Store tx.new.conn.now)) }
-    ensures survives { Survives (state S.Store tx.old.conn.now) (state S.Store tx.new.conn.now) (λ _. ⊥) }
+    requires { IsInside S.Store tx.old.conn }
+    ensures { Executes S.Store tx.old.conn tx.new.conn result text.now (bound params.now) IsWriteFailure }
 {
     tx.execute(text, params)?;
     Ok(())
@@ -52,20 +42,8 @@ pub fn remove<S: Alter>(
     text: &str,
     params: &[ValueRef<'_>],
 ) -> Result<(), Failed>
-    requires { HasCleanDisk (state S.Store tx.old.conn.now) → IsUnderWay (state S.Store tx.old.conn.now) }
-    ensures same_reference { tx.new.conn.ghost_name ≡ tx.old.conn.ghost_name }
-    ensures ran { HasCleanDisk (state S.Store tx.new.conn.now)
-        → OnOk result ((count : ℕ)
-        × ExecutesInside 0 text.now (bound params.now) (state S.Store tx.old.conn.now) (state S.Store tx.new.conn.now)
-        (Ok count)) }
-    ensures cause { HasCleanDisk (state S.Store tx.new.conn.now)
-        → IfErr result
-        (λ f. (g : Failed) × (f ≡ without_size g)
-        × IsWriteFailure text.now (bound params.now) (state S.Store tx.old.conn.now) (state S.Store tx.new.conn.now)
-        g) }
-    ensures failed { HasCleanDisk (state S.Store tx.new.conn.now)
-        → OnErr result (KeepsCommit (state S.Store tx.old.conn.now) (state S.Store tx.new.conn.now)) }
-    ensures survives { Survives (state S.Store tx.old.conn.now) (state S.Store tx.new.conn.now) (λ _. ⊥) }
+    requires { IsInside S.Store tx.old.conn }
+    ensures { Executes S.Store tx.old.conn tx.new.conn result text.now (bound params.now) IsDeletionFailure }
 {
     match run(tx, text, params) {
         Ok(()) => Ok(()),
@@ -86,14 +64,11 @@ fn unless_stopped(error: Error) -> Result<(), Failed>
 
 /// Succeeds only if no fault has shut the connection, also where the transaction is undone. Nothing changes.
 fn ask<S: Alter>(tx: &mut Transaction<'_, S>) -> Result<(), Failed>
-    ensures same_reference { tx.new.conn.ghost_name ≡ tx.old.conn.ghost_name }
+    ensures frame { StaysInside S.Store tx.old.conn tx.new.conn result }
     ensures same { HasCleanDisk (state S.Store tx.new.conn.now)
         → OnOk result (IsUnchanged (state S.Store tx.old.conn.now) (state S.Store tx.new.conn.now)) }
     ensures cause { HasCleanDisk (state S.Store tx.new.conn.now)
         → IfErr result (FailsWith (state S.Store tx.old.conn.now) (state S.Store tx.new.conn.now) ⊥ ⊥) }
-    ensures clean_disk { HasCleanDisk (state S.Store tx.new.conn.now)
-        → KeepsCommit (state S.Store tx.old.conn.now) (state S.Store tx.new.conn.now) }
-    ensures survives { Survives (state S.Store tx.old.conn.now) (state S.Store tx.new.conn.now) (λ _. ⊥) }
 {
     if let Err(error) = tx.query_all("SELECT 1", &[]) {
         return unless_stopped(error);
@@ -107,19 +82,8 @@ pub fn add<S: Alter>(
     text: &str,
     params: &[ValueRef<'_>],
 ) -> Result<(), Failed>
-    requires { HasCleanDisk (state S.Store tx.old.conn.now) → IsUnderWay (state S.Store tx.old.conn.now) }
-    ensures same_reference { tx.new.conn.ghost_name ≡ tx.old.conn.ghost_name }
-    ensures ran { HasCleanDisk (state S.Store tx.new.conn.now)
-        → OnOk result ((count : ℕ)
-        × ExecutesInside 0 text.now (bound params.now) (state S.Store tx.old.conn.now) (state S.Store tx.new.conn.now)
-        (Ok count)) }
-    ensures cause { HasCleanDisk (state S.Store tx.new.conn.now)
-        → IfErr result
-        (IsAdditionFailure text.now (bound params.now) (state S.Store tx.old.conn.now)
-        (state S.Store tx.new.conn.now)) }
-    ensures failed { HasCleanDisk (state S.Store tx.new.conn.now)
-        → OnErr result (KeepsCommit (state S.Store tx.old.conn.now) (state S.Store tx.new.conn.now)) }
-    ensures survives { Survives (state S.Store tx.old.conn.now) (state S.Store tx.new.conn.now) (λ _. ⊥) }
+    requires { IsInside S.Store tx.old.conn }
+    ensures { Executes S.Store tx.old.conn tx.new.conn result text.now (bound params.now) IsAdditionFailure }
 {
     if let Err(failure) = run(tx, text, params) {
         if let Failed::Size = failure {

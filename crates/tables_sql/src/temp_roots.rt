@@ -10,7 +10,7 @@ use crate::failure::Failed;
 use sqlite::Row;
 use std::cmp::Ordering;
 
-/// One temporary root: its owner, the number of its session, and the base name of its target.
+/// A temporary root: its owner, the number of its session, and the base name of its target.
 #[derive(Debug, Drop)]
 pub struct TempRoot {
     pub owner: String,

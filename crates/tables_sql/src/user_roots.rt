@@ -10,7 +10,7 @@ use crate::failure::Failed;
 use sqlite::Row;
 use std::cmp::Ordering;
 
-/// One root of a user: its owner, its name, and the base name of its target.
+/// A root of a user: its owner, its name, and the base name of its target.
 #[derive(Debug, Drop)]
 pub struct UserRoot {
     pub owner: String,

@@ -1,5 +1,5 @@
 -- A message whose head is held: its parts are those of its head.
-use Rattle.std.proofs.Common.{◌≡◌, ℕ, List, Option, ap, sym, ◌∙◌}
+use Rattle.std.proofs.Common.{◌≡◌, ℕ, List, Option, ap, ap₂, sym, ◌∙◌}
 use Rattle.httparse.specs.Grammar.{RequestHead}
 use Rattle.httparse.specs.Spans.{span_bytes}
 use Rattle.wire_messages.specs.declared.head.Head.{Head}
@@ -19,3 +19,8 @@ admits_held s held head h it is method target who m t w by =
     ∙ ap (λ v. by_caller s v target who) (m ∙ is.places.method)
     ∙ ap (λ v. by_caller s h.method v who) (t ∙ is.places.path)
     ∙ ap (λ v. by_caller s h.method h.target v) (sym w ∙ ap caller_in is.places.fields)
+
+-- the caller that a head names in a buffer, by other names of the two
+pub in_buffer : (buf held : List ℕ) (places head : Head) (who : Option Caller) → buf ≡ held → places ≡ head
+    → caller_in (fields_at buf places) ≡ who → caller_in (fields_at held head) ≡ who
+in_buffer buf held places head who same at is = sym (ap₂ (λ b p. caller_in (fields_at b p)) same at) ∙ is

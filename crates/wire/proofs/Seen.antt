@@ -1,4 +1,4 @@
--- What is seen of a store that is served: the worlds that its tables tell, and no more than the replies.
+-- What is seen of a store that is served: the worlds that its tables describe, and no more than the replies.
 use Rattle.std.specs.declared.io.Error.{Error}
 use Rattle.std.proofs.Common.{◌≡◌, ℕ, List, Option, Result, None, refl, sym, ap, subst, inl, inr}
 use Rattle.sqlite_trees.specs.declared.store.Store.{Ghosts}
@@ -23,7 +23,7 @@ use Rattle.wire.specs.Worlds.{AnswersFrom, AnswersSome, LeadsWorlds}
 use Rattle.wire.specs.Ends.{EndsStreams, EndsPort, ServesStreams, ServesPort, ServesOver, ServedByWorlds, ServesByWorlds}
 
 module _ {S : Type 0} (g : Ghosts S) where
-  -- tables that tell a world, under these settings
+  -- tables that describe a world, under these settings
   abbrev pub IsAt : Settings → StoreView S → World → Type 0
   IsAt s st w = HasWorld g st.tables w × (st.settings ≡ s)
 

@@ -1,4 +1,4 @@
--- What becomes of a message before the store is asked, in the order of the tests.
+-- The course of a message before the store is asked, in the order of the tests.
 use Rattle.std.specs.Prelude.{◌≡◌, ◌⊎◌, ℕ, true, false, List, Option, Some, None, ⊤}
 use Rattle.httparse.specs.Grammar.{RequestHead}
 use Rattle.wire_messages.specs.Fields.{fields_of}
@@ -55,7 +55,7 @@ abbrev pub by_rule : List ℕ → Caller → List ℕ → List ℕ → Option Ru
 by_rule dir c method target (Some rule) = refuses (denied dir rule)
 by_rule dir c method target None = by_route c method (requests_of target)
 
--- who sends it, and whether they may connect
+-- the caller of a message, and whether they may connect
 abbrev pub by_caller : Settings → List ℕ → List ℕ → Option Caller → Admission
 by_caller s method target None = refuses (refused BadCaller None)
 by_caller s method target (Some c) = by_rule s.store_dir c method target (first_broken (class_of s c) c plain)

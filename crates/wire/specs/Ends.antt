@@ -1,4 +1,4 @@
--- How a command ends that serves a store.
+-- The end of a command that serves a store.
 use Rattle.std.specs.Prelude.{◌≡◌, ◌⊎◌, ℕ, min, List, Option, None, Result, Ok, Err, IsErrAnd}
 use Rattle.std.specs.Io.KnownBytes.{Keeps}
 use Rattle.std.specs.declared.io.Error.{Error}
@@ -18,7 +18,7 @@ use Rattle.store.specs.View.{StoreView}
 use Rattle.wire.specs.Answers.{Answers}
 use Rattle.wire.specs.Worlds.{AnswersFrom, LeadsWorlds}
 
--- The status is 1 where a connection failed; and where an accept failed, which is said.
+-- The status is 1 if a connection failed, or if an accept failed; a line says so.
 abbrev pub EndsOn : Result ℕ Error → Option (List ℕ) → Option (List ℕ) → ℕ → Type 0
 EndsOn (Ok failed) err err' status = Keeps err err' × (status ≡ min failed 1)
 EndsOn (Err fault) err err' status =

@@ -15,7 +15,7 @@ use paths::StoreDir;
 use policy::{Caller, CallerError, Config, Op, Rule, class, decide, store_dir};
 use report::{Refusal, denial_line};
 use std::alloc::{AllocError, Global};
-use wire_messages::{Head, read_caller};
+use wire_messages::{Head, HeadFields, read_caller};
 use wire_requests::{Found, Routes};
 use wire_server::Response;
 
@@ -120,7 +120,7 @@ pub(crate) fn admit(
         → IfOk result (λ it. admission_view it ≡ admission_of config.now h) }
     ensures parameters { (h : RequestHead) → Holds held.now head.now h → IfOk result (HasParameters h.target) }
 {
-    match read_caller(alloc, held, head) {
+    match read_caller(alloc, &HeadFields::new(held, head)) {
         Ok(caller) => {
             let method = method_of(held, head);
             let target = target_of(held, head);

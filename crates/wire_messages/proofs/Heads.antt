@@ -32,7 +32,7 @@ ends_in_line_feed h =
     (ends_behind (print_blank h.blank) _ (ends_behind h.method _ (ends_after 32 _ (ends_behind h.target _
     (ends_after 32 _ (ends_behind (print_version h.minor) _ (ends_behind (print_end h.line_end) _ section)))))))
 
--- a front of the bytes that holds the whole head has it too
+-- a prefix of the bytes that has the whole head begins with it too
 pub head_in_prefix : (buf : List ℕ) (h : RequestHead) (rest : List ℕ) (n : ℕ) → ReadsRequest buf h rest → length (print_request h) ≤ n
     → ReadsRequest (take n buf) h (take (n - length (print_request h)) rest)
 head_in_prefix buf h rest n reads fits =
@@ -70,10 +70,10 @@ none_without_line_feed buf seen within none new is lacks h rest reads =
 -- bytes that have no head and are no fewer than a head may have begin no input that has one
 pub too_long : (buf : List ℕ) → HasNoRequest buf → max_head ≤ length buf → (more : List ℕ) → HasNoHead (buf ++ more)
 too_long buf none long more h rest is =
-    let front = head_in_prefix (buf ++ more) h rest (length buf) is.reads (omega (arith, is.short)) in
-    none h _ (subst (λ t. ReadsRequest t h (take (length buf - length (print_request h)) rest)) (take-append_seam buf more) front)
+    let prefix = head_in_prefix (buf ++ more) h rest (length buf) is.reads (omega (arith, is.short)) in
+    none h _ (subst (λ t. ReadsRequest t h (take (length buf - length (print_request h)) rest)) (take-append_seam buf more) prefix)
 
--- a head at the front that is too long is the only one
+-- a head at the beginning that is too long is the only one
 pub only_too_long : (buf : List ℕ) (k : RequestHead) (q : List ℕ) → ReadsRequest buf k q → max_head < length (print_request k)
     → (more : List ℕ) → HasNoHead (buf ++ more)
 only_too_long buf k q reads long more h rest is =

@@ -1,4 +1,4 @@
--- A head stands in a longer buffer at the same places.
+-- A head is in a longer buffer at the same places.
 use Rattle.std.proofs.Common.{◌≡◌, ℕ, suc, ◌-◌, ◌≤◌, List, [], ◌∷◌, ◌++◌, length, take, drop, refl, sym, ap, ◌∙◌, arith, subst, length-append, length-drop}
 use Rattle.std.specs.Prelude.{map, All, slice_range}
 use Rattle.std.proofs.lemmas.List.{take-append-le, drop-append-le}
@@ -26,7 +26,7 @@ map_same f g P same (x ∷ xs) all =
     let rest = map_same f g P same xs (λ k d h. all (suc k) d (omega arith)) in
     ap (λ y. y ∷ map f xs) first ∙ ap (λ ys. g x ∷ ys) rest
 
--- a head is that of the bytes with more behind them
+-- a head is that of the bytes with more after them
 pub head-append : (buf more : List ℕ) (h : RequestHead) (rest : List ℕ) → IsHead buf h rest → IsHead (buf ++ more) h (rest ++ more)
 head-append buf more h rest is = record { reads = ReadsRequest-append buf h rest more is.reads; short = is.short; few = is.few }
 

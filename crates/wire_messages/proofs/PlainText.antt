@@ -53,3 +53,12 @@ no_group_of (u ∷ v ∷ us) groups user group one-user one-group none = elim on
 no_group_of (u ∷ []) [] user group one-user one-group none = elim one-group [ ]
 no_group_of (u ∷ []) (g ∷ h ∷ gs) user group one-user one-group none = elim one-group [ ]
 no_group_of (u ∷ []) (g ∷ []) user group one-user one-group none = no_group u g (subst (λ t. IsUtf8 t → ⊥) one-group none)
+
+-- the one user, and the one group
+pub two_named : (users groups : List (List ℕ)) (user group : Bor (List ℕ)) (text : List ℕ) → Are users (values.One user) → Are groups (values.One group)
+    → text ≡ group.now → named user.now (Some text) ≡ caller_by users groups
+two_named [] groups user group text one-user one-group is = elim one-user [ ]
+two_named (u ∷ v ∷ us) groups user group text one-user one-group is = elim one-user [ ]
+two_named (u ∷ []) [] user group text one-user one-group is = elim one-group [ ]
+two_named (u ∷ []) (g ∷ h ∷ gs) user group text one-user one-group is = elim one-group [ ]
+two_named (u ∷ []) (g ∷ []) user group text one-user one-group is = cc

@@ -1,4 +1,4 @@
--- What stands in front of the bytes that are held is what the whole input begins with.
+-- The bytes that are held are what the whole input begins with.
 use Rattle.std.proofs.Common.{◌≡◌, ℕ, ◌+◌, List, ◌++◌, length, take, drop, Ok, sym, ap, ◌∙◌, arith, append_assoc, subst, length-take, length-drop, take-append-drop}
 use Rattle.std.proofs.lemmas.List.{drop-drop}
 use Rattle.httparse.specs.Grammar.{RequestHead}
@@ -7,7 +7,7 @@ use Rattle.wire_messages.specs.Heads.{IsHead}
 use Rattle.wire_messages.specs.Messages.{IsMessage, HoldsMessage}
 use Rattle.wire_messages.proofs.Longer.{head-append}
 
--- the body that is held behind a head, and what is held behind the message
+-- the body that is held after a head, and what is held after the message
 abbrev pub body_in : List ℕ → Head → ℕ → List ℕ
 body_in held head size = take size (drop head.spans.len held)
 

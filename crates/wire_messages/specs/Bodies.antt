@@ -1,4 +1,4 @@
--- What one read of a body leaves.
+-- Reads of a body: what came, and what is kept of it.
 use Rattle.std.specs.Prelude.{◌≡◌, ℕ, ◌+◌, ◌<◌, ◌≤◌, List, [], ◌++◌, length, take, drop, Option, Result, Ok, Err, IfErr, Bool, true, false}
 use Rattle.std.specs.Io.KnownBytes.{Consumes, IsAtEnd}
 use Rattle.wire_messages.specs.declared.error.ReceiveError.{ReceiveError}
@@ -8,15 +8,15 @@ use Rattle.wire_messages.specs.declared.keeping.Fate.TheVariants.{Kept, Lost, Sh
 use Rattle.wire_messages.specs.declared.keeping.Piece.{Piece}
 use Rattle.wire_messages.specs.declared.keeping.Piece.TheVariants as pieces
 
--- Of a number of bytes that are missing of a body, all were read, or the input ended before.
+-- All bytes that are missing of a body were read, or the input ended before that.
 pub record ReadsRest (old new : Option (List ℕ)) (left : ℕ) (read : List ℕ)
     (result : Result Bool ReceiveError) : Type 0 where
   pub consumed : Consumes old new read
   pub whole : result ≡ Ok true → length read ≡ left
   pub short : result ≡ Ok false → IsAtEnd new × (length read < left)
 
--- The body of this size that follows a head of `len` bytes came: what was held of it, and what was read, which is
--- nothing beyond it; or the input ended inside it.
+-- The body of this size, after a head of `len` bytes, has come: part of it was held, the rest was read, and nothing
+-- beyond it was read. Or the input ended inside the body.
 pub record ReadsBody (old new : Option (List ℕ)) (held : List ℕ) (len size : ℕ)
     (result : Result Bool ReceiveError) : Type 0 where
   pub read : List ℕ
@@ -39,7 +39,7 @@ has_come (Ok Lost) = Ok true
 has_come (Ok Short) = Ok false
 has_come (Err e) = Err e
 
--- A body was kept as it came; or memory was refused for it, and it may be that body by all that is still known.
+-- A body was kept as it came; or memory was refused for it, and what is still known of it fits the body that came.
 pub record KeepsBody (old new : Option (List ℕ)) (held : List ℕ) (len size : ℕ) (kept kept' : List ℕ)
     (may_be : List ℕ → Type 0) (result : Result Fate ReceiveError) : Type 0 where
   pub came : ReadsBody old new held len size (has_come result)
@@ -60,7 +60,7 @@ pub record KeepsRest (old new : Option (List ℕ)) (left : ℕ) (kept kept' : Li
 abbrev pub ReadsSome : ℕ → Option (List ℕ) → Option (List ℕ) → ℕ → List ℕ → Type 0
 ReadsSome room old new n read = Consumes old new read × (length read ≡ n) × (0 < n) × (n ≤ room)
 
--- what one read brought
+-- the result of one read
 abbrev pub KeepsOn : ℕ → Option (List ℕ) → Option (List ℕ) → List ℕ → List ℕ → (List ℕ → Type 0) → Piece → Type 0
 KeepsOn room old new kept kept' may_be (pieces.Kept n) =
     (read : List ℕ) × ReadsSome room old new n read × (kept' ≡ kept ++ read)

@@ -1,4 +1,4 @@
--- What a whole input divides into.
+-- The messages that a whole input divides into.
 use Rattle.std.specs.Prelude.{◌≡◌, ℕ, ◌<◌, ◌==◌, ◌||◌, Bool, List, [], ◌∷◌, length, codes, cond}
 use Rattle.std.specs.List.{list_any}
 use Rattle.std.specs.Str.{str_eq_ignore_ascii_case}
@@ -17,7 +17,8 @@ abbrev pub closes : RequestHead → Bool
 closes h = (h.minor == 0)
     || list_any (λ v. str_eq_ignore_ascii_case v (codes "close")) (values (codes "connection") (fields_of h))
 
--- The input divides from its beginning into these, up to its end, the first that closes, or a fault.
+-- The input divides from its beginning into these items, up to its end, to the first message that closes the
+-- connection, or to a fault.
 abbrev pub Divides : List ℕ → List Item → Type 0
 Divides input [] = input ≡ []
 Divides input (message h body ∷ items) =

@@ -29,7 +29,7 @@ abbrev pub values : List ℕ → Fields → List (List ℕ)
 values name [] = []
 values name (f ∷ fs) = cond (str_eq_ignore_ascii_case f.0 name) (f.1 ∷ values name fs) (values name fs)
 
--- none, the one or more of them
+-- no value, this one value, or more than one
 abbrev pub Are : List (List ℕ) → Values → Type 0
 Are [] None = ⊤
 Are (v ∷ []) (One w) = w.now ≡ v
@@ -52,7 +52,7 @@ stated text =
     cond (is_number text) (cond (nat_le (digits_value 10 text) max_body) (Ok (digits_value 10 text)) (Err TooLarge))
     (Err BadLength)
 
--- by the values of `transfer-encoding` and of `content-length`
+-- the length of the body, by the values of `transfer-encoding` and of `content-length`
 abbrev pub length_by : List (List ℕ) → List (List ℕ) → Result ℕ Fault
 length_by [] [] = Ok 0
 length_by [] (text ∷ []) = stated text

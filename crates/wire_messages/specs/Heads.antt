@@ -1,5 +1,5 @@
 -- The head of a message at the beginning of an input.
-use Rattle.std.specs.Prelude.{ℕ, Bool, not, ◌||◌, ◌≤◌, ◌<◌, ◌==◌, ◌++◌, List, length, drop}
+use Rattle.std.specs.Prelude.{ℕ, Bool, not, ◌||◌, ◌≤◌, ◌<◌, ◌==◌, ◌++◌, List, length, take, drop, ◌≡◌}
 use Rattle.std.specs.List.{list_any}
 use Rattle.httparse.specs.Grammar.{RequestHead, print_request, ReadsRequest, HasNoRequest}
 use Rattle.httparse.specs.Spans.{IsRequestAt, IsRequestWithin}
@@ -14,13 +14,13 @@ max_head = 16384
 abbrev pub max_fields : ℕ
 max_fields = 64
 
--- h is the head of the input, and rest follows it
+-- the input begins with the head h, and rest follows it
 pub record IsHead (input : List ℕ) (h : RequestHead) (rest : List ℕ) : Type 0 where
   pub reads : ReadsRequest input h rest
   pub short : length (print_request h) ≤ max_head
   pub few : length h.fields ≤ max_fields
 
--- no beginning of the input is a head
+-- the input begins with no head
 abbrev pub HasNoHead : List ℕ → Type 0
 HasNoHead input = (h : RequestHead) (rest : List ℕ) → ¬ (IsHead input h rest)
 
@@ -28,13 +28,19 @@ HasNoHead input = (h : RequestHead) (rest : List ℕ) → ¬ (IsHead input h res
 abbrev pub has_begun_in : List ℕ → Bool
 has_begun_in bytes = list_any (λ b. not (b == 13 || b == 10)) bytes
 
--- the parts of the head h are in a buffer at these places, and a rest follows
+-- the bytes of a buffer that were looked at have no head, and whether anything but line ends is among them
+pub record WasSeen (buf : List ℕ) (seen : ℕ) (before : Bool) : Type 0 where
+  pub within : seen ≤ length buf
+  pub none : HasNoRequest (take seen buf)
+  pub begun : before ≡ has_begun_in (take seen buf)
+
+-- the buffer begins with the head h, whose parts are at these places
 pub record Holds (buf : List ℕ) (head : Head) (h : RequestHead) : Type 0 where
   pub is_head : IsHead buf h (drop head.spans.len buf)
   pub places : IsRequestAt buf head.fields head.spans h
   pub within : IsRequestWithin buf head.fields head.spans
 
--- what a look at the bytes so far says, whatever follows them
+-- the result of a look at the bytes so far is right, whatever follows them
 abbrev pub LookFinds : List ℕ → Look → Type 0
 LookFinds buf (Whole head) = (h : RequestHead) × Holds buf head h
 LookFinds buf Unfinished = HasNoRequest buf × (length buf < max_head)

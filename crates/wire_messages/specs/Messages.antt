@@ -14,17 +14,17 @@ use Rattle.wire_messages.specs.declared.receive.Start.TheVariants.{NoMore, Begun
 use Rattle.wire_messages.specs.declared.receive.Received.{Received}
 use Rattle.wire_messages.specs.declared.receive.Received.TheVariants.{End, Message, Faulty}
 
--- The input begins with a message, of that head and body, and rest follows it.
+-- The input begins with a message of this head and this body, and rest follows it.
 pub record IsMessage (input : List ℕ) (h : RequestHead) (body rest : List ℕ) : Type 0 where
   pub head : IsHead input h (body ++ rest)
   pub size : body_length (fields_of h) ≡ Ok (length body)
 
--- a head is there, and what its fields say of the body is this fault
+-- the input begins with a head, and the length that its fields state has this fault
 abbrev pub FaultOfHead : List ℕ → Fault → Type 0
 FaultOfHead input fault =
     (h : RequestHead) × (after : List ℕ) × IsHead input h after × (body_length (fields_of h) ≡ Err fault)
 
--- a head is there, and the input ends inside its body
+-- the input begins with a head, and ends inside the body
 abbrev pub EndsInside : List ℕ → Type 0
 EndsInside input =
     (h : RequestHead) × (after : List ℕ) × (size : ℕ) × IsHead input h after × (body_length (fields_of h) ≡ Ok size)
@@ -38,8 +38,8 @@ IsFault input TooLarge = FaultOfHead input TooLarge
 
 -- ---- reading
 
--- One more read: what it took is appended to what was held, at least a byte where there may be more; else the end was
--- there.
+-- One more read: the bytes that it took are appended to those that were held. It took at least one byte, or the input
+-- was at its end.
 pub record ReadsMore (old new : Option (List ℕ)) (held held' : List ℕ)
     (result : Result Bool ReceiveError) : Type 0 where
   pub consumed : (bs : List ℕ) × Consumes old new bs × OnOk result (held' ≡ held ++ bs)
@@ -47,30 +47,30 @@ pub record ReadsMore (old new : Option (List ℕ)) (held held' : List ℕ)
   pub at_end : result ≡ Ok false → IsAtEnd new × (held' ≡ held)
   pub silent : result ≡ Err Silent → held' ≡ held
 
--- what is held and what may follow it begin in this way
+-- the bytes that are held, with what may follow them, begin in this way
 abbrev pub Starts : List ℕ → Option (List ℕ) → Start → Type 0
 Starts held rest NoMore = (held ≡ []) × IsAtEnd rest
 Starts held rest (Begun head) = (0 < length held) × ((h : RequestHead) × Holds held head h)
 Starts held rest NoHead = (0 < length held) × IfSome rest (λ more. HasNoHead (held ++ more))
 
--- the head of a message begins what is held, and its body of that size follows
+-- the bytes that are held begin with the head of a message and its body of that size
 pub record HoldsMessage (held : List ℕ) (head : Head) (size : ℕ) (h : RequestHead) : Type 0 where
   pub holds : Holds held head h
   pub states : body_length (fields_of h) ≡ Ok size
   pub whole : head.spans.len + size ≤ length held
 
--- the head of a message that states this size of its body begins what is held
+-- the bytes that are held begin with a head that states this size of its body
 abbrev pub HoldsHead : List ℕ → Head → ℕ → Type 0
 HoldsHead held head size = (h : RequestHead) × Holds held head h × (body_length (fields_of h) ≡ Ok size)
 
--- what is held and what may follow it begin with such a head, or with no message
+-- the bytes that are held, with what may follow them, begin with such a head, or with no message
 abbrev pub Announces : List ℕ → Option (List ℕ) → Received → Type 0
 Announces held rest End = (held ≡ []) × IsAtEnd rest
 Announces held rest (Message head size) = HoldsHead held head size
 Announces held rest (Faulty fault) = (0 < length held) × IfSome rest (λ more. IsFault (held ++ more) fault)
 
--- What was read is appended to what was held; and what is held and follows it is like that. A reader is silent only
--- where nothing is held of a message.
+-- The bytes that were read are appended to those that were held, and the result is right for them and for what may
+-- follow. A reader is reported as silent only if nothing of a message is held.
 abbrev pub Receives : {A : Type 0} → (List ℕ → Option (List ℕ) → A → Type 0) → Option (List ℕ) → Option (List ℕ)
     → List ℕ → List ℕ → Result A ReceiveError → Type 0
 Receives is old new held held' result =

@@ -7,7 +7,7 @@ use crate::head::Head;
 use std::io::Read;
 use streams::PIECE_SIZE;
 
-/// Reads a number of bytes and keeps none of them: whether all came.
+/// Reads `size` bytes and drops them. Returns whether all of them came.
 fn read_out<R: Read>(input: &mut R, size: usize) -> Result<bool, ReceiveError>
     ensures { ReadsOrFails result
         ((read : List ℕ) × ReadsRest (R.remaining input.old) (R.remaining input.new) size read result) }
@@ -29,8 +29,8 @@ fn read_out<R: Read>(input: &mut R, size: usize) -> Result<bool, ReceiveError>
     Ok(true)
 }
 
-/// Reads the bytes that are missing of a body, and keeps none of them: whether all came. Where none is missing nothing is read, and
-/// no window is made.
+/// Reads the `left` bytes that are missing of a body, and drops them. Returns whether all of them came. If none is missing, nothing is read
+/// and no window is made.
 pub(crate) fn pass_rest<R: Read>(input: &mut R, left: usize) -> Result<bool, ReceiveError>
     ensures { ReadsOrFails result
         ((read : List ℕ) × ReadsRest (R.remaining input.old) (R.remaining input.new) left read result) }
@@ -41,11 +41,11 @@ pub(crate) fn pass_rest<R: Read>(input: &mut R, left: usize) -> Result<bool, Rec
     read_out(input, left)
 }
 
-/// Reads the body, of a given length, that follows a head, and keeps nothing of it: whether it came whole. Nothing is read beyond it.
+/// Reads the body, of a given length, that follows a head, and drops it. Returns whether all of it came. Nothing is read beyond the body.
 ///
 /// # Errors
 ///
-/// `Read` where the reader failed.
+/// `Read` if the reader failed.
 pub fn pass_body<R: Read>(
     input: &mut R,
     held: &[u8],

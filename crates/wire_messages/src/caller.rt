@@ -1,11 +1,9 @@
 //! The caller that a head names.
 ghost use Rattle.std.specs.Prelude.{◌≡◌, IfOk, Err, Some, None, option_map};
-ghost use Rattle.httparse.specs.Spans.{IsRequestWithin};
 ghost use Rattle.wire_messages.specs.Fields.{fields_at};
 ghost use Rattle.wire_messages.specs.Callers.{caller_in, named};
 
-use crate::fields::{Values, values_of};
-use crate::head::Head;
+use crate::fields::{HeadFields, Values, values_of};
 use policy::{Caller, CallerError};
 use std::alloc::Global;
 use std::str;
@@ -25,16 +23,16 @@ fn caller_named(alloc: Global, user: &[u8], group: Option<&str>) -> Result<Calle
 ///
 /// # Errors
 ///
-/// `BadCaller` exactly where it names none, and `Memory`.
-pub fn read_caller(alloc: Global, buf: &[u8], head: &Head) -> Result<Caller, CallerError>
-    requires { IsRequestWithin buf.now head.now.fields head.now.spans }
-    ensures ok { IfOk result (λ c. caller_in (fields_at buf.now head.now) ≡ Some c) }
-    ensures bad { result ≡ Err CallerError.BadCaller → caller_in (fields_at buf.now head.now) ≡ None }
+/// `BadCaller` exactly if the head names no caller; `Memory` if memory was refused.
+pub fn read_caller(alloc: Global, fields: &HeadFields<'_>) -> Result<Caller, CallerError>
+    ensures ok { IfOk result (λ c. caller_in (fields_at fields.now.buf.now fields.now.head.now) ≡ Some c) }
+    ensures bad { result ≡ Err CallerError.BadCaller
+        → caller_in (fields_at fields.now.buf.now fields.now.head.now) ≡ None }
 {
-    let Values::One(user) = values_of(buf, head, b"store-user") else {
+    let Values::One(user) = values_of(fields, b"store-user") else {
         return Err(CallerError::BadCaller);
     };
-    match values_of(buf, head, b"store-group") {
+    match values_of(fields, b"store-group") {
         Values::None => caller_named(alloc, user, None),
         Values::One(group) => match str::from_utf8(group) {
             Ok(group) => caller_named(alloc, user, Some(group)),

@@ -1,5 +1,5 @@
 //! What the fields of a head say.
-ghost use Rattle.std.specs.Prelude.{◌≡◌, ◌==◌, ◌||◌, ℕ, List, [], ◌∷◌, ◌++◌, codes};
+ghost use Rattle.std.specs.Prelude.{◌≡◌, ◌≤◌, ◌==◌, ◌||◌, ℕ, List, [], ◌∷◌, ◌++◌, codes};
 ghost use Rattle.std.specs.List.{list_any};
 ghost use Rattle.std.specs.Str.{str_eq_ignore_ascii_case};
 ghost use Rattle.httparse.specs.Spans.{IsRequestWithin};
@@ -19,11 +19,31 @@ pub enum Values<'b> {
     More,
 }
 
+/// A head in the buffer that begins with it: its fields can be read.
+#[derive(Clone, Copy)]
+pub struct HeadFields<'b> {
+    buf: &'b [u8],
+    head: &'b Head,
+    ghost within: { IsRequestWithin buf.now head.now.fields head.now.spans },
+    ghost few: { head.now.spans.headers ≤ 64 },
+}
+
+impl<'b> HeadFields<'b> {
+    /// A head that is in a buffer.
+    pub fn new(buf: &'b [u8], head: &'b Head) -> HeadFields<'b>
+        requires { IsRequestWithin buf.now head.now.fields head.now.spans }
+        ensures buf { result.buf.now ≡ buf.now }
+        ensures head { result.head.now ≡ head.now }
+    {
+        HeadFields { buf, head }
+    }
+}
+
 /// The values of the fields of a name, without regard to ASCII case.
-pub fn values_of<'b>(buf: &'b [u8], head: &Head, name: &[u8]) -> Values<'b>
-    requires { IsRequestWithin buf.now head.now.fields head.now.spans }
-    ensures { Are (values name.now (fields_at buf.now head.now)) result }
+pub fn values_of<'b>(fields: &HeadFields<'b>, name: &[u8]) -> Values<'b>
+    ensures { Are (values name.now (fields_at fields.now.buf.now fields.now.head.now)) result }
 {
+    let (buf, head) = (fields.buf, fields.head);
     let mut found = Values::None;
     for field in &head.fields[..head.spans.headers] {
         if field.name.of(buf).eq_ignore_ascii_case(name) {
@@ -33,7 +53,7 @@ pub fn values_of<'b>(buf: &'b [u8], head: &Head, name: &[u8]) -> Values<'b>
     found
 }
 
-/// Some values and another one after them.
+/// The values, with another one appended.
 fn with_another<'b>(found: Values<'b>, value: &'b [u8]) -> Values<'b>
     ensures { (vs : List (List ℕ)) → Are vs found.entry → Are (vs ++ value.now ∷ []) result }
 {
@@ -64,15 +84,14 @@ fn stated_length(text: &[u8]) -> Result<usize, Fault>
 }
 
 /// The length of the body that follows a head.
-pub fn length_of_body(buf: &[u8], head: &Head) -> Result<usize, Fault>
-    requires { IsRequestWithin buf.now head.now.fields head.now.spans }
-    ensures { result ≡ body_length (fields_at buf.now head.now) }
+pub fn length_of_body(fields: &HeadFields<'_>) -> Result<usize, Fault>
+    ensures { result ≡ body_length (fields_at fields.now.buf.now fields.now.head.now) }
 {
-    match values_of(buf, head, b"transfer-encoding") {
+    match values_of(fields, b"transfer-encoding") {
         Values::None => {}
         _ => return Err(Fault::BadLength),
     }
-    match values_of(buf, head, b"content-length") {
+    match values_of(fields, b"content-length") {
         Values::None => Ok(0),
         Values::One(text) => stated_length(text),
         Values::More => Err(Fault::BadLength),
@@ -80,11 +99,11 @@ pub fn length_of_body(buf: &[u8], head: &Head) -> Result<usize, Fault>
 }
 
 /// Whether a field of this name has this value, both without regard to ASCII case.
-fn has_value(buf: &[u8], head: &Head, name: &[u8], value: &[u8]) -> bool
-    requires { IsRequestWithin buf.now head.now.fields head.now.spans }
+fn has_value(fields: &HeadFields<'_>, name: &[u8], value: &[u8]) -> bool
     ensures { result ≡ list_any (λ v. str_eq_ignore_ascii_case v value.now)
-        (values name.now (fields_at buf.now head.now)) }
+        (values name.now (fields_at fields.now.buf.now fields.now.head.now)) }
 {
+    let (buf, head) = (fields.buf, fields.head);
     let mut found = false;
     for field in &head.fields[..head.spans.headers] {
         if field.name.of(buf).eq_ignore_ascii_case(name) {
@@ -95,10 +114,10 @@ fn has_value(buf: &[u8], head: &Head, name: &[u8], value: &[u8]) -> bool
 }
 
 /// Whether the connection is closed after a message.
-pub fn closes(buf: &[u8], head: &Head) -> bool
-    requires { IsRequestWithin buf.now head.now.fields head.now.spans }
-    ensures { result ≡ ((head.now.spans.version == 0) || list_any (λ v. str_eq_ignore_ascii_case v (codes "close"))
-        (values (codes "connection") (fields_at buf.now head.now))) }
+pub fn closes(fields: &HeadFields<'_>) -> bool
+    ensures { result
+        ≡ ((fields.now.head.now.spans.version == 0) || list_any (λ v. str_eq_ignore_ascii_case v (codes "close"))
+        (values (codes "connection") (fields_at fields.now.buf.now fields.now.head.now))) }
 {
-    head.spans.version == 0 || has_value(buf, head, b"connection", b"close")
+    fields.head.spans.version == 0 || has_value(fields, b"connection", b"close")
 }

@@ -1,7 +1,7 @@
 //! The head of a message at the beginning of a buffer.
-ghost use Rattle.std.specs.Prelude.{◌≡◌, ◌≤◌, ◌<◌, take, length};
+ghost use Rattle.std.specs.Prelude.{◌≡◌, ◌≤◌, ◌||◌, take, length};
 ghost use Rattle.httparse.specs.Grammar.{HasNoRequest};
-ghost use Rattle.wire_messages.specs.Heads.{LookFinds, has_begun_in};
+ghost use Rattle.wire_messages.specs.Heads.{LookFinds, WasSeen, has_begun_in};
 
 use httparse::Status;
 use httparse::spans::{EMPTY_HEADER_SPAN, HeaderSpan, RequestSpans, parse_request};
@@ -17,14 +17,14 @@ pub struct Head {
     pub fields: [HeaderSpan; 64],
 }
 
-/// What the bytes that have come so far say.
+/// What the bytes that have come so far are: a head, the start of one, or neither.
 #[derive(Clone, Copy)]
 pub enum Look {
     /// The bytes begin with a head.
     Whole(Head),
     /// The head is not complete yet.
     Unfinished,
-    /// No head begins them, whatever follows.
+    /// The bytes don't begin with a head, whatever follows.
     Faulty,
 }
 
@@ -58,34 +58,31 @@ fn is_begun(bytes: &[u8]) -> bool
     bytes.iter().any(|b| !(*b == b'\r' || *b == b'\n'))
 }
 
-/// Whether a byte other than those of line ends is among the bytes, where it is known for the first `seen`.
-pub(crate) fn has_begun(buf: &[u8], seen: usize, before: bool) -> bool
-    requires within { seen ≤ length buf.now }
-    requires before { before ≡ has_begun_in (take seen buf.now) }
-    ensures { result ≡ has_begun_in buf.now }
+/// Whether a byte other than those of line ends is among some bytes and those that came after them.
+fn has_begun(before: bool, came: &[u8]) -> bool
+    ensures { result ≡ (before || has_begun_in came.now) }
 {
-    before || is_begun(&buf[seen..])
+    before || is_begun(came)
 }
 
-/// Looks for a head where it is known whether anything but line ends came. Line ends alone are none, so empty lines that come one
-/// after another aren't read again for each of them.
-pub(crate) fn look_again(buf: &[u8], seen: usize, has_begun: bool) -> Look
-    requires within { seen ≤ length buf.now }
-    requires none { HasNoRequest (take seen buf.now) }
-    requires begun { has_begun ≡ has_begun_in buf.now }
-    ensures { LookFinds buf.now result }
+/// Looks for a head in a buffer after more bytes came, and whether anything but line ends is there. Line ends alone are no head, so
+/// empty lines that come one after another aren't read again for each of them.
+pub(crate) fn look_again(buf: &[u8], seen: usize, before: bool) -> (bool, Look)
+    requires { WasSeen buf.now seen before }
+    ensures begun { result.0 ≡ has_begun_in buf.now }
+    ensures found { LookFinds buf.now result.1 }
 {
-    if has_begun {
-        look_for_head(buf, seen)
+    let begun = has_begun(before, &buf[seen..]);
+    if begun {
+        (begun, look_for_head(buf, seen))
     } else {
-        without_head(buf)
+        (begun, without_head(buf))
     }
 }
 
-/// What bytes say that begin with no head: more of them can't where they are too many.
+/// What bytes are that don't begin with a head: the start of one, or neither if they are too many.
 fn without_head(buf: &[u8]) -> Look
-    requires { HasNoRequest buf.now }
-    ensures { LookFinds buf.now result }
+    ensures { HasNoRequest buf.now → LookFinds buf.now result }
 {
     if buf.len() < MAX_HEAD {
         Look::Unfinished

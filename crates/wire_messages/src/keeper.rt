@@ -1,4 +1,4 @@
-//! What keeps bodies.
+//! The trait of what keeps bodies.
 ghost use Rattle.std.specs.Prelude.{◌≡◌, ◌++◌, ℕ, List, OnOk, OnErr};
 
 use std::alloc::AllocError;
@@ -11,7 +11,7 @@ pub trait Keeper {
     /// Whether a body for which memory was refused may be these bytes, by what is still known of it.
     ghost may_be: { Self → List ℕ → Type 0 };
 
-    /// Keeps one more piece, or says that memory was refused. Then the body may be whatever begins with all that came.
+    /// Keeps one more piece. If memory is refused for it, the body may afterwards be anything that begins with all bytes that came.
     fn keep(&mut self, piece: &[u8]) -> Result<(), AllocError>
         ensures kept { OnOk result (kept self.new ≡ kept self.old ++ piece.now) }
         ensures lost { OnErr result ((more : List ℕ) → may_be self.new ((kept self.old ++ piece.now) ++ more)) };

@@ -1,4 +1,4 @@
-//! Bodies that are stored as they come. Where memory is refused for one, the rest of it is still read.
+//! Bodies that are stored as they come. If memory is refused for a body, the rest of it is still read.
 ghost use Rattle.std.specs.Prelude.{◌≡◌, ◌≤◌, ◌<◌, ℕ, List, Ok, IfErr, length};
 ghost use Rattle.wire_messages.specs.Bodies.{KeepsBody, KeepsOn, KeepsRest, ReadsOrFails, ReadsRest, has_come};
 
@@ -16,11 +16,11 @@ pub enum Fate {
     Kept,
     /// The whole body came, and memory was refused for it.
     Lost,
-    /// The input ended inside it.
+    /// The input ended inside the body.
     Short,
 }
 
-/// What one read brought.
+/// The result of one read.
 #[derive(Clone, Copy)]
 pub(crate) enum Piece {
     /// A number of bytes, which were stored.
@@ -33,13 +33,19 @@ pub(crate) enum Piece {
     Failed,
 }
 
-/// One read into a window, whose bytes are stored.
-fn keep_next<R: Read, K: Keeper>(input: &mut R, window: &mut [u8], body: &mut K) -> Piece
-    requires { 0 < length window.old }
-    ensures { KeepsOn (length window.old) (R.remaining input.old) (R.remaining input.new) (K.kept body.old)
+/// Reads once into a window, at most what is missing of a body, and stores the bytes.
+fn keep_next<R: Read, K: Keeper>(
+    input: &mut R,
+    window: &mut [u8; PIECE_SIZE],
+    left: usize,
+    body: &mut K,
+) -> Piece
+    requires { 0 < left }
+    ensures { KeepsOn left (R.remaining input.old) (R.remaining input.new) (K.kept body.old)
         (K.kept body.new) (K.may_be body.new) result }
 {
-    let count = match input.read(window) {
+    let room = left.min(PIECE_SIZE);
+    let count = match input.read(&mut window[..room]) {
         Ok(count) => count,
         Err(_) => return Piece::Failed,
     };
@@ -66,7 +72,7 @@ fn pass_lost<R: Read>(input: &mut R, left: usize) -> Result<Fate, ReceiveError>
     }
 }
 
-/// Keeps a number of bytes as they come.
+/// Keeps `size` bytes as they come.
 fn keep_out<R: Read, K: Keeper>(
     input: &mut R,
     size: usize,
@@ -79,8 +85,7 @@ fn keep_out<R: Read, K: Keeper>(
     let mut window = [0; PIECE_SIZE];
     let mut left = size;
     'reads: while left > 0 {
-        let room = left.min(PIECE_SIZE);
-        match keep_next(input, &mut window[..room], body) {
+        match keep_next(input, &mut window, left, body) {
             Piece::Kept(count) => left -= count,
             Piece::Lost(count) => return pass_lost(input, left - count),
             Piece::End => return Ok(Fate::Short),
@@ -90,7 +95,7 @@ fn keep_out<R: Read, K: Keeper>(
     Ok(Fate::Kept)
 }
 
-/// Keeps the bytes that are missing of a body, as they come. Where none is missing nothing is read, and no window is made.
+/// Keeps the `left` bytes that are missing of a body, as they come. If none is missing, nothing is read and no window is made.
 fn keep_rest<R: Read, K: Keeper>(
     input: &mut R,
     left: usize,
@@ -106,12 +111,12 @@ fn keep_rest<R: Read, K: Keeper>(
     keep_out(input, left, body)
 }
 
-/// Keeps the body, of a given length, that follows a head: what of it is held, and the rest as it arrives. If memory is refused for it,
-/// the rest is read and dropped. Returns what became of the body. Nothing is read beyond it.
+/// Keeps the body, of a given length, that follows a head: the part that is held, and the rest as it arrives. If memory is refused for it,
+/// the rest is read and dropped. Returns what became of the body. Nothing is read beyond the body.
 ///
 /// # Errors
 ///
-/// `Read` where the reader failed.
+/// `Read` if the reader failed.
 pub fn receive_body<R: Read, K: Keeper>(
     input: &mut R,
     held: &[u8],

@@ -14,7 +14,7 @@ mod receive;
 pub use body::pass_body;
 pub use caller::read_caller;
 pub use error::{Fault, ReceiveError};
-pub use fields::{MAX_BODY, Values, closes, length_of_body, values_of};
+pub use fields::{HeadFields, MAX_BODY, Values, closes, length_of_body, values_of};
 pub use head::{Head, Look, MAX_HEAD, look_for_head};
 pub use keeper::Keeper;
 pub use keeping::{Fate, receive_body};

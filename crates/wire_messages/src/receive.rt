@@ -1,10 +1,10 @@
 //! Messages, read from a reader in pieces of any size.
-ghost use Rattle.std.specs.Prelude.{◌≡◌, ◌<◌, length, vec_len};
+ghost use Rattle.std.specs.Prelude.{◌≡◌, ◌<◌, vec_len};
 ghost use Rattle.wire_messages.specs.Messages.{ReadsMore, Receives, Starts, Announces};
 
 use crate::error::{Fault, ReceiveError};
-use crate::fields::length_of_body;
-use crate::head::{Head, Look, has_begun, look_again};
+use crate::fields::{HeadFields, length_of_body};
+use crate::head::{Head, Look, look_again};
 use std::io::{Error, ErrorKind, Read};
 
 /// What the input begins with.
@@ -26,7 +26,7 @@ pub enum Received {
     Faulty(Fault),
 }
 
-/// Why a read failed: `Silent` where it gave up waiting.
+/// The error of a failed read: `Silent` if the reader gave up waiting.
 fn broken(fault: &Error) -> ReceiveError {
     match fault.kind() {
         ErrorKind::WouldBlock | ErrorKind::TimedOut => ReceiveError::Silent,
@@ -34,7 +34,7 @@ fn broken(fault: &Error) -> ReceiveError {
     }
 }
 
-/// A fault in the middle of a message, where a reader that gives up waiting has failed.
+/// The error of a read in the middle of a message: a reader that gives up waiting there has failed.
 fn within(fault: ReceiveError) -> ReceiveError
     ensures { result ≡ ReceiveError.Silent → ⊥ }
 {
@@ -44,16 +44,15 @@ fn within(fault: ReceiveError) -> ReceiveError
     }
 }
 
-/// Reads once, by way of a window, and appends what came: whether anything did.
-fn read_more<R: Read>(
-    input: &mut R,
-    window: &mut [u8],
-    buffer: &mut Vec<u8>,
-) -> Result<bool, ReceiveError>
-    requires { 0 < length window.old }
+/// How many bytes are read at once.
+const WINDOW_SIZE: usize = 4096;
+
+/// Reads once, and appends what came. Returns whether anything came.
+fn read_more<R: Read>(input: &mut R, buffer: &mut Vec<u8>) -> Result<bool, ReceiveError>
     ensures { ReadsMore (R.remaining input.old) (R.remaining input.new) buffer.old.items buffer.new.items result }
 {
-    match input.read(window) {
+    let mut window = [0; WINDOW_SIZE];
+    match input.read(&mut window) {
         Ok(count) => {
             buffer.extend_from_slice(&window[..count])?;
             Ok(count > 0)
@@ -62,27 +61,23 @@ fn read_more<R: Read>(
     }
 }
 
-/// Reads until the buffer, which isn't empty, begins with a whole head, or can't.
-fn find_head<R: Read>(
-    input: &mut R,
-    window: &mut [u8],
-    buffer: &mut Vec<u8>,
-) -> Result<Start, ReceiveError>
-    requires room { 0 < length window.old }
-    requires some { 0 < vec_len buffer.old }
+/// Reads until the buffer, which isn't empty, begins with a whole head, or can't begin with one.
+fn find_head<R: Read>(input: &mut R, buffer: &mut Vec<u8>) -> Result<Start, ReceiveError>
+    requires { 0 < vec_len buffer.old }
     ensures { Receives Starts (R.remaining input.old) (R.remaining input.new) buffer.old.items buffer.new.items result }
 {
     let mut seen = 0;
     let mut begun = false;
     'head: loop {
-        begun = has_begun(buffer, seen, begun);
-        match look_again(buffer, seen, begun) {
+        let (has_begun, look) = look_again(buffer, seen, begun);
+        begun = has_begun;
+        match look {
             Look::Whole(head) => return Ok(Start::Begun(head)),
             Look::Faulty => return Ok(Start::NoHead),
             Look::Unfinished => {}
         }
         seen = buffer.len();
-        match read_more(input, window, buffer) {
+        match read_more(input, buffer) {
             Ok(true) => {}
             Ok(false) => return Ok(Start::NoHead),
             Err(fault) => return Err(within(fault)),
@@ -94,47 +89,37 @@ fn find_head<R: Read>(
 ///
 /// # Errors
 ///
-/// `Read` where the reader failed, `Silent` where it gave up waiting (`WouldBlock` or `TimedOut`) and nothing is held, and `Memory`
-/// where it was refused.
-pub fn receive_start<R: Read>(
-    input: &mut R,
-    window: &mut [u8],
-    buffer: &mut Vec<u8>,
-) -> Result<Start, ReceiveError>
-    requires { 0 < length window.old }
+/// `Read` if the reader failed; `Silent` if it gave up waiting (`WouldBlock` or `TimedOut`) and nothing is held; `Memory` if memory was
+/// refused.
+pub fn receive_start<R: Read>(input: &mut R, buffer: &mut Vec<u8>) -> Result<Start, ReceiveError>
     ensures { Receives Starts (R.remaining input.old) (R.remaining input.new) buffer.old.items buffer.new.items result }
 {
     if !buffer.is_empty() {
-        return find_head(input, window, buffer);
+        return find_head(input, buffer);
     }
-    if read_more(input, window, buffer)? {
-        find_head(input, window, buffer)
+    if read_more(input, buffer)? {
+        find_head(input, buffer)
     } else {
         Ok(Start::NoMore)
     }
 }
 
-/// Reads until the buffer begins with a whole head that states the size of its body, or can't, or nothing is left. Some of the
-/// body may be held after the head then.
+/// Reads until the buffer begins with a whole head that states the size of its body, or can't, or the input is at its end. After the head
+/// the buffer may have part of the body.
 ///
 /// # Errors
 ///
 /// As `receive_start`.
-pub fn receive_head<R: Read>(
-    input: &mut R,
-    window: &mut [u8],
-    buffer: &mut Vec<u8>,
-) -> Result<Received, ReceiveError>
-    requires { 0 < length window.old }
+pub fn receive_head<R: Read>(input: &mut R, buffer: &mut Vec<u8>) -> Result<Received, ReceiveError>
     ensures { Receives Announces (R.remaining input.old) (R.remaining input.new) buffer.old.items buffer.new.items
         result }
 {
-    let head = match receive_start(input, window, buffer)? {
+    let head = match receive_start(input, buffer)? {
         Start::Begun(head) => head,
         Start::NoMore => return Ok(Received::End),
         Start::NoHead => return Ok(Received::Faulty(Fault::BadHead)),
     };
-    match length_of_body(buffer, &head) {
+    match length_of_body(&HeadFields::new(buffer, &head)) {
         Ok(size) => Ok(Received::Message(head, size)),
         Err(fault) => Ok(Received::Faulty(fault)),
     }

@@ -14,7 +14,7 @@ use Rattle.wire_requests.specs.Rows.{Has, AreRows, rows}
 use Rattle.wire_requests.proofs.Texts.{AllBytes, and_first, and_last, not_true}
 use Rattle.wire_requests.proofs.Seeking.{AllPlain, found_fits, missing_fits_none}
 
--- at the first token that differs, two bytes stand, or a parameter and a slash, or the end of one
+-- at the first token that differs there are two bytes, or a parameter and a slash, or the end of one
 abbrev are_distinct : List ℕ → List ℕ → Bool
 are_distinct [] [] = false
 are_distinct [] (y ∷ b) = true

@@ -1,4 +1,4 @@
--- The front of a text, and what is behind it.
+-- The part of a text before the first slash, and what follows.
 use Rattle.std.proofs.Common.{◌≡◌, ℕ, zero, suc, ◌+◌, ◌<◌, List, [], ◌∷◌, ◌++◌, length, drop, take, get_or, append-nil, Bool, true, false, cond, ◌==◌, not, refl, sym, ap, ◌∙◌, arith, subst}
 use Rattle.std.proofs.lemmas.List.{get_or-drop, length-append}
 use Rattle.std.proofs.lemmas.Bool.Decides.{nat_tests}

@@ -42,7 +42,7 @@ module _ {K : Type 0} where
   param_some rs path e =
       ap (λ l. cond (ltb 0 (length l)) (length (segment path) - length l, with_suffix l rs) (cond (has_slash path) (0, []) (length path, rs))) e
 
-  -- what is found by a parameter at the front of a path, among the rows that follow it
+  -- what is found by a parameter at the beginning of a path, among the rows that follow it
   abbrev by_parameter : RowsOf K → ℕ → List ℕ → Option K
   by_parameter rs b path = seek ((param_step rs (b ∷ path)).0 - 1) (param_step rs (b ∷ path)).1 path
 

@@ -8,7 +8,7 @@ use Rattle.std.specs.Cmp.Lexicographic.{pointwise}
 use Rattle.matchit.specs.Seek.{segment, has_slash, cuts}
 use Rattle.wire_requests.specs.Patterns.{fits, suffix}
 
--- a text with no slash has nothing behind its front
+-- a text with no slash has nothing after its first part
 pub no_slash : (text : List ℕ) → has_slash text ≡ false → suffix text ≡ []
 no_slash [] e = refl
 no_slash (b ∷ text) e = by (b == 47) refl e (no_slash text)
@@ -38,7 +38,7 @@ pub slash_some : (text : List ℕ) → has_slash text ≡ true → 0 < length (s
 slash_some [] e = let h : false ≡ true = e in cc
 slash_some (b ∷ text) e = segment_some b text
 
--- what is behind the front is what is left behind the segment, but for its slash
+-- what follows the first part is what is left after the segment, but for its slash
 pub after_segment : (text : List ℕ) → has_slash text ≡ true → drop (length (segment text) - 1) text ≡ suffix text
 after_segment [] e = refl
 after_segment (b ∷ text) e = by (b == 47) e (after_segment text)

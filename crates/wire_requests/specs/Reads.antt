@@ -1,5 +1,5 @@
 -- The request that is read from a message, or why none is.
-use Rattle.std.specs.Prelude.{◌≡◌, ℕ, true, false, List, Some, Result, Ok, Err, ⊤}
+use Rattle.std.specs.Prelude.{◌≡◌, ℕ, true, false, List, Some, Result, Ok, Err, IfOk, ⊤}
 use Rattle.paths.specs.StorePath.{is_base_name}
 use Rattle.wire_requests.specs.declared.kind.Kind.{Kind}
 use Rattle.model.specs.Request as asked
@@ -7,6 +7,11 @@ use Rattle.wire_requests.specs.declared.error.AskError.{AskError}
 use Rattle.wire_requests.specs.declared.error.AskError.TheVariants.{BadPath, BadBodyHead, Memory}
 use Rattle.store_types.specs.declared.requests.Request.{Request}
 use Rattle.store_types.specs.View.{request_view}
+use Rattle.wire_bodies.specs.Bodies.{IsImportBody}
+use Rattle.wire_bodies.specs.declared.error.BodyError.{BodyError}
+use Rattle.wire_bodies.specs.declared.error.BodyError.TheVariants as bodies
+use Rattle.wire_bodies.specs.declared.import.ImportHead.{ImportHead}
+use Rattle.wire_requests.specs.View.{imported}
 use Rattle.wire_requests.specs.Parameters.{AreParameters}
 use Rattle.wire_requests.specs.declared.parameters.Parameters.{Parameters}
 use Rattle.wire_requests.specs.Asks.{is_blank, by_target, Asks, has_bad_path}
@@ -27,6 +32,12 @@ Reads dir kind target body (Err e) = AsksNothing dir kind target body e
 abbrev pub ReadsBy : List ℕ → Kind → Parameters → List ℕ → Result Request AskError → Type 0
 ReadsBy dir kind parameters body result =
     (target : List ℕ) → AreParameters kind target parameters → Reads dir kind target body result
+
+-- The request of a body of an import: one that the body is, or none only if the body is no import.
+pub record ReadsImport (dir body : List ℕ) (result : Result Request BodyError) : Type 0 where
+  pub ok : IfOk result (λ q. (head : ImportHead) × (nar : List ℕ) × IsImportBody dir body head nar
+      × (request_view q ≡ asked.import_object (imported head nar)))
+  pub bad : result ≡ Err bodies.BadBodyHead → (head : ImportHead) (nar : List ℕ) → IsImportBody dir body head nar → ⊥
 
 -- ---- inside the crate
 

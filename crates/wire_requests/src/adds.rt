@@ -9,7 +9,7 @@ ghost use Rattle.intake.specs.Arriving.{bytes_in};
 ghost use Rattle.model.specs.Request.{import_object};
 ghost use Rattle.store_types.specs.View.{request_view};
 ghost use Rattle.wire_requests.specs.View as given;
-ghost use Rattle.wire_requests.specs.Reads.{Reads};
+ghost use Rattle.wire_requests.specs.Reads.{Reads, ReadsImport};
 
 use crate::body::Body;
 use crate::error::AskError;
@@ -125,10 +125,7 @@ fn imported(head: ImportHead, nar: Intake) -> Request
 ///
 /// `BadBodyHead` exactly if the body isn't an import; `Memory` if memory runs out.
 pub fn read_import(alloc: Global, dir: &StoreDir, body: Body) -> Result<Request, BodyError>
-    ensures ok { IfOk result (λ q. (head : ImportOf) × (nar : List ℕ) × IsImportBody dir.now body head nar
-        × (request_view q ≡ import_object (given.imported head nar))) }
-    ensures bad { result ≡ Err BodyError.BadBodyHead → (head : ImportOf) (nar : List ℕ) → IsImportBody dir.now body
-        head nar → ⊥ }
+    ensures { ReadsImport dir.now body result }
 {
     let body = body.into_parted(alloc)?;
     let head = import_prefix(alloc, dir, &body)?;
@@ -152,10 +149,7 @@ pub fn read_import(alloc: Global, dir: &StoreDir, body: Body) -> Result<Request,
 ///
 /// `BadBodyHead` exactly if the body isn't an import; `Memory` if memory runs out.
 pub fn import_body(alloc: Global, dir: &StoreDir, body: &[u8]) -> Result<Request, BodyError>
-    ensures ok { IfOk result (λ q. (head : ImportOf) × (nar : List ℕ) × IsImportBody dir.now body.now head nar
-        × (request_view q ≡ import_object (given.imported head nar))) }
-    ensures bad { result ≡ Err BodyError.BadBodyHead → (head : ImportOf) (nar : List ℕ) → IsImportBody dir.now
-        body.now head nar → ⊥ }
+    ensures { ReadsImport dir.now body.now result }
 {
     let mut parted = Body::parted(alloc);
     parted.take(body)?;

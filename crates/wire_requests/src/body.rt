@@ -1,8 +1,8 @@
 //! The body of a message, as it arrives.
-ghost use Rattle.std.specs.Prelude.{◌≡◌, ◌++◌, List, ℕ, [], IfOk, OnOk, OnErr};
+ghost use Rattle.std.specs.Prelude.{◌≡◌, [], IfOk};
 ghost use Rattle.wire_bodies.specs.Prefix.{prefix_of};
 ghost use Rattle.wire_requests.specs.Asks as spec;
-ghost use Rattle.wire_requests.specs.Left.{IsLeftOf};
+ghost use Rattle.wire_requests.specs.Left.{TakesPiece};
 
 use crate::held::Held;
 use crate::kind::Kind;
@@ -53,7 +53,10 @@ impl Body {
         ensures { result ≡ [] }
     {
         Body {
-            kept: Storage::Whole(Held::new(alloc, size)),
+            kept: Storage::Whole(Held {
+                bytes: Vec::new(alloc),
+                size,
+            }),
         }
     }
 
@@ -73,8 +76,7 @@ impl Body {
     /// Memory was refused. If the payload is an archive and all lines before it have arrived, these lines stay; else no byte
     /// stays.
     pub fn push(&mut self, piece: &[u8]) -> Result<(), AllocError>
-        ensures ok { OnOk result (self.new ≡ self.old ++ piece.now) }
-        ensures err { OnErr result ((more : List ℕ) → IsLeftOf self.new ((self.old ++ piece.now) ++ more)) }
+        ensures { TakesPiece self.old piece.now self.new result }
     {
         match &mut self.kept {
             Storage::Whole(held) => held.push(piece),
@@ -87,7 +89,7 @@ impl Body {
         ensures { result.now ≡ prefix_of self.now }
     {
         match &self.kept {
-            Storage::Whole(held) => lines_of(held.bytes()),
+            Storage::Whole(held) => lines_of(&held.bytes),
             Storage::Parted(parted) => parted.first_lines(),
         }
     }
@@ -97,7 +99,7 @@ impl Body {
         ensures { IfOk result (λ bytes. bytes.items ≡ self) }
     {
         match self.kept {
-            Storage::Whole(held) => Ok(held.into_bytes()),
+            Storage::Whole(held) => Ok(held.bytes),
             Storage::Parted(parted) => parted.joined(alloc),
         }
     }
@@ -109,7 +111,7 @@ impl Body {
         match self.kept {
             Storage::Whole(held) => {
                 let mut parted = Parted::new(alloc);
-                parted.push(held.bytes())?;
+                parted.push(&held.bytes)?;
                 Ok(parted)
             }
             Storage::Parted(parted) => Ok(parted),

@@ -1,15 +1,17 @@
 //! A body in one buffer, as it arrives.
 ghost use Rattle.std.specs.Prelude.{◌≡◌, ◌++◌, [], OnOk, OnErr};
 
-use std::alloc::{AllocError, Global};
+use std::alloc::AllocError;
 use std::marker::Model;
 
 /// The bytes of a body whose length is known. The first bytes that arrive make room for all, and then the buffer doesn't grow.
 /// Contracts see the bytes.
 #[derive(Drop)]
 pub(crate) struct Held {
-    bytes: Vec<u8>,
-    size: usize,
+    /// What has arrived.
+    pub(crate) bytes: Vec<u8>,
+    /// The number of bytes in the end.
+    pub(crate) size: usize,
 }
 
 impl Model for Held {
@@ -21,16 +23,6 @@ impl Model for Held {
 }
 
 impl Held {
-    /// An empty body, of `size` bytes in the end. Allocates no memory yet.
-    pub(crate) fn new(alloc: Global, size: usize) -> Held
-        ensures { result ≡ [] }
-    {
-        Held {
-            bytes: Vec::new(alloc),
-            size,
-        }
-    }
-
     /// Appends the next piece. The only error is that memory is refused.
     fn append(&mut self, piece: &[u8]) -> Result<(), AllocError>
         ensures { OnOk result (self.new ≡ self.old ++ piece.now) }
@@ -50,19 +42,5 @@ impl Held {
             self.bytes.clear();
         }
         appended
-    }
-
-    /// The bytes that have arrived.
-    pub(crate) fn bytes(&self) -> &[u8]
-        ensures { result.now ≡ self.now }
-    {
-        &self.bytes
-    }
-
-    /// The bytes that have arrived, owned.
-    pub(crate) fn into_bytes(self) -> Vec<u8>
-        ensures { result.items ≡ self }
-    {
-        self.bytes
     }
 }

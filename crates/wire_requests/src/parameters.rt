@@ -18,8 +18,8 @@ pub struct Parameters {
 
 /// A copy of the value of the parameter of a name. The empty text if the route doesn't have that parameter.
 fn copy(alloc: Global, params: &Params, name: &str) -> Result<String, AllocError>
-    requires { AllText (pairs_of params.now) }
-    ensures { IfOk result (λ text. string_bytes text ≡ unwrap_or (named name.now (pairs_of params.now)) []) }
+    ensures { AllText (pairs_of params.now)
+        → IfOk result (λ text. string_bytes text ≡ unwrap_or (named name.now (pairs_of params.now)) []) }
 {
     match params.get(name) {
         Some(text) => String::from_str(alloc, text),
@@ -30,8 +30,7 @@ fn copy(alloc: Global, params: &Params, name: &str) -> Result<String, AllocError
 impl Parameters {
     /// Copies of all values, which don't borrow the target.
     pub(crate) fn of(alloc: Global, params: &Params) -> Result<Parameters, AllocError>
-        requires { AllText (pairs_of params.now) }
-        ensures { IfOk result (AreNamed (pairs_of params.now)) }
+        ensures { AllText (pairs_of params.now) → IfOk result (AreNamed (pairs_of params.now)) }
     {
         Ok(Parameters {
             path: copy(alloc, params, "path")?,

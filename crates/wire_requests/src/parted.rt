@@ -1,8 +1,8 @@
 //! A body whose payload is an archive, as it arrives.
-ghost use Rattle.std.specs.Prelude.{◌≡◌, ◌++◌, List, ℕ, [], IfOk, OnOk, OnErr};
+ghost use Rattle.std.specs.Prelude.{◌≡◌, [], IfOk, OnErr};
 ghost use Rattle.wire_bodies.specs.Prefix.{prefix_of, rest_of};
 ghost use Rattle.intake.specs.Arriving.{bytes_in};
-ghost use Rattle.wire_requests.specs.Left.{IsLeftOf};
+ghost use Rattle.wire_requests.specs.Left.{TakesPiece};
 
 use intake::Intake;
 use std::alloc::{AllocError, Global};
@@ -70,8 +70,7 @@ impl Parted {
 
     /// Takes the next piece. If memory is refused for the archive, the lines stay; if it is refused for the lines, no byte stays.
     pub(crate) fn push(&mut self, piece: &[u8]) -> Result<(), AllocError>
-        ensures ok { OnOk result (self.new ≡ self.old ++ piece.now) }
-        ensures err { OnErr result ((more : List ℕ) → IsLeftOf self.new ((self.old ++ piece.now) ++ more)) }
+        ensures taken { TakesPiece self.old piece.now self.new result }
         // Once bytes of the archive have arrived, the lines before it stay.
         ensures lines { OnErr result ((rest_of self.old ≡ [] → ⊥) → self.new ≡ prefix_of self.old) }
     {

@@ -18,32 +18,26 @@ pub enum Requests {
 }
 
 impl Requests {
-    /// The request of the route for a method, if the route has the method.
-    fn kind_of(self, method: &Method) -> Option<Kind>
-        ensures { result ≡ spec.kind_of self method.now }
-    {
-        match self {
-            Requests::Get(kind) => (*method == Method::GET).then_some(kind),
-            Requests::Post(kind) => (*method == Method::POST).then_some(kind),
-            Requests::Delete(kind) => (*method == Method::DELETE).then_some(kind),
-            Requests::PostOrDelete(kind, other) => {
-                if *method == Method::POST {
-                    Some(kind)
-                } else {
-                    (*method == Method::DELETE).then_some(other)
-                }
-            }
-        }
-    }
-
     /// The request of the route for a method. `None` if the route doesn't have the method, also if memory is refused for its word, since
     /// the routes' own methods take no memory.
     pub fn kind(self, alloc: Global, method: &[u8]) -> Option<Kind>
         ensures { result ≡ spec.kind_of self method.now }
     {
-        match Method::from_bytes(alloc, method) {
-            Ok(method) => self.kind_of(&method),
-            Err(_) => None,
+        let method = match Method::from_bytes(alloc, method) {
+            Ok(method) => method,
+            Err(_) => return None,
+        };
+        match self {
+            Requests::Get(kind) => (method == Method::GET).then_some(kind),
+            Requests::Post(kind) => (method == Method::POST).then_some(kind),
+            Requests::Delete(kind) => (method == Method::DELETE).then_some(kind),
+            Requests::PostOrDelete(kind, other) => {
+                if method == Method::POST {
+                    Some(kind)
+                } else {
+                    (method == Method::DELETE).then_some(other)
+                }
+            }
         }
     }
 

@@ -108,30 +108,6 @@ pub struct Found {
     pub parameters: Parameters,
 }
 
-/// The route that matches a whole target. `None` if no route matches.
-fn find_route(
-    alloc: Global,
-    router: &Router<Requests>,
-    target: &str,
-) -> Result<Option<Found>, AllocError>
-    requires { AreRows router.now all_rows }
-    ensures requests { IfOk result (λ found. option_map (λ f. f.requests) found ≡ requests_of target.now) }
-    ensures parameters { IfOk result (λ found. IfSome found (λ f.
-        AreParametersOf f.requests target.now f.parameters)) }
-{
-    match router.at(target) {
-        Ok(found) => {
-            let requests = *found.value;
-            let parameters = Parameters::of(alloc, &found.params)?;
-            Ok(Some(Found {
-                requests,
-                parameters,
-            }))
-        }
-        Err(_) => Ok(None),
-    }
-}
-
 /// The routes of the server.
 #[derive(Drop)]
 pub struct Routes {
@@ -169,6 +145,16 @@ impl Routes {
         ensures parameters { IfOk result (λ found. IfSome found (λ f.
             AreParametersOf f.requests target.now f.parameters)) }
     {
-        find_route(alloc, &self.router, target)
+        match self.router.at(target) {
+            Ok(found) => {
+                let requests = *found.value;
+                let parameters = Parameters::of(alloc, &found.params)?;
+                Ok(Some(Found {
+                    requests,
+                    parameters,
+                }))
+            }
+            Err(_) => Ok(None),
+        }
     }
 }

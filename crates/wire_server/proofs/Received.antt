@@ -1,11 +1,13 @@
 -- A message of which the head is held, as its body comes and as it is answered.
-use Rattle.std.proofs.Common.{◌≡◌, ℕ, ◌+◌, ◌<◌, ◌≤◌, List, [], ◌++◌, min, length, drop, Bool, true, false, ◌==◌, refl, Option, Result, Ok, Err, sym, ap, ◌∙◌, arith, subst, inl, inr, length-append}
+use Rattle.std.proofs.Common.{◌≡◌, ℕ, ◌+◌, ◌<◌, ◌≤◌, List, [], ◌∷◌, ◌++◌, min, length, drop, Bool, true, false, ◌==◌, refl, Option, Result, Ok, Err, sym, ap, ◌∙◌, arith, subst, inl, inr, length-append}
 use Rattle.std.proofs.lemmas.List.{drop_all}
 use Rattle.std.proofs.lemmas.Bool.Decides.{nat_tests}
 use Rattle.std.specs.Prelude.{IfOk, IfSome}
 use Rattle.std.specs.Io.KnownBytes.{IsAtEnd}
 use Rattle.std.specs.declared.alloc.AllocError.{AllocError}
-use Rattle.httparse.specs.Grammar.{RequestHead}
+use Rattle.httparse.specs.Grammar.{RequestHead, print_request}
+use Rattle.wire_messages.specs.Heads.{IsHead}
+use Rattle.wire_messages.proofs.Heads.{ends_in_line_feed}
 use Rattle.wire_messages.specs.declared.head.Head.{Head}
 use Rattle.wire_messages.specs.declared.error.Fault.TheVariants.{BadLength}
 use Rattle.wire_messages.specs.declared.error.ReceiveError.{ReceiveError}
@@ -32,12 +34,19 @@ of_nothing may_be before body none is = subst (λ t. may_be (t ++ body)) none is
 
 -- ---- a body that comes
 
+-- where a head is held some byte is
+held_some : (held rest : List ℕ) (h : RequestHead) → IsHead held h rest → 0 < length held
+held_some held rest h is =
+    let ends = ends_in_line_feed h in
+    omega (arith, ap length is.reads.1, length-append (print_request h) rest, ap length ends.1, length-append ends.0 (10 ∷ []))
+
 module _ (held read : List ℕ) (head : Head) (size : ℕ) (is : HoldsHead held head size) where
   -- the bytes end inside it
-  pub cut_short : (rest : Option (List ℕ)) → 0 < length held → IsAtEnd rest → length (held ++ read) < head.spans.len + size
+  pub cut_short : (rest : Option (List ℕ)) → IsAtEnd rest → length (held ++ read) < head.spans.len + size
       → (0 < length (held ++ read)) × IfSome rest (λ more. IsFault ((held ++ read) ++ more) BadLength)
-  cut_short rest some end short =
+  cut_short rest end short =
       let all = held ++ read in
+      let some = held_some held _ is.0 is.1.is_head in
       let fault : IsFault all BadLength = inr (ends_inside all head is.0 size (holds-append held read head is.0 is.1) is.2 short) in
       let more : 0 < length all = omega (arith, some, length-append held read) in
       (more, at_end_all (λ t. IsFault t BadLength) all rest fault end)

@@ -97,11 +97,11 @@ module _ (held : List ℕ) (done : List Item) (head : Head) (size : ℕ) (h : Re
   follows_last whole None new reported last = tt
   follows_last whole (Some all) None reported last = absurd reported
   follows_last whole (Some all) (Some more) reported last =
-      let front = message_of_input held more head size h is in
+      let prefix = message_of_input held more head size h is in
       let none : List Item = [] in
       let ends : cond (closes h) (none ≡ []) (Parts whole (drop (head.spans.len + size) held ++ more) none) =
       subst (λ v. cond v (none ≡ []) (Parts whole (drop (head.spans.len + size) held ++ more) none)) (sym last) refl in
-      reported whole (message h (body_in held head size) ∷ []) (_, front, ends)
+      reported whole (message h (body_in held head size) ∷ []) (_, prefix, ends)
 
   pub follows_more : (old new : Option (List ℕ)) → Follows old new held done → closes h ≡ false
       → Follows old new (drop (head.spans.len + size) held) (done ++ message h (body_in held head size) ∷ [])
@@ -109,10 +109,10 @@ module _ (held : List ℕ) (done : List Item) (head : Head) (size : ℕ) (h : Re
   follows_more (Some all) None reported on = absurd reported
   follows_more (Some all) (Some more) reported on = λ whole items d.
       let item = message h (body_in held head size) in
-      let front = message_of_input held more head size h is in
+      let prefix = message_of_input held more head size h is in
       let rest : cond (closes h) (items ≡ []) (Parts whole (drop (head.spans.len + size) held ++ more) items) =
       subst (λ v. cond v (items ≡ []) (Parts whole (drop (head.spans.len + size) held ++ more) items)) (sym on) d in
-      subst (Parts whole all) (sym (append_assoc done (item ∷ []) items)) (reported whole (item ∷ items) (_, front, rest))
+      subst (Parts whole all) (sym (append_assoc done (item ∷ []) items)) (reported whole (item ∷ items) (_, prefix, rest))
 
   pub follows_item : (old new : Option (List ℕ)) → Follows old new held done → PartsAll false old (done ++ message h (body_in held head size) ∷ [])
   follows_item old new reported = by (closes h) refl
@@ -127,6 +127,11 @@ pub closes_at : (held : List ℕ) (head : Head) (h : RequestHead) → Holds held
 closes_at held head h is =
     ap (λ v. (v == 0) || list_any (λ t. str_eq_ignore_ascii_case t (codes "close")) (values (codes "connection") (fields_at held head))) is.places.version
     ∙ ap (λ fs. (h.minor == 0) || list_any (λ t. str_eq_ignore_ascii_case t (codes "close")) (values (codes "connection") fs)) is.places.fields
+
+-- the same head in the same buffer, by other names
+pub closes_in : (buf held : List ℕ) (places head : Head) (h : RequestHead) → Holds held head h → buf ≡ held → places ≡ head
+    → ((places.spans.version == 0) || list_any (λ v. str_eq_ignore_ascii_case v (codes "close")) (values (codes "connection") (fields_at buf places))) ≡ closes h
+closes_in buf held places head h is same at = rw (same, at) (closes_at held head h is)
 
 -- ---- the replies
 
@@ -160,7 +165,7 @@ module _ {S : Type 0} (answers : S → RequestHead → List ℕ → Replied → 
   replies_fault s new done before fault first =
       replies_more s new new done (faulty fault ∷ []) before (fault_reply fault ∷ []) first (refl, refl)
 
-  -- so many items are done: what is left of the input, and what was written
+  -- a number of items are done: what is left of the input, and what was written
   pub record Reported (input rest output output' : Option (List ℕ)) (held : List ℕ) (old new : S) (n : ℕ) : Type 0 where
     pub done : List Item
     pub replies : List (List ℕ)

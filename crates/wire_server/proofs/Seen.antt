@@ -13,8 +13,8 @@ use Rattle.wire_server.specs.Sessions.{result_of}
 use Rattle.wire_server.specs.ServesAll as server
 use Rattle.wire_server.specs.ServesAll.{Session, Follow, ServesOn}
 
--- Each answer leads from what shows the old state to something that shows the new one. What is seen of it is told where the new state is good, and then
--- the old one was.
+-- Each answer leads from what shows the old state to something that shows the new one. If the new state is good, so
+-- was the old one, and the answer shows what is seen of them.
 module _ {S W : Type 0} (answers : S → RequestHead → List ℕ → Replied → S → Type 0) (seen : W → RequestHead → List ℕ → Replied → W → Type 0) (Shows : S → W → Type 0) (Good : S → Type 0)
     (step : (s : S) (w : W) (h : RequestHead) (body : List ℕ) (r : Replied) (new : S) → Shows s w → answers s h body r new → (w' : W) × Shows new w' × (Good new → Good s × seen w h body r w')) where
   -- something shows the new state; and where that is good, the old one was, and this is seen

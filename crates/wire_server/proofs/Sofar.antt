@@ -1,4 +1,4 @@
--- A server, as far as it went.
+-- A server, as far as it has come.
 use Rattle.std.proofs.Common.{◌≡◌, ◌∙◌, ◌+◌, ◌≤◌, ℕ, List, [], ◌∷◌, ◌++◌, length, length-append, Option, Some, None, refl, sym, ap, subst, arith}
 use Rattle.std.proofs.lemmas.List.{map-append}
 use Rattle.std.specs.Io.KnownBytes.{Appends, Keeps}
@@ -65,7 +65,7 @@ module _ {S : Type 0} (answers : S → RequestHead → List ℕ → Replied → 
   follow_more old mid new err said err' (session ∷ sessions) more (before, s, line, fresh, served, says, rest) second =
       (before, s, line, fresh, served, says, follow_more s mid new line said err' sessions more rest second)
 
-  -- so many connections were served
+  -- a number of connections were served
   pub record Sofar (waiting waiting' closed closed' : Option (List (List ℕ))) (err err' : Option (List ℕ)) (old new : S) (n count : ℕ) : Type 0 where
     pub sessions : List Session
     pub serves : Serves answers waiting waiting' closed closed' err err' old new sessions

@@ -14,7 +14,7 @@ use Rattle.wire_server.specs.Responses.{Replied, replied}
 abbrev pub body_in : List ℕ → Head → ℕ → List ℕ
 body_in held head size = take size (drop head.spans.len held)
 
--- answered with that response; or, where memory was refused, unanswered, or answered with a response that is dropped
+-- answered with that response; or, if memory was refused, not answered, or answered with a response that is dropped
 abbrev pub Answered : {S : Type 0} → (S → RequestHead → List ℕ → Replied → S → Type 0) → S → RequestHead → List ℕ
     → Result Response AllocError → S → Type 0
 Answered answers old h body (Ok response) new = answers old h body (replied response) new
@@ -28,8 +28,8 @@ module _ {S C B : Type 0} (answers : S → RequestHead → List ℕ → Replied 
   IsBegun s h (Accepted course body) = decides s h course × (kept body ≡ [])
   IsBegun s h (Refused response) = (all : List ℕ) → answers s h all (replied response) s
 
-  -- What is ready once the body has come: it was kept; or memory was refused for it, and it may be that body by all
-  -- that is still known.
+  -- The message once its body has come: the body was kept; or memory was refused for it, and what is still known of it
+  -- fits the body.
   abbrev pub IsReady : (B → List ℕ → Type 0) → S → RequestHead → List ℕ → Ready C B → Type 0
   IsReady may_be s h all (ready.Kept course body) = decides s h course × (kept body ≡ all)
   IsReady may_be s h all (ready.Lost course body) = decides s h course × may_be body all

@@ -1,4 +1,4 @@
--- What a connection brings next, whole.
+-- The next message of a connection, whole.
 use Rattle.std.specs.Prelude.{◌≡◌, ℕ, ◌+◌, ◌<◌, List, [], ◌++◌, length, drop, Option, Result, Ok, Err, IfSome, ⊤}
 use Rattle.std.specs.Io.KnownBytes.{Consumes, IsAtEnd}
 use Rattle.httparse.specs.Grammar.{RequestHead}
@@ -25,8 +25,8 @@ halt_of received.Memory = Failed Memory
 
 module _ {S C B : Type 0} (answers : S → RequestHead → List ℕ → Replied → S → Type 0)
     (decides : S → RequestHead → C → Type 0) (kept : B → List ℕ) (may_be : B → List ℕ → Type 0) (s : S) where
-  -- All the bytes begin with a message, whose whole body came, and which is answered in this way. Its head is held, and
-  -- what follows the message.
+  -- The bytes begin with a message whose whole body came, and which is answered in this way. The head, and what
+  -- follows the message, are held.
   pub record Whole (all held : List ℕ) (head : Head) (size : ℕ) (ready : Ready C B) : Type 0 where
     pub h : RequestHead
     pub message : HoldsMessage all head size h
@@ -34,8 +34,8 @@ module _ {S C B : Type 0} (answers : S → RequestHead → List ℕ → Replied 
     pub answerable : IsReady answers decides kept may_be s h (body_in all head size) ready
     pub rest : drop (head.spans.len + size) held ≡ drop (head.spans.len + size) all
 
-  -- what all the bytes are that were held and read: nothing, at the end of the input; a message; or no message,
-  -- whatever follows
+  -- what the bytes are that were held or read: nothing, at the end of the input; a message; or no message, whatever
+  -- follows
   abbrev pub Arrived : List ℕ → List ℕ → Option (List ℕ) → Next C B → Type 0
   Arrived all held rest End = (all ≡ []) × IsAtEnd rest
   Arrived all held rest (Message head size ready) = Whole all held head size ready

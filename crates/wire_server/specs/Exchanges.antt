@@ -40,13 +40,13 @@ module _ {S : Type 0} (answers : S → RequestHead → List ℕ → Replied → 
   abbrev pub IsLost : List ℕ → S → S → Type 0
   IsLost all s s' = (s' ≡ s) ⊎ ((r : Replied) × Answers all s r s')
 
-  -- what comes of a message
+  -- the result of a message
   abbrev pub Responds : List ℕ → List ℕ → S → S → Result Exchange AllocError → Type 0
   Responds all held' s s' (Ok x) = IsAnswered all held' s x s'
   Responds all held' s s' (Err e) = IsLost all s s'
 
-  -- what comes of all the bytes that were held and read: nothing at the end of an input; the response to a message, or
-  -- to none; or memory was refused
+  -- the result of the bytes that were held or read: nothing at the end of an input; the response to a message, or to
+  -- none; or memory was refused
   abbrev pub Comes : List ℕ → List ℕ → Option (List ℕ) → S → S → Result (Option Exchange) AllocError → Type 0
   Comes all held' rest s s' (Ok None) = (all ≡ []) × IsAtEnd rest × (s' ≡ s)
   Comes all held' rest s s' (Ok (Some x)) = IsAnswered all held' s x s' ⊎ (HasFault all rest x × (s' ≡ s))

@@ -23,7 +23,7 @@ refusal_of TooLarge = refusals.BodyTooLarge
 abbrev pub fault_reply : Fault → List ℕ
 fault_reply fault = reply_bytes true (refused (refusal_of fault) None)
 
--- The input begins with these items; after the last of them anything may follow that nobody looked at.
+-- The input begins with these items; what follows the last of them was not examined.
 abbrev pub Begins : List ℕ → List Item → Type 0
 Begins input [] = ⊤
 Begins input (message h body ∷ items) =
@@ -43,8 +43,8 @@ BeginsWith (Some all) items = Begins all items
 abbrev pub joined : List (List ℕ) → List ℕ
 joined replies = flat_map (λ reply. reply) replies
 
--- What was written at an error. Where the reader failed, all of the replies. Where the writer failed, all but the last,
--- and a prefix of that one, which isn't whole. Where memory was refused, all, or all but the last.
+-- What was written at an error. If the reader failed: all of the replies. If the writer failed: all but the last, and
+-- a prefix of the last that isn't whole. If memory was refused: all, or all but the last.
 abbrev pub IsWritten : WireError → List (List ℕ) → List ℕ → Type 0
 IsWritten Read replies bytes = bytes ≡ joined replies
 IsWritten Write replies bytes =

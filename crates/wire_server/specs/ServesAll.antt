@@ -20,7 +20,8 @@ failures [] = 0
 failures (session ∷ sessions) = failed session.close + failures sessions
 
 module _ {S : Type 0} (answers : S → RequestHead → List ℕ → Replied → S → Type 0) where
-  -- each is served from the state that the one before it left, and what is said of it follows what was said of that
+  -- each connection is served from the state that the one before it left, and its line on the errors follows the line
+  -- of that one
   abbrev pub Follow : S → Option (List ℕ) → List Session → S → Option (List ℕ) → Type 0
   Follow old err [] new err' = (new ≡ old) × Keeps err err'
   Follow old err (session ∷ sessions) new err' =

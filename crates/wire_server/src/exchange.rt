@@ -13,7 +13,7 @@ use crate::receiving::Next;
 use crate::responder::Responder;
 use crate::response::Response;
 use std::alloc::{AllocError, Global};
-use wire_messages::{Fault, Head, closes};
+use wire_messages::{Fault, Head, HeadFields, closes};
 
 /// A response, and whether the connection is closed after it.
 #[derive(Drop)]
@@ -68,7 +68,7 @@ fn answer_message<T, A: Responder<T>>(
         head.now size ready
         → Responds A.answers all buffer.new.items state.old state.new result }
 {
-    let close = closes(buffer, head);
+    let close = closes(&HeadFields::new(buffer, head));
     let response = respond(responder, state, buffer, head, ready)?;
     drain_prefix(buffer, head.spans.len.saturating_add(size));
     Ok(Exchange { response, close })

@@ -4,10 +4,10 @@ use crate::response::Response;
 /// How a message is answered whose whole body has arrived.
 #[derive(Drop)]
 pub(crate) enum Ready<C, B> {
-    /// As its head decided, by the body, all of which is held.
+    /// The answer is made as the head decided, from the whole body.
     Kept(C, B),
-    /// As its head decided, by what is left of the body, for which memory was refused.
+    /// The answer is made as the head decided, from what is left of a body for which memory was refused.
     Lost(C, B),
-    /// By this response, whatever the body is.
+    /// The answer is this response, whatever the body is.
     Refused(Response),
 }

@@ -1,5 +1,5 @@
 //! The next message of a connection, as it arrives.
-ghost use Rattle.std.specs.Prelude.{◌≡◌, ◌<◌, IfErr, length};
+ghost use Rattle.std.specs.Prelude.{◌≡◌, IfErr};
 ghost use Rattle.httparse.specs.Grammar.{RequestHead};
 ghost use Rattle.wire_messages.specs.Heads.{Holds};
 ghost use Rattle.wire_messages.specs.Messages.{HoldsHead};
@@ -68,7 +68,6 @@ fn receive_rest<R: Read, T, A: Responder<T>>(
     size: usize,
     begun: Begun<A::Course, A::Body>,
 ) -> Result<Next<A::Course, A::Body>, Halt>
-    requires some { 0 < length held.now }
     requires head { HoldsHead held.now head size }
     requires begun { (h : RequestHead) → Holds held.now head h
         → IsBegun A.answers A.decides A.Body.kept state.now h begun }
@@ -103,8 +102,7 @@ fn receive_message<R: Read, T, A: Responder<T>>(
     head: Head,
     size: usize,
 ) -> Result<Next<A::Course, A::Body>, Halt>
-    requires some { 0 < length held.now }
-    requires head { HoldsHead held.now head size }
+    requires { HoldsHead held.now head size }
     ensures { Arrives A.answers A.decides A.Body.kept A.Body.may_be state.now (R.remaining input.old) (R.remaining
         input.new) held.now held.now result }
 {
@@ -120,16 +118,14 @@ fn receive_message<R: Read, T, A: Responder<T>>(
 /// `Silent` if the reader gave up waiting before a message.
 pub(crate) fn receive_next<R: Read, T, A: Responder<T>>(
     input: &mut R,
-    window: &mut [u8],
     buffer: &mut Vec<u8>,
     responder: &A,
     state: &T,
 ) -> Result<Next<A::Course, A::Body>, Halt>
-    requires { 0 < length window.old }
     ensures { Arrives A.answers A.decides A.Body.kept A.Body.may_be state.now
         (R.remaining input.old) (R.remaining input.new) buffer.old.items buffer.new.items result }
 {
-    match receive_head(input, window, buffer)? {
+    match receive_head(input, buffer)? {
         Received::Message(head, size) => {
             receive_message(input, buffer, responder, state, head, size)
         }

@@ -72,10 +72,9 @@ pub(crate) fn run<R: Read, W: Write, T, A: Responder<T>>(
     ensures { Ran A.answers (R.remaining input.old) (W.contents output.old) (W.contents output.new)
         state.old state.new result }
 {
-    let mut window = [0; 4096];
     let mut buffer = Vec::new(alloc);
     'messages: for count in 0..u128::MAX {
-        let next = match receive_next(input, &mut window, &mut buffer, responder, state) {
+        let next = match receive_next(input, &mut buffer, responder, state) {
             Ok(next) => next,
             Err(Halt::Failed(fault)) => return Err(Stop::Failed(fault)),
             Err(Halt::Silent) => return Err(Stop::Silent(reported(count))),

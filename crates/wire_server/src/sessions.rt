@@ -1,4 +1,4 @@
-//! One connection, and how it ended.
+//! A connection, and how it ended.
 ghost use Rattle.std.specs.Prelude.{◌≡◌};
 ghost use Rattle.wire_server.specs.Serves.{Served};
 ghost use Rattle.wire_server.specs.Sessions.{Says, SaysOf, failure, failure_of, result_of};

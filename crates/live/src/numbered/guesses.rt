@@ -1,6 +1,6 @@
-//! Guesses of the places of paths among rows, made for all paths before the first text is compared: the searches and the
-//! comparisons each wait for memory, and apart from one another they wait less. No clause speaks of a guess, since whoever
-//! takes one compares the texts: a wrong guess costs time alone.
+//! Guesses of the places of paths among rows, made for all paths before the first text is compared: the searches and the comparisons each
+//! wait for memory, and apart from one another they wait less. No clause is about a guess, since the texts are compared anyway: a wrong
+//! guess costs only time.
 
 use crate::numbered::heads::head_of;
 use crate::numbered::rows::Row;
@@ -67,7 +67,7 @@ pub(crate) struct Guesses {
 }
 
 impl Guesses {
-    /// One for each path that rows point to: row after row, its references, its outputs, its deriver.
+    /// A guess for each path that rows point to: row after row, its references, its outputs, its deriver.
     pub(crate) fn new(alloc: Global, rows: &[Row], heads: &[u64]) -> Result<Guesses, AllocError> {
         let hints = hints_of(alloc, heads)?;
         let mut places = Vec::new(alloc);

@@ -5,14 +5,14 @@ ghost use Rattle.live.specs.Arguments.{rows_view, roots_view};
 
 use crate::numbered::guesses::Guesses;
 use crate::numbered::heads::heads_of;
-use crate::numbered::places::{add_row, place_of};
+use crate::numbered::places::{Index, place_of};
 use crate::numbered::rows::{Root, Row};
 use crate::numbered::texts::texts_of;
 use crate::numbered::{Graph, Roots};
 use std::alloc::{AllocError, Global};
 
 impl Graph {
-    /// The graph of some rows, which strictly rise. Nothing stays lent.
+    /// The graph of some rows, which strictly rise. It borrows nothing from them.
     ///
     /// ```rust
     /// use live::{Graph, Row};
@@ -30,10 +30,11 @@ impl Graph {
         let heads = heads_of(alloc, rows)?;
         let texts = texts_of(alloc, rows)?;
         let mut guesses = Guesses::new(alloc, rows, &heads)?;
+        let index = Index { rows, heads, texts };
         let mut spans = Vec::new(alloc);
         let mut targets = Vec::new(alloc);
         for row in rows {
-            let span = add_row(&mut targets, rows, &heads, &texts, &mut guesses, *row)?;
+            let span = index.add_row(&mut targets, &mut guesses, *row)?;
             spans.push(span)?;
         }
         Ok(Graph { spans, targets })

@@ -1,9 +1,9 @@
 //! The places of paths among rows.
-ghost use Rattle.std.specs.Prelude.{◌≡◌, ◌<◌, ◌++◌, [], IfNone, IfOk, IfSome, OnOk, filter, length};
+ghost use Rattle.std.specs.Prelude.{◌≡◌, ◌<◌, ◌++◌, List, [], IfNone, IfOk, IfSome, OnOk, filter, length};
 ghost use Rattle.live.specs.Graph.{same};
-ghost use Rattle.live.specs.Numbering.{Rise, numbered_links, path_at, paths_of, place_of as place, places_of};
+ghost use Rattle.live.specs.Numbering.{Rise, Row as Object, numbered_links, path_at, paths_of, place_of as place, places_of};
 ghost use Rattle.live.specs.Arguments.{row_view, rows_view};
-ghost use Rattle.live.specs.Heads.{AreHeads, AreTexts};
+ghost use Rattle.live.specs.Heads.{AreHeaded, AreIndexed};
 ghost use Rattle.live.specs.Added.{IsAdded};
 ghost use Rattle.live.specs.Searched.{IsSearched};
 
@@ -14,6 +14,7 @@ use crate::numbered::rows::Row;
 use paths::StorePath;
 use std::alloc::AllocError;
 use std::cmp::Ordering;
+use std::marker::Model;
 
 /// The place of a path, if it is a row's, where it can only be from one place on and before another.
 fn place_between(rows: &[Row], path: &StorePath, from: usize, to: usize) -> Option<usize>
@@ -59,8 +60,7 @@ pub fn place_of(rows: &[Row], path: &StorePath) -> Option<usize>
 
 /// The place of a path, by the heads of the rows' paths: paths are compared only where heads are the same.
 fn place_by_head(rows: &[Row], heads: &[u64], path: &StorePath) -> Option<usize>
-    requires rise { Rise (paths_of (rows_view rows.now)) }
-    requires heads { AreHeads (paths_of (rows_view rows.now)) heads.now }
+    requires { AreHeaded (paths_of (rows_view rows.now)) heads.now }
     ensures { result ≡ place (paths_of (rows_view rows.now)) path.now }
 {
     let head = head_of(path);
@@ -81,78 +81,75 @@ fn place_by_head(rows: &[Row], heads: &[u64], path: &StorePath) -> Option<usize>
     place_between(rows, path, low, high)
 }
 
-/// The place of a path, if it is a row's, looked for first at a place where it may be.
-fn place_guessed(
-    rows: &[Row],
-    heads: &[u64],
-    texts: &[&str],
-    path: &StorePath,
-    guess: usize,
-) -> Option<usize>
-    requires rise { Rise (paths_of (rows_view rows.now)) }
-    requires heads { AreHeads (paths_of (rows_view rows.now)) heads.now }
-    requires texts { AreTexts (paths_of (rows_view rows.now)) texts.now }
-    ensures { result ≡ place (paths_of (rows_view rows.now)) path.now }
-{
-    if guess < texts.len() && texts[guess] == path.as_str() {
-        return Some(guess);
-    }
-    place_by_head(rows, heads, path)
+/// Rows, with the heads and the texts of their paths. Contracts see it as the rows.
+#[derive(Drop)]
+pub(crate) struct Index<'a> {
+    pub(crate) rows: &'a [Row<'a>],
+    pub(crate) heads: Vec<u64>,
+    pub(crate) texts: Vec<&'a str>,
 }
 
-/// The places of the paths that are rows' go to the end of the list.
-fn add_places(
-    targets: &mut Vec<usize>,
-    rows: &[Row],
-    heads: &[u64],
-    texts: &[&str],
-    guesses: &mut Guesses,
-    paths: &[StorePath],
-) -> Result<(), AllocError>
-    requires rise { Rise (paths_of (rows_view rows.now)) }
-    requires heads { AreHeads (paths_of (rows_view rows.now)) heads.now }
-    requires texts { AreTexts (paths_of (rows_view rows.now)) texts.now }
-    ensures { OnOk result (targets.new.items ≡ targets.old.items
-        ++ places_of (paths_of (rows_view rows.now)) paths.now) }
-{
-    for path in paths {
-        if let Some(place) = place_guessed(rows, heads, texts, path, guesses.next()) {
-            targets.push(place)?;
-        }
-    }
-    Ok(())
+impl<'a> Model for Index<'a> {
+    ghost Value = { List Object };
+
+    ghost view = { λ x. rows_view x.rows.now };
+
+    ghost invariant = { λ x. AreIndexed (paths_of (rows_view x.rows.now)) x.heads.items x.texts.items };
 }
 
-/// The places of an object's entries go to the end of the list.
-pub(crate) fn add_row(
-    targets: &mut Vec<usize>,
-    rows: &[Row],
-    heads: &[u64],
-    texts: &[&str],
-    guesses: &mut Guesses,
-    row: Row,
-) -> Result<Span, AllocError>
-    requires rise { Rise (paths_of (rows_view rows.now)) }
-    requires heads { AreHeads (paths_of (rows_view rows.now)) heads.now }
-    requires texts { AreTexts (paths_of (rows_view rows.now)) texts.now }
-    ensures { IfOk result
-        (IsAdded (numbered_links (paths_of (rows_view rows.now)) (row_view row.entry).1) targets.old.items
-        targets.new.items) }
-{
-    let references = targets.len();
-    add_places(targets, rows, heads, texts, guesses, row.references)?;
-    let outputs = targets.len();
-    add_places(targets, rows, heads, texts, guesses, row.outputs)?;
-    let deriver = targets.len();
-    if let Some(path) = row.deriver {
-        if let Some(place) = place_guessed(rows, heads, texts, path, guesses.next()) {
-            targets.push(place)?;
+impl<'a> Index<'a> {
+    /// The place of a path, if it is a row's, looked for first at a place where it may be.
+    fn find(&self, path: &StorePath, guess: usize) -> Option<usize>
+        ensures { result ≡ place (paths_of self.now) path.now }
+    {
+        if guess < self.texts.len() && self.texts[guess] == path.as_str() {
+            return Some(guess);
         }
+        place_by_head(self.rows, &self.heads, path)
     }
-    Ok(Span {
-        references,
-        outputs,
-        deriver,
-        end: targets.len(),
-    })
+
+    /// The places of the paths that are rows' go to the end of the list.
+    fn add_places(
+        &self,
+        targets: &mut Vec<usize>,
+        guesses: &mut Guesses,
+        paths: &[StorePath],
+    ) -> Result<(), AllocError>
+        ensures { OnOk result (targets.new.items ≡ targets.old.items ++ places_of (paths_of self.now) paths.now) }
+    {
+        for path in paths {
+            if let Some(place) = self.find(path, guesses.next()) {
+                targets.push(place)?;
+            }
+        }
+        Ok(())
+    }
+
+    /// The places of an object's entries go to the end of the list.
+    pub(crate) fn add_row(
+        &self,
+        targets: &mut Vec<usize>,
+        guesses: &mut Guesses,
+        row: Row,
+    ) -> Result<Span, AllocError>
+        ensures { IfOk result
+            (IsAdded (numbered_links (paths_of self.now) (row_view row.entry).1) targets.old.items targets.new.items) }
+    {
+        let references = targets.len();
+        self.add_places(targets, guesses, row.references)?;
+        let outputs = targets.len();
+        self.add_places(targets, guesses, row.outputs)?;
+        let deriver = targets.len();
+        if let Some(path) = row.deriver {
+            if let Some(place) = self.find(path, guesses.next()) {
+                targets.push(place)?;
+            }
+        }
+        Ok(Span {
+            references,
+            outputs,
+            deriver,
+            end: targets.len(),
+        })
+    }
 }

@@ -1,7 +1,7 @@
 //! Objects and roots as a caller passes them.
 use paths::{RootKind, StorePath};
 
-/// An object as a caller passes it: its path, and what it points to, lent from whoever holds it.
+/// An object as a caller passes it: its path, and what it points to, borrowed from the caller.
 #[derive(Clone, Copy)]
 pub struct Row<'a> {
     /// The path.

@@ -1,13 +1,9 @@
-use Rattle.std.proofs.Common.{◌≡◌, ◌++◌, length, length-append, ap, arith}
+use Rattle.std.proofs.Common.{◌≡◌, ◌++◌}
 use Rattle.sha2.specs.Hashers.{Holds256}
 use Rattle.intake.specs.Arriving.{MayHold}
 use Rattle.intake.specs.Contents.{contents_so_far}
 use Rattle.intake.proofs.Hashing.{with_more, renamed}
 use Rattle.intake.proofs.arriving.accept_piece.Goals as goal
-
-pub hash_pieces-requires-clause-order : goal.hash_pieces-requires-clause-order
-hash_pieces-requires-clause-order c =
-    omega (arith, c.len-now.ensures, c.len-whole.ensures, ap length c.in_ok-push.ensures.ok, length-append c.args.pieces.now c.args.piece.now)
 
 pub returns-clause-accepted : goal.returns-clause-accepted
 returns-clause-accepted c = λ has.

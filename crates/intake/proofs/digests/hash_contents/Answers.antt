@@ -7,7 +7,7 @@ use Rattle.intake.proofs.digests.hash_contents.Goals as goal
 
 pub parts-preserved : goal.parts-preserved
 parts-preserved c = λ was.
-    let bytes = c.args.pieces.now in
+    let bytes = c.args.part.pieces.now in
     let i = c.parts.i in
     let before = take (65536 * i) bytes in
     let within : 65536 * i < length bytes = omega arith in

@@ -12,7 +12,7 @@ turns-init c = under_way c.args.graph.now c.args.marks.now c.args.sizes.now c.ar
 pub turns-preserved : goal.turns-preserved
 turns-preserved c =
     one_more c.args.graph.now c.args.marks.now c.args.sizes.now c.args.limit c.turns.turn c.turns.remaining c.turn.new.self c.turns.wanted c.in_ok-wanted.wanted
-    (let t = c.turns-test.true in let n = c.len-turn-end.ensures.value in omega arith) c.turns.invariant c.in_ok-wanted.ensures.remaining c.in_ok-wanted.ensures.dead c.in_ok-wanted.ensures.turn
+    (let t = c.turns-test.true in let n = c.len-turn-end.ensures.value in omega arith) c.turns.invariant c.in_ok-wanted.ensures.dead.remaining c.in_ok-wanted.ensures.dead.dead c.in_ok-wanted.ensures.turn
 
 places : goal.returns-clause-places
 places c keep rows given size rise same exact sized =

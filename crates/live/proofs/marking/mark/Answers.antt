@@ -1,4 +1,4 @@
-use Rattle.std.proofs.Common.{◌+◌, ap, arith}
+use Rattle.std.proofs.Common.{◌+◌, ◌∙◌, ap, arith, length}
 use Rattle.live.specs.Keeping.{keep_view}
 use Rattle.live.proofs.Walked.{start_at, begin_at, consumed_at, smaller, placed, ended, finish_at}
 use Rattle.live.specs.Marking.{Frontier}
@@ -14,9 +14,12 @@ work-init c = begin_at (keep_view c.args.keep) c.args.graph.now c.args.roots.now
     c.roots.root c.len-none.result c.root-target.result c.roots.walk c.reach.new.self c.roots.walker c.root-target.new.self
     c.roots-test.true c.len-none.ensures c.root-target.ensures.value c.roots.invariant.1 c.roots.invariant.0 c.in_ok-reach.ensures c.root-target.ensures.counted
 
-pub take-requires-clause-place : goal.take-requires-clause-place
-take-requires-clause-place c = placed (keep_view c.args.keep) c.args.graph.now c.args.roots.now c.len.ensures.inside c.requires
-    c.roots.root c.in-Some.place c.work.walk c.next.new.self c.work.walker c.work.invariant c.in-Some.ensures.some
+pub take-requires : goal.take-requires
+take-requires c = record {
+  place = placed (keep_view c.args.keep) c.args.graph.now c.args.roots.now c.len.ensures.inside c.requires
+      c.roots.root c.in-Some.place c.work.walk c.next.new.self c.work.walker c.work.invariant c.in-Some.ensures.some;
+  places = ap length c.in-Some.ensures.first ∙ c.work.invariant.places;
+}
 
 pub work-smaller : goal.work-smaller
 work-smaller c = smaller (keep_view c.args.keep) c.args.graph.now c.args.roots.now c.len.ensures.inside c.requires

@@ -9,8 +9,8 @@ use Rattle.live.proofs.referring.count.Goals as goal
 pub loop-entry-init : goal.loop-entry-init
 loop-entry-init c = none_counted c.args.place c.args.referrers.now.items
 
-pub entry-target-requires-clause-entry : goal.entry-target-requires-clause-entry
-entry-target-requires-clause-entry c =
+pub entry-target-requires : goal.entry-target-requires
+entry-target-requires c =
     let held = held_at_least (entries_at c.args.graph.now c.args.place) in
     omega arith
 
@@ -18,7 +18,7 @@ pub loop-entry-preserved : goal.loop-entry-preserved
 loop-entry-preserved c =
     let refs : List ℕ = (entries_at c.args.graph.now c.args.place).references in
     let below : c.loop-entry.entry < length refs = omega arith in
-    let is : c.entry-target.result ≡ slice_index refs c.loop-entry.entry = c.entry-target.ensures.value ∙ first_held (entries_at c.args.graph.now c.args.place) c.loop-entry.entry below in
+    let is : c.entry-target.result ≡ slice_index refs c.loop-entry.entry = c.entry-target.ensures.read.value ∙ first_held (entries_at c.args.graph.now c.args.place) c.loop-entry.entry below in
     elim c.if-target-place.branch [
       | then-target-place+in_ok-referrers w ↦
           let inside : c.entry-target.result < length c.args.referrers.now.items = omega arith in

@@ -5,4 +5,4 @@ use Rattle.nar.proofs.Fits.{size_by_room}
 use Rattle.nar.proofs.fitting.archive_size.Goals as goal
 
 pub returns : goal.returns
-returns c = size_by_room (tree_of c.args.node.now) c.unwrap_or-left.result c.saturating_sub.result c.requires (c.unwrap_or-left.ensures ∙ ap (λ (o : Option ℕ). unwrap_or o 0) c.room_after_node.ensures) c.saturating_sub.ensures
+returns c writable = size_by_room (tree_of c.args.node.now) c.unwrap_or-left.result c.saturating_sub.result writable (c.unwrap_or-left.ensures ∙ ap (λ (o : Option ℕ). unwrap_or o 0) c.room_after_node.ensures) c.saturating_sub.ensures

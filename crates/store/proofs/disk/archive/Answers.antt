@@ -13,7 +13,7 @@ use Rattle.store.proofs.disk.archive.Goals as goal
 
 pub returns : goal.returns
 returns g c s caller = met_by_disk g.S.Store s caller (nar c.args.path) c.args.tables.now c.read.new.tables _ c.in_ok-nar.ensures.reads (λ h. h) (λ w t. tt)
-    (λ w t. (c.in_ok-may_read.ensures s w (t.outline ∙ sym c.outline.ensures), λ honest. ap archive_of (c.in_ok-nar.ensures.archive (honest refl) w t), refl))
+    (λ w t. (c.in_ok-may_read.ensures s w (t.outline ∙ sym c.outline.ensures), λ honest. ap archive_of (c.in_ok-nar.ensures.value (honest refl) w t), refl))
 
 pub returns-in_err-nar : goal.returns-in_err-nar
 returns-in_err-nar g c s caller =

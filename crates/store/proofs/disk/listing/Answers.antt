@@ -13,7 +13,7 @@ use Rattle.store.proofs.disk.listing.Goals as goal
 
 pub returns : goal.returns
 returns g c s caller = met_by_disk g.S.Store s caller (ls c.args.path) c.args.tables.now c.read_listing.new.tables _ c.in_ok-text.ensures.reads (λ h. h) (λ w t. tt)
-    (λ w t. (c.in_ok-may_read.ensures s w (t.outline ∙ sym c.outline.ensures), λ honest. ap listing_of (c.in_ok-text.ensures.listing (honest refl) w t), refl))
+    (λ w t. (c.in_ok-may_read.ensures s w (t.outline ∙ sym c.outline.ensures), λ honest. ap listing_of (c.in_ok-text.ensures.value (honest refl) w t), refl))
 
 pub returns-in_err-text : goal.returns-in_err-text
 returns-in_err-text g c s caller =

@@ -14,7 +14,7 @@ returns-then-has g c =
 pub insert_object-requires-clause-sound : goal.insert_object-requires-clause-sound
 insert_object-requires-clause-sound g c =
     sound_put g.S.Store c.args.added.path c.args.added.object c.args.tables.now c.args.added.nar c.args.added.nar refl
-    (ap (λ (x : OutlineValue). finite.contains_key x.objects c.args.added.path) (sym c.outline.ensures) ∙ sym c.has.ensures ∙ c.if-has.false) c.requires.sound
+    (ap (λ (x : OutlineValue). finite.contains_key x.objects c.args.added.path) (sym c.outline.ensures) ∙ sym c.has.ensures ∙ c.if-has.false) c.requires
 
 pub returns : goal.returns
 returns g c =

@@ -8,8 +8,8 @@ use Rattle.store_steps.proofs.Untouched.{met_by_reading, reads_stopped}
 use Rattle.store_adds.proofs.AddedObjects.{met_by_adding, text_given, text_stopped, text_stays_sound}
 use Rattle.store_adds.proofs.adding.add_text.Goals as goal
 
-pub add-requires-clause-sound : goal.add-requires-clause-sound
-add-requires-clause-sound g c =
+pub add-requires : goal.add-requires
+add-requires g c =
     let bytes : IsBytes c.args.contents.items = subst IsBytes c.deref.ensures.value c.in_ok-added.ensures.bytes in
     text_stays_sound g.S.Store c.args.tables.now c.args.config.now c.args.name c.args.refs.items c.args.contents.items (added_view c.in_ok-added.added) c.requires.dir c.as_str-text.ensures.valid bytes
     (text_given c.args.name c.args.refs.items c.outline.result.now c.args.tables.now.outline c.store_dir-dir.result.now c.args.config.now.store_dir c.deref.result.now c.args.contents.items

@@ -9,8 +9,8 @@ use Rattle.store_adds.proofs.AddedObjects.{met_by_adding}
 use Rattle.store_adds.proofs.AddedImports.{import_given, import_stopped, import_stays_sound}
 use Rattle.store_adds.proofs.imports.import_object.Goals as goal
 
-pub add-requires-clause-sound : goal.add-requires-clause-sound
-add-requires-clause-sound g c =
+pub add-requires : goal.add-requires
+add-requires g c =
     import_stays_sound g.S.Store c.args.tables.now c.args.config.now (import_view c.args.import) (added_view c.in_ok-added.added) c.requires.dir c.in_ok-added.ensures.formed
     (import_given (import_view c.args.import) c.outline.result.now c.args.tables.now.outline c.store_dir-dir.result.now c.args.config.now.store_dir
     c.outline.ensures c.store_dir-dir.ensures (added_view c.in_ok-added.added) c.in_ok-added.ensures.reported)

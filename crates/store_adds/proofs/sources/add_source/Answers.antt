@@ -9,8 +9,8 @@ use Rattle.store_adds.proofs.AddedSources.{source_given, source_stopped, source_
 use Rattle.intake.specs.Arriving.{bytes_in}
 use Rattle.store_adds.proofs.sources.add_source.Goals as goal
 
-pub add-requires-clause-sound : goal.add-requires-clause-sound
-add-requires-clause-sound g c =
+pub add-requires : goal.add-requires
+add-requires g c =
     source_stays_sound g.S.Store c.args.tables.now c.args.config.now c.args.name c.args.refs.items (bytes_in c.args.nar) (added_view c.in_ok-added.added) c.requires.dir c.as_str-text.ensures.valid c.in_ok-added.ensures.bytes
     (source_given c.args.name c.args.refs.items (bytes_in c.args.nar) c.outline.result.now c.args.tables.now.outline c.store_dir-dir.result.now c.args.config.now.store_dir
     c.outline.ensures c.store_dir-dir.ensures (added_view c.in_ok-added.added) c.in_ok-added.ensures.reported)

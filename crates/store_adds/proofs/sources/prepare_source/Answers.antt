@@ -1,5 +1,6 @@
 use Rattle.std.proofs.Common.{◌≡◌, ℕ, List, None, Some, sym, ap, subst, ◌∙◌}
 use Rattle.nar.specs.Tree.{IsBytes}
+use Rattle.intake.specs.Arriving.{bytes_in}
 use Rattle.sha2.specs.Sha256.{sha256}
 use Rattle.paths.specs.Path.{source_path}
 use Rattle.paths.specs.ContentAddress.{ContentAddress}
@@ -11,7 +12,7 @@ use Rattle.model.specs.Tests.{first_failing, source_tests}
 use Rattle.store_adds.proofs.sources.prepare_source.Goals as goal
 
 pub returns-clause-bytes : goal.returns-clause-bytes
-returns-clause-bytes c = subst IsBytes c.in_ok-nar.ensures.pieces c.in_ok-nar.ensures.reported.bytes
+returns-clause-bytes c = subst IsBytes (sym (ap bytes_in c.in_ok-nar.ensures.pieces)) c.in_ok-nar.ensures.reported.bytes
 
 pub returns-clause-reported : goal.returns-clause-reported
 returns-clause-reported c w is =
@@ -24,7 +25,7 @@ returns-clause-reported c w is =
     let examined = c.in_ok-outputs.ensures w is in
     let path_is : c.in_ok-path.path ≡ source_path dir name refs nar =
     c.in_ok-path.ensures.value nar hash ∙ ap (λ (r : List (List ℕ)). source_path dir name r nar) c.deref.ensures.value in
-    subst (λ (b : List ℕ). (first_failing (source_tests dir w (source_path dir name refs b) refs b) ≡ None) × (added ≡ added_source dir name refs b)) c.in_ok-nar.ensures.pieces (
+    subst (λ (b : List ℕ). (first_failing (source_tests dir w (source_path dir name refs b) refs b) ≡ None) × (added ≡ added_source dir name refs b)) (sym (ap bytes_in c.in_ok-nar.ensures.pieces)) (
       sym (ap (λ (p : List ℕ). first_failing (source_tests dir w p refs nar)) path_is)
           ∙ ap (λ (r : List (List ℕ)). first_failing (source_tests dir w c.in_ok-path.path r nar)) (sym c.deref-2.ensures.value) ∙ examined.0,
       λ i. record {
@@ -39,5 +40,8 @@ returns-clause-reported c w is =
       },
     )
 
-pub returns-clause-hash : goal.returns-clause-hash
-returns-clause-hash c = ap (λ (o : Outlined). o.hash) c.in_ok-object.ensures ∙ c.in_ok-nar.ensures.reported.hash
+pub invariant_of-added : goal.invariant_of-added
+invariant_of-added c = record {
+  size = ap (λ (o : Outlined). o.size) c.in_ok-object.ensures ∙ c.len.ensures;
+  hash = ap (λ (o : Outlined). o.hash) c.in_ok-object.ensures ∙ c.in_ok-nar.ensures.reported.hash;
+}

@@ -14,8 +14,11 @@ use Rattle.store_adds.proofs.texts.prepare_text.Goals as goal
 abbrev as_address : List ℕ → ContentAddress
 as_address digest = record { method = Text; digest = digest }
 
-pub returns-clause-hash : goal.returns-clause-hash
-returns-clause-hash c = ap (λ (o : Outlined). o.hash) c.in_ok-object.ensures ∙ c.in_ok-archive.ensures.hash
+pub invariant_of-added : goal.invariant_of-added
+invariant_of-added c = record {
+  size = ap (λ (o : Outlined). o.size) c.in_ok-object.ensures ∙ c.len-size.ensures;
+  hash = ap (λ (o : Outlined). o.hash) c.in_ok-object.ensures ∙ c.in_ok-archive.ensures.hash;
+}
 
 pub returns-clause-bytes : goal.returns-clause-bytes
 returns-clause-bytes c = λ i. omega (arith, c.type_inv.contents i)

@@ -16,7 +16,7 @@ use Rattle.tables.proofs.Transactions.{others_kept, written}
 use Rattle.tables.proofs.change.commit.Goals as goal
 
 pub write-requires-clause-whole : goal.write-requires-clause-whole
-write-requires-clause-whole g c = begun_has g.S.Store c.args.conn.now c.begin-tx.result.conn.now IsWhole c.begin-tx.ensures.begun c.requires.frame.whole
+write-requires-clause-whole g c = begun_has g.S.Store c.args.conn.now c.begin-tx.result.conn.now IsWhole c.begin-tx.ensures.begun c.requires.whole
 
 pub write-requires-clause-fits : goal.write-requires-clause-fits
 write-requires-clause-fits g c = begun_has g.S.Store c.args.conn.now c.begin-tx.result.conn.now (λ (x : Database). g.C.Change.fits c.args.change.now (contents_of x)) c.begin-tx.ensures.begun c.requires.fits
@@ -36,12 +36,12 @@ returns-clause-frame g c =
     let is = c.begin-tx.ensures.begun in
     let done = c.in_ok-write.ensures.done in
     let all = survives_all g.S.Store before start wrote new f is c.begin-tx.ensures.under_way done c.write.ensures.frame.survives c.commit.ensures.survives in
-    let whole : HasCleanDisk new → IsCommitted wrote new → IsWritten old new f = λ clean k. written g.S.Store before start wrote new f _ is done c.write.ensures.frame.survives c.commit.ensures.survives c.requires.frame.whole clean k in
+    let whole : HasCleanDisk new → IsCommitted wrote new → IsWritten old new f = λ clean k. written g.S.Store before start wrote new f _ is done c.write.ensures.frame.survives c.commit.ensures.survives c.requires.whole clean k in
     subst (λ h. CommitsRows g.S.Store before h c.commit.result f) same (record {
       idle = c.commit.ensures.ended;
       done = λ clean. on_ok c.commit.result _ _ (whole clean) (c.commit.ensures.done clean);
-      others = λ clean. on_ok c.commit.result _ _ (λ k. others_kept old new f _ all c.requires.frame.ready clean (whole clean k)) (c.commit.ensures.done clean);
-      failed = λ clean. undone g.S.Store before start wrote new _ _ c.commit.result is done c.write.ensures.frame.survives c.commit.ensures.survives c.requires.frame.ready clean (c.commit.ensures.failed clean);
+      others = λ clean. on_ok c.commit.result _ _ (λ k. others_kept old new f _ all c.requires.ready clean (whole clean k)) (c.commit.ensures.done clean);
+      failed = λ clean. undone g.S.Store before start wrote new _ _ c.commit.result is done c.write.ensures.frame.survives c.commit.ensures.survives c.requires.ready clean (c.commit.ensures.failed clean);
       durable = always_done c.commit.result _ c.commit.ensures.durable;
       was_open = λ clean. on_ok c.commit.result _ _ (λ k. ((whole clean k).was_open, (whole clean k).is_open)) (c.commit.ensures.done clean);
       survives = all;

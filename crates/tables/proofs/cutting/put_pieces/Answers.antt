@@ -21,7 +21,7 @@ use Rattle.tables.proofs.Free.{free_next}
 use Rattle.tables_make.proofs.Reasons.{is_none, next_reason, put_reason}
 use Rattle.tables.proofs.Transactions.{pieces_exist}
 use Rattle.tables_make.proofs.Inside.{done_fails}
-use Rattle.tables.proofs.Failing.{none_done}
+use Rattle.tables_make.proofs.Failed.{none_done}
 use Rattle.tables.proofs.cutting.put_pieces.Goals as goal
 
 pub pieces-init : goal.pieces-init
@@ -31,8 +31,8 @@ pieces-init g c =
     let change : List (ℤ × List ℕ) → Contents → Contents = λ ps x. record x { pieces = put_pieces c.args.base.now ps x.pieces } in
     record {
       same_reference = refl;
-      goes = λ clean. subst (λ ps. Goes change (further_pieces nar) first first ps) (sym (all_left nar)) (goes_first change (further_pieces nar) first (c.requires.frame.under_way clean) (c.requires.frame.is_open clean));
-      free = λ clean. subst (λ ps. AreFree (contents_of first.now).pieces (map (λ (e : ℤ × List ℕ). (c.args.base.now, e.0)) ps)) (sym (all_left nar)) (c.requires.free clean);
+      goes = λ clean. subst (λ ps. Goes change (further_pieces nar) first first ps) (sym (all_left nar)) (goes_first change (further_pieces nar) first (c.requires.under_way clean) (c.requires.is_open clean));
+      free = λ clean. subst (λ ps. AreFree (contents_of first.now).pieces (map (λ (e : ℤ × List ℕ). (c.args.base.now, e.0)) ps)) (sym (all_left nar)) (c.requires.fits clean);
       among = λ t values. subst (λ ps. RowsOf (PieceRow c.args.base.now) ps t values) (all_left nar);
       survives = survives_none first;
     }
@@ -65,7 +65,7 @@ pieces-preserved g c =
 
 pub insert-requires-clause-exists : goal.insert-requires-clause-exists
 insert-requires-clause-exists g c clean is_open =
-    pieces_exist (state g.S.Store c.args.tx.now.conn.now) (state g.S.Store c.pieces.tx.conn.now) _ (λ now. (c.pieces.invariant.goes now).changes) c.pieces.invariant.survives (λ early up. c.requires.frame.exists early) clean
+    pieces_exist (state g.S.Store c.args.tx.now.conn.now) (state g.S.Store c.pieces.tx.conn.now) _ (λ now. (c.pieces.invariant.goes now).changes) c.pieces.invariant.survives (λ early up. c.requires.exists early) clean
 
 pub returns-then-place-count : goal.returns-then-place-count
 returns-then-place-count g c = record {

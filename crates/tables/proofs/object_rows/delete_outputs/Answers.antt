@@ -13,8 +13,8 @@ returns-then-is_empty g c = record {
   frame = record { same_reference = refl; failed = λ clean. tt; survives = survives_none (state g.S.Store c.args.tx.now.conn.now) };
   done = λ clean.
       let s = state g.S.Store c.args.tx.now.conn.now in
-      changes_nothing s _ (c.requires.frame.under_way clean) (c.requires.frame.is_open clean)
-      (no_outputs (contents_of s.now) c.args.base.now (λ name present. keyless c.args.object.now.outputs (λ e. e.1) c.outputs.result.now c.outputs.ensures c.if-is_empty.ensures name (c.requires.reported clean name present)));
+      changes_nothing s _ (c.requires.under_way clean) (c.requires.is_open clean)
+      (no_outputs (contents_of s.now) c.args.base.now (λ name present. keyless c.args.object.now.outputs (λ e. e.1) c.outputs.result.now c.outputs.ensures c.if-is_empty.ensures name (c.requires.fits clean name present)));
   cause = λ clean. tt;
 }
 

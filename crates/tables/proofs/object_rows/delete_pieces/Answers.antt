@@ -15,8 +15,8 @@ returns-then-size-le-PIECE_SIZE g c = record {
   frame = record { same_reference = refl; failed = λ clean. tt; survives = survives_none (state g.S.Store c.args.tx.now.conn.now) };
   done = λ clean.
       let s = state g.S.Store c.args.tx.now.conn.now in
-      changes_nothing s _ (c.requires.frame.under_way clean) (c.requires.frame.is_open clean)
-      (no_pieces (contents_of s.now) c.args.base.now (λ n present. let longer : piece_size < c.args.object.now.size = c.requires.reported clean n present in omega (arith, longer, size_is, c.size.ensures, c.if-size-le-PIECE_SIZE.true)));
+      changes_nothing s _ (c.requires.under_way clean) (c.requires.is_open clean)
+      (no_pieces (contents_of s.now) c.args.base.now (λ n present. let longer : piece_size < c.args.object.now.size = c.requires.fits clean n present in omega (arith, longer, size_is, c.size.ensures, c.if-size-le-PIECE_SIZE.true)));
   cause = λ clean. tt;
 }
 

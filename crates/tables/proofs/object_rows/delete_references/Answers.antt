@@ -13,8 +13,8 @@ returns-then-is_empty g c = record {
   frame = record { same_reference = refl; failed = λ clean. tt; survives = survives_none (state g.S.Store c.args.tx.now.conn.now) };
   done = λ clean.
       let s = state g.S.Store c.args.tx.now.conn.now in
-      changes_nothing s _ (c.requires.frame.under_way clean) (c.requires.frame.is_open clean)
-      (no_references (contents_of s.now) c.args.base.now (λ r present. keyless c.args.object.now.references (λ e. e.0) c.references.result.now c.references.ensures c.if-is_empty.ensures r (c.requires.reported clean r present)));
+      changes_nothing s _ (c.requires.under_way clean) (c.requires.is_open clean)
+      (no_references (contents_of s.now) c.args.base.now (λ r present. keyless c.args.object.now.references (λ e. e.0) c.references.result.now c.references.ensures c.if-is_empty.ensures r (c.requires.fits clean r present)));
   cause = λ clean. tt;
 }
 

@@ -17,7 +17,7 @@ use Rattle.tables_sql.proofs.Transactions.{survives_none}
 use Rattle.tables_sql.proofs.TestFailures.{passed_on, survives_both}
 use Rattle.tables_make.proofs.Reasons.{is_none, next_reason, of_item, put_reason}
 use Rattle.tables_make.proofs.Inside.{done_fails}
-use Rattle.tables.proofs.Failing.{none_done}
+use Rattle.tables_make.proofs.Failed.{none_done}
 use Rattle.tables.proofs.objects.put_outputs.Goals as goal
 
 pub outputs-init : goal.outputs-init
@@ -27,7 +27,7 @@ outputs-init g c =
     record {
       same_reference = refl;
       goes = λ clean. goes_first (λ es (x : Contents). record x { outs = put_outputs c.args.base.now es x.outs }) all first (c.requires.frame.under_way clean) (c.requires.frame.is_open clean);
-      free = c.requires.free;
+      free = c.requires.frame.fits;
       survives = survives_none first;
     }
 

@@ -16,7 +16,7 @@ use Rattle.tables_sql.proofs.Orders.{pair_total}
 use Rattle.tables.proofs.Free.{free_next}
 use Rattle.tables_make.proofs.Reasons.{is_none, next_reason, of_item, put_reason}
 use Rattle.tables_make.proofs.Inside.{done_fails}
-use Rattle.tables.proofs.Failing.{none_done}
+use Rattle.tables_make.proofs.Failed.{none_done}
 use Rattle.tables.proofs.objects.put_references.Goals as goal
 
 pub targets-init : goal.targets-init
@@ -24,8 +24,8 @@ targets-init g c =
     let first = state g.S.Store c.args.tx.now.conn.now in
     record {
       same_reference = refl;
-      goes = λ clean. goes_first (λ rs (x : Contents). record x { refs = put_references c.args.base.now rs x.refs }) c.args.targets.now first (c.requires.frame.under_way clean) (c.requires.frame.is_open clean);
-      free = c.requires.free;
+      goes = λ clean. goes_first (λ rs (x : Contents). record x { refs = put_references c.args.base.now rs x.refs }) c.args.targets.now first (c.requires.under_way clean) (c.requires.is_open clean);
+      free = c.requires.fits;
       survives = survives_none first;
     }
 

@@ -9,7 +9,7 @@ use Rattle.tables_sql.proofs.Transactions.{done_both, failed_next}
 use Rattle.tables_sql.proofs.Steps.{under_after}
 use Rattle.tables_sql.proofs.TestFailures.{passed_on, survives_both}
 use Rattle.tables_make.proofs.Reasons.{as_reason, is_none, next_reason, put_reason, removal_reason}
-use Rattle.tables.proofs.Failing.{none_done, on_err}
+use Rattle.tables_make.proofs.Failed.{none_done, always_failed}
 use Rattle.tables.proofs.permanent.replace.Goals as goal
 
 pub insert-requires : goal.insert-requires
@@ -42,7 +42,7 @@ returns g c = record {
 
 pub returns-in_err-delete : goal.returns-in_err-delete
 returns-in_err-delete g c = record {
-  frame = record { same_reference = c.delete.ensures.frame.same_reference; failed = λ clean. on_err c.from_residual.result _ (c.in_err-delete.ensures.frame.failed clean); survives = c.delete.ensures.frame.survives };
+  frame = record { same_reference = c.delete.ensures.frame.same_reference; failed = λ clean. always_failed c.from_residual.result _ (c.in_err-delete.ensures.frame.failed clean); survives = c.delete.ensures.frame.survives };
   done = λ clean. none_done c.from_residual.result _ _ c.from_residual.ensures.1;
   cause = λ clean.
       passed_on c.from_residual.result _ _ c.from_residual.ensures.1 (removal_reason _ (state g.S.Store c.args.tx.now.conn.now) (state g.S.Store c.delete.new.tx.conn.now) _ (c.in_err-delete.ensures.cause clean));

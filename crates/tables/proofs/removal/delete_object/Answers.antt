@@ -8,14 +8,15 @@ use Rattle.tables_sql.proofs.Transactions.{done_both, failed_next, steps_both}
 use Rattle.tables_sql.proofs.Steps.{under_after}
 use Rattle.tables.specs.Rewritten.{without_object}
 use Rattle.tables.proofs.Covered.{references_reported, outputs_reported, pieces_reported, single_removed}
-use Rattle.tables.proofs.Failing.{err_kept, none_done, on_err}
+use Rattle.tables_make.proofs.Failing.{err_kept}
+use Rattle.tables_make.proofs.Failed.{none_done, always_failed}
 use Rattle.tables_sql.proofs.TestFailures.{passed_on, survives_both}
 use Rattle.tables.proofs.Transactions.{changes_at, pieces_exist}
 use Rattle.tables_make.proofs.Reasons.{as_reason, next_reason, removal_reason}
 use Rattle.tables.proofs.removal.delete_object.Goals as goal
 
-pub delete_references-requires-clause-frame : goal.delete_references-requires-clause-frame
-delete_references-requires-clause-frame g c = record {
+pub delete_references-requires : goal.delete_references-requires
+delete_references-requires g c = record {
   under_way = λ clean.
       let a = state g.S.Store c.args.tx.now.conn.now in
       let b = state g.S.Store c.delete.new.tx.conn.now in
@@ -24,18 +25,16 @@ delete_references-requires-clause-frame g c = record {
       let a = state g.S.Store c.args.tx.now.conn.now in
       let b = state g.S.Store c.delete.new.tx.conn.now in
       (c.in_ok-delete.ensures.done clean).is_open;
+  fits = λ clean.
+      let a = state g.S.Store c.args.tx.now.conn.now in
+      let b = state g.S.Store c.delete.new.tx.conn.now in
+      let it = c.in_ok-delete.ensures.done clean in
+      let early : HasCleanDisk a = omega (arith, c.delete.ensures.frame.survives.clean, clean) in
+      references_reported c.args.outline.now (contents_of a.now) c.args.path.now c.as_str-base.result.now c.in-Some.object.now (c.requires.tables early it.was_open).1 c.in-Some.ensures c.as_str-base.ensures.value (contents_of b.now) (ap (λ (x : Contents). x.refs) it.contents);
 }
 
-pub delete_references-requires-clause-reported : goal.delete_references-requires-clause-reported
-delete_references-requires-clause-reported g c clean =
-    let a = state g.S.Store c.args.tx.now.conn.now in
-    let b = state g.S.Store c.delete.new.tx.conn.now in
-    let it = c.in_ok-delete.ensures.done clean in
-    let early : HasCleanDisk a = omega (arith, c.delete.ensures.frame.survives.clean, clean) in
-    references_reported c.args.outline.now (contents_of a.now) c.args.path.now c.as_str-base.result.now c.in-Some.object.now (c.requires.covers early it.was_open) c.in-Some.ensures c.as_str-base.ensures.value (contents_of b.now) (ap (λ (x : Contents). x.refs) it.contents)
-
-pub delete_outputs-requires-clause-frame : goal.delete_outputs-requires-clause-frame
-delete_outputs-requires-clause-frame g c = record {
+pub delete_outputs-requires : goal.delete_outputs-requires
+delete_outputs-requires g c = record {
   under_way = λ clean.
       let a = state g.S.Store c.args.tx.now.conn.now in
       let b = state g.S.Store c.delete.new.tx.conn.now in
@@ -46,19 +45,17 @@ delete_outputs-requires-clause-frame g c = record {
       let b = state g.S.Store c.delete.new.tx.conn.now in
       let d = state g.S.Store c.delete_references.new.tx.conn.now in
       ((steps_both a b d _ _ c.in_ok-delete.ensures.done c.delete_references.ensures.frame.survives c.in_ok-delete_references.ensures.done) clean).is_open;
+  fits = λ clean.
+      let a = state g.S.Store c.args.tx.now.conn.now in
+      let b = state g.S.Store c.delete.new.tx.conn.now in
+      let d = state g.S.Store c.delete_references.new.tx.conn.now in
+      let it = (steps_both a b d _ _ c.in_ok-delete.ensures.done c.delete_references.ensures.frame.survives c.in_ok-delete_references.ensures.done) clean in
+      let early : HasCleanDisk a = omega (arith, (survives_both a b d c.delete.ensures.frame.survives c.delete_references.ensures.frame.survives).clean, clean) in
+      outputs_reported c.args.outline.now (contents_of a.now) c.args.path.now c.as_str-base.result.now c.in-Some.object.now (c.requires.tables early it.was_open).1 c.in-Some.ensures c.as_str-base.ensures.value (contents_of d.now) (ap (λ (x : Contents). x.outs) it.contents);
 }
 
-pub delete_outputs-requires-clause-reported : goal.delete_outputs-requires-clause-reported
-delete_outputs-requires-clause-reported g c clean =
-    let a = state g.S.Store c.args.tx.now.conn.now in
-    let b = state g.S.Store c.delete.new.tx.conn.now in
-    let d = state g.S.Store c.delete_references.new.tx.conn.now in
-    let it = (steps_both a b d _ _ c.in_ok-delete.ensures.done c.delete_references.ensures.frame.survives c.in_ok-delete_references.ensures.done) clean in
-    let early : HasCleanDisk a = omega (arith, (survives_both a b d c.delete.ensures.frame.survives c.delete_references.ensures.frame.survives).clean, clean) in
-    outputs_reported c.args.outline.now (contents_of a.now) c.args.path.now c.as_str-base.result.now c.in-Some.object.now (c.requires.covers early it.was_open) c.in-Some.ensures c.as_str-base.ensures.value (contents_of d.now) (ap (λ (x : Contents). x.outs) it.contents)
-
-pub delete_pieces-requires-clause-frame : goal.delete_pieces-requires-clause-frame
-delete_pieces-requires-clause-frame g c = record {
+pub delete_pieces-requires : goal.delete_pieces-requires
+delete_pieces-requires g c = record {
   under_way = λ clean.
       let a = state g.S.Store c.args.tx.now.conn.now in
       let b = state g.S.Store c.delete.new.tx.conn.now in
@@ -76,18 +73,16 @@ delete_pieces-requires-clause-frame g c = record {
       let b = state g.S.Store c.delete.new.tx.conn.now in
       let d = state g.S.Store c.delete_references.new.tx.conn.now in
       let e = state g.S.Store c.delete_outputs.new.tx.conn.now in
-      pieces_exist a e _ (steps_both a d e _ _ (steps_both a b d _ _ c.in_ok-delete.ensures.done c.delete_references.ensures.frame.survives c.in_ok-delete_references.ensures.done) c.delete_outputs.ensures.frame.survives c.in_ok-delete_outputs.ensures.done) (survives_both a d e (survives_both a b d c.delete.ensures.frame.survives c.delete_references.ensures.frame.survives) c.delete_outputs.ensures.frame.survives) c.requires.exists clean;
+      pieces_exist a e _ (steps_both a d e _ _ (steps_both a b d _ _ c.in_ok-delete.ensures.done c.delete_references.ensures.frame.survives c.in_ok-delete_references.ensures.done) c.delete_outputs.ensures.frame.survives c.in_ok-delete_outputs.ensures.done) (survives_both a d e (survives_both a b d c.delete.ensures.frame.survives c.delete_references.ensures.frame.survives) c.delete_outputs.ensures.frame.survives) (λ early up. (c.requires.tables early up).0) clean;
+  fits = λ clean.
+      let a = state g.S.Store c.args.tx.now.conn.now in
+      let b = state g.S.Store c.delete.new.tx.conn.now in
+      let d = state g.S.Store c.delete_references.new.tx.conn.now in
+      let e = state g.S.Store c.delete_outputs.new.tx.conn.now in
+      let it = (steps_both a d e _ _ (steps_both a b d _ _ c.in_ok-delete.ensures.done c.delete_references.ensures.frame.survives c.in_ok-delete_references.ensures.done) c.delete_outputs.ensures.frame.survives c.in_ok-delete_outputs.ensures.done) clean in
+      let early : HasCleanDisk a = omega (arith, (survives_both a d e (survives_both a b d c.delete.ensures.frame.survives c.delete_references.ensures.frame.survives) c.delete_outputs.ensures.frame.survives).clean, clean) in
+      pieces_reported c.args.outline.now (contents_of a.now) c.args.path.now c.as_str-base.result.now c.in-Some.object.now (c.requires.tables early it.was_open).1 c.in-Some.ensures c.as_str-base.ensures.value (contents_of e.now) (ap (λ (x : Contents). x.pieces) it.contents);
 }
-
-pub delete_pieces-requires-clause-reported : goal.delete_pieces-requires-clause-reported
-delete_pieces-requires-clause-reported g c clean =
-    let a = state g.S.Store c.args.tx.now.conn.now in
-    let b = state g.S.Store c.delete.new.tx.conn.now in
-    let d = state g.S.Store c.delete_references.new.tx.conn.now in
-    let e = state g.S.Store c.delete_outputs.new.tx.conn.now in
-    let it = (steps_both a d e _ _ (steps_both a b d _ _ c.in_ok-delete.ensures.done c.delete_references.ensures.frame.survives c.in_ok-delete_references.ensures.done) c.delete_outputs.ensures.frame.survives c.in_ok-delete_outputs.ensures.done) clean in
-    let early : HasCleanDisk a = omega (arith, (survives_both a d e (survives_both a b d c.delete.ensures.frame.survives c.delete_references.ensures.frame.survives) c.delete_outputs.ensures.frame.survives).clean, clean) in
-    pieces_reported c.args.outline.now (contents_of a.now) c.args.path.now c.as_str-base.result.now c.in-Some.object.now (c.requires.covers early it.was_open) c.in-Some.ensures c.as_str-base.ensures.value (contents_of e.now) (ap (λ (x : Contents). x.pieces) it.contents)
 
 pub returns-in_err-delete_references : goal.returns-in_err-delete_references
 returns-in_err-delete_references g c = record {
@@ -120,7 +115,7 @@ returns-in_default g c = record {
       let it = c.in_ok-delete.ensures.done clean in
       let early : HasCleanDisk a = omega (arith, c.delete.ensures.frame.survives.clean, clean) in
       let path = c.args.path.now in
-      changes_at a b _ (without_object path) (ap (λ p. record (contents_of a.now) { objects = finite.retain_keys (contents_of a.now).objects (λ k. not (same k p)) }) c.as_str-base.ensures.value ∙ single_removed c.args.outline.now (contents_of a.now) path (c.requires.covers early it.was_open) (sym c.in_default.ensures)) it;
+      changes_at a b _ (without_object path) (ap (λ p. record (contents_of a.now) { objects = finite.retain_keys (contents_of a.now).objects (λ k. not (same k p)) }) c.as_str-base.ensures.value ∙ single_removed c.args.outline.now (contents_of a.now) path (c.requires.tables early it.was_open).1 (sym c.in_default.ensures)) it;
   cause = λ clean. tt;
 }
 
@@ -182,7 +177,7 @@ returns g c = record {
 
 pub returns-in_err-delete : goal.returns-in_err-delete
 returns-in_err-delete g c = record {
-  frame = record { same_reference = c.delete.ensures.frame.same_reference; failed = λ clean. on_err c.from_residual.result _ (c.in_err-delete.ensures.frame.failed clean); survives = c.delete.ensures.frame.survives };
+  frame = record { same_reference = c.delete.ensures.frame.same_reference; failed = λ clean. always_failed c.from_residual.result _ (c.in_err-delete.ensures.frame.failed clean); survives = c.delete.ensures.frame.survives };
   done = λ clean. none_done c.from_residual.result _ _ c.from_residual.ensures.1;
   cause = λ clean.
       passed_on c.from_residual.result _ _ c.from_residual.ensures.1 (removal_reason _ (state g.S.Store c.args.tx.now.conn.now) (state g.S.Store c.delete.new.tx.conn.now) _ (c.in_err-delete.ensures.cause clean));

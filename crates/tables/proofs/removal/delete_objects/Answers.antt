@@ -4,6 +4,7 @@ use Rattle.tables_sql.specs.Contents.{contents_of}
 use Rattle.model.specs.World.{Path}
 use Rattle.tables.specs.Rewritten.{Covers, without_object, without_objects}
 use Rattle.tables_sql.proofs.Going.{goes_first, goes_next, goes_done}
+use Rattle.tables_sql.proofs.Steps.{under_after}
 use Rattle.tables_sql.proofs.Transactions.{survives_none}
 use Rattle.tables.proofs.Covered.{covers_less}
 use Rattle.tables.proofs.AfterWrites.{clean_before}
@@ -13,7 +14,7 @@ use Rattle.tables_sql.proofs.TestFailures.{passed_on, survives_both}
 use Rattle.tables.proofs.Transactions.{pieces_exist}
 use Rattle.tables_make.proofs.Reasons.{next_reason}
 use Rattle.tables_make.proofs.Inside.{done_fails}
-use Rattle.tables.proofs.Failing.{none_done}
+use Rattle.tables_make.proofs.Failed.{none_done}
 use Rattle.tables.proofs.removal.delete_objects.Goals as goal
 
 pub paths-init : goal.paths-init
@@ -21,8 +22,8 @@ paths-init g c =
     let first = state g.S.Store c.args.tx.now.conn.now in
     record {
       same_reference = refl;
-      goes = λ clean. goes_first without_objects c.args.paths.now first (c.requires.frame.under_way clean) (c.requires.frame.is_open clean);
-      covers = c.requires.covers;
+      goes = λ clean. goes_first without_objects c.args.paths.now first (c.requires.under_way clean) (c.requires.is_open clean);
+      covers = c.requires.fits;
       survives = survives_none first;
     }
 
@@ -45,11 +46,14 @@ paths-preserved g c =
       survives = survives_both first now next c.paths.invariant.survives c.delete_object.ensures.frame.survives;
     }
 
-pub delete_object-requires-clause-exists : goal.delete_object-requires-clause-exists
-delete_object-requires-clause-exists g c clean is_open =
+pub delete_object-requires : goal.delete_object-requires
+delete_object-requires g c =
     let first = state g.S.Store c.args.tx.now.conn.now in
     let now = state g.S.Store c.paths.tx.conn.now in
-    pieces_exist first now _ (λ clean. (c.paths.invariant.goes clean).changes) c.paths.invariant.survives (λ clean is_open. c.requires.frame.exists clean) clean
+    record {
+      under_way = λ clean. under_after first now _ (c.paths.invariant.goes clean).changes;
+      tables = λ clean is_open. (pieces_exist first now _ (λ clean. (c.paths.invariant.goes clean).changes) c.paths.invariant.survives (λ clean is_open. c.requires.exists clean) clean, c.paths.invariant.covers clean);
+    }
 
 pub returns : goal.returns
 returns g c = record {

@@ -35,10 +35,10 @@ pub load_objects-requires-clause-pieces : goal.load_objects-requires-clause-piec
 load_objects-requires-clause-pieces g c = record {
   exists = λ clean has is_open.
       let same = (c.in_ok-dir.ensures.read.unchanged clean).0 in
-      subst (λ (x : Database). HasFurther x piece) (sym same.now_is) ((c.requires.further (omega (arith, c.read.ensures.read.frame.survives.clean)) same.was_open).pieces has);
+      subst (λ (x : Database). HasFurther x piece) (sym same.now_is) ((c.requires.tables (omega (arith, c.read.ensures.read.frame.survives.clean)) same.was_open).pieces has);
   no_table = λ clean none is_open.
       let same = (c.in_ok-dir.ensures.read.unchanged clean).0 in
-      ap (λ (x : Database). (contents_of x).pieces) same.now_is ∙ (c.requires.further (omega (arith, c.read.ensures.read.frame.survives.clean)) same.was_open).no_pieces none;
+      ap (λ (x : Database). (contents_of x).pieces) same.now_is ∙ (c.requires.tables (omega (arith, c.read.ensures.read.frame.survives.clean)) same.was_open).no_pieces none;
 }
 
 pub load_roots-requires-clause-exists : goal.load_roots-requires-clause-exists
@@ -46,14 +46,14 @@ load_roots-requires-clause-exists g c clean has is_open =
     let early : HasCleanDisk (state g.S.Store c.read.new.conn) = omega (arith, c.load_objects.ensures.read.frame.survives.clean) in
     let same = (c.in_ok-dir.ensures.read.unchanged early).0 in
     let still = (c.in_ok-load_objects.ensures.read.unchanged clean).0 in
-    subst (λ (x : Database). HasFurther x temp_root) (sym (still.now_is ∙ same.now_is)) ((c.requires.further (omega (arith, c.read.ensures.read.frame.survives.clean)) same.was_open).temporary has)
+    subst (λ (x : Database). HasFurther x temp_root) (sym (still.now_is ∙ same.now_is)) ((c.requires.tables (omega (arith, c.read.ensures.read.frame.survives.clean)) same.was_open).temporary has)
 
 pub load_roots-requires-clause-no_table : goal.load_roots-requires-clause-no_table
 load_roots-requires-clause-no_table g c clean none is_open =
     let early : HasCleanDisk (state g.S.Store c.read.new.conn) = omega (arith, c.load_objects.ensures.read.frame.survives.clean) in
     let same = (c.in_ok-dir.ensures.read.unchanged early).0 in
     let still = (c.in_ok-load_objects.ensures.read.unchanged clean).0 in
-    ap (λ (x : Database). (contents_of x).temp_roots) (still.now_is ∙ same.now_is) ∙ (c.requires.further (omega (arith, c.read.ensures.read.frame.survives.clean)) same.was_open).no_temporary none
+    ap (λ (x : Database). (contents_of x).temp_roots) (still.now_is ∙ same.now_is) ∙ (c.requires.tables (omega (arith, c.read.ensures.read.frame.survives.clean)) same.was_open).no_temporary none
 
 pub load_roots-requires-clause-temporary : goal.load_roots-requires-clause-temporary
 load_roots-requires-clause-temporary g c clean = ap (λ (o : OutlineValue). o.temporary) (c.in_ok-load_objects.ensures.loaded clean c.if-not-branch.false) ∙ ap (λ (o : OutlineValue). o.temporary) c.new-outline.ensures
@@ -95,7 +95,7 @@ returns-clause-reported g c clean =
     let d = state g.S.Store c.load_objects.new.conn in
     let later : HasCleanDisk d = omega (arith, c.load_roots.ensures.read.frame.survives.clean) in
     let early : HasCleanDisk b = omega (arith, c.load_objects.ensures.read.frame.survives.clean) in
-    let further = c.requires.further (omega (arith, c.read.ensures.read.frame.survives.clean)) (c.in_ok-dir.ensures.read.unchanged early).0.was_open in
+    let further = c.requires.tables (omega (arith, c.read.ensures.read.frame.survives.clean)) (c.in_ok-dir.ensures.read.unchanged early).0.was_open in
     let same : b.now ≡ a.now = (c.in_ok-dir.ensures.read.unchanged early).0.now_is in
     let still : d.now ≡ a.now = (c.in_ok-load_objects.ensures.read.unchanged later).0.now_is ∙ same in
     let named = named_dir c.args.schema (contents_of a.now) c.in_ok-dir.field-0 c.in-Some.dir c.in-Some.is (c.in_ok-dir.ensures.reported early) in

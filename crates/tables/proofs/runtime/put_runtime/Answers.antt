@@ -18,7 +18,7 @@ use Rattle.tables_sql.proofs.Orders.{pair_total}
 use Rattle.tables.proofs.Free.{free_next, runtime_free}
 use Rattle.tables_make.proofs.Reasons.{is_none, next_reason, put_reason}
 use Rattle.tables_make.proofs.Inside.{done_fails}
-use Rattle.tables.proofs.Failing.{none_done}
+use Rattle.tables_make.proofs.Failed.{none_done}
 use Rattle.tables.proofs.runtime.put_runtime.Goals as goal
 
 pub roots-init : goal.roots-init
@@ -26,11 +26,11 @@ roots-init g c =
     let first = state g.S.Store c.args.tx.now.conn.now in
     record {
       same_reference = refl;
-      goes = λ clean. goes_first (λ ps (x : Contents). record x { runtime = put_pairs ps x.runtime }) (map labelled_bytes c.into_iter-root-iterator.result) first (c.requires.frame.under_way clean) (c.requires.frame.is_open clean);
+      goes = λ clean. goes_first (λ ps (x : Contents). record x { runtime = put_pairs ps x.runtime }) (map labelled_bytes c.into_iter-root-iterator.result) first (c.requires.under_way clean) (c.requires.is_open clean);
       free = λ clean.
           let same : c.into_iter-root-iterator.result ≡ c.args.roots.now.keys = cc in
           subst (λ ks. AreFree (contents_of first.now).runtime (map labelled_bytes ks)) (sym same)
-          (subst (λ (m : PairSet). AreFree m (map labelled_bytes c.args.roots.now.keys)) (sym (c.requires.none clean)) (runtime_free c.args.roots.now.keys c.len-count.ensures.ordered));
+          (subst (λ (m : PairSet). AreFree m (map labelled_bytes c.args.roots.now.keys)) (sym (c.requires.fits clean)) (runtime_free c.args.roots.now.keys c.len-count.ensures.ordered));
       among = λ t values h. h;
       survives = survives_none first;
     }

@@ -11,84 +11,78 @@ use Rattle.tables_sql.proofs.TestFailures.{passed_on}
 use Rattle.tables_sql.proofs.Transactions.{done_both}
 use Rattle.tables_sql.specs.Entries.{stored_of}
 use Rattle.tables_make.specs.Cutting.{cut_object}
-use Rattle.tables_make.specs.Migrating.{AllCutRows, LongRows}
+use Rattle.tables_make.specs.Migrating.{AllCutRows, HasUncut, LongRows}
 use Rattle.tables_make.proofs.Reasons.{as_reason, more_reason, next_reason, removal_reason}
 use Rattle.tables_make.proofs.Steps.{changes_nothing, changes_at, none_cut, found_is, none_is}
 use Rattle.tables_make.proofs.Inside.{done_stays}
+use Rattle.tables_make.proofs.Failed.{none_done, always_failed}
 use Rattle.tables_make.proofs.cutting.cut.Goals as goal
 
-pub cut_found-requires-clause-present : goal.cut_found-requires-clause-present
-cut_found-requires-clause-present g c clean =
-    let reads = c.in_ok-found.ensures.reads clean in
-    let present = found_is (contents_of (state g.S.Store c.args.tx.now.conn.now).now).objects c.args.base.now c.in_ok-found.found c.in-Some.object c.in-Some.is reads.1 in
-    ap (λ (x : Database). finite.get (contents_of x).objects (stored_of c.in-Some.object).0) reads.0.0.now_is ∙ ap (finite.get (contents_of (state g.S.Store c.args.tx.now.conn.now).now).objects) present.0 ∙ present.1
-
-pub returns-in-Some-clause-done : goal.returns-in-Some-clause-done
-returns-in-Some-clause-done g c clean =
+pub cut_found-requires : goal.cut_found-requires
+cut_found-requires g c =
     let a = state g.S.Store c.args.tx.now.conn.now in
     let b = state g.S.Store c.get_within.new.tx.conn.now in
-    let d = state g.S.Store c.cut_found.new.tx.conn.now in
-    let early : HasCleanDisk b = clean_before b d _ c.cut_found.ensures.frame.survives clean in
-    let present = found_is (contents_of a.now).objects c.args.base.now c.in_ok-found.found c.in-Some.object c.in-Some.is (c.in_ok-found.ensures.reads early).1 in
-    done_both a b d (λ x. x) (cut_object (stored_of c.in-Some.object).0)
-    (λ now. changes_nothing a b (c.requires.under_way (clean_before a b _ c.get_within.ensures.frame.survives now)) (c.in_ok-found.ensures.reads now).0) c.cut_found.ensures.frame.survives
-    c.cut_found.result (cut_object c.args.base.now) (λ (x : Contents). ap (λ p. cut_object p x) present.0) c.cut_found.ensures.done clean
-
-pub returns-in-None-clause-done : goal.returns-in-None-clause-done
-returns-in-None-clause-done g c clean =
-    let a = state g.S.Store c.args.tx.now.conn.now in
-    let b = state g.S.Store c.get_within.new.tx.conn.now in
-    let reads = c.in_ok-found.ensures.reads clean in
-    changes_at a b (λ x. x) _ (none_cut c.args.base.now (contents_of a.now) (none_is (contents_of a.now).objects c.args.base.now c.in_ok-found.found c.in-None.is reads.1))
-    (changes_nothing a b (c.requires.under_way (clean_before a b _ c.get_within.ensures.frame.survives clean)) reads.0)
-
--- ---- why it isn't done
-
-pub cut_found-requires-clause-free : goal.cut_found-requires-clause-free
-cut_found-requires-clause-free g c clean long n =
-    let a = state g.S.Store c.args.tx.now.conn.now in
-    let b = state g.S.Store c.get_within.new.tx.conn.now in
-    let reads = c.in_ok-found.ensures.reads clean in
-    let present = found_is (contents_of a.now).objects c.args.base.now c.in_ok-found.found c.in-Some.object c.in-Some.is reads.1 in
-    let uncut = c.requires.uncut (clean_before a b _ c.get_within.ensures.frame.survives clean) reads.0.0.was_open in
-    ap (λ (x : Database). finite.get (contents_of x).pieces ((stored_of c.in-Some.object).0, n)) reads.0.0.now_is
-    ∙ uncut (stored_of c.in-Some.object).0 (stored_of c.in-Some.object).1 (ap (finite.get (contents_of a.now).objects) present.0 ∙ present.1) long n
-
-pub returns-in_err-found-clause-cause : goal.returns-in_err-found-clause-cause
-returns-in_err-found-clause-cause g c clean =
-    passed_on c.from_residual.result _ _ c.from_residual.ensures.1 (removal_reason _ (state g.S.Store c.args.tx.now.conn.now) (state g.S.Store c.get_within.new.tx.conn.now) _ (c.in_err-found.ensures.cause clean))
-
-pub returns-in-Some-clause-cause : goal.returns-in-Some-clause-cause
-returns-in-Some-clause-cause g c clean =
-    let a = state g.S.Store c.args.tx.now.conn.now in
-    let b = state g.S.Store c.get_within.new.tx.conn.now in
-    let d = state g.S.Store c.cut_found.new.tx.conn.now in
     let it = stored_of c.in-Some.object in
-    let early : HasCleanDisk b = clean_before b d _ c.cut_found.ensures.frame.survives clean in
-    let reads = c.in_ok-found.ensures.reads early in
-    let present = found_is (contents_of a.now).objects c.args.base.now c.in_ok-found.found c.in-Some.object c.in-Some.is reads.1 in
-    let nothing = changes_nothing a b (c.requires.under_way (clean_before a b _ c.get_within.ensures.frame.survives early)) reads.0 in
-    as_reason _ _ (λ f h. next_reason _ a b d _ nothing c.get_within.ensures.frame.survives f
-    (more_reason (LongRows it.0 it.1) (AllCutRows (contents_of a.now)) (λ t values put. (it.0, it.1, ap (finite.get (contents_of a.now).objects) present.0 ∙ present.1, put)) b d f h)) c.cut_found.result (c.cut_found.ensures.cause clean)
-
-pub cut_found-requires-clause-frame : goal.cut_found-requires-clause-frame
-cut_found-requires-clause-frame g c =
-    let a = state g.S.Store c.args.tx.now.conn.now in
-    let b = state g.S.Store c.get_within.new.tx.conn.now in
+    let early : HasCleanDisk b → HasCleanDisk a = clean_before a b _ c.get_within.ensures.frame.survives in
     record {
-      under_way = λ clean.
-          let early : HasCleanDisk a = clean_before a b _ c.get_within.ensures.frame.survives clean in
-          under_after a b (λ x. x) (changes_nothing a b (c.requires.under_way early) (c.in_ok-found.ensures.reads clean).0);
+      under_way = λ clean. under_after a b (λ x. x) (changes_nothing a b (c.requires.under_way (early clean)) (c.in_ok-found.ensures.reads clean).0);
       is_open = λ clean. (c.in_ok-found.ensures.reads clean).0.0.is_open;
       exists = λ clean.
           let same = (c.in_ok-found.ensures.reads clean).0.0 in
-          subst (λ (x : Database). HasFurther x piece) (sym same.now_is) (c.requires.exists (clean_before a b _ c.get_within.ensures.frame.survives clean) same.was_open);
+          subst (λ (x : Database). HasFurther x piece) (sym same.now_is) (c.requires.tables (early clean) same.was_open).0;
+      fits = λ clean.
+          let reads = c.in_ok-found.ensures.reads clean in
+          let present = found_is (contents_of a.now).objects c.args.base.now c.in_ok-found.found c.in-Some.object c.in-Some.is reads.1 in
+          let is = ap (finite.get (contents_of a.now).objects) present.0 ∙ present.1 in
+          subst (λ (x : Database). HasUncut it.0 it.1 (contents_of x)) (sym reads.0.0.now_is)
+          (record { present = is; free = (c.requires.tables (early clean) reads.0.0.was_open).1 it.0 it.1 is });
     }
 
-pub returns-in-Some-clause-frame : goal.returns-in-Some-clause-frame
-returns-in-Some-clause-frame g c =
-    let a = state g.S.Store c.args.tx.now.conn.now in
-    let b = state g.S.Store c.get_within.new.tx.conn.now in
-    done_stays g.S.Store c.args.tx.now.conn c.get_within.new.tx.conn c.cut_found.new.tx.conn (λ x. x) c.get_within.ensures.frame.same_reference
-    (λ now. changes_nothing a b (c.requires.under_way (clean_before a b _ c.get_within.ensures.frame.survives now)) (c.in_ok-found.ensures.reads now).0) c.get_within.ensures.frame.survives
-    c.cut_found.result c.cut_found.ensures.frame
+pub returns-in-Some : goal.returns-in-Some
+returns-in-Some g c = record {
+  frame =
+      let a = state g.S.Store c.args.tx.now.conn.now in
+      let b = state g.S.Store c.get_within.new.tx.conn.now in
+      done_stays g.S.Store c.args.tx.now.conn c.get_within.new.tx.conn c.cut_found.new.tx.conn (λ x. x) c.get_within.ensures.frame.same_reference
+      (λ now. changes_nothing a b (c.requires.under_way (clean_before a b _ c.get_within.ensures.frame.survives now)) (c.in_ok-found.ensures.reads now).0) c.get_within.ensures.frame.survives
+      c.cut_found.result c.cut_found.ensures.frame;
+  done = λ clean.
+      let a = state g.S.Store c.args.tx.now.conn.now in
+      let b = state g.S.Store c.get_within.new.tx.conn.now in
+      let d = state g.S.Store c.cut_found.new.tx.conn.now in
+      let early : HasCleanDisk b = clean_before b d _ c.cut_found.ensures.frame.survives clean in
+      let present = found_is (contents_of a.now).objects c.args.base.now c.in_ok-found.found c.in-Some.object c.in-Some.is (c.in_ok-found.ensures.reads early).1 in
+      done_both a b d (λ x. x) (cut_object (stored_of c.in-Some.object).0)
+      (λ now. changes_nothing a b (c.requires.under_way (clean_before a b _ c.get_within.ensures.frame.survives now)) (c.in_ok-found.ensures.reads now).0) c.cut_found.ensures.frame.survives
+      c.cut_found.result (cut_object c.args.base.now) (λ (x : Contents). ap (λ p. cut_object p x) present.0) c.cut_found.ensures.done clean;
+  cause = λ clean.
+      let a = state g.S.Store c.args.tx.now.conn.now in
+      let b = state g.S.Store c.get_within.new.tx.conn.now in
+      let d = state g.S.Store c.cut_found.new.tx.conn.now in
+      let it = stored_of c.in-Some.object in
+      let early : HasCleanDisk b = clean_before b d _ c.cut_found.ensures.frame.survives clean in
+      let reads = c.in_ok-found.ensures.reads early in
+      let present = found_is (contents_of a.now).objects c.args.base.now c.in_ok-found.found c.in-Some.object c.in-Some.is reads.1 in
+      let nothing = changes_nothing a b (c.requires.under_way (clean_before a b _ c.get_within.ensures.frame.survives early)) reads.0 in
+      as_reason _ _ (λ f h. next_reason _ a b d _ nothing c.get_within.ensures.frame.survives f
+      (more_reason (LongRows it.0 it.1) (AllCutRows (contents_of a.now)) (λ t values put. (it.0, it.1, ap (finite.get (contents_of a.now).objects) present.0 ∙ present.1, put)) b d f h)) c.cut_found.result (c.cut_found.ensures.cause clean);
+}
+
+pub returns-in-None : goal.returns-in-None
+returns-in-None g c = record {
+  frame = record { same_reference = c.get_within.ensures.frame.same_reference; failed = λ clean. tt; survives = c.get_within.ensures.frame.survives };
+  done = λ clean.
+      let a = state g.S.Store c.args.tx.now.conn.now in
+      let b = state g.S.Store c.get_within.new.tx.conn.now in
+      let reads = c.in_ok-found.ensures.reads clean in
+      changes_at a b (λ x. x) _ (none_cut c.args.base.now (contents_of a.now) (none_is (contents_of a.now).objects c.args.base.now c.in_ok-found.found c.in-None.is reads.1))
+      (changes_nothing a b (c.requires.under_way (clean_before a b _ c.get_within.ensures.frame.survives clean)) reads.0);
+  cause = λ clean. tt;
+}
+
+pub returns-in_err-found : goal.returns-in_err-found
+returns-in_err-found g c = record {
+  frame = record { same_reference = c.get_within.ensures.frame.same_reference; failed = λ clean. always_failed c.from_residual.result _ (c.in_err-found.ensures.frame.failed clean); survives = c.get_within.ensures.frame.survives };
+  done = λ clean. none_done c.from_residual.result _ _ c.from_residual.ensures.1;
+  cause = λ clean. passed_on c.from_residual.result _ _ c.from_residual.ensures.1 (removal_reason _ (state g.S.Store c.args.tx.now.conn.now) (state g.S.Store c.get_within.new.tx.conn.now) _ (c.in_err-found.ensures.cause clean));
+}

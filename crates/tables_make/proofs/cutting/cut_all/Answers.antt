@@ -2,7 +2,7 @@ use Rattle.std.proofs.Common.{◌≡◌, ◌+◌, ◌∷◌, drop, length, map, 
 use Rattle.sqlite.specs.Held.{state}
 use Rattle.tables_sql.specs.Contents.{Contents, contents_of}
 use Rattle.tables_sql.proofs.Going.{goes_first, goes_next, goes_done}
-use Rattle.tables_sql.proofs.Steps.{clean_before}
+use Rattle.tables_sql.proofs.Steps.{clean_before, under_after}
 use Rattle.tables_sql.proofs.TestFailures.{passed_on, survives_both}
 use Rattle.tables_sql.proofs.Transactions.{survives_none}
 use Rattle.tables_sql.proofs.Under.{piece_after}
@@ -13,6 +13,7 @@ use Rattle.tables_make.proofs.Reasons.{more_reason, next_reason}
 use Rattle.tables_make.proofs.Steps.{left_at, none_left}
 use Rattle.tables_make.proofs.Uncut.{rows_before, uncut_next}
 use Rattle.tables_make.proofs.Inside.{done_fails}
+use Rattle.tables_make.proofs.Failed.{none_done}
 use Rattle.tables_make.proofs.cutting.cut_all.Goals as goal
 
 pub bases-init : goal.bases-init
@@ -20,12 +21,18 @@ bases-init g c =
     let first = state g.S.Store c.args.tx.now.conn.now in
     record {
       same_reference = refl;
-      goes = λ clean. goes_first cut_objects (map string_bytes c.args.bases.now) first (c.requires.frame.under_way clean) (c.requires.frame.is_open clean);
-      exists = c.requires.frame.exists;
-      uncut = c.requires.uncut;
+      goes = λ clean. goes_first cut_objects (map string_bytes c.args.bases.now) first (c.requires.under_way clean) (c.requires.is_open clean);
+      exists = c.requires.exists;
+      uncut = c.requires.fits;
       among = λ clean t values h. h;
       survives = survives_none first;
     }
+
+pub cut-requires : goal.cut-requires
+cut-requires g c = record {
+  under_way = λ clean. under_after (state g.S.Store c.args.tx.now.conn.now) (state g.S.Store c.bases.tx.conn.now) _ (c.bases.invariant.goes clean).changes;
+  tables = λ clean up. (c.bases.invariant.exists clean, c.bases.invariant.uncut clean);
+}
 
 pub bases-preserved : goal.bases-preserved
 bases-preserved g c =
@@ -50,30 +57,32 @@ bases-preserved g c =
       survives = survives_both first now next c.bases.invariant.survives c.cut.ensures.frame.survives;
     }
 
-pub returns-clause-done : goal.returns-clause-done
-returns-clause-done g c = λ clean.
-    let first = state g.S.Store c.args.tx.now.conn.now in
-    let now = state g.S.Store c.bases.tx.conn.now in
-    let all = c.args.bases.now in
-    let end : c.bases.base-index ≡ length all = omega arith in
-    let none = ap (λ n. map string_bytes (drop n all)) end ∙ ap (map string_bytes) (none_left all) in
-    goes_done cut_objects (map string_bytes all) first now (map string_bytes (drop c.bases.base-index all))
-    (ap (λ (ps : List Path). cut_objects ps (contents_of now.now)) none) (c.bases.invariant.goes clean)
+pub returns : goal.returns
+returns g c = record {
+  frame = record { same_reference = c.bases.invariant.same_reference; failed = λ clean. tt; survives = c.bases.invariant.survives };
+  done = λ clean.
+      let first = state g.S.Store c.args.tx.now.conn.now in
+      let now = state g.S.Store c.bases.tx.conn.now in
+      let all = c.args.bases.now in
+      let end : c.bases.base-index ≡ length all = omega arith in
+      let none = ap (λ n. map string_bytes (drop n all)) end ∙ ap (map string_bytes) (none_left all) in
+      goes_done cut_objects (map string_bytes all) first now (map string_bytes (drop c.bases.base-index all))
+      (ap (λ (ps : List Path). cut_objects ps (contents_of now.now)) none) (c.bases.invariant.goes clean);
+  cause = λ clean. tt;
+}
 
-pub returns-in_err-cut-clause-cause : goal.returns-in_err-cut-clause-cause
-returns-in_err-cut-clause-cause g c clean =
-    let first = state g.S.Store c.args.tx.now.conn.now in
-    let now = state g.S.Store c.bases.tx.conn.now in
-    let next = state g.S.Store c.cut.new.tx.conn.now in
-    let early = clean_before now next _ c.cut.ensures.frame.survives clean in
-    passed_on c.from_residual.result _ _ c.from_residual.ensures.1
-    (next_reason _ first now next _ (c.bases.invariant.goes early).changes c.bases.invariant.survives _
-    (more_reason (AllCutRows (contents_of now.now)) (AllCutRows (contents_of first.now)) (c.bases.invariant.among early) now next _ (c.in_err-cut.ensures.cause clean)))
-
-pub returns-in_err-cut-clause-frame : goal.returns-in_err-cut-clause-frame
-returns-in_err-cut-clause-frame g c =
-    done_fails g.S.Store c.args.tx.now.conn c.bases.tx.conn c.cut.new.tx.conn _ c.bases.invariant.same_reference (λ clean. (c.bases.invariant.goes clean).changes) c.bases.invariant.survives
-    c.from_residual.result c.cut.ensures.frame.same_reference c.in_err-cut.ensures.frame.failed c.cut.ensures.frame.survives
-
-pub returns-clause-frame : goal.returns-clause-frame
-returns-clause-frame g c = record { same_reference = c.bases.invariant.same_reference; failed = λ clean. tt; survives = c.bases.invariant.survives }
+pub returns-in_err-cut : goal.returns-in_err-cut
+returns-in_err-cut g c = record {
+  frame =
+      done_fails g.S.Store c.args.tx.now.conn c.bases.tx.conn c.cut.new.tx.conn _ c.bases.invariant.same_reference (λ clean. (c.bases.invariant.goes clean).changes) c.bases.invariant.survives
+      c.from_residual.result c.cut.ensures.frame.same_reference c.in_err-cut.ensures.frame.failed c.cut.ensures.frame.survives;
+  done = λ clean. none_done c.from_residual.result _ _ c.from_residual.ensures.1;
+  cause = λ clean.
+      let first = state g.S.Store c.args.tx.now.conn.now in
+      let now = state g.S.Store c.bases.tx.conn.now in
+      let next = state g.S.Store c.cut.new.tx.conn.now in
+      let early = clean_before now next _ c.cut.ensures.frame.survives clean in
+      passed_on c.from_residual.result _ _ c.from_residual.ensures.1
+      (next_reason _ first now next _ (c.bases.invariant.goes early).changes c.bases.invariant.survives _
+      (more_reason (AllCutRows (contents_of now.now)) (AllCutRows (contents_of first.now)) (c.bases.invariant.among early) now next _ (c.in_err-cut.ensures.cause clean)));
+}

@@ -18,99 +18,95 @@ use Rattle.tables_make.proofs.Reasons.{as_reason, is_none, more_reason, next_rea
 use Rattle.tables_make.proofs.Steps.{written}
 use Rattle.tables_make.proofs.Uncut.{deleted, row_is}
 use Rattle.tables_make.proofs.Inside.{done_fails, done_stays}
+use Rattle.tables_make.proofs.Failed.{none_done, always_failed}
 use Rattle.tables_make.proofs.cutting.put_cut.Goals as goal
 
 pub insert-requires : goal.insert-requires
 insert-requires g c clean = under_after (state g.S.Store c.args.tx.now.conn.now) (state g.S.Store c.delete.new.tx.conn.now) _ (c.in_ok-delete.ensures.done clean)
 
-pub returns-clause-done : goal.returns-clause-done
-returns-clause-done g c =
-    let a = state g.S.Store c.args.tx.now.conn.now in
-    let b = state g.S.Store c.delete.new.tx.conn.now in
-    let d = state g.S.Store c.insert.new.tx.conn.now in
-    let object = c.args.object.now in
-    let nar = object.nar.items in
-    let hash = object.hash.items in
-    let base = c.as_str-base.result.now in
-    let front = c.split_at.result.0.now in
-    let after = c.split_at.result.1.now in
-    let digest = c.deref-2.result.now in
-    let first : front ≡ row_part nar = c.split_at.ensures.front ∙ ap (take 65536) c.deref.ensures.value ∙ ap (λ k. take k nar) (sym size) in
-    let rest : after ≡ drop piece_size nar = c.split_at.ensures.back ∙ ap (drop 65536) c.deref.ensures.value ∙ ap (λ k. drop k nar) (sym size) in
-    done_both a d (state g.S.Store c.put_pieces.new.tx.conn.now) _ _ (steps_both a b d _ _ c.in_ok-delete.ensures.done c.insert.ensures.frame.survives c.in_ok-insert.ensures.done) c.put_pieces.ensures.frame.survives
-    c.put_pieces.result (cut_row (stored_of object).0 (stored_of object).1)
-    (λ (x : Contents). written x base (string_bytes object.base) front digest hash after nar object.deriver object.ca c.as_str-base.ensures.value first c.deref-2.ensures.value rest)
-    c.put_pieces.ensures.done
+pub returns : goal.returns
+returns g c = record {
+  frame =
+      let a = state g.S.Store c.args.tx.now.conn.now in
+      let b = state g.S.Store c.delete.new.tx.conn.now in
+      let d = state g.S.Store c.insert.new.tx.conn.now in
+      done_stays g.S.Store c.args.tx.now.conn c.insert.new.tx.conn c.put_pieces.new.tx.conn _ (c.insert.ensures.frame.same_reference ∙ c.delete.ensures.frame.same_reference)
+      (steps_both a b d _ _ c.in_ok-delete.ensures.done c.insert.ensures.frame.survives c.in_ok-insert.ensures.done) (survives_both a b d c.delete.ensures.frame.survives c.insert.ensures.frame.survives)
+      c.put_pieces.result c.put_pieces.ensures.frame;
+  done =
+      let a = state g.S.Store c.args.tx.now.conn.now in
+      let b = state g.S.Store c.delete.new.tx.conn.now in
+      let d = state g.S.Store c.insert.new.tx.conn.now in
+      let object = c.args.object.now in
+      let nar = object.nar.items in
+      let hash = object.hash.items in
+      let base = c.as_str-base.result.now in
+      let front = c.split_at.result.0.now in
+      let after = c.split_at.result.1.now in
+      let digest = c.deref-2.result.now in
+      let first : front ≡ row_part nar = c.split_at.ensures.front ∙ ap (take 65536) c.deref.ensures.value ∙ ap (λ k. take k nar) (sym size) in
+      let rest : after ≡ drop piece_size nar = c.split_at.ensures.back ∙ ap (drop 65536) c.deref.ensures.value ∙ ap (λ k. drop k nar) (sym size) in
+      done_both a d (state g.S.Store c.put_pieces.new.tx.conn.now) _ _ (steps_both a b d _ _ c.in_ok-delete.ensures.done c.insert.ensures.frame.survives c.in_ok-insert.ensures.done) c.put_pieces.ensures.frame.survives
+      c.put_pieces.result (cut_row (stored_of object).0 (stored_of object).1)
+      (λ (x : Contents). written x base (string_bytes object.base) front digest hash after nar object.deriver object.ca c.as_str-base.ensures.value first c.deref-2.ensures.value rest)
+      c.put_pieces.ensures.done;
+  cause = λ clean.
+      let a = state g.S.Store c.args.tx.now.conn.now in
+      let b = state g.S.Store c.delete.new.tx.conn.now in
+      let d = state g.S.Store c.insert.new.tx.conn.now in
+      let e = state g.S.Store c.put_pieces.new.tx.conn.now in
+      let object = c.args.object.now in
+      let nar = object.nar.items in
+      let after = c.split_at.result.1.now in
+      let rest : after ≡ drop piece_size nar = c.split_at.ensures.back ∙ ap (drop 65536) c.deref.ensures.value ∙ ap (λ k. drop k nar) (sym size) in
+      let done = steps_both a b d _ _ c.in_ok-delete.ensures.done c.insert.ensures.frame.survives c.in_ok-insert.ensures.done (clean_before d e _ c.put_pieces.ensures.frame.survives clean) in
+      as_reason _ _ (λ f h. next_reason _ a d e _ done (survives_both a b d c.delete.ensures.frame.survives c.insert.ensures.frame.survives) f
+      (more_reason _ (CutRows (stored_of object).0 (stored_of object).1) (λ t values put. inr (subst (λ p. RowsOf (PieceRow p) (further_pieces nar) t values) c.as_str-base.ensures.value
+      (subst (λ es. RowsOf (PieceRow c.as_str-base.result.now) es t values) (further nar after rest) put))) d e f h)) c.put_pieces.result (c.put_pieces.ensures.cause clean);
+}
 
 -- ---- why it isn't done
 
--- no piece of it was there, and none is since
-pub put_pieces-requires-clause-free : goal.put_pieces-requires-clause-free
-put_pieces-requires-clause-free g c clean n =
+pub returns-in_err-delete : goal.returns-in_err-delete
+returns-in_err-delete g c = record {
+  frame = record { same_reference = c.delete.ensures.frame.same_reference; failed = λ clean. always_failed c.from_residual.result _ (c.in_err-delete.ensures.frame.failed clean); survives = c.delete.ensures.frame.survives };
+  done = λ clean. none_done c.from_residual.result _ _ c.from_residual.ensures.1;
+  cause = λ clean. passed_on c.from_residual.result _ _ c.from_residual.ensures.1 (removal_reason _ (state g.S.Store c.args.tx.now.conn.now) (state g.S.Store c.delete.new.tx.conn.now) _ (c.in_err-delete.ensures.cause clean));
+}
+
+pub returns-in_err-insert : goal.returns-in_err-insert
+returns-in_err-insert g c = record {
+  frame =
+      done_fails g.S.Store c.args.tx.now.conn c.delete.new.tx.conn c.insert.new.tx.conn _ c.delete.ensures.frame.same_reference c.in_ok-delete.ensures.done c.delete.ensures.frame.survives
+      c.from_residual-in_err-insert.result c.insert.ensures.frame.same_reference c.in_err-insert.ensures.frame.failed c.insert.ensures.frame.survives;
+  done = λ clean. none_done c.from_residual-in_err-insert.result _ _ c.from_residual-in_err-insert.ensures.1;
+  cause = λ clean.
+      let a = state g.S.Store c.args.tx.now.conn.now in
+      let b = state g.S.Store c.delete.new.tx.conn.now in
+      let d = state g.S.Store c.insert.new.tx.conn.now in
+      let object = c.args.object.now in
+      let nar = object.nar.items in
+      let first : c.split_at.result.0.now ≡ row_part nar = c.split_at.ensures.front ∙ ap (take 65536) c.deref.ensures.value ∙ ap (λ k. take k nar) (sym size) in
+      let done = c.in_ok-delete.ensures.done (clean_before b d _ c.insert.ensures.frame.survives clean) in
+      passed_on c.from_residual-in_err-insert.result _ _ c.from_residual-in_err-insert.ensures.1
+      (next_reason _ a b d _ done c.delete.ensures.frame.survives _
+      (put_reason (CutRows (stored_of object).0 (stored_of object).1) b d _ _ _
+      (inl (refl, row_is c.as_str-base.ensures.value first c.deref-2.ensures.value object.deriver object.ca))
+      (is_none _ (ap (λ (x : Contents). finite.get x.objects c.as_str-base.result.now) done.contents ∙ deleted texts_total texts_antisymmetric _ c.as_str-base.result.now)) _ (c.in_err-insert.ensures.cause clean)));
+}
+
+pub put_pieces-requires : goal.put_pieces-requires
+put_pieces-requires g c =
     let a = state g.S.Store c.args.tx.now.conn.now in
     let b = state g.S.Store c.delete.new.tx.conn.now in
     let d = state g.S.Store c.insert.new.tx.conn.now in
-    let early : HasCleanDisk b = clean_before b d _ c.insert.ensures.frame.survives clean in
-    let pieces = ap (λ (x : Contents). x.pieces) (c.in_ok-insert.ensures.done clean).contents ∙ ap (λ (x : Contents). x.pieces) (c.in_ok-delete.ensures.done early).contents in
-    ap₂ (λ (m : finite.FinMap numbered_cmp Bytes) p. finite.get m (p, n)) pieces c.as_str-base.ensures.value ∙ c.requires.free (clean_before a b _ c.delete.ensures.frame.survives early) n
-
-pub returns-in_err-delete-clause-cause : goal.returns-in_err-delete-clause-cause
-returns-in_err-delete-clause-cause g c clean =
-    passed_on c.from_residual.result _ _ c.from_residual.ensures.1 (removal_reason _ (state g.S.Store c.args.tx.now.conn.now) (state g.S.Store c.delete.new.tx.conn.now) _ (c.in_err-delete.ensures.cause clean))
-
-pub returns-in_err-insert-clause-cause : goal.returns-in_err-insert-clause-cause
-returns-in_err-insert-clause-cause g c clean =
-    let a = state g.S.Store c.args.tx.now.conn.now in
-    let b = state g.S.Store c.delete.new.tx.conn.now in
-    let d = state g.S.Store c.insert.new.tx.conn.now in
-    let object = c.args.object.now in
-    let nar = object.nar.items in
-    let first : c.split_at.result.0.now ≡ row_part nar = c.split_at.ensures.front ∙ ap (take 65536) c.deref.ensures.value ∙ ap (λ k. take k nar) (sym size) in
-    let done = c.in_ok-delete.ensures.done (clean_before b d _ c.insert.ensures.frame.survives clean) in
-    passed_on c.from_residual-in_err-insert.result _ _ c.from_residual-in_err-insert.ensures.1
-    (next_reason _ a b d _ done c.delete.ensures.frame.survives _
-    (put_reason (CutRows (stored_of object).0 (stored_of object).1) b d _ _ _
-    (inl (refl, row_is c.as_str-base.ensures.value first c.deref-2.ensures.value object.deriver object.ca))
-    (is_none _ (ap (λ (x : Contents). finite.get x.objects c.as_str-base.result.now) done.contents ∙ deleted texts_total texts_antisymmetric _ c.as_str-base.result.now)) _ (c.in_err-insert.ensures.cause clean)))
-
-pub returns-clause-cause : goal.returns-clause-cause
-returns-clause-cause g c clean =
-    let a = state g.S.Store c.args.tx.now.conn.now in
-    let b = state g.S.Store c.delete.new.tx.conn.now in
-    let d = state g.S.Store c.insert.new.tx.conn.now in
-    let e = state g.S.Store c.put_pieces.new.tx.conn.now in
-    let object = c.args.object.now in
-    let nar = object.nar.items in
-    let after = c.split_at.result.1.now in
-    let rest : after ≡ drop piece_size nar = c.split_at.ensures.back ∙ ap (drop 65536) c.deref.ensures.value ∙ ap (λ k. drop k nar) (sym size) in
-    let done = steps_both a b d _ _ c.in_ok-delete.ensures.done c.insert.ensures.frame.survives c.in_ok-insert.ensures.done (clean_before d e _ c.put_pieces.ensures.frame.survives clean) in
-    as_reason _ _ (λ f h. next_reason _ a d e _ done (survives_both a b d c.delete.ensures.frame.survives c.insert.ensures.frame.survives) f
-    (more_reason _ (CutRows (stored_of object).0 (stored_of object).1) (λ t values put. inr (subst (λ p. RowsOf (PieceRow p) (further_pieces nar) t values) c.as_str-base.ensures.value
-    (subst (λ es. RowsOf (PieceRow c.as_str-base.result.now) es t values) (further nar after rest) put))) d e f h)) c.put_pieces.result (c.put_pieces.ensures.cause clean)
-
-pub put_pieces-requires-clause-frame : goal.put_pieces-requires-clause-frame
-put_pieces-requires-clause-frame g c =
-    let a = state g.S.Store c.args.tx.now.conn.now in
-    let b = state g.S.Store c.delete.new.tx.conn.now in
-    let d = state g.S.Store c.insert.new.tx.conn.now in
+    let early : HasCleanDisk d → HasCleanDisk b = clean_before b d _ c.insert.ensures.frame.survives in
     record {
       under_way = λ clean. under_after a d _ (steps_both a b d _ _ c.in_ok-delete.ensures.done c.insert.ensures.frame.survives c.in_ok-insert.ensures.done clean);
       is_open = λ clean. (c.in_ok-insert.ensures.done clean).is_open;
-      exists = λ clean.
-          let early : HasCleanDisk b = clean_before b d _ c.insert.ensures.frame.survives clean in
-          piece_after b d _ (c.in_ok-insert.ensures.done clean) (piece_after a b _ (c.in_ok-delete.ensures.done early) (c.requires.frame.exists (clean_before a b _ c.delete.ensures.frame.survives early)));
+      exists = λ clean. piece_after b d _ (c.in_ok-insert.ensures.done clean) (piece_after a b _ (c.in_ok-delete.ensures.done (early clean)) (c.requires.frame.exists (clean_before a b _ c.delete.ensures.frame.survives (early clean))));
+      -- no piece of it was there, and none is since
+      fits = λ clean n.
+          let pieces = ap (λ (x : Contents). x.pieces) (c.in_ok-insert.ensures.done clean).contents ∙ ap (λ (x : Contents). x.pieces) (c.in_ok-delete.ensures.done (early clean)).contents in
+          ap₂ (λ (m : finite.FinMap numbered_cmp Bytes) p. finite.get m (p, n)) pieces c.as_str-base.ensures.value ∙ c.requires.frame.fits (clean_before a b _ c.delete.ensures.frame.survives (early clean)) n;
     }
-
-pub returns-in_err-insert-clause-frame : goal.returns-in_err-insert-clause-frame
-returns-in_err-insert-clause-frame g c =
-    done_fails g.S.Store c.args.tx.now.conn c.delete.new.tx.conn c.insert.new.tx.conn _ c.delete.ensures.frame.same_reference c.in_ok-delete.ensures.done c.delete.ensures.frame.survives
-    c.from_residual-in_err-insert.result c.insert.ensures.frame.same_reference c.in_err-insert.ensures.frame.failed c.insert.ensures.frame.survives
-
-pub returns-clause-frame : goal.returns-clause-frame
-returns-clause-frame g c =
-    let a = state g.S.Store c.args.tx.now.conn.now in
-    let b = state g.S.Store c.delete.new.tx.conn.now in
-    let d = state g.S.Store c.insert.new.tx.conn.now in
-    done_stays g.S.Store c.args.tx.now.conn c.insert.new.tx.conn c.put_pieces.new.tx.conn _ (c.insert.ensures.frame.same_reference ∙ c.delete.ensures.frame.same_reference)
-    (steps_both a b d _ _ c.in_ok-delete.ensures.done c.insert.ensures.frame.survives c.in_ok-insert.ensures.done) (survives_both a b d c.delete.ensures.frame.survives c.insert.ensures.frame.survives)
-    c.put_pieces.result c.put_pieces.ensures.frame

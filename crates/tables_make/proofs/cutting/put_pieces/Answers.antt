@@ -21,6 +21,7 @@ use Rattle.tables_make.proofs.Cuts.{size, first_piece, no_piece, no_end, at_end}
 use Rattle.tables_make.proofs.Reasons.{is_none, next_reason, put_reason}
 use Rattle.tables_make.proofs.Uncut.{apart}
 use Rattle.tables_make.proofs.Inside.{done_fails}
+use Rattle.tables_make.proofs.Failed.{none_done}
 use Rattle.tables_make.proofs.cutting.put_pieces.Goals as goal
 
 pub pieces-init : goal.pieces-init
@@ -28,9 +29,9 @@ pieces-init g c =
     let first = state g.S.Store c.args.tx.now.conn.now in
     record {
       same_reference = refl;
-      goes = λ clean. goes_first (λ es (x : Contents). record x { pieces = put_pieces c.args.base.now es x.pieces }) (pieces_by c.args.bytes.now 1 c.args.bytes.now) first (c.requires.frame.under_way clean) (c.requires.frame.is_open clean);
-      exists = c.requires.frame.exists;
-      free = λ clean k more. c.requires.free clean (pos k);
+      goes = λ clean. goes_first (λ es (x : Contents). record x { pieces = put_pieces c.args.base.now es x.pieces }) (pieces_by c.args.bytes.now 1 c.args.bytes.now) first (c.requires.under_way clean) (c.requires.is_open clean);
+      exists = c.requires.exists;
+      free = λ clean k more. c.requires.fits clean (pos k);
       among = λ t values h. h;
       survives = survives_none first;
     }
@@ -67,43 +68,57 @@ pieces-preserved g c =
       survives = survives_both first now next c.pieces.invariant.survives c.insert.ensures.frame.survives;
     }
 
-pub returns-then-is_empty-clause-done : goal.returns-then-is_empty-clause-done
-returns-then-is_empty-clause-done g c clean =
-    let first = state g.S.Store c.args.tx.now.conn.now in
-    let now = state g.S.Store c.pieces.tx.conn.now in
-    let bytes = c.pieces.rest.now in
-    let end : bytes ≡ [] = at_end bytes (sym c.is_empty.ensures ∙ c.if-is_empty.true) in
-    let none : pieces_by bytes c.pieces.number bytes ≡ [] = ap (pieces_by bytes c.pieces.number) end ∙ no_piece bytes c.pieces.number in
-    goes_done (λ es (x : Contents). record x { pieces = put_pieces c.args.base.now es x.pieces }) (pieces_by c.args.bytes.now 1 c.args.bytes.now) first now (pieces_by bytes c.pieces.number bytes)
-    (ap (λ es. record (contents_of now.now) { pieces = put_pieces c.args.base.now es (contents_of now.now).pieces }) none) (c.pieces.invariant.goes clean)
+pub returns-then-is_empty : goal.returns-then-is_empty
+returns-then-is_empty g c = record {
+  frame = record { same_reference = c.pieces.invariant.same_reference; failed = λ clean. tt; survives = c.pieces.invariant.survives };
+  done = λ clean.
+      let first = state g.S.Store c.args.tx.now.conn.now in
+      let now = state g.S.Store c.pieces.tx.conn.now in
+      let bytes = c.pieces.rest.now in
+      let end : bytes ≡ [] = at_end bytes (sym c.is_empty.ensures ∙ c.if-is_empty.true) in
+      let none : pieces_by bytes c.pieces.number bytes ≡ [] = ap (pieces_by bytes c.pieces.number) end ∙ no_piece bytes c.pieces.number in
+      goes_done (λ es (x : Contents). record x { pieces = put_pieces c.args.base.now es x.pieces }) (pieces_by c.args.bytes.now 1 c.args.bytes.now) first now (pieces_by bytes c.pieces.number bytes)
+      (ap (λ es. record (contents_of now.now) { pieces = put_pieces c.args.base.now es (contents_of now.now).pieces }) none) (c.pieces.invariant.goes clean);
+  cause = λ clean. tt;
+}
 
 -- one of them wasn't put: none was there before it
-pub returns-in_err-insert-clause-cause : goal.returns-in_err-insert-clause-cause
-returns-in_err-insert-clause-cause g c clean =
-    let base = c.args.base.now in
-    let first = state g.S.Store c.args.tx.now.conn.now in
-    let now = state g.S.Store c.pieces.tx.conn.now in
-    let next = state g.S.Store c.insert.new.tx.conn.now in
-    let bytes = c.pieces.rest.now in
-    let n = c.pieces.number in
-    let front = c.split_at.result.0.now in
-    let after = c.split_at.result.1.now in
-    let some : 0 < length bytes = no_end bytes (sym c.is_empty.ensures ∙ c.if-is_empty.false) in
-    let front_is : front ≡ take piece_size bytes = c.split_at.ensures.front ∙ ap (λ k. take k bytes) c.min.ensures ∙ take_min 65536 bytes ∙ ap (λ k. take k bytes) (sym size) in
-    let split : pieces_by bytes n bytes ≡ (pos n, front) ∷ pieces_by (drop piece_size bytes) (n + 1) (drop piece_size bytes) =
-    first_piece bytes n some ∙ ap (λ p. (pos n, p) ∷ pieces_by (drop piece_size bytes) (n + 1) (drop piece_size bytes)) (sym front_is) in
-    let row : Row = Text base ∷ Int (pos n) ∷ Blob front ∷ [] in
-    let early = clean_before now next _ c.insert.ensures.frame.survives clean in
-    passed_on c.from_residual.result _ _ c.from_residual.ensures.1
-    (next_reason _ first now next _ (c.pieces.invariant.goes early).changes c.pieces.invariant.survives _
-    (put_reason (RowsOf (PieceRow base) (pieces_by c.args.bytes.now 1 c.args.bytes.now)) now next piece row _
-    (c.pieces.invariant.among piece row (subst (λ es. RowsOf (PieceRow base) es piece row) (sym split) (inl (refl, refl))))
-    (is_none _ (c.pieces.invariant.free early n (omega arith))) _ (c.in_err-insert.ensures.cause clean)))
+pub returns-in_err-insert : goal.returns-in_err-insert
+returns-in_err-insert g c = record {
+  frame =
+      done_fails g.S.Store c.args.tx.now.conn c.pieces.tx.conn c.insert.new.tx.conn _ c.pieces.invariant.same_reference (λ clean. (c.pieces.invariant.goes clean).changes) c.pieces.invariant.survives
+      c.from_residual.result c.insert.ensures.frame.same_reference c.in_err-insert.ensures.frame.failed c.insert.ensures.frame.survives;
+  done = λ clean. none_done c.from_residual.result _ _ c.from_residual.ensures.1;
+  cause = λ clean.
+      let base = c.args.base.now in
+      let first = state g.S.Store c.args.tx.now.conn.now in
+      let now = state g.S.Store c.pieces.tx.conn.now in
+      let next = state g.S.Store c.insert.new.tx.conn.now in
+      let bytes = c.pieces.rest.now in
+      let n = c.pieces.number in
+      let front = c.split_at.result.0.now in
+      let after = c.split_at.result.1.now in
+      let some : 0 < length bytes = no_end bytes (sym c.is_empty.ensures ∙ c.if-is_empty.false) in
+      let front_is : front ≡ take piece_size bytes = c.split_at.ensures.front ∙ ap (λ k. take k bytes) c.min.ensures ∙ take_min 65536 bytes ∙ ap (λ k. take k bytes) (sym size) in
+      let split : pieces_by bytes n bytes ≡ (pos n, front) ∷ pieces_by (drop piece_size bytes) (n + 1) (drop piece_size bytes) =
+      first_piece bytes n some ∙ ap (λ p. (pos n, p) ∷ pieces_by (drop piece_size bytes) (n + 1) (drop piece_size bytes)) (sym front_is) in
+      let row : Row = Text base ∷ Int (pos n) ∷ Blob front ∷ [] in
+      let early = clean_before now next _ c.insert.ensures.frame.survives clean in
+      passed_on c.from_residual.result _ _ c.from_residual.ensures.1
+      (next_reason _ first now next _ (c.pieces.invariant.goes early).changes c.pieces.invariant.survives _
+      (put_reason (RowsOf (PieceRow base) (pieces_by c.args.bytes.now 1 c.args.bytes.now)) now next piece row _
+      (c.pieces.invariant.among piece row (subst (λ es. RowsOf (PieceRow base) es piece row) (sym split) (inl (refl, refl))))
+      (is_none _ (c.pieces.invariant.free early n (omega arith))) _ (c.in_err-insert.ensures.cause clean)));
+}
 
-pub returns-then-is_empty-clause-frame : goal.returns-then-is_empty-clause-frame
-returns-then-is_empty-clause-frame g c = record { same_reference = c.pieces.invariant.same_reference; failed = λ clean. tt; survives = c.pieces.invariant.survives }
-
-pub returns-in_err-insert-clause-frame : goal.returns-in_err-insert-clause-frame
-returns-in_err-insert-clause-frame g c =
-    done_fails g.S.Store c.args.tx.now.conn c.pieces.tx.conn c.insert.new.tx.conn _ c.pieces.invariant.same_reference (λ clean. (c.pieces.invariant.goes clean).changes) c.pieces.invariant.survives
-    c.from_residual.result c.insert.ensures.frame.same_reference c.in_err-insert.ensures.frame.failed c.insert.ensures.frame.survives
+pub returns : goal.returns
+returns g c = record {
+  frame =
+      record {
+        same_reference = c.pieces.invariant.same_reference;
+        failed = λ clean. let done = (c.pieces.invariant.goes clean).changes in record { was_open = λ up. done.was_open; committed = λ up. done.committed };
+        survives = c.pieces.invariant.survives;
+      };
+  done = λ clean. tt;
+  cause = λ clean. tt;
+}

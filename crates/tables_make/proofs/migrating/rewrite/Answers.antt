@@ -8,28 +8,31 @@ use Rattle.tables_sql.proofs.Transactions.{done_both}
 use Rattle.tables_make.specs.Migrating.{AllCutRows, MigratedRows, SettingRow}
 use Rattle.tables_make.proofs.Reasons.{as_reason, more_reason, next_reason}
 use Rattle.tables_make.proofs.Inside.{done_stays}
+use Rattle.tables_make.proofs.Failed.{none_done, always_failed}
 use Rattle.tables_make.proofs.migrating.rewrite.Goals as goal
 
-pub returns-clause-done : goal.returns-clause-done
-returns-clause-done g c =
-    done_both (state g.S.Store c.args.tx.now.conn.now) (state g.S.Store c.cut_all.new.tx.conn.now) (state g.S.Store c.renumber.new.tx.conn.now) _ _ c.in_ok-cut_all.ensures.done c.renumber.ensures.frame.survives
-    c.renumber.result _ (λ _. refl) c.renumber.ensures.done
+pub returns : goal.returns
+returns g c = record {
+  frame =
+      done_stays g.S.Store c.args.tx.now.conn c.cut_all.new.tx.conn c.renumber.new.tx.conn _ c.cut_all.ensures.frame.same_reference c.in_ok-cut_all.ensures.done c.cut_all.ensures.frame.survives
+      c.renumber.result c.renumber.ensures.frame;
+  done =
+      done_both (state g.S.Store c.args.tx.now.conn.now) (state g.S.Store c.cut_all.new.tx.conn.now) (state g.S.Store c.renumber.new.tx.conn.now) _ _ c.in_ok-cut_all.ensures.done c.renumber.ensures.frame.survives
+      c.renumber.result _ (λ _. refl) c.renumber.ensures.done;
+  cause = λ clean.
+      let a = state g.S.Store c.args.tx.now.conn.now in
+      let b = state g.S.Store c.cut_all.new.tx.conn.now in
+      let d = state g.S.Store c.renumber.new.tx.conn.now in
+      as_reason _ _ (λ f h. next_reason _ a b d _ (c.in_ok-cut_all.ensures.done (clean_before b d _ c.renumber.ensures.frame.survives clean)) c.cut_all.ensures.frame.survives f
+      (more_reason SettingRow (MigratedRows V1 (contents_of a.now)) (λ t values h. inr h) b d f h)) c.renumber.result (c.renumber.ensures.cause clean);
+}
 
-pub returns-in_err-cut_all-clause-cause : goal.returns-in_err-cut_all-clause-cause
-returns-in_err-cut_all-clause-cause g c clean =
-    let rows = contents_of (state g.S.Store c.args.tx.now.conn.now).now in
-    passed_on c.from_residual.result _ _ c.from_residual.ensures.1
-    (more_reason (AllCutRows rows) (MigratedRows V1 rows) (λ t values h. inl h) (state g.S.Store c.args.tx.now.conn.now) (state g.S.Store c.cut_all.new.tx.conn.now) _ (c.in_err-cut_all.ensures.cause clean))
-
-pub returns-clause-cause : goal.returns-clause-cause
-returns-clause-cause g c clean =
-    let a = state g.S.Store c.args.tx.now.conn.now in
-    let b = state g.S.Store c.cut_all.new.tx.conn.now in
-    let d = state g.S.Store c.renumber.new.tx.conn.now in
-    as_reason _ _ (λ f h. next_reason _ a b d _ (c.in_ok-cut_all.ensures.done (clean_before b d _ c.renumber.ensures.frame.survives clean)) c.cut_all.ensures.frame.survives f
-    (more_reason SettingRow (MigratedRows V1 (contents_of a.now)) (λ t values h. inr h) b d f h)) c.renumber.result (c.renumber.ensures.cause clean)
-
-pub returns-clause-frame : goal.returns-clause-frame
-returns-clause-frame g c =
-    done_stays g.S.Store c.args.tx.now.conn c.cut_all.new.tx.conn c.renumber.new.tx.conn _ c.cut_all.ensures.frame.same_reference c.in_ok-cut_all.ensures.done c.cut_all.ensures.frame.survives
-    c.renumber.result c.renumber.ensures.frame
+pub returns-in_err-cut_all : goal.returns-in_err-cut_all
+returns-in_err-cut_all g c = record {
+  frame = record { same_reference = c.cut_all.ensures.frame.same_reference; failed = λ clean. always_failed c.from_residual.result _ (c.in_err-cut_all.ensures.frame.failed clean); survives = c.cut_all.ensures.frame.survives };
+  done = λ clean. none_done c.from_residual.result _ _ c.from_residual.ensures.1;
+  cause = λ clean.
+      let rows = contents_of (state g.S.Store c.args.tx.now.conn.now).now in
+      passed_on c.from_residual.result _ _ c.from_residual.ensures.1
+      (more_reason (AllCutRows rows) (MigratedRows V1 rows) (λ t values h. inl h) (state g.S.Store c.args.tx.now.conn.now) (state g.S.Store c.cut_all.new.tx.conn.now) _ (c.in_err-cut_all.ensures.cause clean));
+}

@@ -12,28 +12,30 @@ use Rattle.tables_make.proofs.Reasons.{as_reason, is_none, next_reason, put_reas
 use Rattle.tables_make.proofs.Steps.{put_over}
 use Rattle.tables_make.proofs.Uncut.{deleted}
 use Rattle.tables_make.proofs.Inside.{done_stays}
+use Rattle.tables_make.proofs.Failed.{none_done, always_failed}
 use Rattle.tables_make.proofs.settling.renumber.Goals as goal
 
-pub returns-clause-done : goal.returns-clause-done
-returns-clause-done g c =
-    done_both (state g.S.Store c.args.tx.now.conn.now) (state g.S.Store c.delete.new.tx.conn.now) (state g.S.Store c.insert.new.tx.conn.now) _ _ c.in_ok-delete.ensures.done c.insert.ensures.frame.survives
-    c.insert.result _ (λ (x : Contents). ap (λ m. record x { meta = m }) (put_over texts_total texts_antisymmetric x.meta (codes "schema") (schema_text V3))) (rw c.text.ensures at c.insert.ensures.done)
-
-pub returns-in_err-delete-clause-cause : goal.returns-in_err-delete-clause-cause
-returns-in_err-delete-clause-cause g c clean =
-    passed_on c.from_residual.result _ _ c.from_residual.ensures.1 (removal_reason _ (state g.S.Store c.args.tx.now.conn.now) (state g.S.Store c.delete.new.tx.conn.now) _ (c.in_err-delete.ensures.cause clean))
-
 -- the setting isn't there any more
-pub returns-clause-cause : goal.returns-clause-cause
-returns-clause-cause g c clean =
-    let a = state g.S.Store c.args.tx.now.conn.now in
-    let b = state g.S.Store c.delete.new.tx.conn.now in
-    let d = state g.S.Store c.insert.new.tx.conn.now in
-    let done = c.in_ok-delete.ensures.done (clean_before b d _ c.insert.ensures.frame.survives clean) in
-    as_reason _ _ (λ e h. next_reason _ a b d _ done c.delete.ensures.frame.survives e
-    (put_reason _ b d _ _ _ (refl, refl) (is_none _ (ap (λ (x : Contents). finite.get x.meta (codes "schema")) done.contents ∙ deleted texts_total texts_antisymmetric _ (codes "schema"))) e h)) c.insert.result (rw c.text.ensures at c.insert.ensures.cause clean)
+pub returns : goal.returns
+returns g c = record {
+  frame =
+      done_stays g.S.Store c.args.tx.now.conn c.delete.new.tx.conn c.insert.new.tx.conn _ c.delete.ensures.frame.same_reference c.in_ok-delete.ensures.done c.delete.ensures.frame.survives
+      c.insert.result c.insert.ensures.frame;
+  done =
+      done_both (state g.S.Store c.args.tx.now.conn.now) (state g.S.Store c.delete.new.tx.conn.now) (state g.S.Store c.insert.new.tx.conn.now) _ _ c.in_ok-delete.ensures.done c.insert.ensures.frame.survives
+      c.insert.result _ (λ (x : Contents). ap (λ m. record x { meta = m }) (put_over texts_total texts_antisymmetric x.meta (codes "schema") (schema_text V3))) (rw c.text.ensures at c.insert.ensures.done);
+  cause = λ clean.
+      let a = state g.S.Store c.args.tx.now.conn.now in
+      let b = state g.S.Store c.delete.new.tx.conn.now in
+      let d = state g.S.Store c.insert.new.tx.conn.now in
+      let done = c.in_ok-delete.ensures.done (clean_before b d _ c.insert.ensures.frame.survives clean) in
+      as_reason _ _ (λ e h. next_reason _ a b d _ done c.delete.ensures.frame.survives e
+      (put_reason _ b d _ _ _ (refl, refl) (is_none _ (ap (λ (x : Contents). finite.get x.meta (codes "schema")) done.contents ∙ deleted texts_total texts_antisymmetric _ (codes "schema"))) e h)) c.insert.result (rw c.text.ensures at c.insert.ensures.cause clean);
+}
 
-pub returns-clause-frame : goal.returns-clause-frame
-returns-clause-frame g c =
-    done_stays g.S.Store c.args.tx.now.conn c.delete.new.tx.conn c.insert.new.tx.conn _ c.delete.ensures.frame.same_reference c.in_ok-delete.ensures.done c.delete.ensures.frame.survives
-    c.insert.result c.insert.ensures.frame
+pub returns-in_err-delete : goal.returns-in_err-delete
+returns-in_err-delete g c = record {
+  frame = record { same_reference = c.delete.ensures.frame.same_reference; failed = λ clean. always_failed c.from_residual.result _ (c.in_err-delete.ensures.frame.failed clean); survives = c.delete.ensures.frame.survives };
+  done = λ clean. none_done c.from_residual.result _ _ c.from_residual.ensures.1;
+  cause = λ clean. passed_on c.from_residual.result _ _ c.from_residual.ensures.1 (removal_reason _ (state g.S.Store c.args.tx.now.conn.now) (state g.S.Store c.delete.new.tx.conn.now) _ (c.in_err-delete.ensures.cause clean));
+}

@@ -1,47 +1,28 @@
-use Rattle.std.proofs.Common.{sym, ap, ◌∙◌, arith}
-use Rattle.std.specs.List.{list_all}
-use Rattle.std.specs.FinMap as finite
-use Rattle.sqlite.specs.State.{HasCleanDisk}
-use Rattle.sqlite.specs.Held.{state}
-use Rattle.tables_sql.specs.Contents.{contents_of}
+use Rattle.std.proofs.Common.{refl, ap, ◌∙◌}
+use Rattle.tables_sql.proofs.Steps.{clean_before}
 use Rattle.tables_outline.specs.Outline.{OutlineValue}
-use Rattle.tables_roots.specs.Loaded.{is_permanent_root, is_user_root}
-use Rattle.tables_roots.proofs.TwoReads.{reported_next, read_next}
-use Rattle.tables_rows.proofs.Several.{several_failed, reads_done, reads_then}
+use Rattle.tables_roots.proofs.Loads.{failed_load, load_stops, load_goes_on}
+use Rattle.tables_rows.proofs.Several.{several_failed}
 use Rattle.tables_roots.proofs.roots.load_fixed.Goals as goal
 
-pub load_table-requires-2-clause-frame : goal.load_table-requires-2-clause-frame
-load_table-requires-2-clause-frame g c = record { idle = c.load_table.ensures.read.frame.idle; ready = c.load_table.ensures.read.frame.ready }
+pub load_table-requires-clause-roots : goal.load_table-requires-clause-roots
+load_table-requires-clause-roots g c = record { frame = c.requires.frame; fits = λ clean. (c.requires.fits clean).0 }
 
-pub load_table-requires-2-clause-fits : goal.load_table-requires-2-clause-fits
-load_table-requires-2-clause-fits g c clean =
-    let early : HasCleanDisk (state g.S.Store c.args.conn.now) = omega (arith, c.load_table.ensures.read.frame.survives.clean) in
-    ap (λ (o : OutlineValue). o.user_roots) (c.in_ok-load_table.ensures.loaded clean c.if-not-branch.false) ∙ c.requires.user_roots early
+pub load_table-requires-2-clause-roots : goal.load_table-requires-2-clause-roots
+load_table-requires-2-clause-roots g c =
+    let left = c.load_table.ensures.read.frame in
+    record {
+      frame = record { idle = left.idle; ready = left.ready };
+      fits = λ clean. ap (λ (o : OutlineValue). o.user_roots) (c.in_ok-load_table.ensures.loaded clean c.if-not-branch.false) ∙ (c.requires.fits (clean_before _ _ _ left.survives clean)).1;
+    }
 
-pub returns-clause-reported : goal.returns-clause-reported
-returns-clause-reported g c clean =
-    let a = state g.S.Store c.args.conn.now in
-    let b = state g.S.Store c.load_table.new.conn in
-    let middle : HasCleanDisk b = omega (arith, c.load_table-2.ensures.read.frame.survives.clean) in
-    let same = (c.in_ok-load_table.ensures.read.unchanged middle).0.now_is in
-    let outline = c.in_ok-load_table.ensures.loaded middle c.if-not-branch.false in
-    reported_next c.load_table-2.result (list_all (is_permanent_root c.args.outline.now.objects) (finite.entries (contents_of a.now).permanent)) _ _ (sym (c.in_ok-load_table.ensures.reported middle) ∙ c.if-not-branch.false)
-    (λ i. list_all (is_user_root (outline i).objects) (finite.entries (contents_of (same i)).user_roots)) (c.load_table-2.ensures.reported clean)
+pub returns-in_err-load_table : goal.returns-in_err-load_table
+returns-in_err-load_table g c =
+    failed_load _ _ c.from_residual.result _ _ _ _ _ c.from_residual.ensures.1
+    (several_failed _ _ c.from_residual.result _ c.from_residual.ensures.1 c.load_table.ensures.read.frame c.in_err-load_table.ensures.read.cause)
 
-pub returns-clause-loaded : goal.returns-clause-loaded
-returns-clause-loaded g c clean =
-    let a = state g.S.Store c.args.conn.now in
-    let b = state g.S.Store c.load_table.new.conn in
-    let middle : HasCleanDisk b = omega (arith, c.load_table-2.ensures.read.frame.survives.clean) in
-    let same = (c.in_ok-load_table.ensures.read.unchanged middle).0.now_is in
-    let outline = c.in_ok-load_table.ensures.loaded middle c.if-not-branch.false in
-    read_next c.load_table-2.result c.load_table-2.new.outline _ _ (λ i. record (outline i) { user_roots = (contents_of (same i)).user_roots }) (c.load_table-2.ensures.loaded clean)
+pub returns-then-not-branch : goal.returns-then-not-branch
+returns-then-not-branch g c = load_stops _ _ _ _ _ _ _ c.in_ok-load_table.ensures _ _ c.if-not-branch.true
 
-pub returns-in_err-load_table-clause-read : goal.returns-in_err-load_table-clause-read
-returns-in_err-load_table-clause-read g c = several_failed _ _ c.from_residual.result _ c.from_residual.ensures.1 c.load_table.ensures.read.frame c.in_err-load_table.ensures.read.cause
-
-pub returns-then-not-branch-clause-read : goal.returns-then-not-branch-clause-read
-returns-then-not-branch-clause-read g c = reads_done _ _ _ _ c.in_ok-load_table.ensures.read
-
-pub returns-clause-read : goal.returns-clause-read
-returns-clause-read g c = reads_then _ _ _ c.load_table-2.result c.load_table.ensures.read.frame c.in_ok-load_table.ensures.read.unchanged c.load_table-2.ensures.read
+pub returns : goal.returns
+returns g c = load_goes_on _ _ _ _ _ _ _ c.in_ok-load_table.ensures _ c.load_table-2.result _ _ _ c.if-not-branch.false (λ _. refl) c.load_table-2.ensures

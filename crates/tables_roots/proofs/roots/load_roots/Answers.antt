@@ -10,12 +10,20 @@ use Rattle.tables_outline.specs.Outline.{OutlineValue}
 use Rattle.tables_roots.specs.Loaded.{with_explicit, are_temporary}
 use Rattle.tables_roots.proofs.TwoReads.{read_next}
 use Rattle.tables_roots.proofs.Sessions.{none_kept}
-use Rattle.tables_roots.proofs.AllReads.{all_unsound, all_read, sessions_reported}
+use Rattle.tables_roots.proofs.AllReads.{roots_decide, all_unsound, all_read, sessions_reported}
 use Rattle.tables_rows.proofs.Several.{several_failed, reads_done, reads_then}
 use Rattle.tables_roots.proofs.roots.load_roots.Goals as goal
 
-pub load_table-requires-clause-frame : goal.load_table-requires-clause-frame
-load_table-requires-clause-frame g c = record { idle = c.load_explicit.ensures.read.frame.idle; ready = c.load_explicit.ensures.read.frame.ready }
+pub load_explicit-requires : goal.load_explicit-requires
+load_explicit-requires g c = record {
+  frame = c.requires.frame;
+  fits = λ clean. record {
+    permanent = c.requires.permanent clean;
+    user_roots = c.requires.user_roots clean;
+    profiles = c.requires.profiles clean;
+    runtime = c.requires.runtime clean;
+  };
+}
 
 pub load_table-requires-clause-exists : goal.load_table-requires-clause-exists
 load_table-requires-clause-exists g c clean is_open =
@@ -23,20 +31,23 @@ load_table-requires-clause-exists g c clean is_open =
     let remaining = (c.in_ok-load_explicit.ensures.read.unchanged clean).0 in
     subst (λ (d : Database). HasFurther d temp_root) (sym remaining.now_is) (c.requires.exists early (sym c.has_temporary.ensures ∙ c.if-not-has_temporary.false) remaining.was_open)
 
-pub load_table-requires-clause-fits : goal.load_table-requires-clause-fits
-load_table-requires-clause-fits g c clean =
-    let early : HasCleanDisk (state g.S.Store c.args.conn.now) = omega (arith, c.load_explicit.ensures.read.frame.survives.clean) in
-    ap (λ (o : OutlineValue). o.temporary) (c.in_ok-load_explicit.ensures.loaded clean c.if-not-branch.false) ∙ c.requires.temporary early
+pub load_table-requires-clause-roots : goal.load_table-requires-clause-roots
+load_table-requires-clause-roots g c =
+    let left = c.load_explicit.ensures.read.frame in
+    record {
+      frame = record { idle = left.idle; ready = left.ready };
+      fits = λ clean. ap (λ (o : OutlineValue). o.temporary) (c.in_ok-load_explicit.ensures.loaded clean c.if-not-branch.false) ∙ c.requires.temporary (omega (arith, left.survives.clean, clean));
+    }
 
 pub returns-then-not-branch-clause-reported : goal.returns-then-not-branch-clause-reported
 returns-then-not-branch-clause-reported g c clean =
-    all_unsound c.args.outline.now.objects (contents_of (state g.S.Store c.args.conn.now).now) c.in_ok-load_explicit.field-0 c.if-not-branch.true (c.in_ok-load_explicit.ensures.reported clean)
+    all_unsound c.args.outline.now.objects (contents_of (state g.S.Store c.args.conn.now).now) c.in_ok-load_explicit.field-0 c.if-not-branch.true (roots_decide _ _ _ (c.in_ok-load_explicit.ensures.reported clean))
 
 pub returns-then-not-has_temporary-clause-reported : goal.returns-then-not-has_temporary-clause-reported
 returns-then-not-has_temporary-clause-reported g c clean =
     let early : HasCleanDisk (state g.S.Store c.args.conn.now) = omega (arith, c.load_explicit.ensures.read.frame.survives.clean) in
     let none = c.requires.no_table early (sym c.has_temporary.ensures ∙ c.if-not-has_temporary.true) (c.in_ok-load_explicit.ensures.read.unchanged clean).0.was_open in
-    all_read c.args.outline.now.objects (contents_of (state g.S.Store c.args.conn.now).now) c.in_ok-load_explicit.field-0 c.if-not-branch.false none (c.in_ok-load_explicit.ensures.reported clean)
+    all_read c.args.outline.now.objects (contents_of (state g.S.Store c.args.conn.now).now) c.in_ok-load_explicit.field-0 c.if-not-branch.false none (roots_decide _ _ _ (c.in_ok-load_explicit.ensures.reported clean))
 
 pub returns-then-not-has_temporary-clause-loaded : goal.returns-then-not-has_temporary-clause-loaded
 returns-then-not-has_temporary-clause-loaded g c clean ok =
@@ -54,7 +65,7 @@ returns-clause-reported g c clean =
     let middle : HasCleanDisk b = omega (arith, c.load_table.ensures.read.frame.survives.clean) in
     let same = (c.in_ok-load_explicit.ensures.read.unchanged middle).0.now_is in
     let outline = c.in_ok-load_explicit.ensures.loaded middle c.if-not-branch.false in
-    sessions_reported c.args.outline.now.objects (contents_of a.now) c.load_table.result c.in_ok-load_explicit.field-0 c.if-not-branch.false (c.in_ok-load_explicit.ensures.reported middle) _
+    sessions_reported c.args.outline.now.objects (contents_of a.now) c.load_table.result c.in_ok-load_explicit.field-0 c.if-not-branch.false (roots_decide _ _ _ (c.in_ok-load_explicit.ensures.reported middle)) _
     (λ i. are_temporary (outline i).objects (contents_of (same i))) (c.load_table.ensures.reported clean)
 
 pub returns-clause-loaded : goal.returns-clause-loaded

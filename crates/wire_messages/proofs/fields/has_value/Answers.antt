@@ -5,9 +5,9 @@ use Rattle.wire_messages.proofs.fields.has_value.Goals.{then-eq_ignore_ascii_cas
 
 pub loop-field-preserved : goal.loop-field-preserved
 loop-field-preserved c =
-    let buf = c.args.buf.now in
+    let buf = c.args.fields.now.buf.now in
     let name = c.args.name.now in
-    let items = take c.args.head.now.spans.headers c.args.head.now.fields in
+    let items = take c.args.fields.now.head.now.spans.headers c.args.fields.now.head.now.fields in
     let i = c.loop-field.field-index in
     elim c.if-eq_ignore_ascii_case.branch [
       | then-eq_ignore_ascii_case+then-found w ↦

@@ -2,13 +2,13 @@ use Rattle.std.proofs.Common.{arith, ◌-◌, length, drop, take_all, length-dro
 use Rattle.wire_messages.proofs.Heads.{none_without_line_feed, only_too_long}
 use Rattle.wire_messages.proofs.head.look_for_head.Goals as goal
 
--- src/head.rt:38:9
-pub without_head-requires : goal.without_head-requires
-without_head-requires c =
+pub returns-then-not-contains : goal.returns-then-not-contains
+returns-then-not-contains c =
     let buf = c.args.buf.now in
+    c.without_head.ensures (
     none_without_line_feed buf c.args.seen c.requires.within c.requires.none _
     (take_all (length buf - c.args.seen) (drop c.args.seen buf) (omega (arith, length-drop c.args.seen buf)))
-    (rw c.if-not-contains.true at c.contains.ensures.cases)
+    (rw c.if-not-contains.true at c.contains.ensures.cases))
 
 -- src/head.rt:32:1
 pub returns-else-spans-le-MAX_HEAD : goal.returns-else-spans-le-MAX_HEAD

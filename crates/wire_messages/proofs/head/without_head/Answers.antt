@@ -4,4 +4,4 @@ use Rattle.wire_messages.proofs.head.without_head.Goals as goal
 
 -- src/head.rt:55:1
 pub returns-else-buf-lt-MAX_HEAD : goal.returns-else-buf-lt-MAX_HEAD
-returns-else-buf-lt-MAX_HEAD c = too_long c.args.buf.now c.requires (omega arith)
+returns-else-buf-lt-MAX_HEAD c = λ none. too_long c.args.buf.now none (omega arith)

@@ -12,7 +12,6 @@ head-init g c = record {
   begun = refl;
   within = omega arith;
   some = search rules;
-  window = search rules;
 }
 
 -- src/receive.rt:80:27
@@ -20,3 +19,10 @@ pub returns-in-Err : goal.returns-in-Err
 returns-in-Err g c =
     let took = c.head.invariant.took in
     ((_, Consumes-trans _ _ _ _ _ took.consumed c.read_more.ensures.consumed.1, tt), tt, λ e. let same : c.within.result ≡ Silent = cc in absurd (c.within.ensures same))
+
+pub look_again-has_begun-requires : goal.look_again-has_begun-requires
+look_again-has_begun-requires g c = rw c.deref.ensures.value (record {
+  within = c.head.invariant.within;
+  none = c.head.invariant.none;
+  begun = c.head.invariant.begun;
+})

@@ -12,7 +12,6 @@ invariant-head g l = record {
   begun : l.begun ≡ has_begun_in (take l.seen l.buffer.items);
   within : l.seen ≤ length l.buffer.items;
   some : 0 < length l.buffer.items;
-  window : 0 < length l.window;
 }
 
 abbrev pub decreases-head : goal.decreases-head

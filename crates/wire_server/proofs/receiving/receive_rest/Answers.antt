@@ -40,7 +40,7 @@ pub returns-in-Short-clause-came : goal.returns-in-Short-clause-came
 returns-in-Short-clause-came g c =
     let got = c.in_ok-receive_body-in-Accepted.ensures.came.came in
     let short = got.short (ap has_come (ap Ok c.in-Short.is)) in
-    (got.read, got.consumed, cut_short c.args.held.now got.read c.args.head c.args.size c.requires.head _ c.requires.some short.0 short.1)
+    (got.read, got.consumed, cut_short c.args.held.now got.read c.args.head c.args.size c.requires.head _ short.0 short.1)
 
 pub returns-in_err-receive_body-in-Accepted-clause-came : goal.returns-in_err-receive_body-in-Accepted-clause-came
 returns-in_err-receive_body-in-Accepted-clause-came g c =
@@ -64,7 +64,7 @@ pub returns-else-branch-clause-came : goal.returns-else-branch-clause-came
 returns-else-branch-clause-came g c =
     let got = c.in_ok-pass_body-in-Refused.ensures.came in
     let short = got.short (ap Ok c.if-branch.false) in
-    (got.read, got.consumed, cut_short c.args.held.now got.read c.args.head c.args.size c.requires.head _ c.requires.some short.0 short.1)
+    (got.read, got.consumed, cut_short c.args.held.now got.read c.args.head c.args.size c.requires.head _ short.0 short.1)
 
 pub returns-in_err-pass_body-in-Refused-clause-came : goal.returns-in_err-pass_body-in-Refused-clause-came
 returns-in_err-pass_body-in-Refused-clause-came g c =

@@ -11,7 +11,7 @@ returns-clause-reported c =
     let has = c.self.invariant in
     let before = subst (λ n. Holds256 c.self.inside.hasher (take (65536 * (n / 65536)) bytes)) (sym c.len-whole.ensures) has.hashed in
     let contents_before = subst (λ n. MayHold c.self.inside.contents (contents_so_far (take (65536 * (n / 65536)) bytes))) (sym c.len-whole.ensures) has.contents_hashed in
-    let contents = of_all (λ b. MayHold c.hash_asked.new.contents (contents_so_far b)) bytes c.count-2.result c.count-2.ensures (c.hash_asked.ensures contents_before) in
+    let contents = of_all (λ b. MayHold c.hash_asked.new.contents (contents_so_far b)) bytes c.count.result c.count.ensures (c.hash_asked.ensures contents_before) in
     record {
       bytes = has.fed.are_bytes;
       hash = c.finalize.ensures bytes (of_all (Holds256 c.hash_pieces.new.hasher) bytes c.count.result c.count.ensures (c.hash_pieces.ensures before));

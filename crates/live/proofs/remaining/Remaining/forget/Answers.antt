@@ -10,7 +10,7 @@ pub loop-entry-preserved : goal.loop-entry-preserved
 loop-entry-preserved c =
     let refs = (entries_at c.args.graph.now c.args.place).references in
     let below : c.loop-entry.entry < length (entries_at c.args.graph.now c.args.place).references = (let t = c.loop-entry-test.true in let n = c.object-has.ensures.references in omega arith) in
-    let is = c.entry-target.ensures.value ∙ first_held (entries_at c.args.graph.now c.args.place) c.loop-entry.entry below in
+    let is = c.entry-target.ensures.read.value ∙ first_held (entries_at c.args.graph.now c.args.place) c.loop-entry.entry below in
     let later : suc c.loop-entry.entry ≡ c.loop-entry.entry + 1 = omega arith in
     let dropped = drop-cons (entries_at c.args.graph.now c.args.place).references c.loop-entry.entry 0 below
     ∙ ap (λ x. x ∷ drop (suc c.loop-entry.entry) (entries_at c.args.graph.now c.args.place).references) (sym is)
@@ -35,7 +35,7 @@ loop-entry-preserved c =
 pub lessen-requires-clause-some : goal.lessen-requires-clause-some
 lessen-requires-clause-some c =
     let below : c.loop-entry.entry < length (entries_at c.args.graph.now c.args.place).references = (let t = c.loop-entry-test.true in let n = c.object-has.ensures.references in omega arith) in
-    let is = c.entry-target.ensures.value ∙ first_held (entries_at c.args.graph.now c.args.place) c.loop-entry.entry below in
+    let is = c.entry-target.ensures.read.value ∙ first_held (entries_at c.args.graph.now c.args.place) c.loop-entry.entry below in
     let later : suc c.loop-entry.entry ≡ c.loop-entry.entry + 1 = omega arith in
     let dropped = drop-cons (entries_at c.args.graph.now c.args.place).references c.loop-entry.entry 0 below
     ∙ ap (λ x. x ∷ drop (suc c.loop-entry.entry) (entries_at c.args.graph.now c.args.place).references) (sym is)
@@ -44,7 +44,10 @@ lessen-requires-clause-some c =
     positive c.args.graph.now c.args.place c.entry-target.result (drop (c.loop-entry.entry + 1) (entries_at c.args.graph.now c.args.place).references) c.loop-entry.self c.loop-entry.self
     (λ e. c.if-target-place.true (sym e)) c.entry-target.ensures.inside r
 
-pub returns-clause-remaining : goal.returns-clause-remaining
-returns-clause-remaining c =
-    settled c.args.graph.now c.args.place (entries_at c.args.graph.now c.args.place).references c.loop-entry.entry c.loop-entry.self
-    (let t = c.loop-entry-test.false in let n = c.object-has.ensures.references in omega arith) c.loop-entry.invariant.0
+pub returns : goal.returns
+returns c = record {
+  dead = c.loop-entry.invariant.1;
+  left = c.loop-entry.invariant.2;
+  remaining = settled c.args.graph.now c.args.place (entries_at c.args.graph.now c.args.place).references c.loop-entry.entry c.loop-entry.self
+      (let t = c.loop-entry-test.false in let n = c.object-has.ensures.references in omega arith) c.loop-entry.invariant.0;
+}

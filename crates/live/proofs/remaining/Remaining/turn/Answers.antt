@@ -18,8 +18,8 @@ returns-in_ok-still_wanted-in-Some-clause-turn c rows is_dead size stands turn t
     let listed = c.deref.ensures.value in
     consumed_turn c.args.graph.now c.args.self.now c.remove_all.new.self c.args.sizes.now rows is_dead size stands c.deref.result.now
     (subst (All (λ t. t < length c.args.graph.now)) (sym listed) (subst (λ (o : Option (Vec ℕ Global)). IfSome o (λ v. All (λ t. t < length c.args.graph.now) v.items)) c.in-Some.is c.in_ok-group.ensures.inside))
-    c.requires.remaining.places c.in_ok-still_wanted-in-Some.ensures.remaining.places
-    (λ i h. c.in_ok-still_wanted-in-Some.ensures.left i h ∙ ap (λ (bs : List Bool). is_in bs i && not (list_any (λ j. j == i) c.deref.result.now)) c.in_ok-group.ensures.left)
+    c.requires.remaining.places c.in_ok-still_wanted-in-Some.ensures.deleted.remaining.places
+    (λ i h. c.in_ok-still_wanted-in-Some.ensures.deleted.left i h ∙ ap (λ (bs : List Bool). is_in bs i && not (list_any (λ j. j == i) c.deref.result.now)) c.in_ok-group.ensures.same.left)
     c.args.wanted c.in_ok-still_wanted-in-Some.still_wanted (let n = c.if-wanted-eq0.false in omega arith) c.in_ok-still_wanted-in-Some.ensures.wanted
     (sym (c.in_ok-group.ensures.group c.args.sizes.now rows is_dead size stands) ∙ ap (option_map (group_at rows)) c.in-Some.is ∙ ap (λ xs. Some (map (path_at rows) xs)) (sym listed))
     turn turns
@@ -27,6 +27,18 @@ returns-in_ok-still_wanted-in-Some-clause-turn c rows is_dead size stands turn t
 pub returns-in-None-clause-turn : goal.returns-in-None-clause-turn
 returns-in-None-clause-turn c rows is_dead size stands turn turns =
     let none = sym (c.in_ok-group.ensures.group c.args.sizes.now rows is_dead size stands) ∙ ap (option_map (group_at rows)) c.in-None.is in
-    ap (λ (bs : List Bool). left_after (graph_of rows) is_dead size turns (map (path_at rows) (places_left bs)) 0) c.in_ok-group.ensures.left
+    ap (λ (bs : List Bool). left_after (graph_of rows) is_dead size turns (map (path_at rows) (places_left bs)) 0) c.in_ok-group.ensures.same.left
     ∙ no_turn (graph_of rows) is_dead size turns (map (path_at rows) (places_left c.args.self.now.left)) 0 refl
     ∙ sym (no_group (graph_of rows) is_dead size (turn ∷ turns) (map (path_at rows) (places_left c.args.self.now.left)) c.args.wanted none)
+
+pub returns-then-wanted-eq0-clause-dead : goal.returns-then-wanted-eq0-clause-dead
+returns-then-wanted-eq0-clause-dead c = record { dead = refl; remaining = c.requires.remaining }
+
+pub returns-in_ok-still_wanted-in-Some-clause-dead : goal.returns-in_ok-still_wanted-in-Some-clause-dead
+returns-in_ok-still_wanted-in-Some-clause-dead c = record {
+  dead = c.in_ok-still_wanted-in-Some.ensures.deleted.dead ∙ c.in_ok-group.ensures.same.dead;
+  remaining = c.in_ok-still_wanted-in-Some.ensures.deleted.remaining;
+}
+
+pub returns-in-None-clause-dead : goal.returns-in-None-clause-dead
+returns-in-None-clause-dead c = record { dead = c.in_ok-group.ensures.same.dead; remaining = c.in_ok-group.ensures.same.remaining }

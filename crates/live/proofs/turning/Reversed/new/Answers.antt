@@ -1,6 +1,6 @@
 use Rattle.std.proofs.Common.{◌≡◌, ◌≤◌, ◌∙◌, sym, length, arith}
 use Rattle.std.proofs.lemmas.Grind.{common_steps}
-use Rattle.live.specs.declared.turning.Reversed.{Reversed}
+use Rattle.live.specs.Backward.{Reversed}
 use Rattle.live.proofs.Rooms.{begun_none, begun_more, all_begun}
 use Rattle.live.proofs.turning.Reversed.new.Goals as goal
 
@@ -18,11 +18,11 @@ returns-clause-count c = let count = c.loop-count.invariant.count in omega arith
 pub returns-clause-empty : goal.returns-clause-empty
 returns-clause-empty c =
     let len : length c.in_ok-sources.sources.items ≡ c.loop-count.start = sym c.in_ok-sources.sources.ok.0 ∙ c.in_ok-sources.ensures.len in
-    let into : Reversed = record { ranges = c.loop-count.ranges; sources = c.in_ok-sources.sources } in
+    let into : Reversed = record { ranges = c.loop-count.ranges.items; sources = c.in_ok-sources.sources.items } in
     (all_begun into c.loop-count.count-index c.loop-count.start c.loop-count.invariant len).0
 
-pub returns-clause-laid : goal.returns-clause-laid
-returns-clause-laid c =
+pub invariant_of-result : goal.invariant_of-result
+invariant_of-result c =
     let len : length c.in_ok-sources.sources.items ≡ c.loop-count.start = sym c.in_ok-sources.sources.ok.0 ∙ c.in_ok-sources.ensures.len in
-    let into : Reversed = record { ranges = c.loop-count.ranges; sources = c.in_ok-sources.sources } in
+    let into : Reversed = record { ranges = c.loop-count.ranges.items; sources = c.in_ok-sources.sources.items } in
     (all_begun into c.loop-count.count-index c.loop-count.start c.loop-count.invariant len).1

@@ -17,8 +17,8 @@ with_address dir i ca b is fits =
 
 pub returns-then-not-branch : goal.returns-then-not-branch
 returns-then-not-branch c =
-    with_address c.args.dir.now (delivered_view c.args.self.now) c.in-Some.ca _ c.in-Some.is (sym c.in_ok-fits.ensures.fits ∙ c.if-not-branch.true)
+    with_address c.args.dir.now (delivered_view c.args.self.now) c.in-Some.ca _ c.in-Some.is (sym (c.in_ok-fits.ensures c.requires) ∙ c.if-not-branch.true)
 
 pub returns : goal.returns
 returns c =
-    with_address c.args.dir.now (delivered_view c.args.self.now) c.in-Some.ca _ c.in-Some.is (sym c.in_ok-fits.ensures.fits ∙ c.if-not-branch.false)
+    with_address c.args.dir.now (delivered_view c.args.self.now) c.in-Some.ca _ c.in-Some.is (sym (c.in_ok-fits.ensures c.requires) ∙ c.if-not-branch.false)

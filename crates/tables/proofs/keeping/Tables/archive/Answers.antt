@@ -24,10 +24,19 @@ pub returns-in_err-found-clause-same : goal.returns-in_err-found-clause-same
 returns-in_err-found-clause-same g c =
     reported_failed g.S.Store _ c.args.self.now c.self.view_is c.read_archive.new.conn c.self.inside.outline c.self.invariant _ c.read_archive.ensures.frame.survives c.read_archive.ensures.frame.same refl
 
-pub read_archive-requires-clause-size : goal.read_archive-requires-clause-size
-read_archive-requires-clause-size g c clean is_open =
-    archive_size g.S.Store (record { connection = c.self.inside.connection; dir = c.self.inside.dir; outline = c.self.inside.outline }) c.self.invariant c.as_str.result.now c.args.path.now c.as_str.ensures.value
-    clean is_open c.in-Some.object.now c.size-size.result c.in-Some.ensures c.size-size.ensures
+pub read_archive-requires : goal.read_archive-requires
+read_archive-requires g c = record {
+  frame = record { idle = c.self.invariant.idle; ready = λ clean is_open. (c.self.invariant.rows clean is_open).ready };
+  tables = λ clean is_open. (
+    (c.self.invariant.rows clean is_open).whole.pieces,
+    record {
+      cut = λ o is. (c.self.invariant.rows clean is_open).sound.cut refl c.as_str.result.now o is;
+      sized =
+          archive_size g.S.Store (record { connection = c.self.inside.connection; dir = c.self.inside.dir; outline = c.self.inside.outline }) c.self.invariant c.as_str.result.now c.args.path.now c.as_str.ensures.value
+          clean is_open c.in-Some.object.now c.size-size.result c.in-Some.ensures c.size-size.ensures;
+    },
+  );
+}
 
 pub returns-in_default-clause-found : goal.returns-in_default-clause-found
 returns-in_default-clause-found g c clean =

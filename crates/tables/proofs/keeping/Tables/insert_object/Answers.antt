@@ -18,13 +18,18 @@ pub unreachable-requires : goal.unreachable-requires
 unreachable-requires g c =
     false≢true (ap is_some (found_put c.self.inside.outline c.insert_object.new.self c.args.path.now c.in_ok-key.key c.args.object None c.in_ok-key.ensures.cases c.in_ok-insert_object.ensures.done c.in_default.ensures))
 
-pub commit-requires-clause-fits : goal.commit-requires-clause-fits
-commit-requires-clause-fits g c clean is_open =
-    subst (λ (p : List ℕ). HasNoObject p (contents_of (state g.S.Store c.self.inside.connection).now)) (sym c.as_str.ensures.value) (object_fits g.S.Store (record { connection = c.self.inside.connection; dir = c.self.inside.dir; outline = c.self.inside.outline }) c.args.self.now c.self.view_is c.insert_object.new.self c.args.path.now c.in_ok-key.key c.args.nar.now c.args.object c.in-Some.object.now c.in_ok-texts.texts.deriver c.in_ok-texts.texts.ca
-    c.self.invariant c.requires.new c.requires.size c.requires.hash c.in_ok-texts.ensures.deriver c.in_ok-texts.ensures.ca c.in_ok-texts.ensures.valid
-    (same_Some c.in-Some.object.now c.args.object
-    (found_put c.self.inside.outline c.insert_object.new.self c.args.path.now c.in_ok-key.key c.args.object (Some c.in-Some.object.now) c.in_ok-key.ensures.cases c.in_ok-insert_object.ensures.done c.in-Some.ensures))
-    c.requires.sound clean is_open)
+pub commit-requires : goal.commit-requires
+commit-requires g c = record {
+  idle = c.self.invariant.idle;
+  ready = λ clean up. (c.self.invariant.rows clean up).ready;
+  whole = λ clean up. (c.self.invariant.rows clean up).whole;
+  fits = λ clean is_open.
+      subst (λ (p : List ℕ). HasNoObject p (contents_of (state g.S.Store c.self.inside.connection).now)) (sym c.as_str.ensures.value) (object_fits g.S.Store (record { connection = c.self.inside.connection; dir = c.self.inside.dir; outline = c.self.inside.outline }) c.args.self.now c.self.view_is c.insert_object.new.self c.args.path.now c.in_ok-key.key c.args.nar.now c.args.object c.in-Some.object.now c.in_ok-texts.texts.deriver c.in_ok-texts.texts.ca
+      c.self.invariant c.requires.new c.requires.size c.requires.hash c.in_ok-texts.ensures.deriver c.in_ok-texts.ensures.ca c.in_ok-texts.ensures.valid
+      (same_Some c.in-Some.object.now c.args.object
+      (found_put c.self.inside.outline c.insert_object.new.self c.args.path.now c.in_ok-key.key c.args.object (Some c.in-Some.object.now) c.in_ok-key.ensures.cases c.in_ok-insert_object.ensures.done c.in-Some.ensures))
+      c.requires.sound clean is_open);
+}
 
 pub invariant_of-self-in-Ok : goal.invariant_of-self-in-Ok
 invariant_of-self-in-Ok g c =

@@ -7,16 +7,12 @@ use Rattle.tables_sql.proofs.TestFailures.{passed_on}
 use Rattle.tables_make.specs.Reasons.{NoRow}
 use Rattle.tables.proofs.keeping.Tables.remove_objects.Goals as goal
 
-pub delete_rows-requires-clause-covers : goal.delete_rows-requires-clause-covers
-delete_rows-requires-clause-covers g c clean is_open =
-    let it = c.self.invariant.rows clean is_open in
-    covered c.self.inside.dir _ c.self.inside.outline it.sound it.same
-
-pub delete_rows-requires-clause-frame : goal.delete_rows-requires-clause-frame
-delete_rows-requires-clause-frame g c = record {
+pub delete_rows-requires : goal.delete_rows-requires
+delete_rows-requires g c = record {
   idle = c.self.invariant.idle;
   ready = λ clean up. (c.self.invariant.rows clean up).ready;
   whole = λ clean up. (c.self.invariant.rows clean up).whole;
+  fits = λ clean up. let it = c.self.invariant.rows clean up in covered c.self.inside.dir _ c.self.inside.outline it.sound it.same;
 }
 
 pub returns-in_err-delete_rows : goal.returns-in_err-delete_rows

@@ -21,7 +21,7 @@ use Rattle.tables.proofs.Lists.{zipped, keys_count}
 use Rattle.tables_make.proofs.Reasons.{as_reason, is_none, more_reason, next_reason, put_open, text_same}
 use Rattle.tables_sql.proofs.Transactions.{done_both, failed_next, steps_both}
 use Rattle.tables_sql.proofs.Steps.{under_after}
-use Rattle.tables.proofs.Failing.{err_kept}
+use Rattle.tables_make.proofs.Failing.{err_kept}
 use Rattle.tables_sql.proofs.TestFailures.{passed_on, survives_both}
 use Rattle.tables.proofs.Transactions.{pieces_exist}
 use Rattle.tables.proofs.objects.InsertObjectChange.write.Goals as goal
@@ -30,11 +30,18 @@ pub put_outputs-requires-clause-count : goal.put_outputs-requires-clause-count
 put_outputs-requires-clause-count g c =
     keys_count c.args.self.now.object.now.outputs c.names.result.now c.outputs.result.now c.names.ensures c.outputs.ensures
 
-pub put_references-requires-clause-frame : goal.put_references-requires-clause-frame
-put_references-requires-clause-frame g c = record {
+pub put_references-requires : goal.put_references-requires
+put_references-requires g c = record {
   under_way = λ clean.
       under_after (state g.S.Store c.args.tx.now.conn.now) (state g.S.Store c.insert.new.tx.conn.now) _ (c.in_ok-insert.ensures.done clean);
   is_open = λ clean. (c.in_ok-insert.ensures.done clean).is_open;
+  fits = λ clean.
+      let it = c.args.self.now in
+      let a = state g.S.Store c.args.tx.now.conn.now in
+      let b = state g.S.Store c.insert.new.tx.conn.now in
+      let done = c.in_ok-insert.ensures.done clean in
+      let early : HasCleanDisk a = omega (arith, c.insert.ensures.frame.survives.clean, clean) in
+      subst₂ (λ (x : Contents) ts. AreFree x.refs (map (λ (t : Path). (it.base.now, t)) ts)) (sym done.contents) (sym c.references.ensures) (references_free it.base.now (contents_of a.now).refs it.object.now.references (c.requires.fits early done.was_open).references);
 }
 
 pub returns-in_err-put_references-clause-frame : goal.returns-in_err-put_references-clause-frame
@@ -57,6 +64,16 @@ put_outputs-requires-clause-frame g c = record {
       let b = state g.S.Store c.insert.new.tx.conn.now in
       let d = state g.S.Store c.put_references.new.tx.conn.now in
       (steps_both a b d _ _ c.in_ok-insert.ensures.done c.put_references.ensures.frame.survives c.in_ok-put_references.ensures.done clean).is_open;
+  fits = λ clean.
+      let it = c.args.self.now in
+      let a = state g.S.Store c.args.tx.now.conn.now in
+      let b = state g.S.Store c.insert.new.tx.conn.now in
+      let d = state g.S.Store c.put_references.new.tx.conn.now in
+      let done = steps_both a b d _ _ c.in_ok-insert.ensures.done c.put_references.ensures.frame.survives c.in_ok-put_references.ensures.done clean in
+      let early : HasCleanDisk a = omega (arith, c.insert.ensures.frame.survives.clean, c.put_references.ensures.frame.survives.clean, clean) in
+      let entries = finite.entries it.object.now.outputs in
+      subst₂ (λ (x : Contents) es. AreFree x.outs (map (λ (o : List ℕ × Path). (it.base.now, o.0)) es)) (sym done.contents) (sym (ap₂ zip c.names.ensures c.outputs.ensures ∙ zipped entries))
+      (outputs_free it.base.now (contents_of a.now).outs entries (c.requires.fits early done.was_open).outputs (finite.entries_sorted it.object.now.outputs));
 }
 
 pub returns-in_err-put_outputs-clause-frame : goal.returns-in_err-put_outputs-clause-frame
@@ -71,8 +88,8 @@ returns-in_err-put_outputs-clause-frame g c =
       survives = survives_both a d e (survives_both a b d c.insert.ensures.frame.survives c.put_references.ensures.frame.survives) c.put_outputs.ensures.frame.survives;
     }
 
-pub put_pieces-requires-clause-frame : goal.put_pieces-requires-clause-frame
-put_pieces-requires-clause-frame g c = record {
+pub put_pieces-requires : goal.put_pieces-requires
+put_pieces-requires g c = record {
   under_way = λ clean.
       let a = state g.S.Store c.args.tx.now.conn.now in
       let b = state g.S.Store c.insert.new.tx.conn.now in
@@ -92,6 +109,16 @@ put_pieces-requires-clause-frame g c = record {
       let e = state g.S.Store c.put_outputs.new.tx.conn.now in
       pieces_exist a e _ (steps_both a d e _ _ (steps_both a b d _ _ c.in_ok-insert.ensures.done c.put_references.ensures.frame.survives c.in_ok-put_references.ensures.done) c.put_outputs.ensures.frame.survives c.in_ok-put_outputs.ensures.done)
       (survives_both a d e (survives_both a b d c.insert.ensures.frame.survives c.put_references.ensures.frame.survives) c.put_outputs.ensures.frame.survives) (λ early is_open. (c.requires.whole early is_open).pieces) clean;
+  fits = λ clean.
+      let it = c.args.self.now in
+      let a = state g.S.Store c.args.tx.now.conn.now in
+      let b = state g.S.Store c.insert.new.tx.conn.now in
+      let d = state g.S.Store c.put_references.new.tx.conn.now in
+      let e = state g.S.Store c.put_outputs.new.tx.conn.now in
+      let done = steps_both a d e _ _ (steps_both a b d _ _ c.in_ok-insert.ensures.done c.put_references.ensures.frame.survives c.in_ok-put_references.ensures.done) c.put_outputs.ensures.frame.survives c.in_ok-put_outputs.ensures.done clean in
+      let early : HasCleanDisk a = omega (arith, c.insert.ensures.frame.survives.clean, c.put_references.ensures.frame.survives.clean, c.put_outputs.ensures.frame.survives.clean, clean) in
+      subst (λ (x : Contents). AreFree x.pieces (map (λ (p : ℤ × List ℕ). (it.base.now, p.0)) (further_pieces it.nar.now))) (sym done.contents)
+      (pieces_free it.base.now (contents_of a.now).pieces (further_pieces it.nar.now) (c.requires.fits early done.was_open).pieces (rising it.nar.now 1 (drop piece_size it.nar.now)));
 }
 
 pub returns-clause-frame : goal.returns-clause-frame
@@ -115,41 +142,6 @@ returns-clause-done g c =
     let e = state g.S.Store c.put_outputs.new.tx.conn.now in
     done_both a e (state g.S.Store c.put_pieces.new.tx.conn.now) _ _ (steps_both a d e _ _ (steps_both a b d _ _ c.in_ok-insert.ensures.done c.put_references.ensures.frame.survives c.in_ok-put_references.ensures.done) c.put_outputs.ensures.frame.survives c.in_ok-put_outputs.ensures.done) c.put_pieces.ensures.frame.survives
     c.put_pieces.result _ (λ x i. put_object it.base.now (stored ((c.first.ensures ∙ row_part_is it.nar.now) i) (c.hash.ensures i) it.texts.now.deriver it.texts.now.ca) (c.references.ensures i) ((ap₂ zip c.names.ensures c.outputs.ensures ∙ zipped (finite.entries it.object.now.outputs)) i) (further_pieces it.nar.now) x) c.put_pieces.ensures.done
-
--- ---- nothing of it is there
-
-pub put_references-requires-clause-free : goal.put_references-requires-clause-free
-put_references-requires-clause-free g c clean =
-    let it = c.args.self.now in
-    let a = state g.S.Store c.args.tx.now.conn.now in
-    let b = state g.S.Store c.insert.new.tx.conn.now in
-    let done = c.in_ok-insert.ensures.done clean in
-    let early : HasCleanDisk a = omega (arith, c.insert.ensures.frame.survives.clean, clean) in
-    subst₂ (λ (x : Contents) ts. AreFree x.refs (map (λ (t : Path). (it.base.now, t)) ts)) (sym done.contents) (sym c.references.ensures) (references_free it.base.now (contents_of a.now).refs it.object.now.references (c.requires.fits early done.was_open).references)
-
-pub put_outputs-requires-clause-free : goal.put_outputs-requires-clause-free
-put_outputs-requires-clause-free g c clean =
-    let it = c.args.self.now in
-    let a = state g.S.Store c.args.tx.now.conn.now in
-    let b = state g.S.Store c.insert.new.tx.conn.now in
-    let d = state g.S.Store c.put_references.new.tx.conn.now in
-    let done = steps_both a b d _ _ c.in_ok-insert.ensures.done c.put_references.ensures.frame.survives c.in_ok-put_references.ensures.done clean in
-    let early : HasCleanDisk a = omega (arith, c.insert.ensures.frame.survives.clean, c.put_references.ensures.frame.survives.clean, clean) in
-    let entries = finite.entries it.object.now.outputs in
-    subst₂ (λ (x : Contents) es. AreFree x.outs (map (λ (o : List ℕ × Path). (it.base.now, o.0)) es)) (sym done.contents) (sym (ap₂ zip c.names.ensures c.outputs.ensures ∙ zipped entries))
-    (outputs_free it.base.now (contents_of a.now).outs entries (c.requires.fits early done.was_open).outputs (finite.entries_sorted it.object.now.outputs))
-
-pub put_pieces-requires-clause-free : goal.put_pieces-requires-clause-free
-put_pieces-requires-clause-free g c clean =
-    let it = c.args.self.now in
-    let a = state g.S.Store c.args.tx.now.conn.now in
-    let b = state g.S.Store c.insert.new.tx.conn.now in
-    let d = state g.S.Store c.put_references.new.tx.conn.now in
-    let e = state g.S.Store c.put_outputs.new.tx.conn.now in
-    let done = steps_both a d e _ _ (steps_both a b d _ _ c.in_ok-insert.ensures.done c.put_references.ensures.frame.survives c.in_ok-put_references.ensures.done) c.put_outputs.ensures.frame.survives c.in_ok-put_outputs.ensures.done clean in
-    let early : HasCleanDisk a = omega (arith, c.insert.ensures.frame.survives.clean, c.put_references.ensures.frame.survives.clean, c.put_outputs.ensures.frame.survives.clean, clean) in
-    subst (λ (x : Contents). AreFree x.pieces (map (λ (p : ℤ × List ℕ). (it.base.now, p.0)) (further_pieces it.nar.now))) (sym done.contents)
-    (pieces_free it.base.now (contents_of a.now).pieces (further_pieces it.nar.now) (c.requires.fits early done.was_open).pieces (rising it.nar.now 1 (drop piece_size it.nar.now)))
 
 -- ---- why it failed
 

@@ -11,7 +11,7 @@ use Rattle.tables_sql.proofs.TestFailures.{passed_on, survives_both}
 use Rattle.tables_outline.proofs.Puts.{get-removed, put_over}
 use Rattle.tables.specs.RowsPut.{ProfileRow, GenerationRows}
 use Rattle.tables.proofs.AddedGenerations.{without_triple}
-use Rattle.tables.proofs.Failing.{err_kept}
+use Rattle.tables_make.proofs.Failing.{err_kept}
 use Rattle.tables_make.proofs.Reasons.{as_reason, is_none, more_reason, next_reason, put_reason, removal_reason}
 use Rattle.tables.proofs.profiles.PutGenerationChange.write.Goals as goal
 

@@ -11,25 +11,20 @@ use Rattle.tables.proofs.Transactions.{pieces_exist}
 use Rattle.tables_make.proofs.Reasons.{as_reason, next_reason}
 use Rattle.tables.proofs.removal.RemoveObjectsChange.write.Goals as goal
 
-pub delete_object-requires-clause-exists : goal.delete_object-requires-clause-exists
-delete_object-requires-clause-exists g c clean is_open = (c.requires.whole clean is_open).pieces
+pub delete_object-requires : goal.delete_object-requires
+delete_object-requires g c = record { under_way = c.requires.under_way; tables = λ clean is_open. ((c.requires.whole clean is_open).pieces, c.requires.fits clean is_open) }
 
-pub delete_object-requires-clause-covers : goal.delete_object-requires-clause-covers
-delete_object-requires-clause-covers g c clean is_open = c.requires.fits clean is_open
-
-pub delete_objects-requires-clause-covers : goal.delete_objects-requires-clause-covers
-delete_objects-requires-clause-covers g c clean =
-    let it = c.in_ok-delete_object.ensures.done clean in
-    let early : HasCleanDisk (state g.S.Store c.args.tx.now.conn.now) = omega (arith, c.delete_object.ensures.frame.survives.clean, clean) in
-    subst (Covers c.args.self.now.outline.now) (sym it.contents) (covers_less c.args.self.now.outline.now c.args.self.now.first.now _ (c.requires.fits early it.was_open))
-
-pub delete_objects-requires-clause-frame : goal.delete_objects-requires-clause-frame
-delete_objects-requires-clause-frame g c = record {
+pub delete_objects-requires : goal.delete_objects-requires
+delete_objects-requires g c = record {
   under_way = λ clean.
       under_after (state g.S.Store c.args.tx.now.conn.now) (state g.S.Store c.delete_object.new.tx.conn.now) _ (c.in_ok-delete_object.ensures.done clean);
   is_open = λ clean. (c.in_ok-delete_object.ensures.done clean).is_open;
   exists = λ clean.
       pieces_exist (state g.S.Store c.args.tx.now.conn.now) (state g.S.Store c.delete_object.new.tx.conn.now) _ c.in_ok-delete_object.ensures.done c.delete_object.ensures.frame.survives (λ early is_open. (c.requires.whole early is_open).pieces) clean;
+  fits = λ clean.
+      let it = c.in_ok-delete_object.ensures.done clean in
+      let early : HasCleanDisk (state g.S.Store c.args.tx.now.conn.now) = omega (arith, c.delete_object.ensures.frame.survives.clean, clean) in
+      subst (Covers c.args.self.now.outline.now) (sym it.contents) (covers_less c.args.self.now.outline.now c.args.self.now.first.now _ (c.requires.fits early it.was_open));
 }
 
 pub returns-clause-frame : goal.returns-clause-frame

@@ -10,10 +10,11 @@ use Rattle.tables_sql.proofs.TestFailures.{passed_on, survives_both}
 use Rattle.tables_make.proofs.Reasons.{as_reason, next_reason, removal_reason}
 use Rattle.tables.proofs.runtime.ReplaceRuntimeChange.write.Goals as goal
 
-pub put_runtime-requires-clause-frame : goal.put_runtime-requires-clause-frame
-put_runtime-requires-clause-frame g c = record {
+pub put_runtime-requires : goal.put_runtime-requires
+put_runtime-requires g c = record {
   under_way = λ clean. under_after (state g.S.Store c.args.tx.now.conn.now) (state g.S.Store c.delete_all.new.tx.conn.now) _ (c.in_ok-delete_all.ensures.done clean);
   is_open = λ clean. (c.in_ok-delete_all.ensures.done clean).is_open;
+  fits = λ clean. ap (λ (x : Contents). x.runtime) (c.in_ok-delete_all.ensures.done clean).contents;
 }
 
 pub returns-clause-frame : goal.returns-clause-frame
@@ -28,9 +29,6 @@ pub returns-clause-done : goal.returns-clause-done
 returns-clause-done g c =
     done_both (state g.S.Store c.args.tx.now.conn.now) (state g.S.Store c.delete_all.new.tx.conn.now) (state g.S.Store c.put_runtime.new.tx.conn.now) _ _ c.in_ok-delete_all.ensures.done c.put_runtime.ensures.frame.survives
     c.put_runtime.result _ (λ (x : Contents). ap (λ m. record x { runtime = m }) (all_put (map labelled_bytes c.args.self.now.roots.now.keys))) c.put_runtime.ensures.done
-
-pub put_runtime-requires-clause-none : goal.put_runtime-requires-clause-none
-put_runtime-requires-clause-none g c clean = ap (λ (x : Contents). x.runtime) (c.in_ok-delete_all.ensures.done clean).contents
 
 pub returns-in_err-delete_all-clause-cause : goal.returns-in_err-delete_all-clause-cause
 returns-in_err-delete_all-clause-cause g c clean =

@@ -4,7 +4,11 @@ use Rattle.tables_roots.proofs.Filled.{load_generations}
 use Rattle.tables_roots.proofs.Rows.{reads_so}
 use Rattle.tables_roots.proofs.generations.GenerationRootTable.all.Goals as goal
 
-pub returns-clause-reads : goal.returns-clause-reads
-returns-clause-reads g c clean =
-    reads_so c.all.result _ _ _ (c.all.ensures.reads clean)
-    (λ all listed o filled. load_generations all.items o (contents_of (state g.S.Store c.args.conn.now).now) listed filled)
+pub returns : goal.returns
+returns g c = record {
+  frame = c.all.ensures.frame;
+  reads = λ clean.
+      reads_so c.all.result _ _ _ (c.all.ensures.reads clean)
+      (λ all listed o filled. load_generations all.items o (contents_of (state g.S.Store c.args.conn.now).now) listed filled);
+  cause = c.all.ensures.cause;
+}

@@ -9,10 +9,14 @@ use Rattle.tables_roots.proofs.Rows.{load_entries, reads_so}
 use Rattle.tables_roots.proofs.Sessions.{member, temporary_again}
 use Rattle.tables_roots.proofs.temporary.TempRootRootTable.all.Goals as goal
 
-pub returns-clause-reads : goal.returns-clause-reads
-returns-clause-reads g c clean =
-    let stored = (contents_of (state g.S.Store c.args.conn.now).now).temp_roots in
-    reads_so c.all.result _ _ _ (c.all.ensures.reads clean) (λ all listed.
-    load_entries temp_root_of is_temporary_root member (λ (o : OutlineValue). o.temporary) (λ m (o : OutlineValue). record o { temporary = m })
-    (record { objects = λ m o. refl; read_back = λ m o. refl; last = λ m n o. refl; same = λ o. refl })
-    _ (finite.entries stored) (temporary_again stored) all.items listed)
+pub returns : goal.returns
+returns g c = record {
+  frame = c.all.ensures.frame;
+  reads = λ clean.
+      let stored = (contents_of (state g.S.Store c.args.conn.now).now).temp_roots in
+      reads_so c.all.result _ _ _ (c.all.ensures.reads clean) (λ all listed.
+      load_entries temp_root_of is_temporary_root member (λ (o : OutlineValue). o.temporary) (λ m (o : OutlineValue). record o { temporary = m })
+      (record { objects = λ m o. refl; read_back = λ m o. refl; last = λ m n o. refl; same = λ o. refl })
+      _ (finite.entries stored) (temporary_again stored) all.items listed);
+  cause = c.all.ensures.cause;
+}

@@ -11,20 +11,26 @@ invariant_of-self-then-is_empty c =
     let none : length rest ≡ 0 = search rules in
     lines_parted c.self.inside.prefix c.args.piece.now c.take.new.self rest (bytes_in c.self.inside.archive) c.self.invariant c.in-Ok.ensures.prefix c.in-Ok.ensures.rest none
 
-pub returns-then-is_empty-clause-ok : goal.returns-then-is_empty-clause-ok
-returns-then-is_empty-clause-ok c =
-    let rest = c.in-Ok.rest.now in
-    let none : length rest ≡ 0 = search rules in
-    lines_bytes c.self.inside.prefix c.args.piece.now c.take.new.self rest (bytes_in c.self.inside.archive) c.self.invariant c.in-Ok.ensures.prefix c.in-Ok.ensures.rest none
-    ∙ ap (λ t. t ++ c.args.piece.now) c.self.view_is
+pub returns-then-is_empty-clause-taken : goal.returns-then-is_empty-clause-taken
+returns-then-is_empty-clause-taken c = record {
+  ok =
+      let rest = c.in-Ok.rest.now in
+      let none : length rest ≡ 0 = search rules in
+      lines_bytes c.self.inside.prefix c.args.piece.now c.take.new.self rest (bytes_in c.self.inside.archive) c.self.invariant c.in-Ok.ensures.prefix c.in-Ok.ensures.rest none
+      ∙ ap (λ t. t ++ c.args.piece.now) c.self.view_is;
+  err = search rules;
+}
 
-pub returns-in_err-push-clause-err : goal.returns-in_err-push-clause-err
-returns-in_err-push-clause-err c =
-    let rest = c.in-Ok.rest.now in
-    let some : 0 < length rest = search rules in
-    on_err ((more : List ℕ) → IsLeftOf (c.take.new.self ++ bytes_in c.push.new.self) ((c.args.self.now ++ c.args.piece.now) ++ more)) c.from_residual.result (λ more.
-    refused_lines c.args.self.now c.self.inside.prefix c.args.piece.now c.take.new.self rest more c.self.inside.archive c.push.new.self
-    c.self.view_is c.self.invariant c.in-Ok.ensures.prefix c.in-Ok.ensures.rest some c.in_err-push.ensures.err)
+pub returns-in_err-push-clause-taken : goal.returns-in_err-push-clause-taken
+returns-in_err-push-clause-taken c = record {
+  ok = search rules;
+  err =
+      let rest = c.in-Ok.rest.now in
+      let some : 0 < length rest = search rules in
+      on_err ((more : List ℕ) → IsLeftOf (c.take.new.self ++ bytes_in c.push.new.self) ((c.args.self.now ++ c.args.piece.now) ++ more)) c.from_residual.result (λ more.
+      refused_lines c.args.self.now c.self.inside.prefix c.args.piece.now c.take.new.self rest more c.self.inside.archive c.push.new.self
+      c.self.view_is c.self.invariant c.in-Ok.ensures.prefix c.in-Ok.ensures.rest some c.in_err-push.ensures.err);
+}
 
 pub returns-in_default-clause-lines : goal.returns-in_default-clause-lines
 returns-in_default-clause-lines c = λ some.
@@ -45,11 +51,14 @@ invariant_of-self-2 c =
     more_parted old.prefix c.args.piece.now c.take.new.self rest old.archive c.push.new.self
     c.self.invariant c.in-Ok.ensures.prefix c.in-Ok.ensures.rest sent.0 sent.1
 
-pub returns-clause-ok : goal.returns-clause-ok
-returns-clause-ok c =
-    let old = c.self.inside in
-    let rest = c.in-Ok.rest.now in
-    let sent = subst (λ i. (c.push.new.self ≡ appended i rest) × IsSome i) c.begin-self-inside.ensures c.in_ok-push.ensures.ok in
-    more_bytes old.prefix c.args.piece.now c.take.new.self rest old.archive c.push.new.self
-    c.self.invariant c.in-Ok.ensures.prefix c.in-Ok.ensures.rest sent.0 sent.1
-    ∙ ap (λ t. t ++ c.args.piece.now) c.self.view_is
+pub returns-clause-taken : goal.returns-clause-taken
+returns-clause-taken c = record {
+  ok =
+      let old = c.self.inside in
+      let rest = c.in-Ok.rest.now in
+      let sent = subst (λ i. (c.push.new.self ≡ appended i rest) × IsSome i) c.begin-self-inside.ensures c.in_ok-push.ensures.ok in
+      more_bytes old.prefix c.args.piece.now c.take.new.self rest old.archive c.push.new.self
+      c.self.invariant c.in-Ok.ensures.prefix c.in-Ok.ensures.rest sent.0 sent.1
+      ∙ ap (λ t. t ++ c.args.piece.now) c.self.view_is;
+  err = search rules;
+}

@@ -3,9 +3,9 @@ use Rattle.std.proofs.Common.{◌≡◌, List, codes, None, refl}
 use Rattle.std.specs.List.{AllByRecursion}
 use Rattle.sqlite_tied.specs.Compute.{everything}
 use Rattle.sqlite_schema.specs.Names.{column_named}
-use Rattle.tables_schema.specs.OurTables.{form}
-use Rattle.tables_schema.specs.declared.our_table.StoreTable.{StoreTable}
-use Rattle.tables_schema.specs.declared.our_table.StoreTable.TheVariants.{Meta, Object, Refs, Outs, Permanent, UserRoot, Profile, Generation, Runtime, Piece, TempRoot}
+use Rattle.tables_schema.specs.StoreTables.{form}
+use Rattle.tables_schema.specs.declared.store_table.StoreTable.{StoreTable}
+use Rattle.tables_schema.specs.declared.store_table.StoreTable.TheVariants.{Meta, Object, Refs, Outs, Permanent, UserRoot, Profile, Generation, Runtime, Piece, TempRoot}
 use Rattle.tables_sql.proofs.SettingLemmas as settings
 use Rattle.tables_sql.proofs.ListingLemmas as listing
 use Rattle.tables_sql.proofs.ReferenceLemmas as references

@@ -1,0 +1,69 @@
+-- What each call that makes tables in a transaction of its own requires of the connection, and what it promises.
+use Rattle.std.specs.Prelude.{◌≡◌, ℕ, false, List, Result, IsTrue, IfErr, OnOk, OnErr}
+use Rattle.sqlite_trees.specs.declared.store.Store.{Ghosts}
+use Rattle.sqlite.specs.State.{State, HasCleanDisk, Survives}
+use Rattle.sqlite.specs.Held.{Held, state}
+use Rattle.tables_schema.specs.Finding.{HasNone}
+use Rattle.tables_schema.specs.declared.schema.Schema.{Schema}
+use Rattle.tables_sql.specs.Contents.{Bytes, contents_of}
+use Rattle.tables_sql.specs.Calls.{Remains, IsDurable, IsReady, KeepsShown}
+use Rattle.tables_sql.specs.declared.failure.Failed.{Failed}
+use Rattle.tables_world.specs.Worlds.{IsSoundBy}
+use Rattle.tables_make.specs.Making.{FailsToMake}
+use Rattle.tables_make.specs.Migrated.{HasEarlier, IsMigrated, LeavesMigrated}
+use Rattle.tables_make.specs.Migrating.{FailsToMigrate}
+
+module _ {S : Type 0} (g : Ghosts S) where
+  -- ---- all eleven tables
+
+  -- no transaction is under way, and unless a fault has shut the connection none of the store's tables exists
+  pub record MayMake (old : Held S) : Type 0 where
+    pub idle : old.in_transaction ≡ false
+    pub none : HasCleanDisk (state g old) → IsTrue (state g old).is_open → HasNone (state g old).now.schema
+
+  -- The connection shows and has what the last commit left, unless a fault has shut it.
+  abbrev pub IsAsCommitted : State → State → Type 0
+  IsAsCommitted old new = (new.now ≡ old.committed) × (new.committed ≡ old.committed)
+
+  -- The tables of a store directory are made in one transaction, or none is. It ends outside a transaction, and a
+  -- crash leaves what it could leave before, or this.
+  pub record CommitsTables {T : Type 0} (old new : Held S) (result : Result T Failed) (dir : Bytes)
+      (leaves : State → State → Type 0) (remains : Remains → Type 0) : Type 0 where
+    pub idle : new.in_transaction ≡ false
+    pub done : HasCleanDisk (state g new) → OnOk result (leaves (state g old) (state g new))
+    pub cause : HasCleanDisk (state g new) → IfErr result (FailsToMake dir (state g old) (state g new))
+    pub was_open : HasCleanDisk (state g new) → IsTrue (state g new).is_open → IsTrue (state g old).is_open
+    pub failed : HasCleanDisk (state g new) → IsTrue (state g new).is_open
+        → OnErr result (IsAsCommitted (state g old) (state g new))
+    pub durable : IsTrue (state g new).is_open → IsDurable (state g new)
+    pub survives : Survives (state g old) (state g new) remains
+
+  -- ---- a migration
+
+  -- no transaction is under way, and unless a fault has shut the connection its tables are those of an earlier schema,
+  -- and committed
+  pub record MayMigrate (old : Held S) (from : Schema) : Type 0 where
+    pub idle : old.in_transaction ≡ false
+    pub ready : HasCleanDisk (state g old) → IsTrue (state g old).is_open → IsReady (state g old)
+    pub tables : HasCleanDisk (state g old) → IsTrue (state g old).is_open → HasEarlier from (state g old).now
+
+  -- The tables of an earlier schema are brought to the third in one transaction, or stay as they are. It ends outside
+  -- a transaction, and a crash leaves what it could leave before, or this.
+  pub record CommitsMigration {T : Type 0} (old new : Held S) (result : Result T Failed) (from : Schema)
+      (leaves : State → State → Type 0) (remains : Remains → Type 0) : Type 0 where
+    pub idle : new.in_transaction ≡ false
+    pub done : HasCleanDisk (state g new) → OnOk result (leaves (state g old) (state g new))
+    -- a migration that fails leaves what the connection shows as it was
+    pub failed : HasCleanDisk (state g new) → OnErr result (KeepsShown (state g old) (state g new))
+    pub cause : HasCleanDisk (state g new) → IfErr result (FailsToMigrate from (state g old) (state g new))
+    -- after one that is done, a crash leaves nothing else while the connection is open
+    pub durable : OnOk result (IsTrue (state g new).is_open → IsDurable (state g new))
+    pub survives : Survives (state g old) (state g new) remains
+
+  -- sound rows of each store directory are migrated
+  abbrev pub Migrates : {T : Type 0} → Held S → Held S → Result T Failed → Schema → Type 0
+  Migrates old new result from =
+      CommitsMigration old new result from
+      (λ a b. (dir : List ℕ) → IsSoundBy from dir (contents_of a.now) → IsMigrated from dir a b)
+      (λ left. (dir : List ℕ) → IsSoundBy from dir (contents_of (state g old).now)
+      → LeavesMigrated from dir (state g old).now left)
