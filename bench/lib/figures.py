@@ -82,8 +82,7 @@ def median(what, found, most, unit="s"):
 
 
 def exponent(what, few, many, times, is_limited=True):
-    """By which power the least time of some rounds grows where there is so many times as much: 1 is in proportion, 2 is
-    quadratic."""
+    """The power by which the least time of some rounds grows with the work: 1 is in proportion, 2 is quadratic."""
     power = math.log(min(many) / min(few)) / math.log(times)
     what = f"{what}: {shown(min(few), 's')} and {shown(min(many), 's')}"
     limit(what, power, EXPONENT if is_limited else None, "power")

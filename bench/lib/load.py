@@ -4,7 +4,7 @@ import re
 import subprocess
 import sys
 
-# A server, a proxy in front of it and wrk each have a processor where there are three.
+# A server, its proxy and wrk each have a processor where there are three.
 PROCESSORS = sorted(os.sched_getaffinity(0))
 SERVER, PROXY, CLIENT = (PROCESSORS[-at % len(PROCESSORS)] for at in (3, 2, 1))
 SECONDS = {"us": 1e-6, "ms": 1e-3, "s": 1, "m": 60, "h": 3600}

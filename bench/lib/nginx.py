@@ -18,7 +18,7 @@ http {{
     server {{ listen 127.0.0.1:{port}; location / {{ {location} }} }}
 }}
 """
-# The connection to a server behind stays open.
+# The connection of the proxy to a server stays open.
 KEPT = 'proxy_http_version 1.1; proxy_set_header connection "";'
 
 

@@ -79,7 +79,7 @@ class Serving:
         return processor_of(self.started.pid)
 
     def forget(self):
-        """Lets `memory` tell from now on alone, over what it holds now."""
+        """Makes `memory` count from now on, over what the process holds now."""
         Path(f"/proc/{self.started.pid}/clear_refs").write_text("5")
 
     def memory(self):

@@ -47,7 +47,7 @@ def same(what, came, wanted):
 
 
 def end():
-    """Ends a script; what was skipped is said once more."""
+    """Ends a script, and prints again what was skipped."""
     for it in skips:
         print(f"SKIPPED: {it}")
     print(f"{counts['passed']} passed, {counts['failed']} failed")
@@ -155,7 +155,7 @@ def some_path(rng, name):
 
 
 def put_store(file, count, rng, roots, label="/proc/1/exe"):
-    """A file with so many texts that refer to one another, and for each of three users so many roots and twelve
+    """A file with `count` texts that refer to one another, and for each of three users `roots` roots and twelve
     generations."""
     with contextlib.closing(sqlite3.connect(file)) as conn, conn:
         put_tables(conn, 3)

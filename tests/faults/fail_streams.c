@@ -15,7 +15,7 @@ static int is_named(const char *stream) {
   return named && !strcmp(named, stream);
 }
 
-/* How many of so many bytes a call may take, or what it returns at once, as -1 less that. */
+/* How many of `size` bytes a call may take, or what it returns at once, as -1 less that. */
 static ssize_t allowed(size_t size) {
   const char *fault = getenv("FAULT");
   if (++counts()->calls != number("FAULT_AT")) return getenv("ONE_BYTE") && size ? 1 : (ssize_t)size;
@@ -26,17 +26,17 @@ static ssize_t allowed(size_t size) {
   return -2;
 }
 
-static ssize_t told(ssize_t count) {
+static ssize_t counted(ssize_t count) {
   taken += count > 0 ? count : 0;
   return count;
 }
 
-/* A call on a stream: it takes so many bytes, or fewer, or goes wrong. */
+/* A call on a stream: it takes all bytes, or fewer, or goes wrong. */
 #define TAKES(call, is_meant, at, bytes, size, ...) \
   NEXT(call); \
   if (!(is_meant) || is_over || !is_named(#call)) return next(at, bytes, size, ##__VA_ARGS__); \
   ssize_t most = allowed(size); \
-  return most < 0 ? most + 1 : told(next(at, bytes, most, ##__VA_ARGS__))
+  return most < 0 ? most + 1 : counted(next(at, bytes, most, ##__VA_ARGS__))
 
 ssize_t read(int at, void *to, size_t size) { TAKES(read, at == 0, at, to, size); }
 

@@ -1,5 +1,5 @@
 /* Refuses the allocation REFUSE of a run: of all, or of those after the first byte of standard input was asked for
-   (REFUSE_FROM_INPUT), or after a file was opened (REFUSE_FROM_FILE). With REFUSE_BLOCKS each one of so many bytes or more. */
+   (REFUSE_FROM_INPUT), or after a file was opened (REFUSE_FROM_FILE). With REFUSE_BLOCKS each one of that many bytes or more. */
 #include "preload.h"
 #include <stdarg.h>
 #include <string.h>

@@ -1,5 +1,5 @@
 /* Ends the process as it is about to make the call STOP_AT that changes a file whose path begins with STOP_IN; half of a
-   write is made where STOP_TORN stands. Where STOP_FAILS stands, reads count too, and in place of an end that call and
+   write is made if STOP_TORN is set. If STOP_FAILS is set, reads count too, and in place of an end that call and
    all after it fail. What a file has when it is synced is copied to a file next to it; the file LOST isn't synced. */
 #include "preload.h"
 #include <errno.h>

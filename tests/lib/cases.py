@@ -44,7 +44,7 @@ class Step:
 
 
 def steps_of(text):
-    """The steps of a case: what stands indented by two blanks; all else is prose."""
+    """The steps of a case: what is indented by two blanks; all else is prose."""
     steps, is_open = [], False
     for number, line in enumerate(text.split("\n"), 1):
         if line.startswith("  $ "):

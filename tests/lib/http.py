@@ -51,7 +51,7 @@ def told(written):
 
 def connected(port, ran=None, timeout=None, within=150):
     """A connection to a port of this machine, as soon as something listens there; None where the process has ended, or
-    nothing listens within so many seconds."""
+    nothing listens within `within` seconds."""
     end = time.monotonic() + within
     while time.monotonic() < end:
         with contextlib.suppress(ConnectionRefusedError):

@@ -13,7 +13,7 @@ def option(asked):
 
 
 class Libraries:
-    """What is named, or built for the sources as they stand, or, if that is enough, what was built before."""
+    """What is named, or built for the present sources, or, if that is enough, what was built before."""
 
     def __init__(self, file=None, is_old_enough=False):
         if not file and not (is_old_enough and os.path.exists(f"{FOLDER}/out/bench")):

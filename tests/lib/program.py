@@ -1,4 +1,4 @@
-"""The program `nixkeep`: whether it is built for the sources as they stand, and building it.
+"""The program `nixkeep`: whether it is built for the present sources, and building it.
 
 Crates are proved side by side, each once those below it are (`proving` does it). The library of each proved crate
 is kept in the folder out/ of the repository, with what it was made of and by which toolchain, so a run that was
@@ -103,7 +103,7 @@ def record_of(crate):
 
 
 def mark(file):
-    """What tells this very file from one that was made anew."""
+    """What distinguishes this file from one that was made anew."""
     seen = os.stat(file)
     return f"{seen.st_size} {seen.st_mtime_ns}"
 
@@ -175,8 +175,8 @@ def alone():
 
 
 def prove(tops):
-    """Proves these crates and those below them, and builds what they make, where that isn't done for the sources
-    as they stand. Returns whether there was anything to do."""
+    """Proves these crates and those below them, and builds what they make, where that isn't done for the
+    present sources. Returns whether there was anything to do."""
     named, by = listed(), toolchain_line()
     found = sources(named, tops)
     if all(is_kept(it, found[it], by) for it in tops):
@@ -193,13 +193,13 @@ def prove(tops):
 
 
 def build():
-    """Proves and builds the program where that isn't done for the sources as they stand, and says so."""
+    """Proves and builds the program where that isn't done for the present sources, and prints that it does."""
     if prove([NAME]):
         say("built")
 
 
 def keep_built():
-    """Notes that the program, and the libraries that rt ci left, are made of the sources as they stand."""
+    """Notes that the program, and the libraries that rt ci left, are made of the present sources."""
     found, by = sources(listed()), toolchain_line()
     for crate, source in found.items():
         made = f"{HERE}/crates/{crate}/out/rlib"

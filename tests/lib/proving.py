@@ -121,7 +121,7 @@ class Plan:
             work, memory = guess(crate, program.with_below(crate, named)[:-1])
             self.work[crate] = max(0.1, known.get(crate, {}).get("work", work))
             self.memory[crate] = known.get(crate, {}).get("memory", memory)
-        # The work from the start of a crate to the end of all, on the longest way: crates stand lowest first.
+        # The work from the start of a crate to the end of all, on the longest way. Crates come lowest first.
         self.chain = {}
         for crate in reversed(crates):
             above = [self.chain[it] for it in self.chain if crate in named[it]]
@@ -223,8 +223,8 @@ class Schedule:
         return [it for it in self.left if not self.below[it] & waited_for - {it}]
 
     def jobs(self, crate, ready):
-        """How many jobs a crate can have now, next to so many that are ready too; none where it has to wait. More
-        than one job costs a third more of processor time, so only the crate with the longest chain above it gets all
+        """How many jobs a crate can have now, next to `ready` that are ready too; none where it has to wait. More than
+        one job costs a third more of processor time, so only the crate with the longest chain above it gets all
         that it can use, and another gets a second one only where too few are ready for the idle processors."""
         idle = self.lanes - sum(self.running.values())
         room = self.memory - sum(self.plan.needs(*it) for it in self.running.items())

@@ -1,4 +1,4 @@
-"""Words and input that are refused, for each refusal that an empty store in memory can tell; and denials."""
+"""Words and input that are refused, for each refusal that an empty store in memory can give; and denials."""
 from tests.lib.http import lines, message
 from tests.lib.nar import archive, derivation, nar_hash, of_node, source_path, strings
 

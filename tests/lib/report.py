@@ -125,7 +125,7 @@ def program_file(words):
 
 
 def some(words, total, *of_what):
-    """The numbers from 1 to the total: all of them or, where a count is given, so many, by the seed and what they are
+    """The numbers from 1 to the total: all of them or, where a count is given, that many, by the seed and what they are
     of. Where there is none the script fails: nothing tried shows nothing."""
     if not total:
         fail(f"{', '.join(map(str, of_what))}: nothing is counted that could go wrong")

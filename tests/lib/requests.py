@@ -58,7 +58,7 @@ def kept():
 
 
 def lost():
-    """The root keeps the output alone, and the derivation goes: where derivers aren't kept."""
+    """The root keeps the output alone, and the derivation is deleted: where derivers aren't kept."""
     return [("ann", "GET", "/dead"), ("ann", "GET", f"/roots-of/{'2' * 32}-d.drv"),
             ("ann", "POST", "/delete", path("3" * 32 + "-o")), ("ann", "POST", "/collect", lines())]
 

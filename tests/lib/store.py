@@ -31,7 +31,7 @@ class Store:
 
 
 class Server:
-    """The program, serving on a port for so many connections; it is killed where it hasn't ended."""
+    """The program, serving a number of connections on a port; it is killed where it hasn't ended."""
 
     def __init__(self, file, *options, connections=1_000_000, port=None, **how):
         self.port = port or free_port()

@@ -123,7 +123,7 @@ def some_object(rng, made, at, paths):
 
 
 def some_built(rng, count):
-    """A store of so many random objects, and with roots of every kind where chance says so."""
+    """A store of `count` random objects, and with roots of every kind where chance says so."""
     made, paths = Built(), []
     for at in range(count):
         paths.append(some_object(rng, made, at, paths))

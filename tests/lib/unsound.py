@@ -67,7 +67,7 @@ class Faulty:
             "another archive": has(own, f"nar = {other}"),
             "another archive with its digest under an address": has(low, f"nar = {other}, hash = {digest}"),
             "an address that is none": has(low, "ca = 'x'"),
-            "an address of another's": has(low, f"ca = (SELECT ca FROM object WHERE base = '{top}')"),
+            "an address of another object": has(low, f"ca = (SELECT ca FROM object WHERE base = '{top}')"),
             "an address of an object that refers to itself": has(own, f"ca = 'fixed:r:{nar_hash(archive(b'own'))}'"),
             "a deriver that is no path": has(own, f"deriver = '{self.malformed}'"),
             "a reference that isn't an object": f"INSERT INTO refs VALUES ('{own}', '{gone}');",

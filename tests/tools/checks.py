@@ -160,7 +160,7 @@ class UnixServer(ThreadingHTTPServer):
 
 class TcpServer(ThreadingHTTPServer):
     def handle_error(self, *_):
-        # (a client that doesn't trust the certificate goes away)
+        # (a client that doesn't trust the certificate closes the connection)
         pass
 
 
