@@ -17,15 +17,16 @@ REMARKS = [
            a table into one list (`all_rows`). Tried: nixkeep's own tests hold one archive at a time, which saved 16
            MiB."""),
     Remark(r"stores: `list` on .*: (time|100,000 .*)", "`list` of many small objects",
-           """Of 100 instructions, the opening of `sqlite` takes 53 and SHA-256 23 (bench/counts). A query for each
-           object takes 8. The opening looks up the row of each entry of each index. Tried: a place in memory for each
-           page. That saved 10 of 100 instructions, and two of three reads. Tried: one query each for all references,
-           all outputs and all keys of pieces. That saved 13 of 100. Tried: look-ups among texts without a path. That
-           saved 1 of 100. Tried: one query of a table for its texts and rowids. That saved 4 of 100. One scan of the
-           objects in place of a query for each would save 6 (docs/DECISIONS.md)."""),
+           """Of 100 instructions, the opening of `sqlite` takes 56 and SHA-256 24 (bench/counts). The opening looks up
+           the row of each entry of each index. Tried: a place in memory for each page. That saved 10 of 100
+           instructions, and two of three reads. Tried: one query each for all references, all outputs and all keys of
+           pieces. That saved 13 of 100. Tried: look-ups among texts without a path. That saved 1 of 100. Tried: one
+           query of a table for its texts and rowids. That saved 4 of 100. Tried: one query for sixteen objects in
+           place of one for each. That saved 6 of 100."""),
     Remark(r"counts: memory .*", "memory of the index",
            """An object is an entry of a tree. It has a list of its references, with their texts in blocks of their
-           own. Not tried yet: the index filled in the order of the file, and paths that are shared."""),
+           own. Tried: a tree that is built of all objects in order, so its nodes are full. That saved 238 bytes of
+           636. Not tried yet: paths that are shared, and one block for what few objects have."""),
     Remark(r"(requests|http): .* 16 MiB.*: (time|next to one SHA-256 of it by the same crate)",
            "adds of 16 MiB to a file",
            """`sqlite` copies each byte of a value when it is bound, evaluated and made a row. It copies each again
