@@ -18,8 +18,8 @@ fn first_number(line: &str) -> Option<u64> {
     }
 }
 
-/// Whether this process has less than a tebibyte of address space. Under a sanitizer it has more, and there a block that
-/// is reserved takes memory.
+/// Whether this process has less than a tebibyte of address space. Under a sanitizer it has more, and there a block
+/// that is reserved takes memory.
 fn is_plain(rt: &HostRuntime) -> bool {
     let Ok(sizes) = read_to_string(rt, "/proc/self/statm") else {
         return false;

@@ -22,15 +22,16 @@ pub struct Arrived {
     pub fault: Option<NarError>,
     /// The SHA-256 digest of the bytes.
     pub nar_hash: [u8; 32],
-    /// The digest of the contents, if it was asked for and the bytes begin as the archive of a file that isn't executable.
+    /// The digest of the contents, if it was asked for and the bytes begin as the archive of a file that isn't
+    /// executable.
     pub contents_hash: Option<[u8; 32]>,
     /// The bytes themselves.
     pub pieces: Pieces,
 }
 
 impl Arrived {
-    /// The facts of the bytes for a content address. If they are the archive of a file that isn't executable, and the digest of its
-    /// contents wasn't asked for, the contents are hashed here.
+    /// The facts of the bytes for a content address. If they are the archive of a file that isn't executable, and the
+    /// digest of its contents wasn't asked for, the contents are hashed here.
     pub fn facts(&self) -> Facts
         ensures { DescribesBytes self.now → result ≡ facts_of self.now.pieces }
     {
@@ -41,8 +42,8 @@ impl Arrived {
         }
     }
 
-    /// The facts of the bytes for a content address of this method. For `Text` they are those of `facts`; for `Source` no contents are
-    /// hashed, and `plain` is `None`.
+    /// The facts of the bytes for a content address of this method. For `Text` they are those of `facts`; for `Source`
+    /// no contents are hashed, and `plain` is `None`.
     ///
     /// ```rust
     /// use intake::Intake;
@@ -67,8 +68,8 @@ impl Arrived {
     }
 }
 
-/// The bytes so far, which contracts see. Each byte is checked as it comes, and hashed with its piece. The contents of a file are hashed
-/// too, if that is asked for.
+/// The bytes so far, which contracts see. Each byte is checked as it comes, and hashed with its piece. The contents of
+/// a file are hashed too, if that is asked for.
 #[derive(Drop)]
 pub struct Arriving {
     alloc: Global,
@@ -148,7 +149,8 @@ impl Arriving {
         }
     }
 
-    /// Hashes the contents of a file that isn't executable, from now on as they come. Contents that have come already are hashed here.
+    /// Hashes the contents of a file that isn't executable, from now on as they come. Contents that have come already
+    /// are hashed here.
     pub fn hash_contents(&mut self)
         ensures { self.new ≡ self.old }
     {

@@ -32,7 +32,8 @@ fn length_after_prefix(archive: &[u8]) -> u64
     ])
 }
 
-/// The part of a piece that is contents, of an archive that begins with `first`; a given number of bytes came before the piece.
+/// The part of a piece that is contents, of an archive that begins with `first`; a given number of bytes came before
+/// the piece.
 pub fn contents_in<'a>(first: &[u8], before: usize, piece: &'a [u8]) -> &'a [u8]
     ensures { (old : List ℕ) → length old ≡ before → first.now ≡ take 65536 (old ++ piece.now)
         → contents_so_far (old ++ piece.now) ≡ contents_so_far old ++ result.now }

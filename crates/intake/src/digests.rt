@@ -107,8 +107,8 @@ fn hash_if_plain(known: Option<[u8; 32]>, pieces: &Pieces) -> Option<[u8; 32]>
     Some(contents_hash(known, pieces))
 }
 
-/// The digest of the contents, which may be known, where the bytes, whose fault is known, are the archive of a file that
-/// isn't executable.
+/// The digest of the contents, which may be known, where the bytes, whose fault is known, are the archive of a file
+/// that isn't executable.
 pub fn plain_hash(
     fault: Option<NarError>,
     known: Option<[u8; 32]>,

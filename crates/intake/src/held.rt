@@ -11,7 +11,8 @@ use std::alloc::{AllocError, Global};
 use streams::Pieces;
 
 impl Arrived {
-    /// The facts of these bytes, without the digest of contents. Each piece is checked and hashed once, and none is copied.
+    /// The facts of these bytes, without the digest of contents. Each piece is checked and hashed once, and none is
+    /// copied.
     ///
     /// # Errors
     ///

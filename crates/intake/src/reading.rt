@@ -40,8 +40,8 @@ fn contents<'a>(node: &Node<'a>) -> Option<&'a [u8]>
     }
 }
 
-/// The contents, if an archive is that of a regular file, executable or not: so the text of a derivation is read. `Pieces::joined` gives
-/// the archive.
+/// The contents, if an archive is that of a regular file, executable or not: so the text of a derivation is read.
+/// `Pieces::joined` gives the archive.
 ///
 /// # Errors
 ///

@@ -10,9 +10,9 @@ use std::alloc::{AllocError, Global};
 use std::marker::Model;
 use streams::Sink;
 
-/// An archive that comes in pieces, however they are cut. Each byte is checked and stored as it comes, also if the bytes aren't an archive,
-/// and is hashed with its piece of 65,536 bytes. If memory is refused once, the intake is spent: from then on each call answers that.
-/// Contracts see the bytes that have come, or none if it is spent.
+/// An archive that comes in pieces, however they are cut. Each byte is checked and stored as it comes, also if the
+/// bytes aren't an archive, and is hashed with its piece of 65,536 bytes. If memory is refused once, the intake is
+/// spent: from then on each call answers that. Contracts see the bytes that have come, or none if it is spent.
 #[derive(Drop)]
 pub struct Intake {
     so_far: Option<Arriving>,
@@ -104,8 +104,8 @@ impl Intake {
         Ok(())
     }
 
-    /// Hashes the contents of a file that isn't executable as they come, from now on. Call it if the address of a text will need their
-    /// digest: then `Arrived::facts` reads no byte again.
+    /// Hashes the contents of a file that isn't executable as they come, from now on. Call it if the address of a text
+    /// will need their digest: then `Arrived::facts` reads no byte again.
     ///
     /// ```rust
     /// use nar::Node;

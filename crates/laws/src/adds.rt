@@ -18,16 +18,17 @@ pub fn adds_are_exact()
     ensures import { (s : Settings) (i : Imported) → AddsExactly s (import_object i) (with_import i) }
 {}
 
-/// A text is refused by the size of its archive; an import for another digest before any fault of addresses, references and
-/// derivations; and for a missing reference only where one isn't valid and isn't the object's own path.
+/// A text is refused by the size of its archive; an import for another digest before any fault of addresses, references
+/// and derivations; and for a missing reference only where one isn't valid and isn't the object's own path.
 pub fn adds_are_refused_for_their_faults()
     ensures size { TextsAreMeasured }
     ensures digest { DigestsComeFirst }
     ensures missing { MissingAreMissing }
 {}
 
-/// Of an add that has several faults the first is reported: the number of references; the archive, or its size; of an import its digest; a
-/// reference to itself; an address that doesn't verify; the derivation; and at last a missing reference.
+/// Of an add that has several faults the first is reported: the number of references; the archive, or its size; of an
+/// import its digest; a reference to itself; an address that doesn't verify; the derivation; and at last a missing
+/// reference.
 pub fn faults_of_adds_come_in_order()
     ensures text { TextFaultsInOrder }
     ensures source { SourceFaultsInOrder }

@@ -11,8 +11,8 @@ ghost use Rattle.laws.specs.KeepSettings.{EdgesAsSet, LivingKeep};
 ghost use Rattle.laws.specs.OneByOne.{ReferrersAreDeletedFirst};
 ghost use Rattle.laws.specs.Cycles.{CyclesAreDeletedByTheLeast};
 
-/// A collection deletes exactly the dead paths, and a second one frees nothing. With a limit it deletes some of them, and no reference
-/// that is left leads to one.
+/// A collection deletes exactly the dead paths, and a second one frees nothing. With a limit it deletes some of them,
+/// and no reference that is left leads to one.
 pub fn collection_is_exact()
     ensures all { Collects }
     ensures limited { CollectsUpToALimit }
@@ -25,20 +25,21 @@ pub fn the_freed_are_reported()
     ensures deletion { (s : Settings) (named : List Path) (ignores : Bool) → FreesAsReported s (delete named ignores) }
 {}
 
-/// A limit counts the bytes of archives: a collection stops as soon as that many are free, and not before while a dead path is left.
+/// A limit counts the bytes of archives: a collection stops as soon as that many are free, and not before while a dead
+/// path is left.
 pub fn limits_count_bytes()
     ensures { CollectsByBytes }
 {}
 
-/// Where no references make a cycle, a collection up to a limit takes one path after another, each after all that refer to it. Where
-/// they make one, it takes the least dead path left with all that reach it by references.
+/// Where no references make a cycle, a collection up to a limit takes one path after another, each after all that refer
+/// to it. Where they make one, it takes the least dead path left with all that reach it by references.
 pub fn referrers_are_deleted_first()
     ensures one_by_one { ReferrersAreDeletedFirst }
     ensures cycles { CyclesAreDeletedByTheLeast }
 {}
 
-/// An object keeps its references; its outputs, if outputs are to be kept; and its deriver, if derivations are. What a live path
-/// keeps is live.
+/// An object keeps its references; its outputs, if outputs are to be kept; and its deriver, if derivations are. What a
+/// live path keeps is live.
 pub fn settings_say_what_is_kept()
     ensures edges { EdgesAsSet }
     ensures living { LivingKeep }

@@ -12,8 +12,8 @@ pub fn listings_are_of_the_object()
     ensures { ListingsAreTheObjects }
 {}
 
-/// Listings have exactly the paths that they name, in order, the roots of a path are exactly those that reach it, and the report
-/// lists live paths before dead ones.
+/// Listings have exactly the paths that they name, in order, the roots of a path are exactly those that reach it, and
+/// the report lists live paths before dead ones.
 pub fn listings_show_what_is_valid()
     ensures paths { ListingsAreExact }
     ensures roots { RootListingsAreExact }

@@ -2,7 +2,8 @@
 
 ghost use Rattle.laws.specs.Generations.{DeletesGenerations, RollsBackAsSpecified, SetsAsSpecified, SwitchesAsSpecified};
 
-/// A profile request sets, makes current or deletes exactly the generation it asks for, and every other generation stays.
+/// A profile request sets, makes current or deletes exactly the generation it asks for, and every other generation
+/// stays.
 pub fn profiles_change_exactly()
     ensures set { SetsAsSpecified }
     ensures back { RollsBackAsSpecified }

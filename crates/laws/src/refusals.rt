@@ -22,9 +22,9 @@ pub fn only_done_changes()
     ensures { LeavesUnlessDone }
 {}
 
-/// A refusal names the first fault: of a session, 1 to 4,194,304, before its path; a name before what it names; a profile before
-/// its generation, and a path that isn't valid before a profile that has no number left. A deletion that is done named valid paths
-/// alone.
+/// A refusal names the first fault: of a session, 1 to 4,194,304, before its path; a name before what it names; a
+/// profile before its generation, and a path that isn't valid before a profile that has no number left. A deletion that
+/// is done named valid paths alone.
 pub fn first_faults_are_reported()
     ensures sessions { SessionFaultsAreReported }
     ensures names { NamesComeFirst }
@@ -33,8 +33,8 @@ pub fn first_faults_are_reported()
     ensures named { NamedAreValid }
 {}
 
-/// A request is refused only for a fault that it has. Answers about a path are for a valid path. A deletion is denied for the first
-/// named path that is live.
+/// A request is refused only for a fault that it has. Answers about a path are for a valid path. A deletion is denied
+/// for the first named path that is live.
 pub fn refusals_and_denials_have_reasons()
     ensures refusals { RefusalsHaveReasons }
     ensures reported { MentionedAreValid }

@@ -13,8 +13,8 @@ pub fn every_entry_is_a_root()
     ensures { (w : World) → HasEachRoot w }
 {}
 
-/// A root that is set exists with its target, one that is dropped doesn't, and nothing else changed: permanent roots, user roots and
-/// runtime roots.
+/// A root that is set exists with its target, one that is dropped doesn't, and nothing else changed: permanent roots,
+/// user roots and runtime roots.
 pub fn roots_change_exactly()
     ensures set_permanent { SetsPermanent }
     ensures drop_permanent { DropsPermanent }
@@ -23,14 +23,14 @@ pub fn roots_change_exactly()
     ensures runtime { ReplacesAsSpecified }
 {}
 
-/// A root that was set is listed to each caller who asks next, with the labels of runtime roots and of sessions hidden from those who
-/// aren't trusted.
+/// A root that was set is listed to each caller who asks next, with the labels of runtime roots and of sessions hidden
+/// from those who aren't trusted.
 pub fn roots_that_were_set_are_listed()
     ensures { RootsSetAreListed }
 {}
 
-/// After a root was dropped, no listing has it, and each other root is listed as before. Its label is shown only to a trusted caller,
-/// for a runtime root with the same label.
+/// After a root was dropped, no listing has it, and each other root is listed as before. Its label is shown only to a
+/// trusted caller, for a runtime root with the same label.
 pub fn roots_that_were_dropped_are_not_listed()
     ensures roots { DropsAreListed }
     ensures labels { DroppedLabelsAreNotListed }
@@ -47,8 +47,8 @@ pub fn roots_are_labelled_in_order()
     ensures kinds { KindsInOrder }
 {}
 
-/// A root keeps what it reaches, over a step and over a run before each of whose calls it exists; the worlds of a run follow from its calls
-/// and their replies.
+/// A root keeps what it reaches, over a step and over a run before each of whose calls it exists; the worlds of a run
+/// follow from its calls and their replies.
 pub fn a_root_pins_what_it_reaches()
     ensures step { Pins }
     ensures after { LeadsOn }

@@ -32,8 +32,8 @@ pub fn rows_describe_the_world()
     ensures { RowsDescribeTheWorld }
 {}
 
-/// What the eleven tables hold is the rows, each table its own, and has the world of these; an object's archive is its row and the pieces
-/// that follow it, from the first on.
+/// What the eleven tables hold is the rows, each table its own, and has the world of these; an object's archive is its
+/// row and the pieces that follow it, from the first on.
 pub fn tables_are_rows()
     ensures rows { TablesAreRows }
     ensures archives { ArchivesAreReadWhole }
@@ -49,15 +49,16 @@ pub fn sound_rows_are_sound_parts()
     ensures { AreSoundByParts }
 {}
 
-/// Sound rows name their schema by 1, 2 or 3 and hold nothing that it hasn't; further pieces are numbered from 1, and sessions 1 to
-/// 4,194,304.
+/// Sound rows name their schema by 1, 2 or 3 and hold nothing that it hasn't; further pieces are numbered from 1, and
+/// sessions 1 to 4,194,304.
 pub fn schemas_have_their_rows()
     ensures schemas { (dir : List ℕ) (c : Rows) → SchemasDiffer dir c }
     ensures pieces { PiecesCountFromOne }
     ensures sessions { SessionsKeepInBounds }
 {}
 
-/// An object whose name ends in `.drv` records the outputs of its derivation text that have a path, by their names, and any other none.
+/// An object whose name ends in `.drv` records the outputs of its derivation text that have a path, by their names, and
+/// any other none.
 pub fn outputs_are_those_of_the_derivation()
     ensures { OutputsAreRecorded }
 {}

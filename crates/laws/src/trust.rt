@@ -6,8 +6,8 @@ ghost use Rattle.laws.specs.Planting.{NobodyPlantsInRuns};
 ghost use Rattle.laws.specs.Others.{OthersOnlyLose, OwnersMay, TrustedMay};
 ghost use Rattle.laws.specs.Permissions.{AllMayAsk, NobodyIgnoresLiveness};
 
-/// A stranger changes nothing and gets nothing but the denial. A caller who isn't trusted adds nothing but what its content
-/// address says, and changes no root but their own. What exists is never replaced.
+/// A stranger changes nothing and gets nothing but the denial. A caller who isn't trusted adds nothing but what its
+/// content address says, and changes no root but their own. What exists is never replaced.
 pub fn people_can_rely_on()
     ensures strangers { StrangersAreDenied }
     ensures objects { NothingIsReplaced }
@@ -15,20 +15,21 @@ pub fn people_can_rely_on()
     ensures roots { RootsAreTheirOwners }
 {}
 
-/// Each object after a run was there before it, or has a content address that verifies, or a trusted caller imported it.
+/// Each object after a run was there before it, or has a content address that verifies, or a trusted caller imported
+/// it.
 pub fn nobody_plants_over_runs()
     ensures { NobodyPlantsInRuns }
 {}
 
-/// Each caller but a stranger may add what has an address, ask for each answer, collect, and delete what doesn't live; and nobody
-/// may ask that liveness is ignored.
+/// Each caller but a stranger may add what has an address, ask for each answer, collect, and delete what doesn't live;
+/// and nobody may ask that liveness is ignored.
 pub fn all_but_strangers_may_ask()
     ensures may { AllMayAsk }
     ensures never { NobodyIgnoresLiveness }
 {}
 
-/// A call by anyone else can only drop, delete or end what an owner has. The rules allow that to trusted callers, and to each caller but
-/// a stranger everything on what they own.
+/// A call by anyone else can only drop, delete or end what an owner has. The rules allow that to trusted callers, and
+/// to each caller but a stranger everything on what they own.
 pub fn owners_are_respected()
     ensures others { OthersOnlyLose }
     ensures trusted { TrustedMay }

@@ -83,7 +83,8 @@ impl Remaining {
         Ok(wanted)
     }
 
-    /// Deletes the next group, if more bytes are wanted. Returns the number of bytes that are still wanted: 0 if no dead path is left.
+    /// Deletes the next group, if more bytes are wanted. Returns the number of bytes that are still wanted: 0 if no
+    /// dead path is left.
     pub(crate) fn turn(
         &mut self,
         alloc: Global,

@@ -13,9 +13,10 @@ use crate::numbered::Graph;
 use crate::remaining::Remaining;
 use std::alloc::{AllocError, Global};
 
-/// The places of the paths that a collection up to a limit removes, rising. The marks are those of `mark` on this graph, and each path has
-/// a size in bytes. Dead paths are deleted until the limit is reached or none is left: each time the least to which no other path left
-/// refers or, if each has such a referrer, the least with all that reach it by references.
+/// The places of the paths that a collection up to a limit removes, rising. The marks are those of `mark` on this
+/// graph, and each path has a size in bytes. Dead paths are deleted until the limit is reached or none is left: each
+/// time the least to which no other path left refers or, if each has such a referrer, the least with all that reach it
+/// by references.
 ///
 /// ```rust
 /// use live::{Graph, Keep, Roots, Row};

@@ -1,4 +1,5 @@
-//! What waits to be visited by a walk, a block of neighbours at a time, since what neighbours point to lies side by side in memory.
+//! What waits to be visited by a walk, a block of neighbours at a time, since what neighbours point to lies side by
+//! side in memory.
 ghost use Rattle.std.specs.Prelude.{◌≡◌, ℕ, ◌<◌, ◌≤◌, length, replicate, true, false, Contains, IfNone, IfOk, IfSome, IsFalse, IsTrue, MatchOption, OnOk, slice_set};
 ghost use Rattle.live.specs.Listed.{AllListed, IsFirstWaiting, IsListed, ListsMore, NoneBetween, Waiting};
 ghost use Rattle.live.specs.Marking.{IsDequeued, NoneWaits, Waits};

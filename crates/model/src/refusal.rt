@@ -2,7 +2,8 @@
 
 use policy::KeyWord;
 
-/// Why what is asked can't be had: each refusal of the product, in the order of their numbers. Users see the number and the name.
+/// Why what is asked can't be had: each refusal of the product, in the order of their numbers. Users see the number and
+/// the name.
 #[derive(Clone, Copy, PartialEq, Eq, Debug)]
 pub enum Refusal {
     /// An archive ends before its next string does.

@@ -13,8 +13,8 @@ use std::alloc::Global;
 
 /// Checks an archive that comes in pieces, however they are cut.
 ///
-/// A checker stores no contents: the bytes of files, of targets and of overlong strings are counted. So its memory is bounded by the
-/// longest name and the depth.
+/// A checker stores no contents: the bytes of files, of targets and of overlong strings are counted. So its memory is
+/// bounded by the longest name and the depth.
 #[derive(Drop)]
 pub struct Checker {
     progress: Progress,
@@ -43,8 +43,8 @@ impl Checker {
         }
     }
 
-    /// Takes the next piece, and returns the fault of the pieces so far, if they have one that further pieces can't mend. After an error,
-    /// each call returns that error.
+    /// Takes the next piece, and returns the fault of the pieces so far, if they have one that further pieces can't
+    /// mend. After an error, each call returns that error.
     ///
     /// ```rust
     /// use nar::{Checker, NarError};
@@ -97,7 +97,8 @@ impl Checker {
         Ok(())
     }
 
-    /// The end of the pieces: `Ok` if they are an archive, otherwise their fault. After an error of `feed` it returns that error.
+    /// The end of the pieces: `Ok` if they are an archive, otherwise their fault. After an error of `feed` it returns
+    /// that error.
     ///
     /// ```rust
     /// use nar::{Checker, Node};

@@ -75,8 +75,8 @@ fn room_after_node(node: &Node<'_>, depth: usize, room: usize) -> Option<usize>
     }
 }
 
-/// Whether the tree has an archive: its names are legal and rise strictly in each directory, at most 256 of its nodes are nested in one
-/// another, and its archive has at most 16,777,216 bytes. Takes no memory.
+/// Whether the tree has an archive: its names are legal and rise strictly in each directory, at most 256 of its nodes
+/// are nested in one another, and its archive has at most 16,777,216 bytes. Takes no memory.
 ///
 /// ```rust
 /// use nar::{Entry, Node};

@@ -43,8 +43,8 @@ pub fn the_archive_of_a_file()
         → outcome_of (spelling (archive (regular false contents))) ≡ Err too_large }
 {}
 
-/// The first 16,777,224 bytes of an input decide what it is, so a caller needn't store more. They are 8 more than an archive may have,
-/// since a string that begins at the limit has a length before it is found too large.
+/// The first 16,777,224 bytes of an input decide what it is, so a caller needn't store more. They are 8 more than an
+/// archive may have, since a string that begins at the limit has a length before it is found too large.
 pub fn a_prefix_decides()
     ensures { (input : List ℕ) → outcome_of (take (limit + 8) input) ≡ outcome_of input }
 {}

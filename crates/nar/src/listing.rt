@@ -120,9 +120,10 @@ fn list_node(alloc: Global, out: &mut String, path: &str, node: &Node<'_>) -> Re
 
 /// Appends the listing of the tree: a line for each node, parents first, entries in order.
 ///
-/// The top node's path is `.`, and an entry's path is its parent's, `/` and its name. The lines are `r SIZE PATH`, `x SIZE PATH` for an
-/// executable file, `l PATH -> TARGET` and `d PATH`. In names and targets a byte outside 33 to 126, and a backslash, is written as `\x` and
-/// two lower-case hexadecimal digits. If memory is refused, the text stays as it was.
+/// The top node's path is `.`, and an entry's path is its parent's, `/` and its name. The lines are `r SIZE PATH`, `x
+/// SIZE PATH` for an executable file, `l PATH -> TARGET` and `d PATH`. In names and targets a byte outside 33 to 126,
+/// and a backslash, is written as `\x` and two lower-case hexadecimal digits. If memory is refused, the text stays as
+/// it was.
 ///
 /// ```rust
 /// use nar::{Entry, Node};

@@ -195,8 +195,8 @@ impl Nest {
         Ok(())
     }
 
-    /// Whether a string of this length is counted there and not stored: contents and targets, and what is longer than each of the fixed
-    /// strings.
+    /// Whether a string of this length is counted there and not stored: contents and targets, and what is longer than
+    /// each of the fixed strings.
     pub fn is_counted(&self, len: usize) -> bool
         ensures { result ≡ counts_at self.now len }
     {

@@ -113,8 +113,9 @@ fn put_archive(out: &mut Vec<u8>, node: &Node<'_>) -> Result<(), AllocError>
 
 /// Appends the archive of the tree: its one spelling, of at most 16,777,216 bytes.
 ///
-/// The tree's names are legal and rise strictly in each directory, at most 256 of its nodes are nested inside one another, and its archive
-/// isn't too large: `is_writable` is the test. If memory is refused, the buffer stays as it was.
+/// The tree's names are legal and rise strictly in each directory, at most 256 of its nodes are nested inside one
+/// another, and its archive isn't too large: `is_writable` is the test. If memory is refused, the buffer stays as it
+/// was.
 ///
 /// ```rust
 /// use nar::Node;

@@ -69,7 +69,8 @@ impl From<Base32Error> for CaError {
 /// Why a content address isn't that of an object.
 #[derive(Clone, Copy, PartialEq, Eq, Debug, Error)]
 pub enum VerifyError {
-    /// The digest or the path differs, or the address is of a text and the archive isn't that of a regular file that isn't executable.
+    /// The digest or the path differs, or the address is of a text and the archive isn't that of a regular file that
+    /// isn't executable.
     #[error("ca-mismatch")]
     CaMismatch,
     /// Memory was refused.
@@ -243,9 +244,9 @@ impl Ca {
     ///
     /// # Errors
     ///
-    /// `CaMismatch` exactly if the digest differs from that of the contents (of a text) or the archive (of a source), the path differs from
-    /// the one made of them, or the address is of a text and `nar` isn't the archive of a regular file that isn't executable; `Memory` if
-    /// memory was refused.
+    /// `CaMismatch` exactly if the digest differs from that of the contents (of a text) or the archive (of a source),
+    /// the path differs from the one made of them, or the address is of a text and `nar` isn't the archive of a regular
+    /// file that isn't executable; `Memory` if memory was refused.
     pub fn verify(
         &self,
         alloc: Global,
@@ -268,7 +269,8 @@ impl Ca {
         }
     }
 
-    /// Tests as `verify` does, by the facts of the archive. For the address of a source the facts needn't have the digest of contents.
+    /// Tests as `verify` does, by the facts of the archive. For the address of a source the facts needn't have the
+    /// digest of contents.
     ///
     /// ```rust
     /// use paths::{Ca, Facts, StoreDir, StorePath};

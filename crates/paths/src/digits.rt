@@ -139,8 +139,9 @@ fn append_digit(bytes: &mut [u8], digit: u8) -> u8
 ///
 /// # Errors
 ///
-/// The first that applies: `BadDigit` if a byte isn't a digit; `BadLength` if there are more or fewer digits than `count` bytes need;
-/// `Overflow` if the number that they spell needs more bytes. `Memory` if memory was refused, never ahead of the first two.
+/// The first that applies: `BadDigit` if a byte isn't a digit; `BadLength` if there are more or fewer digits than
+/// `count` bytes need; `Overflow` if the number that they spell needs more bytes. `Memory` if memory was refused, never
+/// ahead of the first two.
 pub fn unbase32(alloc: Global, text: &str, count: usize) -> Result<Vec<u8>, Base32Error>
     requires { count ≤ 64 }
     ensures ok { IfOk result (λ bytes. spec.unbase32 text.now count ≡ Ok bytes.items) }

@@ -24,8 +24,8 @@ pub fn an_address_has_one_text()
     ensures { OneAddressText }
 {}
 
-/// The test of a content address passes exactly if the address fits the object. It passes for the address that a text or source object
-/// gets, at its computed path.
+/// The test of a content address passes exactly if the address fits the object. It passes for the address that a text
+/// or source object gets, at its computed path.
 pub fn addresses_verify_exactly()
     ensures exact { VerifyingIsExact }
     ensures text { TextAddressesVerify }

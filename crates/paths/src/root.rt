@@ -21,7 +21,8 @@ pub enum RootKind {
     Temporary,
 }
 
-/// A root: the path that it keeps, and the label that listings show. Roots are ordered by kind, then target, then label.
+/// A root: the path that it keeps, and the label that listings show. Roots are ordered by kind, then target, then
+/// label.
 #[derive(PartialEq, Eq, PartialOrd, Ord, Drop)]
 pub struct Root {
     /// The kind.

@@ -45,8 +45,9 @@ fn base_of<'a>(dir: &StoreDir, text: &'a str) -> &'a str
     }
 }
 
-/// A store path, such as `/nix/store/[32 digits]-hello`. It is its base name, the part below the store directory: 32 digits of base 32,
-/// `-`, a store name. The value doesn't have the directory. Contracts see it as the bytes of its base name, by which paths are ordered.
+/// A store path, such as `/nix/store/[32 digits]-hello`. It is its base name, the part below the store directory: 32
+/// digits of base 32, `-`, a store name. The value doesn't have the directory. Contracts see it as the bytes of its
+/// base name, by which paths are ordered.
 #[derive(Drop)]
 pub struct StorePath {
     base: String,

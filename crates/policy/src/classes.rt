@@ -36,8 +36,9 @@ fn matches(groups: &Groups, caller: &Caller, entries: &[Entry]) -> bool
     entries.iter().any(|entry| admits(groups, caller, entry))
 }
 
-/// The class of a caller: trusted if `trusted-users` matches, else allowed if `allowed-users` does, else a stranger. A list matches if it
-/// has `*`, the caller's name, or `@` and a group that is the caller's primary one or has the caller among its members. Takes no memory.
+/// The class of a caller: trusted if `trusted-users` matches, else allowed if `allowed-users` does, else a stranger. A
+/// list matches if it has `*`, the caller's name, or `@` and a group that is the caller's primary one or has the caller
+/// among its members. Takes no memory.
 ///
 /// ```rust
 /// use policy::{Caller, Class, Config};

@@ -43,8 +43,8 @@ pub enum Rule {
     TrustedPermanentRoot,
     /// Only a trusted caller may replace the runtime roots.
     TrustedRuntimeRoots,
-    /// A root, profile or session is its owner's; a trusted caller may drop a root or generation of others, or end their
-    /// session.
+    /// A root, profile or session is its owner's; a trusted caller may drop a root or generation of others, or end
+    /// their session.
     OwnRoot,
     /// Nobody may ignore liveness.
     NoIgnoreLiveness,

@@ -2,13 +2,14 @@
 ghost use Rattle.policy.specs.Faults.{FirstThatApplies};
 ghost use Rattle.policy.specs.Laws.{LiveIsAskedLast, StrangersMayNotConnect, PlainIsForAllOthers, ReservedForTrusted, ReservedForOwner, ForbiddenToAll};
 
-/// A text has settings if no key word applies to it, and is refused with the first that does, in the order of `KeyWord`.
+/// A text has settings if no key word applies to it, and is refused with the first that does, in the order of
+/// `KeyWord`.
 pub fn the_first_key_word_is_named()
     ensures { FirstThatApplies }
 {}
 
-/// The rule `Live`, the only one that needs the world, is tested last: to decide the others first, and then to look at the world, gives the
-/// first rule that forbids.
+/// The rule `Live`, the only one that needs the world, is tested last: to decide the others first, and then to look at
+/// the world, gives the first rule that forbids.
 pub fn live_is_asked_last()
     ensures { LiveIsAskedLast }
 {}

@@ -53,7 +53,8 @@ pub(crate) fn answer_bytes(
     Ok(text.into_bytes())
 }
 
-/// The text of an archive's listing in pieces. The text isn't copied if it fits one piece, and is copied once otherwise.
+/// The text of an archive's listing in pieces. The text isn't copied if it fits one piece, and is copied once
+/// otherwise.
 fn listing_pieces(alloc: Global, text: String) -> Result<Pieces, AllocError>
     ensures { IfOk result (λ pieces. pieces ≡ string_bytes text) }
 {
@@ -62,8 +63,8 @@ fn listing_pieces(alloc: Global, text: String) -> Result<Pieces, AllocError>
     Ok(pieces)
 }
 
-/// The text of an answer in pieces, as a writer or a body has it. An archive isn't copied, and lines of paths or roots aren't held
-/// twice.
+/// The text of an answer in pieces, as a writer or a body has it. An archive isn't copied, and lines of paths or roots
+/// aren't held twice.
 ///
 /// ```rust
 /// use paths::StoreDir;

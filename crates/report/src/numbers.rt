@@ -78,8 +78,8 @@ fn known_line(number: usize) -> &'static str
     }
 }
 
-/// Appends the line of the refusal of a number, 1 to 42. Of 19, `bad-config`, it is the number and the name alone, since a
-/// key word and a line feed follow.
+/// Appends the line of the refusal of a number, 1 to 42. Of 19, `bad-config`, it is the number and the name alone,
+/// since a key word and a line feed follow.
 ///
 /// ```rust
 /// let mut text = Vec::new(alloc);

@@ -57,7 +57,8 @@ fn push_usage(alloc: Global, text: &mut String, word: &str, usage: Usage) -> Res
     push_columns(text, word, paths.as_str(), bytes.as_str())
 }
 
-/// The usage report on the live, the dead and all paths: of each how many they are, and how many bytes their archives have.
+/// The usage report on the live, the dead and all paths: of each how many they are, and how many bytes their archives
+/// have.
 ///
 /// ```rust
 /// use store::Usage;

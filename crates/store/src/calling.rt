@@ -121,8 +121,8 @@ impl<S: Alter> Store<S> {
         Vec::with_capacity(self.alloc, count)
     }
 
-    /// The denial by the first rule that forbids a request, or out of memory while it is made. `None` if no rule forbids the
-    /// request.
+    /// The denial by the first rule that forbids a request, or out of memory while it is made. `None` if no rule
+    /// forbids the request.
     fn forbidden(&self, caller: &Caller, request: &Request) -> Option<Reply>
         ensures reported { (w : World) → HasWorld S.Store self.now.tables w
             → IsForbidden self.now.settings w caller.now (request_view request.now) (option_map reply_view result) }
@@ -159,9 +159,9 @@ impl<S: Alter> Store<S> {
         act(self.alloc, &self.config, caller, &mut self.tables, request)
     }
 
-    /// Does a caller's request, or returns why not: the first rule that forbids the request, or else the first of its tests that
-    /// fails. A request that isn't done changes nothing, and neither a denial nor a refusal touches the tables. A call fails only
-    /// if no rule other than `Live` forbids it.
+    /// Does a caller's request, or returns why not: the first rule that forbids the request, or else the first of its
+    /// tests that fails. A request that isn't done changes nothing, and neither a denial nor a refusal touches the
+    /// tables. A call fails only if no rule other than `Live` forbids it.
     ///
     /// ```rust
     /// use paths::Name;
@@ -177,13 +177,14 @@ impl<S: Alter> Store<S> {
     /// ```
     pub fn call(&mut self, caller: &Caller, request: Request) -> Reply
         ensures settings { self.new.settings ≡ self.old.settings }
-        // From each world that the tables described, a step to one that they describe now; an answer from the disk is right if the disk is
-        // clean.
+        // From each world that the tables described, a step to one that they describe now; an answer from the disk is
+        // right if the disk is clean.
         ensures step { (w : World) → HasWorld S.Store self.old.tables w → (next : World)
             × StepOver (HasCleanDisk (state S.Store self.new.tables.connection))
             self.old.settings w caller.now (request_view request) (reply_view result) next
             × HasWorld S.Store self.new.tables next }
-        // A request whose archive was dropped because memory ran out is denied by a rule, or fails for memory ahead of its tests.
+        // A request whose archive was dropped because memory ran out is denied by a rule, or fails for memory ahead of
+        // its tests.
         ensures spent { IsTrue (is_spent request)
             → (reply_view result ≡ spent_reply self.old.settings caller.now (request_view request))
             × (self.new ≡ self.old) }
@@ -194,8 +195,8 @@ impl<S: Alter> Store<S> {
         // Whatever is replied, a failure too, what other programs have in the database is as it was.
         ensures others { LeavesOthers S.Store self.old.tables self.new.tables }
         ensures stays_durable { IsDone (reply_view result) → StaysDurable S.Store self.old.tables self.new.tables }
-        // At any exit a crash leaves what it could leave before, or the tables of the done case; where a rule denies the request
-        // or a test of it fails there is none.
+        // At any exit a crash leaves what it could leave before, or the tables of the done case; where a rule denies
+        // the request or a test of it fails there is none.
         ensures survives { (w : World) → HasWorld S.Store self.old.tables w
             → Survives (state S.Store self.old.tables.connection) (state S.Store self.new.tables.connection)
             (λ db. LeavesDone self.old.tables.dir (state S.Store self.old.tables.connection).now db

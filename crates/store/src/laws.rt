@@ -4,8 +4,8 @@ ghost use Rattle.store.specs.Laws.{AreAllRuns, AreRuns, AreSteps};
 
 use sqlite::Alter;
 
-/// Over a clean disk a step or run over the disk is one of the definitions. Over any disk this is true if no answer is an archive or
-/// its listing.
+/// Over a clean disk a step or run over the disk is one of the definitions. Over any disk this is true if no answer is
+/// an archive or its listing.
 pub fn runs_over_a_clean_disk_are_runs<S: Alter>()
     ensures step { AreSteps S.Store }
     ensures run { AreRuns S.Store }

@@ -40,8 +40,8 @@ impl<S: Alter> Store<S> {
     /// Memory was refused for the replies. Then no call was made.
     pub fn run(&mut self, calls: Vec<(Caller, Request)>) -> Result<Vec<Reply>, AllocError>
         ensures settings { self.new.settings ≡ self.old.settings }
-        // From each world that the tables described before, a run to one that they describe now; answers from the disk are right if the
-        // disk is clean.
+        // From each world that the tables described before, a run to one that they describe now; answers from the disk
+        // are right if the disk is clean.
         ensures runs { IfOk result (λ replies. (w : World) → HasWorld S.Store self.old.tables w → (next : World)
             × RunOver (HasCleanDisk (state S.Store self.new.tables.connection))
             self.old.settings w (map call_view calls.items) (map reply_view replies.items) next
@@ -50,8 +50,8 @@ impl<S: Alter> Store<S> {
         ensures pins { IfOk result (λ replies. (w : World) → HasWorld S.Store self.old.tables w → (r : Root)
             → RemainsThroughout self.old.settings w r (map call_view calls.items) (map reply_view replies.items)
             → (next : World) × HasWorld S.Store self.new.tables next × KeepsReached self.old.settings r w next) }
-        // No reply to a caller who isn't trusted differs by a runtime label: each run of the same calls from a world that
-        // differs in these alone, with the same failures at the same places, has the same replies.
+        // No reply to a caller who isn't trusted differs by a runtime label: each run of the same calls from a world
+        // that differs in these alone, with the same failures at the same places, has the same replies.
         ensures hides { IfOk result (λ replies. (w v last : World) (others : List replied.Reply)
             → HasWorld S.Store self.old.tables w → DifferInLabels w v
             → Run self.old.settings v (map call_view calls.items) others last

@@ -19,8 +19,8 @@ use std::collections::BTreeMap;
 use store_types::Stop;
 use tables_outline::Outline;
 
-/// Tests a text object of few references, whose archive is small enough, at its path. Returns the outputs that the object
-/// records.
+/// Tests a text object of few references, whose archive is small enough, at its path. Returns the outputs that the
+/// object records.
 pub(crate) fn examine_text(
     alloc: Global,
     dir: &StoreDir,

@@ -91,8 +91,8 @@ fn limited_paths(
     paths_at(alloc, &rows, &places)
 }
 
-/// The paths that a collection removes, in order: all dead paths; with a limit, one group of them after another, until the archives of the
-/// deleted paths have that many bytes.
+/// The paths that a collection removes, in order: all dead paths; with a limit, one group of them after another, until
+/// the archives of the deleted paths have that many bytes.
 pub fn collected_paths(
     alloc: Global,
     config: &Config,

@@ -40,7 +40,8 @@ use tables_outline::Outline;
 fn places(alloc: Global, rows: &[Row], named: &[StorePath]) -> Result<Vec<usize>, AllocError>
     requires { Rise (paths_of (rows_view rows.now)) }
     ensures inside { IfOk result (λ v. All (λ k. k < length rows.now) v.items) }
-    // If a test passes for paths of rows alone, it passes for one of these places exactly if it does for one of the given paths.
+    // If a test passes for paths of rows alone, it passes for one of these places exactly if it does for one of the
+    // given paths.
     ensures those { IfOk result
         (λ v. (test : Path → Bool)
         → ((p : Path) → filter (same p) (paths_of (rows_view rows.now)) ≡ [] → test p ≡ false)
@@ -94,8 +95,8 @@ pub fn deleted_paths(
     referring(alloc, &rows, &places)
 }
 
-/// The root that denies a deletion: the first root of the first named path that is live, as the caller sees it. `None` if all
-/// named paths are dead.
+/// The root that denies a deletion: the first root of the first named path that is live, as the caller sees it. `None`
+/// if all named paths are dead.
 pub fn denial(
     alloc: Global,
     config: &Config,
@@ -129,7 +130,8 @@ pub fn find_deleted(alloc: Global, outline: &Outline, named: &[StorePath]) -> Re
     Ok(Found { paths, bytes })
 }
 
-/// Deletes the named objects and all that reach one by references. The caller ensures that the world without them is sound.
+/// Deletes the named objects and all that reach one by references. The caller ensures that the world without them is
+/// sound.
 pub fn delete<S: Alter>(
     alloc: Global,
     tables: &mut Tables<S>,

@@ -60,8 +60,8 @@ fn reaching<'a>(
     roots_at(alloc, roots, &places)
 }
 
-/// The roots that reach a path in their order, each its label and its target, as a caller of a class sees them. None reaches
-/// a path that isn't valid.
+/// The roots that reach a path in their order, each its label and its target, as a caller of a class sees them. None
+/// reaches a path that isn't valid.
 pub fn seen_roots_of(
     alloc: Global,
     config: &Config,

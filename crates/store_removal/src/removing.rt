@@ -35,7 +35,8 @@ fn is_nothing(paths: &[StorePath]) -> bool
     paths.is_empty()
 }
 
-/// Deletes the objects of some paths, which may be none. The caller ensures that the world is sound without the objects.
+/// Deletes the objects of some paths, which may be none. The caller ensures that the world is sound without the
+/// objects.
 pub(crate) fn remove<S: Alter>(tables: &mut Tables<S>, found: Found) -> Result<Answer, Stop>
     requires { (w : World) → HasWorld S.Store tables.old w → IsSound tables.old.dir (without w found.paths.items) }
     // A request is met that deletes these objects and changes nothing else.

@@ -54,7 +54,8 @@ pub(crate) fn seen_root(
     Ok((label, target))
 }
 
-/// Notes that a pair is listed, and returns whether it is to be listed: the first time, and for trusted callers every time.
+/// Notes that a pair is listed, and returns whether it is to be listed: the first time, and for trusted callers every
+/// time.
 fn note(
     class: Class,
     reported: &mut BTreeSet<(String, StorePath)>,

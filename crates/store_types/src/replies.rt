@@ -74,8 +74,8 @@ pub enum Answer {
 pub enum Reply {
     /// The request is done.
     Done(Answer),
-    /// The first rule that forbids the request; for a live path the label and the target of its first root, as the caller
-    /// sees them.
+    /// The first rule that forbids the request; for a live path the label and the target of its first root, as the
+    /// caller sees them.
     Denied(Rule, Option<(String, StorePath)>),
     /// The first test that fails.
     Refused(Refusal),

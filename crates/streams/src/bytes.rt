@@ -201,8 +201,9 @@ impl Pieces {
         Ok(())
     }
 
-    /// Appends a buffer of bytes. If the bytes fit a piece, and the last piece is full or there is none, the buffer becomes the next piece
-    /// without a copy. Otherwise the bytes are copied. If memory is refused, the bytes stay as they were.
+    /// Appends a buffer of bytes. If the bytes fit a piece, and the last piece is full or there is none, the buffer
+    /// becomes the next piece without a copy. Otherwise the bytes are copied. If memory is refused, the bytes stay as
+    /// they were.
     ///
     /// ```rust
     /// use streams::Pieces;

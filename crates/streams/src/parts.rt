@@ -21,7 +21,8 @@ pub fn in_pieces(alloc: Global, bytes: &[u8]) -> Result<Pieces, AllocError>
     Ok(pieces)
 }
 
-/// Writes all bytes that are held in pieces, one piece after another; a prefix of them, and not all, if the writer fails.
+/// Writes all bytes that are held in pieces, one piece after another; a prefix of them, and not all, if the writer
+/// fails.
 ///
 /// # Errors
 ///

@@ -30,8 +30,8 @@ fn read_on<R: Read, S: Sink>(
 ///
 /// # Errors
 ///
-/// `Input` if the reader failed, whatever the kind of its error, an interrupted read too: the sink has received all bytes that came.
-/// `Memory` if the sink was refused memory for a piece that came.
+/// `Input` if the reader failed, whatever the kind of its error, an interrupted read too: the sink has received all
+/// bytes that came. `Memory` if the sink was refused memory for a piece that came.
 pub fn receive_at_most<R: Read, S: Sink>(
     input: &mut R,
     most: usize,

@@ -68,8 +68,8 @@ impl Sink for Held {
 ///
 /// # Errors
 ///
-/// `Input` if the reader failed before these were read, whatever the kind of its error; `Memory` if memory was refused for bytes that were
-/// read.
+/// `Input` if the reader failed before these were read, whatever the kind of its error; `Memory` if memory was refused
+/// for bytes that were read.
 pub fn read_at_most<R: Read>(
     alloc: Global,
     input: &mut R,

@@ -66,9 +66,9 @@ fn adopt_unlimited<S: Alter>(
     }
 }
 
-/// Opens a connection as the store of a directory. Reads and tests all of its rows. Makes the store's tables if the database has
-/// none of them, and migrates those of an earlier schema to schema 3. An error returns the connection, with the tables as they
-/// were. A limit on steps is cleared in either case.
+/// Opens a connection as the store of a directory. Reads and tests all of its rows. Makes the store's tables if the
+/// database has none of them, and migrates those of an earlier schema to schema 3. An error returns the connection,
+/// with the tables as they were. A limit on steps is cleared in either case.
 ///
 /// ```rust
 /// use paths::StoreDir;
@@ -88,9 +88,9 @@ fn adopt_unlimited<S: Alter>(
 ///
 /// # Errors
 ///
-/// `BadSchema`: some of the store's tables exist but aren't a sound store, or another program's table interferes (a foreign key,
-/// an index, a missing rowid counter). Then `OtherStoreDir`: the database is the store of another directory. `Failed`: the
-/// database failed, or memory ran out.
+/// `BadSchema`: some of the store's tables exist but aren't a sound store, or another program's table interferes (a
+/// foreign key, an index, a missing rowid counter). Then `OtherStoreDir`: the database is the store of another
+/// directory. `Failed`: the database failed, or memory ran out.
 pub fn adopt<S: Alter>(
     alloc: Global,
     mut conn: Connection<S>,

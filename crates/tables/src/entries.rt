@@ -95,8 +95,8 @@ impl<S: Alter> Tables<S> {
         Ok(Snapshot { objects, roots })
     }
 
-    /// The object of a path, or `None` if the path isn't valid. The archive is read from the disk, the rest from memory. Nothing
-    /// changes.
+    /// The object of a path, or `None` if the path isn't valid. The archive is read from the disk, the rest from
+    /// memory. Nothing changes.
     ///
     /// ```rust
     /// if let Some(object) = tables.object(path)? {
@@ -130,7 +130,8 @@ impl<S: Alter> Tables<S> {
         Ok(Some(Object { nar, summary }))
     }
 
-    /// The profile of an owner and a name, or `None` if no such profile exists. The only error is that memory was refused.
+    /// The profile of an owner and a name, or `None` if no such profile exists. The only error is that memory was
+    /// refused.
     ///
     /// ```rust
     /// assert!(rt; tables.profile("ann", "default")?.is_none());

@@ -13,8 +13,8 @@ use std::rt::HostRuntime;
 use tables_open::file;
 use tables_open::file::Opened;
 
-/// Opens the file at a path as the store of a directory. Makes the store's tables if the file is missing or has none of them.
-/// `start` is ghost: what a theorem assumes of the file. No code reads it, and a program passes `Unknown`.
+/// Opens the file at a path as the store of a directory. Makes the store's tables if the file is missing or has none of
+/// them. `start` is ghost: what a theorem assumes of the file. No code reads it, and a program passes `Unknown`.
 ///
 /// ```rust
 /// use tables::Unknown;
@@ -25,8 +25,8 @@ use tables_open::file::Opened;
 ///
 /// # Errors
 ///
-/// `File`: `sqlite` didn't open the file, or can't read what it holds. `Store`: the database isn't opened as a store. Then the
-/// database is as it was.
+/// `File`: `sqlite` didn't open the file, or can't read what it holds. `Store`: the database isn't opened as a store.
+/// Then the database is as it was.
 pub fn open<S: Start>(
     rt: &HostRuntime,
     path: &str,

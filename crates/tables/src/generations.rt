@@ -1,5 +1,6 @@
-//! Setting and switching profiles and deleting generations, one transaction a call. The caller ensures that the world is sound
-//! after each call. A call fails if memory runs out, a row is too large or the disk fails; then nothing has changed.
+//! Setting and switching profiles and deleting generations, one transaction a call. The caller ensures that the world
+//! is sound after each call. A call fails if memory runs out, a row is too large or the disk fails; then nothing has
+//! changed.
 
 ghost use Rattle.std.specs.Prelude.{◌≡◌, IfNone, IsTrue, None, option_map};
 ghost use Rattle.std.specs.FinMap as finite;
@@ -19,8 +20,8 @@ use sqlite::Alter;
 use tables_sql::failure::Failed;
 
 impl<S: Alter> Tables<S> {
-    /// Sets the current generation of a profile. With `generation`, a number and a target, first sets the target of that number,
-    /// new or not, and creates the profile if it is missing.
+    /// Sets the current generation of a profile. With `generation`, a number and a target, first sets the target of
+    /// that number, new or not, and creates the profile if it is missing.
     ///
     /// ```rust
     /// tables.put_profile("ann", "default", Some((1, path)), 1)?;
@@ -49,8 +50,8 @@ impl<S: Alter> Tables<S> {
         }
     }
 
-    /// Sets the target of generation `number`, new or not, and makes `current` the current one. Creates the profile if it is
-    /// missing.
+    /// Sets the target of generation `number`, new or not, and makes `current` the current one. Creates the profile if
+    /// it is missing.
     pub(crate) fn put_number(
         &mut self,
         owner: &str,
@@ -111,8 +112,8 @@ impl<S: Alter> Tables<S> {
         }
     }
 
-    /// Adds generation `number`, which the profile doesn't have yet, and makes `current` the current one. Creates the profile if
-    /// it is missing.
+    /// Adds generation `number`, which the profile doesn't have yet, and makes `current` the current one. Creates the
+    /// profile if it is missing.
     pub(crate) fn put_generation(
         &mut self,
         owner: &str,
@@ -149,8 +150,8 @@ impl<S: Alter> Tables<S> {
         }
     }
 
-    /// Makes a path the current generation of a profile. `number` is that of the highest generation if `target` is its target,
-    /// else that of a new one. Creates the profile if it is missing.
+    /// Makes a path the current generation of a profile. `number` is that of the highest generation if `target` is its
+    /// target, else that of a new one. Creates the profile if it is missing.
     ///
     /// ```rust
     /// tables.set_profile("ann", "default", 1, path)?;

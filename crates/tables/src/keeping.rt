@@ -74,8 +74,8 @@ impl<S: Alter> Tables<S> {
         connection
     }
 
-    /// Adds an object at a path that has none: `nar` is the archive, `object` the summary. The caller ensures that the world is
-    /// sound afterwards.
+    /// Adds an object at a path that has none: `nar` is the archive, `object` the summary. The caller ensures that the
+    /// world is sound afterwards.
     ///
     /// ```rust
     /// use nar::Node;

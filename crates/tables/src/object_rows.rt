@@ -1,5 +1,5 @@
-//! Deletion of the rows of an object's references, outputs and further pieces. No statement runs for rows that the object doesn't
-//! have by the outline.
+//! Deletion of the rows of an object's references, outputs and further pieces. No statement runs for rows that the
+//! object doesn't have by the outline.
 
 ghost use Rattle.std.specs.Prelude.{◌<◌, ℕ, ℤ, List, IsTrue, not};
 ghost use Rattle.std.specs.FinMap as finite;

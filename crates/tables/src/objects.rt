@@ -36,8 +36,8 @@ pub(crate) fn put_references<S: Alter>(
     Ok(())
 }
 
-/// Adds a row for each output of a path: `outputs[i]` belongs to `names[i]`. The names are distinct; the path has none of these
-/// rows yet.
+/// Adds a row for each output of a path: `outputs[i]` belongs to `names[i]`. The names are distinct; the path has none
+/// of these rows yet.
 pub(crate) fn put_outputs<S: Alter>(
     tx: &mut Transaction<'_, S>,
     base: &str,

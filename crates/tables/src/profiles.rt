@@ -76,7 +76,8 @@ impl<'a> Change for DropGeneration<'a> {
     }
 }
 
-/// The change that sets the target of a generation and the current number of a profile. Generation and profile may be new.
+/// The change that sets the target of a generation and the current number of a profile. Generation and profile may be
+/// new.
 #[derive(Drop)]
 pub(crate) struct PutGeneration<'a> {
     pub(crate) owner: &'a str,

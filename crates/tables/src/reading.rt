@@ -25,8 +25,8 @@ use tables_rows::pieces::Piece;
 use tables_rows::{objects, pieces};
 use tables_sql::failure::Failed;
 
-/// Joins the part of an archive in the row with the later pieces, in their order, without a copy if each but the last has 65,536
-/// bytes.
+/// Joins the part of an archive in the row with the later pieces, in their order, without a copy if each but the last
+/// has 65,536 bytes.
 fn joined(alloc: Global, row: Vec<u8>, further: Vec<Piece>) -> Result<Pieces, AllocError>
     ensures { IfOk result (λ nar. nar ≡ row.items ++ flat_map (λ p. p.bytes.items) further.items) }
 {
@@ -38,8 +38,8 @@ fn joined(alloc: Global, row: Vec<u8>, further: Vec<Piece>) -> Result<Pieces, Al
     Ok(nar)
 }
 
-/// The archive of a path, or `None` if the path has no object. `size` is the size of the archive in bytes; the table of pieces is
-/// read only for an archive larger than the object's row holds.
+/// The archive of a path, or `None` if the path has no object. `size` is the size of the archive in bytes; the table of
+/// pieces is read only for an archive larger than the object's row holds.
 pub(crate) fn read_archive<S: Alter>(
     alloc: Global,
     conn: &mut Connection<S>,

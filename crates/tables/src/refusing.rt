@@ -12,9 +12,9 @@ use tables_sql::failure::Failed;
 /// Why a database isn't opened as a store.
 #[derive(Clone, Copy, Debug, PartialEq, Eq)]
 pub enum Cause {
-    /// Some of the store's tables exist but aren't a sound store: a table is missing or has another form, or the rows aren't
-    /// sound. Or another program's table interferes (a foreign key, an index, a missing rowid counter), also if the store's
-    /// tables are sound or none of them exists.
+    /// Some of the store's tables exist but aren't a sound store: a table is missing or has another form, or the rows
+    /// aren't sound. Or another program's table interferes (a foreign key, an index, a missing rowid counter), also if
+    /// the store's tables are sound or none of them exists.
     BadSchema,
     /// The database is the store of another directory.
     OtherStoreDir,
@@ -39,7 +39,8 @@ pub struct Unadopted<S: Alter> {
     pub cause: Cause,
 }
 
-/// Why a file isn't opened as a store, and what is left of it. `cause` says why. `S` is the store of a connection, over files `D`.
+/// Why a file isn't opened as a store, and what is left of it. `cause` says why. `S` is the store of a connection, over
+/// files `D`.
 #[derive(Drop)]
 pub enum Unopened<S: Alter, D: Disk> {
     /// The file wasn't opened, or its database can't be read.

@@ -21,7 +21,8 @@ use tables_outline::Outline;
 use tables_rows::objects;
 use tables_sql::failure::Failed;
 
-/// Deletes the rows of one object, if it exists: its own, and those of its references, outputs and pieces by the outline.
+/// Deletes the rows of one object, if it exists: its own, and those of its references, outputs and pieces by the
+/// outline.
 fn delete_object<S: Alter>(
     tx: &mut Transaction<'_, S>,
     outline: &Outline,
@@ -66,7 +67,8 @@ pub(crate) fn remove_all(outline: &mut Outline, paths: &[StorePath])
     }
 }
 
-/// The change that deletes some objects, those that exist: `first` and `rest`. `outline` is that of the rows before the change.
+/// The change that deletes some objects, those that exist: `first` and `rest`. `outline` is that of the rows before the
+/// change.
 #[derive(Drop)]
 pub(crate) struct RemoveObjects<'a> {
     pub(crate) outline: &'a Outline,

@@ -13,8 +13,8 @@ use sqlite::Alter;
 use tables_sql::failure::Failed;
 
 impl<S: Alter> Tables<S> {
-    /// Deletes the objects of these paths, those that exist. The caller ensures that the world is sound afterwards: no object
-    /// that stays refers to a deleted one, and no root points to one.
+    /// Deletes the objects of these paths, those that exist. The caller ensures that the world is sound afterwards: no
+    /// object that stays refers to a deleted one, and no root points to one.
     ///
     /// ```rust
     /// let paths = [path.clone()?];

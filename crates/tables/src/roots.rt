@@ -1,5 +1,5 @@
-//! Setting and dropping roots, one transaction a call. The caller ensures that the world is sound after each call. A call fails
-//! if memory runs out, a row is too large or the disk fails; then nothing has changed.
+//! Setting and dropping roots, one transaction a call. The caller ensures that the world is sound after each call. A
+//! call fails if memory runs out, a row is too large or the disk fails; then nothing has changed.
 
 ghost use Rattle.std.specs.Prelude.{map};
 ghost use Rattle.model.specs.World.{pair_cmp};

@@ -60,8 +60,8 @@ fn is_same(a: &StoreDir, b: &StoreDir) -> bool
     a.as_str() == b.as_str()
 }
 
-/// The contents of the rows. `BadSchema` if the rows aren't sound by the schema; then `OtherStoreDir` if they name a directory
-/// other than `dir`.
+/// The contents of the rows. `BadSchema` if the rows aren't sound by the schema; then `OtherStoreDir` if they name a
+/// directory other than `dir`.
 pub(crate) fn read_as<S: Alter>(
     alloc: Global,
     conn: &mut Connection<S>,

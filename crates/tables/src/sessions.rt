@@ -1,5 +1,6 @@
-//! Adding the paths that sessions keep, and ending sessions, one transaction a call. The caller ensures that the world is sound
-//! after each call. A call fails if memory runs out, a row is too large or the disk fails; then nothing has changed.
+//! Adding the paths that sessions keep, and ending sessions, one transaction a call. The caller ensures that the world
+//! is sound after each call. A call fails if memory runs out, a row is too large or the disk fails; then nothing has
+//! changed.
 
 ghost use Rattle.std.specs.Prelude.{◌≡◌, IfOk};
 ghost use Rattle.std.specs.FinMap as finite;
@@ -47,8 +48,8 @@ impl<S: Alter> Tables<S> {
         }
     }
 
-    /// Ends a session of an owner, and deletes the roots of the paths that the session kept. Returns how many they were, which
-    /// may be 0.
+    /// Ends a session of an owner, and deletes the roots of the paths that the session kept. Returns how many they
+    /// were, which may be 0.
     ///
     /// ```rust
     /// tables.add_temp("ann", 7, path)?;

@@ -12,8 +12,8 @@ use sqlite::{Alter, Transaction};
 use tables_schema::store_table::StoreTable;
 use tables_sql::failure::Failed;
 
-/// Makes the table of pieces and that of temporary roots next to the nine of the first schema, with no row. What the tables hold is as
-/// it was, and the transaction goes on.
+/// Makes the table of pieces and that of temporary roots next to the nine of the first schema, with no row. What the
+/// tables hold is as it was, and the transaction goes on.
 pub fn make_both<S: Alter>(tx: &mut Transaction<'_, S>) -> Result<(), Failed>
     requires { IsInsideWith S.Store tx.old.conn (λ db. HasFirst db.schema) }
     ensures { StepsInside S.Store tx.old.conn tx.new.conn result (MakesFurther (piece ∷ temp_root ∷ []))
@@ -22,8 +22,8 @@ pub fn make_both<S: Alter>(tx: &mut Transaction<'_, S>) -> Result<(), Failed>
     creating::all(tx, &[StoreTable::Piece, StoreTable::TempRoot])
 }
 
-/// Makes the table of temporary roots next to the ten of the second schema, with no row. What the tables hold is as it was, and the
-/// transaction goes on.
+/// Makes the table of temporary roots next to the ten of the second schema, with no row. What the tables hold is as it
+/// was, and the transaction goes on.
 pub fn make_temp_root<S: Alter>(tx: &mut Transaction<'_, S>) -> Result<(), Failed>
     requires { IsInsideWith S.Store tx.old.conn (λ db. HasSecond db.schema) }
     ensures { StepsInside S.Store tx.old.conn tx.new.conn result (MakesFurther (temp_root ∷ []))

@@ -64,8 +64,8 @@ fn make_and_commit<S: Alter>(conn: &mut Connection<S>, store_dir: &str) -> Resul
     Ok(())
 }
 
-/// Makes the store's eleven tables next to whatever tables there are, `meta` with the settings `schema` = `3` and `store-dir`,
-/// the others with no row: all at once, or nothing. Then the connection is ready for transactions.
+/// Makes the store's eleven tables next to whatever tables there are, `meta` with the settings `schema` = `3` and
+/// `store-dir`, the others with no row: all at once, or nothing. Then the connection is ready for transactions.
 pub fn make<S: Alter>(conn: &mut Connection<S>, store_dir: &str) -> Result<(), Failed>
     requires { MayMake S.Store conn.old }
     ensures { CommitsTables S.Store conn.old conn.new result store_dir.now (IsMade store_dir.now)

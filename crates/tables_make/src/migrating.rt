@@ -69,12 +69,14 @@ fn commit_first<S: Alter>(
     transaction::commit(tx)
 }
 
-/// Brings the tables of the first schema to the third: both further tables are made, each archive longer than a row takes is cut, and
-/// the setting says the third. Archives are read one at a time. All at once, or nothing; other tables keep their rows.
+/// Brings the tables of the first schema to the third: both further tables are made, each archive longer than a row
+/// takes is cut, and the setting says the third. Archives are read one at a time. All at once, or nothing; other tables
+/// keep their rows.
 ///
 /// # Errors
 ///
-/// Memory was refused, a row is too large, the disk failed, or no number or name is left for a table; then the tables hold what they held.
+/// Memory was refused, a row is too large, the disk failed, or no number or name is left for a table; then the tables
+/// hold what they held.
 pub fn from_first<S: Alter>(alloc: Global, conn: &mut Connection<S>) -> Result<(), Failed>
     requires { MayMigrate S.Store conn.old V1 }
     ensures { Migrates S.Store conn.old conn.new result V1 }
@@ -93,8 +95,8 @@ fn write_second<S: Alter>(tx: &mut Transaction<'_, S>) -> Result<(), Failed>
     renumber(tx)
 }
 
-/// Brings the tables of the second schema to the third: that of temporary roots is made, and the setting says the third. All at once, or
-/// nothing; other tables keep their rows.
+/// Brings the tables of the second schema to the third: that of temporary roots is made, and the setting says the
+/// third. All at once, or nothing; other tables keep their rows.
 ///
 /// # Errors
 ///

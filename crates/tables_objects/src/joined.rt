@@ -1,4 +1,5 @@
-//! All rows of references and outputs, and which pieces there are: read once, and tested against the objects of the outline.
+//! All rows of references and outputs, and which pieces there are: read once, and tested against the objects of the
+//! outline.
 
 ghost use Rattle.std.specs.Prelude.{◌≡◌, ◌&&◌, IsTrue, IfOk, map};
 ghost use Rattle.std.specs.List.{list_all};

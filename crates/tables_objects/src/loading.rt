@@ -20,10 +20,10 @@ use tables_outline::Outline;
 use tables_schema::Schema;
 use tables_sql::failure::Failed;
 
-/// Whether the objects of the rows are sound in a store directory, by their schema: each archive cut the right way, each object with
-/// its whole archive, its references and its outputs, each reference one of an object to an object, and each output and each piece one
-/// of an object. If so, they are put into the outline, which has no objects before. Archives are read one after another. The first
-/// schema has no table of pieces.
+/// Whether the objects of the rows are sound in a store directory, by their schema: each archive cut the right way,
+/// each object with its whole archive, its references and its outputs, each reference one of an object to an object,
+/// and each output and each piece one of an object. If so, they are put into the outline, which has no objects before.
+/// Archives are read one after another. The first schema has no table of pieces.
 ///
 /// # Errors
 ///

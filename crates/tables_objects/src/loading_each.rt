@@ -74,7 +74,8 @@ fn load_rows(
     Ok(true)
 }
 
-/// Whether this base is an object's, whose rows are sound. If so, it is added to `found`. Rows of other tables were read before.
+/// Whether this base is an object's, whose rows are sound. If so, it is added to `found`. Rows of other tables were
+/// read before.
 fn load_object<S: Alter>(
     alloc: Global,
     conn: &mut Connection<S>,

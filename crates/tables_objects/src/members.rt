@@ -1,4 +1,5 @@
-//! Rows of references, outputs and pieces against the paths of all objects, which are in order: no path is made of a text to look it up.
+//! Rows of references, outputs and pieces against the paths of all objects, which are in order: no path is made of a
+//! text to look it up.
 
 ghost use Rattle.std.specs.Prelude.{◌≡◌, ◌↔◌, true, IfOk, IsTrue, map};
 ghost use Rattle.std.specs.List.{list_all};
@@ -55,8 +56,8 @@ fn is_last(last: Option<&str>, text: &str) -> bool
     }
 }
 
-/// Whether a text is one of the paths, as the last one was, if there is one. Rows come in the order of their bases, so each base is
-/// looked up once.
+/// Whether a text is one of the paths, as the last one was, if there is one. Rows come in the order of their bases, so
+/// each base is looked up once.
 fn is_next_known(paths: &[&StorePath], last: Option<&str>, text: &str) -> bool
     requires rises { Rises (borrowed paths.now) }
     requires last { ForSome (option_copied last) (λ base. is_known (borrowed paths.now) base ≡ true) }

@@ -123,7 +123,8 @@ fn sound_archive(
     }
 }
 
-/// The path of an object and what is kept of it, where its rows are sound. That each reference is an object isn't asked here.
+/// The path of an object and what is kept of it, where its rows are sound. That each reference is an object isn't asked
+/// here.
 pub(crate) fn sound_object(
     alloc: Global,
     dir: &StoreDir,

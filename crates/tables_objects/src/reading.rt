@@ -29,7 +29,8 @@ pub(crate) struct ObjectRows {
     pub(crate) pieces: Vec<Piece>,
 }
 
-/// The pieces of a path's archive, in order; none, where the schema has no table of them. Where none is listed, none is looked for.
+/// The pieces of a path's archive, in order; none, where the schema has no table of them. Where none is listed, none is
+/// looked for.
 fn pieces_of<S: Alter>(
     alloc: Global,
     conn: &mut Connection<S>,
@@ -54,8 +55,8 @@ fn pieces_of<S: Alter>(
     pieces::of(alloc, conn, base)
 }
 
-/// The row and the pieces of a path, if it is an object's. Which pieces there are is listed already, and so are the bases of all
-/// objects. Some rows were read ahead.
+/// The row and the pieces of a path, if it is an object's. Which pieces there are is listed already, and so are the
+/// bases of all objects. Some rows were read ahead.
 pub(crate) fn rows_at<S: Alter>(
     alloc: Global,
     conn: &mut Connection<S>,

@@ -78,8 +78,8 @@ fn next_of(ahead: &mut VecDeque<Object>, base: &str) -> Option<Object>
     Some(next)
 }
 
-/// The object of a base, if there is one: the next of those that were read ahead, or one that is read alone. `bases` are those
-/// of all objects, in order.
+/// The object of a base, if there is one: the next of those that were read ahead, or one that is read alone. `bases`
+/// are those of all objects, in order.
 pub(crate) fn object_at<S: Alter>(
     alloc: Global,
     conn: &mut Connection<S>,

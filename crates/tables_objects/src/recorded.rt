@@ -53,7 +53,8 @@ fn derivation_outputs(
     }
 }
 
-/// The outputs that an object records: those of its tree if its name ends in `.drv`, where it is a derivation's, and else none.
+/// The outputs that an object records: those of its tree if its name ends in `.drv`, where it is a derivation's, and
+/// else none.
 pub(crate) fn found_in(
     alloc: Global,
     dir: &StoreDir,

@@ -17,8 +17,8 @@ const NO_MEMORY: Error = Error::SqliteFailure(ErrorCode::OutOfMemory);
 
 const CANNOT_OPEN: Error = Error::SqliteFailure(ErrorCode::CannotOpen);
 
-/// The error of `sqlite` for an error of the host: out of memory if it says so, busy if another program has the file open, else that the
-/// file can't be opened.
+/// The error of `sqlite` for an error of the host: out of memory if it says so, busy if another program has the file
+/// open, else that the file can't be opened.
 fn opening_error(error: OpenError) -> Error
     ensures { IsOpeningError error result }
 {

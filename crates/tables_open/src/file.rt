@@ -19,7 +19,8 @@ use std::rt::HostRuntime;
 use tables_schema::recognising::Recognised;
 use tables_sql::failure::Failed;
 
-/// A database that was opened, and by which schema it holds the store's tables. If it does, it is ready for transactions.
+/// A database that was opened, and by which schema it holds the store's tables. If it does, it is ready for
+/// transactions.
 pub struct Opened<S: Alter> {
     /// The connection, outside a transaction.
     pub conn: Connection<S>,
@@ -64,8 +65,8 @@ fn opening_failure(error: Error) -> Option<Failed>
     }
 }
 
-/// Opens a connection: finds what its database has of the store's tables. Nothing changes, and where it can't be read, the connection is
-/// returned with the failure.
+/// Opens a connection: finds what its database has of the store's tables. Nothing changes, and where it can't be read,
+/// the connection is returned with the failure.
 pub fn inspect<S: Alter>(alloc: Global, mut conn: Connection<S>) -> Result<Opened<S>, Unreadable<S>>
     requires idle { conn.in_transaction ≡ false }
     ensures idle { MatchResult result (λ it. it.conn.in_transaction ≡ false) (λ e. e.conn.in_transaction ≡ false) }
@@ -88,9 +89,9 @@ pub fn inspect<S: Alter>(alloc: Global, mut conn: Connection<S>) -> Result<Opene
 }
 
 /// Opens the file at a path, or makes an empty database there. `start` is what the file held, which no
-/// code reads: a theorem is stated over any, and a program passes `Unknown`, or `Wary` where a torn write may leave any bytes.
-/// Out of memory, and anything but a database with nothing left, need no cause: `sqlite` gives none for memory, for a path
-/// that can't be opened, or for a file that another connection has open.
+/// code reads: a theorem is stated over any, and a program passes `Unknown`, or `Wary` where a torn write may leave any
+/// bytes. Out of memory, and anything but a database with nothing left, need no cause: `sqlite` gives none for memory,
+/// for a path that can't be opened, or for a file that another connection has open.
 pub fn open<S: Start>(
     rt: &HostRuntime,
     path: &str,

@@ -1,7 +1,8 @@
 //! How many pages the database at a path has, by the headers of its file and of its log.
 //!
-//! The file isn't open yet, and none of what is read here is trusted: only the number of pages that are kept depends on it. To close a file
-//! drops its locks, so this is done before it is opened. A pipe would wait for a writer: only regular files are opened.
+//! The file isn't open yet, and none of what is read here is trusted: only the number of pages that are kept depends on
+//! it. To close a file drops its locks, so this is done before it is opened. A pipe would wait for a writer: only
+//! regular files are opened.
 
 ghost use Rattle.std.specs.Prelude.{◌≤◌};
 
@@ -46,8 +47,8 @@ fn stated_page(file: &mut File) -> io::Result<u64> {
     Ok(u64::from(u16::from_be_bytes([head[16], head[17]])))
 }
 
-/// The length of the file at a path, and the bytes of a page. Where they can't be read, as of a file that isn't there yet, no bytes in
-/// pages of a new file.
+/// The length of the file at a path, and the bytes of a page. Where they can't be read, as of a file that isn't there
+/// yet, no bytes in pages of a new file.
 fn measure_file(rt: &HostRuntime, path: &str) -> io::Result<(u64, u64)> {
     let found = fs::metadata(rt, path)?;
     if !found.is_file() {
@@ -66,8 +67,9 @@ fn page_of(stated: u64) -> PageSize {
     PageSize { bytes }
 }
 
-/// How many pages the last commit in a log left, which has room for `frames` frames; 0 where it has none. The frames that were written
-/// since the log was last copied into the file have the salts of its header, and come before older ones.
+/// How many pages the last commit in a log left, which has room for `frames` frames; 0 where it has none. The frames
+/// that were written since the log was last copied into the file have the salts of its header, and come before older
+/// ones.
 fn pages_in(log: &File, frames: u32, page: PageSize) -> io::Result<u32> {
     let mut head = [0; 24];
     log.read_exact_at(&mut head, 0)?;

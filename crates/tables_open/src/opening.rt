@@ -1,4 +1,5 @@
-//! Opening a connection: by which schema its database has the store's tables, and that their rows are distinct and their texts read.
+//! Opening a connection: by which schema its database has the store's tables, and that their rows are distinct and
+//! their texts read.
 
 ghost use Rattle.std.specs.Prelude.{◌≡◌, ◌≢◌, ◌↔◌, false, IfOk, IfErr};
 ghost use Rattle.sqlite.specs.State.{HasCleanDisk, IsLive};
@@ -18,8 +19,8 @@ use tables_schema::store_table::schema_tables;
 use tables_schema::{Schema, recognising};
 use tables_sql::failure::Failed;
 
-/// The tables of the schema, which are there, or `Other` where a text in one of them isn't UTF-8. Fails with `Disk` if two rows of a table share a
-/// rowid, or a rowid is no integer. Nothing changes.
+/// The tables of the schema, which are there, or `Other` where a text in one of them isn't UTF-8. Fails with `Disk` if
+/// two rows of a table share a rowid, or a rowid is no integer. Nothing changes.
 fn inspect_tables<S: Alter>(
     alloc: Global,
     conn: &mut Connection<S>,
@@ -58,9 +59,10 @@ pub fn recognise<S: Alter>(conn: &Connection<S>) -> Recognised
     recognising::recognise(conn.schema())
 }
 
-/// What the connection's database has of the store's tables: the tables of a schema if they are there and each text in them
-/// is UTF-8. Then the connection is ready for transactions. Nothing changes. It fails when it runs out of memory, for a fault of the disk, where
-/// an earlier one has shut the connection, where a limit on steps stops it, and if two rows of a store's table share a rowid or a rowid is no integer.
+/// What the connection's database has of the store's tables: the tables of a schema if they are there and each text in
+/// them is UTF-8. Then the connection is ready for transactions. Nothing changes. It fails when it runs out of memory,
+/// for a fault of the disk, where an earlier one has shut the connection, where a limit on steps stops it, and if two
+/// rows of a store's table share a rowid or a rowid is no integer.
 pub fn open<S: Alter>(alloc: Global, conn: &mut Connection<S>) -> Result<Recognised, Failed>
     requires idle { conn.old.in_transaction ≡ false }
     ensures found { FindsTables S.Store conn.old conn.new result }

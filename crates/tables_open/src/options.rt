@@ -1,9 +1,10 @@
 //! How many pages of a file a connection keeps in memory, by how many it has.
 //!
-//! `sqlite` keeps page `n` at the place `n % places`, and reads a page that isn't there from the disk, with a digest of its bytes.
-//! When it opens a file it looks up the row of each entry of each index, in the order of the index, so with fewer places than
-//! pages it reads most pages many times. With a place for each page it reads each one once. A file that is too long for
-//! that is no better off with some more places, since whoever goes through all pages in turn finds none of them again.
+//! `sqlite` keeps page `n` at the place `n % places`, and reads a page that isn't there from the disk, with a digest of
+//! its bytes. When it opens a file it looks up the row of each entry of each index, in the order of the index, so with
+//! fewer places than pages it reads most pages many times. With a place for each page it reads each one once. A file
+//! that is too long for that is no better off with some more places, since whoever goes through all pages in turn finds
+//! none of them again.
 
 ghost use Rattle.std.specs.Prelude.{◌≡◌, ℕ, IfOk, IfErr};
 ghost use Rattle.tables_open.specs.Pages.{cached_pages};
@@ -13,8 +14,8 @@ use sqlite::{Error, ErrorCode, Options};
 use std::hash::{BuildHasher, RandomState};
 use std::rt::HostRuntime;
 
-/// How many bytes of pages are kept in any case: 2,000 pages of a file that `sqlite` makes. Each place takes its memory, and some
-/// microseconds, when the file is opened, whether a page comes to lie in it or not.
+/// How many bytes of pages are kept in any case: 2,000 pages of a file that `sqlite` makes. Each place takes its
+/// memory, and some microseconds, when the file is opened, whether a page comes to lie in it or not.
 const LEAST_BYTES: u64 = 8_192_000;
 
 /// How many bytes of pages are kept at most: 64 MiB.
@@ -23,15 +24,15 @@ const MOST_BYTES: u64 = 67_108_864;
 /// How many pages a file may grow by before two of them share a place.
 const ROOM: u64 = 256;
 
-/// How many pages a transaction holds before it sends them to the log ahead of its commit, with no sync. `sqlite` keeps the room of
-/// two such lots.
+/// How many pages a transaction holds before it sends them to the log ahead of its commit, with no sync. `sqlite` keeps
+/// the room of two such lots.
 const SPILL_PAGES: usize = 1000;
 
 /// How many pages the log holds before it is copied into the file.
 const CHECKPOINT_FRAMES: usize = 1000;
 
-/// How many pages of a database are kept: all of them where that is within the bounds. After a large transaction its log has
-/// more than its file has.
+/// How many pages of a database are kept: all of them where that is within the bounds. After a large transaction its
+/// log has more than its file has.
 fn cached_pages(found: &Measured) -> usize
     ensures { result ≡ cached_pages found.now.len found.now.logged found.now.page.bytes }
 {

@@ -5,8 +5,8 @@ ghost use Rattle.tables_open.specs.Tables.{rows_text};
 
 use tables_schema::store_table::StoreTable;
 
-/// Shows the rowid and each text of each row, but neither an archive nor the bytes of a piece. With no order, `sqlite` reads a table or
-/// an index from its start to its end.
+/// Shows the rowid and each text of each row, but neither an archive nor the bytes of a piece. With no order, `sqlite`
+/// reads a table or an index from its start to its end.
 pub(crate) fn rows(table: StoreTable) -> &'static str
     ensures { result.now ≡ rows_text table }
 {

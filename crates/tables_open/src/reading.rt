@@ -39,7 +39,8 @@ impl Sink for Tested {
     }
 }
 
-/// Whether each text that the query shows is UTF-8. It shows integers that differ first; where it doesn't, the answer is `Disk`.
+/// Whether each text that the query shows is UTF-8. It shows integers that differ first; where it doesn't, the answer
+/// is `Disk`.
 pub(crate) fn check<S: Alter>(
     alloc: Global,
     conn: &mut Connection<S>,

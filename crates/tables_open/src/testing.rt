@@ -13,8 +13,8 @@ use std::alloc::Global;
 use tables_schema::store_table::StoreTable;
 use tables_sql::failure::Failed;
 
-/// Whether each text of the table is UTF-8. Fails with `Disk` if two of its rows share a rowid, or a rowid is no integer. Nothing changes.
-/// No archive is shown, nor the bytes of a piece.
+/// Whether each text of the table is UTF-8. Fails with `Disk` if two of its rows share a rowid, or a rowid is no
+/// integer. Nothing changes. No archive is shown, nor the bytes of a piece.
 fn one<S: Alter>(alloc: Global, conn: &mut Connection<S>, table: StoreTable) -> Result<bool, Failed>
     requires { MayTest S.Store conn.old (λ schema. IsIntact schema (form table)) }
     ensures { TestsRows S.Store conn.old conn.new result

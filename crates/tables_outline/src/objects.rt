@@ -59,8 +59,8 @@ impl Outline {
         Ok(())
     }
 
-    /// Replaces all objects by these. One tree of all of them has full nodes where paths rise, and takes half the memory of as many
-    /// inserts. If memory is refused, nothing changes.
+    /// Replaces all objects by these. One tree of all of them has full nodes where paths rise, and takes half the
+    /// memory of as many inserts. If memory is refused, nothing changes.
     pub fn set_objects(
         &mut self,
         alloc: Global,

@@ -127,8 +127,8 @@ impl Outline {
         Ok(())
     }
 
-    /// Puts a path at a number of a profile, which becomes current, and answers the number that was current. Makes the profile if it
-    /// isn't there. If memory is refused, nothing changes.
+    /// Puts a path at a number of a profile, which becomes current, and answers the number that was current. Makes the
+    /// profile if it isn't there. If memory is refused, nothing changes.
     pub fn put_generation(
         &mut self,
         alloc: Global,
@@ -155,7 +155,8 @@ impl Outline {
         }
     }
 
-    /// Drops a generation of a profile and makes another number current, or drops the whole profile where it had none. It takes no memory.
+    /// Drops a generation of a profile and makes another number current, or drops the whole profile where it had none.
+    /// It takes no memory.
     pub fn undo_generation(&mut self, owned: &(String, String), number: u32, had: Option<u32>)
         requires { IsTrue (finite.contains_key self.old.profiles (pair_bytes owned.now)) }
         ensures { self.new ≡ record self.old { profiles = without_added self.old (pair_bytes owned.now) number had } }

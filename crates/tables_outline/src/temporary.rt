@@ -25,7 +25,8 @@ impl Outline {
         self.temporary.contains(kept)
     }
 
-    /// Puts a path that a session of an owner keeps, and answers whether it kept it already. If memory is refused, nothing changes.
+    /// Puts a path that a session of an owner keeps, and answers whether it kept it already. If memory is refused,
+    /// nothing changes.
     pub fn put_temporary(&mut self, kept: (String, u32, StorePath)) -> Result<bool, AllocError>
         ensures done { OnOk result (self.new
             ≡ record self.old { temporary = finite.insert self.old.temporary (temporary_bytes kept) tt }) }

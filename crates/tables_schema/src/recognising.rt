@@ -13,15 +13,17 @@ use crate::further::{piece_is_intact, temp_root_is_intact};
 use crate::schema::Schema;
 use sqlite_schema::schema::Schema as Shown;
 
-/// What a database has of the store's tables. Tables of other names may be next to them, wherever they are. Where tables are missing that can
-/// be made, each table that counts its rowids has its counter.
+/// What a database has of the store's tables. Tables of other names may be next to them, wherever they are. Where
+/// tables are missing that can be made, each table that counts its rowids has its counter.
 #[derive(Clone, Copy, Debug, PartialEq, Eq)]
 pub enum Recognised {
-    /// None of the store's eleven names is in use, no foreign key waits for one, and each table that counts its rowids has its counter.
+    /// None of the store's eleven names is in use, no foreign key waits for one, and each table that counts its rowids
+    /// has its counter.
     Nothing,
     /// The tables of this schema, and nothing under the names of those that it lacks.
     Tables(Schema),
-    /// Anything else: a table that is missing, or has another form, or counts its rowids without a counter, which keeps others from being made.
+    /// Anything else: a table that is missing, or has another form, or counts its rowids without a counter, which keeps
+    /// others from being made.
     Other,
 }
 

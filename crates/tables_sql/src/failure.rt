@@ -3,17 +3,17 @@
 use sqlite::{Error, ErrorCode};
 use std::alloc::{AllocError, AllocFailed};
 
-/// Why a call failed. It has committed nothing, but that what a commit was writing when the disk failed may be there when the
-/// database is opened again.
+/// Why a call failed. It has committed nothing, but that what a commit was writing when the disk failed may be there
+/// when the database is opened again.
 #[derive(Clone, Copy, Debug, PartialEq, Eq)]
 pub enum Failed {
     /// Memory ran out.
     Memory,
     /// A row would be larger than a database can hold.
     Size,
-    /// The disk failed, or an earlier failure of it had shut the connection. So it is where `sqlite` refuses a call: by a limit on
-    /// steps, for lack of a rowid, or because an entry of a set is there already; where two rows share a rowid at opening; and where
-    /// a row isn't as its table has them, which an honest disk never shows.
+    /// The disk failed, or an earlier failure of it had shut the connection. So it is where `sqlite` refuses a call: by
+    /// a limit on steps, for lack of a rowid, or because an entry of a set is there already; where two rows share a
+    /// rowid at opening; and where a row isn't as its table has them, which an honest disk never shows.
     Disk,
 }
 

@@ -9,7 +9,8 @@ use crate::entry::Entry;
 use crate::failure::Failed;
 use sqlite::Row;
 
-/// An object: the base name of its path, its archive, the archive's SHA-256, and its deriver and content address where it has one.
+/// An object: the base name of its path, its archive, the archive's SHA-256, and its deriver and content address where
+/// it has one.
 #[derive(Debug, Drop)]
 pub struct Object {
     pub base: String,

@@ -1,4 +1,5 @@
-//! Readers and writers that move few bytes a call and fail at one of the calls, and a keeper of bodies that is refused memory.
+//! Readers and writers that move few bytes a call and fail at one of the calls, and a keeper of bodies that is refused
+//! memory.
 use std::alloc::AllocError;
 use std::io;
 use std::io::{ErrorKind, Read, Write};

@@ -14,8 +14,8 @@ use crate::stops::requests::Step;
 use std::alloc::Global;
 use std::test::Fail;
 
-/// Makes calls over files of which one stops, at its first call, then at its second and so on, until a run meets no stop. Returns how many
-/// runs met one.
+/// Makes calls over files of which one stops, at its first call, then at its second and so on, until a run meets no
+/// stop. Returns how many runs met one.
 fn stop_at_each(alloc: Global, case: &Case, is_log: bool) -> Result<u64, Fail> {
     for calls in 0..100_000u64 {
         let (log, db) = if is_log {

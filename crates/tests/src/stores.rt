@@ -131,7 +131,8 @@ fn push_collection(alloc: Global, calls: &mut Vec<(Caller, Request)>) -> Result<
     Ok(())
 }
 
-/// A text and its referrer are added, and the text gets a root; a stranger asks; a label isn't one; what is dead is collected.
+/// A text and its referrer are added, and the text gets a root; a stranger asks; a label isn't one; what is dead is
+/// collected.
 fn push_all(alloc: Global, calls: &mut Vec<(Caller, Request)>) -> Result<(), Fail> {
     push_text(alloc, calls)?;
     push_referrer(alloc, calls)?;

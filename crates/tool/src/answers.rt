@@ -145,8 +145,8 @@ fn answer_without_request<F: Start, R: Read, W: Write, E: Write>(
 /// failed, 3 refused, 4 denied.
 ///
 /// Results go to `output`; refusals and failures go to `errors`, but for `who`, which puts everything
-/// on `output`. The configuration file that the command line names isn't read. No more than 16,777,224 bytes of the input
-/// are, but for `import` and `runtime`, which read all of it, and `serve`, which reads what its connection sends.
+/// on `output`. The configuration file that the command line names isn't read. No more than 16,777,224 bytes of the
+/// input are, but for `import` and `runtime`, which read all of it, and `serve`, which reads what its connection sends.
 /// `start` is ghost, as in `run`: what a theorem assumes of the database file.
 ///
 /// ```rust

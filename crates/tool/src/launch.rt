@@ -38,8 +38,8 @@ const NOT_UTF8: &str = "error: a word of the command line isn't UTF-8\n";
 /// The configuration is read from its file, if one is named. Results go to `output`; refusals,
 /// failures and what is wrong with the words go to `errors`, but for `who`, which puts everything
 /// on `output` once its words are read. No more than 16,777,224 bytes of the input are read, but by `import`,
-/// `runtime` and `serve`. `start` is ghost: what a theorem assumes of the database file. No code reads it, and a program passes
-/// `Unknown`.
+/// `runtime` and `serve`. `start` is ghost: what a theorem assumes of the database file. No code reads it, and a
+/// program passes `Unknown`.
 ///
 /// ```rust
 /// use tool::Unknown;

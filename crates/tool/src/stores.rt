@@ -51,8 +51,8 @@ fn in_memory<R: Read, W: Write, E: Write>(
     }
 }
 
-/// Does some work with the store of the database file at a path, which is made if it is missing. `start` is ghost: what a theorem
-/// assumes of the file.
+/// Does some work with the store of the database file at a path, which is made if it is missing. `start` is ghost: what
+/// a theorem assumes of the file.
 fn in_file<F: Start, R: Read, W: Write, E: Write>(
     rt: &HostRuntime,
     start: F,

@@ -47,12 +47,13 @@ fn file_text<R: Read + Drop>(alloc: Global, file: io::Result<R>) -> Result<Vec<u
     }
 }
 
-/// The text of a configuration file, or the empty text if no file is named. Of a file, no more than one byte above the limit is
-/// read.
+/// The text of a configuration file, or the empty text if no file is named. Of a file, no more than one byte above the
+/// limit is read.
 ///
 /// # Errors
 ///
-/// `File` if the file wasn't opened or can't be read, whatever the error; `Memory` if memory was refused for bytes of the file.
+/// `File` if the file wasn't opened or can't be read, whatever the error; `Memory` if memory was refused for bytes of
+/// the file.
 pub fn config_text<R: Read + Drop>(
     alloc: Global,
     file: Option<io::Result<R>>,

@@ -17,8 +17,8 @@ use streams::{Sink, read_at_most, receive_at_most};
 ///
 /// # Errors
 ///
-/// `Input` if the reader failed before these bytes were read, whatever its error; `Memory` if memory was refused for bytes that
-/// were read.
+/// `Input` if the reader failed before these bytes were read, whatever its error; `Memory` if memory was refused for
+/// bytes that were read.
 pub fn read_input<R: Read>(alloc: Global, input: &mut R, most: usize) -> Result<Vec<u8>, Stop>
     ensures ok { IfOk result (λ bytes. IfSome (R.remaining input.old) (λ all. bytes.items ≡ take most all)) }
     ensures err { IfErr result (λ e. (e ≡ Stop.Failed Failure.Memory) ⊎ (e ≡ Stop.Failed Failure.Input)) }
@@ -60,8 +60,8 @@ const UNBOUNDED: usize = usize::MAX;
 ///
 /// # Errors
 ///
-/// `Input` if the reader failed, whatever its error; `Memory` if the sink was refused memory, or the input has more bytes than
-/// memory.
+/// `Input` if the reader failed, whatever its error; `Memory` if the sink was refused memory, or the input has more
+/// bytes than memory.
 pub fn receive_input<R: Read, S: Sink>(input: &mut R, sink: &mut S) -> Result<(), Stop>
     ensures ok { OnOk result
         (IfSome (R.remaining input.old) (λ all. S.received sink.new ≡ S.received sink.old ++ all)) }

@@ -74,7 +74,8 @@ pub struct Object {
 ///
 /// # Errors
 ///
-/// `BadStoreName` if the name isn't one; else `BadStorePath` if a reference isn't a path text; `Memory` if memory was refused.
+/// `BadStoreName` if the name isn't one; else `BadStorePath` if a reference isn't a path text; `Memory` if memory was
+/// refused.
 pub fn parse_object<S: AsStr>(
     alloc: Global,
     dir: &StoreDir,

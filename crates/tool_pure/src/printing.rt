@@ -78,9 +78,9 @@ fn print_denial<E: Write>(
 
 /// Writes a reply, and returns the exit status: 0 done, 1 failed, 3 refused, 4 denied.
 ///
-/// The answer to a request that is done goes to `output`; the line of any other reply goes to `errors`. If `output` fails,
-/// whatever its error, `failed: output` is printed on `errors`; if memory for the text is refused, `failed: memory`. If `errors`
-/// fails, the status is 1.
+/// The answer to a request that is done goes to `output`; the line of any other reply goes to `errors`. If `output`
+/// fails, whatever its error, `failed: output` is printed on `errors`; if memory for the text is refused, `failed:
+/// memory`. If `errors` fails, the status is 1.
 pub fn print_reply<W: Write, E: Write>(
     alloc: Global,
     dir: &StoreDir,

@@ -13,8 +13,8 @@ use std::io::Write;
 use store::Store;
 use store_types::Request;
 
-/// Does a caller's request to a store, writes the reply on the two writers, and returns the exit status: 0 done, 1 failed, 3
-/// refused, 4 denied.
+/// Does a caller's request to a store, writes the reply on the two writers, and returns the exit status: 0 done, 1
+/// failed, 3 refused, 4 denied.
 ///
 /// A request that was done stays done, also if a writer fails afterwards or memory for the text is refused.
 pub fn serve<S: Alter, W: Write, E: Write>(

@@ -17,8 +17,8 @@ pub fn say<W: Write>(stop: Stop, writer: &mut W) -> u8
 /// Prints a text on standard output, or on standard error the line that says why no text exists, and
 /// returns the exit status.
 ///
-/// If standard output fails, whatever its error, `failed: output` is printed on standard error. If standard error fails, the
-/// status is 1.
+/// If standard output fails, whatever its error, `failed: output` is printed on standard error. If standard error
+/// fails, the status is 1.
 pub fn give<W: Write, E: Write>(answer: Result<String, Stop>, output: &mut W, errors: &mut E) -> u8
     ensures { Answers (result_text answer) (record {
       output = change_of W.contents output.old output.new;

@@ -69,8 +69,8 @@ fn read<'a>(alloc: Global, matches: &ArgMatches<'a>) -> Result<CommandLine<'a>, 
 ///
 /// # Errors
 ///
-/// `Usage` if `clap` refuses the words or they ask for help; `Misuse` if it doesn't, but the words don't go together; `Memory` if memory
-/// was refused.
+/// `Usage` if `clap` refuses the words or they ask for help; `Misuse` if it doesn't, but the words don't go together;
+/// `Memory` if memory was refused.
 pub fn command<'a, S: AsStr>(alloc: Global, words: &'a [S]) -> Result<CommandLine<'a>, CommandError>
     ensures ok { IfOk result (λ c. IsLine (map S.text words.entry.now) (line_view c)) }
     ensures err { IfErr result (IsUsageFault (map S.text words.entry.now)) }

@@ -14,9 +14,9 @@ use std::rt::Clock;
 use store::Store;
 use wire_server::Port;
 
-/// Serves a store on a number of connections of a listener, one after another, and returns how many failed. For each failed
-/// one, a line on `errors` says why: `failed: input`, `failed: output` or `failed: memory`. The clock bounds how long
-/// the closing of a connection waits for the peer.
+/// Serves a store on a number of connections of a listener, one after another, and returns how many failed. For each
+/// failed one, a line on `errors` says why: `failed: input`, `failed: output` or `failed: memory`. The clock bounds how
+/// long the closing of a connection waits for the peer.
 ///
 /// ```rust
 /// use std::io::Write;
@@ -33,8 +33,8 @@ use wire_server::Port;
 ///
 /// # Errors
 ///
-/// The error of the first accept that fails, after which nothing more is served; `OutOfMemory` if memory ran out before the first
-/// accept.
+/// The error of the first accept that fails, after which nothing more is served; `OutOfMemory` if memory ran out before
+/// the first accept.
 pub fn serve_on<C: Clock, S: Alter, E: Write>(
     clock: &C,
     alloc: Global,

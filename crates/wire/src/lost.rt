@@ -46,8 +46,8 @@ pub(crate) fn operation_at<'t>(kind: Kind, target: &'t str) -> Op<'t>
     }
 }
 
-/// The operation of an import on which the rules decide, by the lines that are left of the body; by the kind alone if none is
-/// left.
+/// The operation of an import on which the rules decide, by the lines that are left of the body; by the kind alone if
+/// none is left.
 ///
 /// # Errors
 ///
@@ -70,8 +70,8 @@ fn import_left<'t>(
     }
 }
 
-/// The operation on which the rules decide, by the kind, the target and the lines that are left of a request's body. `None` if
-/// lines are left and no request begins with them.
+/// The operation on which the rules decide, by the kind, the target and the lines that are left of a request's body.
+/// `None` if lines are left and no request begins with them.
 pub(crate) fn operation_left<'t>(
     alloc: Global,
     dir: &StoreDir,
@@ -94,7 +94,8 @@ pub(crate) fn operation_left<'t>(
     }
 }
 
-/// The reply to a message for whose body memory was refused: the first rule that is known to forbid it, or out of memory.
+/// The reply to a message for whose body memory was refused: the first rule that is known to forbid it, or out of
+/// memory.
 fn lost_reply(config: &Config, caller: &Caller, op: &Op<'_>) -> Reply
     ensures { reply_view result ≡ spec.lost_reply config.now caller.now (operation_of op.now) }
 {

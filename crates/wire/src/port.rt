@@ -90,11 +90,11 @@ fn serve<N: Net<Listener = TcpListener, Stream = TcpStream> + Clock, S: Alter + 
     }
 }
 
-/// Serves the store of these tables on a number of connections of a port of 127.0.0.1, one after another, and returns the exit status: 0
-/// if each was served to its end, else 1.
+/// Serves the store of these tables on a number of connections of a port of 127.0.0.1, one after another, and returns
+/// the exit status: 0 if each was served to its end, else 1.
 ///
-/// A line on `errors` says why a connection failed: `failed: input`, `failed: output` or `failed: memory`. If the port can't be
-/// bound, or an accept fails, the line is `failed: input`, and nothing more is served.
+/// A line on `errors` says why a connection failed: `failed: input`, `failed: output` or `failed: memory`. If the port
+/// can't be bound, or an accept fails, the line is `failed: input`, and nothing more is served.
 ///
 /// ```rust
 /// use policy::{Config, store_dir};

@@ -14,8 +14,8 @@ use wire_server::WireError;
 /// How many messages were answered. It stays at its greatest value.
 pub type Count = u64;
 
-/// Serves a store on one connection: answers the messages of the input one after another, up to its end, the first that closes the
-/// connection, or an input that doesn't begin with a message. Returns how many were answered.
+/// Serves a store on one connection: answers the messages of the input one after another, up to its end, the first that
+/// closes the connection, or an input that doesn't begin with a message. Returns how many were answered.
 ///
 /// ```rust
 /// let mut input = b"GET /paths HTTP/1.1\r\nstore-user: ann\r\n\r\n".as_slice();
@@ -26,8 +26,8 @@ pub type Count = u64;
 ///
 /// # Errors
 ///
-/// `Read` if the reader failed; `Write` if the writer failed, or took no byte; `Memory` if memory ran out. The store is that
-/// after the calls made. The output has the whole replies before the error, and at `Write` a prefix of the next.
+/// `Read` if the reader failed; `Write` if the writer failed, or took no byte; `Memory` if memory ran out. The store is
+/// that after the calls made. The output has the whole replies before the error, and at `Write` a prefix of the next.
 pub fn serve<S: Alter, R: Read, W: Write>(
     alloc: Global,
     store: &mut Store<S>,

@@ -53,8 +53,8 @@ fn serve<S: Alter + Drop, R: Read, W: Write, E: Write>(
     }
 }
 
-/// Serves the store of these tables on one connection, and returns the exit status: 0 if it was served to its end, else 1. Then a
-/// line on `errors` says why: `failed: input`, `failed: output` or `failed: memory`.
+/// Serves the store of these tables on one connection, and returns the exit status: 0 if it was served to its end, else
+/// 1. Then a line on `errors` says why: `failed: input`, `failed: output` or `failed: memory`.
 ///
 /// ```rust
 /// use policy::{Config, store_dir};

@@ -33,8 +33,8 @@ pub(crate) fn entry_of<'b>(line: &'b [u8]) -> Option<(&'b str, &'b str)>
     }
 }
 
-/// The lines of a body, each with a key and a value, borrowed from the body: no list of them is made. Contracts see the keys and values in
-/// their order.
+/// The lines of a body, each with a key and a value, borrowed from the body: no list of them is made. Contracts see the
+/// keys and values in their order.
 #[derive(Drop)]
 pub struct Lines<'b> {
     pub(crate) text: &'b [u8],

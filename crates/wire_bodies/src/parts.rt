@@ -34,8 +34,9 @@ fn parts_of<'b>(text: &'b [u8]) -> Option<Body<'b>>
     }
 }
 
-/// The entries and the payload of a body, borrowed. `None` if the body has no empty line after well-formed lines. What follows the empty
-/// line isn't examined, so a prefix of a body gives the same entries as soon as it has the empty line. Takes no memory.
+/// The entries and the payload of a body, borrowed. `None` if the body has no empty line after well-formed lines. What
+/// follows the empty line isn't examined, so a prefix of a body gives the same entries as soon as it has the empty
+/// line. Takes no memory.
 pub fn body_of<'b>(body: &'b [u8]) -> Option<Body<'b>>
     ensures { BodyOf (spelled body.now) result }
 {

@@ -17,8 +17,8 @@ enum Place {
     AfterPrefix,
 }
 
-/// The prefix of a body that comes in pieces, however they are cut: its lines up to and with the first empty one. What follows is the
-/// payload. Contracts see the bytes of the prefix that have come.
+/// The prefix of a body that comes in pieces, however they are cut: its lines up to and with the first empty one. What
+/// follows is the payload. Contracts see the bytes of the prefix that have come.
 #[derive(Drop)]
 pub struct Prefix {
     bytes: Vec<u8>,
@@ -95,7 +95,8 @@ impl Prefix {
         }
     }
 
-    /// Appends the part of the next piece that belongs to the prefix, and returns the rest of the piece, which is payload and not examined.
+    /// Appends the part of the next piece that belongs to the prefix, and returns the rest of the piece, which is
+    /// payload and not examined.
     ///
     /// # Errors
     ///

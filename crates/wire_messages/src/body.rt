@@ -29,8 +29,8 @@ fn read_out<R: Read>(input: &mut R, size: usize) -> Result<bool, ReceiveError>
     Ok(true)
 }
 
-/// Reads the `left` bytes that are missing of a body, and drops them. Returns whether all of them came. If none is missing, nothing is read
-/// and no window is made.
+/// Reads the `left` bytes that are missing of a body, and drops them. Returns whether all of them came. If none is
+/// missing, nothing is read and no window is made.
 pub(crate) fn pass_rest<R: Read>(input: &mut R, left: usize) -> Result<bool, ReceiveError>
     ensures { ReadsOrFails result
         ((read : List ℕ) × ReadsRest (R.remaining input.old) (R.remaining input.new) left read result) }
@@ -41,7 +41,8 @@ pub(crate) fn pass_rest<R: Read>(input: &mut R, left: usize) -> Result<bool, Rec
     read_out(input, left)
 }
 
-/// Reads the body, of a given length, that follows a head, and drops it. Returns whether all of it came. Nothing is read beyond the body.
+/// Reads the body, of a given length, that follows a head, and drops it. Returns whether all of it came. Nothing is
+/// read beyond the body.
 ///
 /// # Errors
 ///

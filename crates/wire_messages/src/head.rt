@@ -65,8 +65,8 @@ fn has_begun(before: bool, came: &[u8]) -> bool
     before || is_begun(came)
 }
 
-/// Looks for a head in a buffer after more bytes came, and whether anything but line ends is there. Line ends alone are no head, so
-/// empty lines that come one after another aren't read again for each of them.
+/// Looks for a head in a buffer after more bytes came, and whether anything but line ends is there. Line ends alone are
+/// no head, so empty lines that come one after another aren't read again for each of them.
 pub(crate) fn look_again(buf: &[u8], seen: usize, before: bool) -> (bool, Look)
     requires { WasSeen buf.now seen before }
     ensures begun { result.0 ≡ has_begun_in buf.now }

@@ -11,7 +11,8 @@ pub trait Keeper {
     /// Whether a body for which memory was refused may be these bytes, by what is still known of it.
     ghost may_be: { Self → List ℕ → Type 0 };
 
-    /// Keeps one more piece. If memory is refused for it, the body may afterwards be anything that begins with all bytes that came.
+    /// Keeps one more piece. If memory is refused for it, the body may afterwards be anything that begins with all
+    /// bytes that came.
     fn keep(&mut self, piece: &[u8]) -> Result<(), AllocError>
         ensures kept { OnOk result (kept self.new ≡ kept self.old ++ piece.now) }
         ensures lost { OnErr result ((more : List ℕ) → may_be self.new ((kept self.old ++ piece.now) ++ more)) };

@@ -95,7 +95,8 @@ fn keep_out<R: Read, K: Keeper>(
     Ok(Fate::Kept)
 }
 
-/// Keeps the `left` bytes that are missing of a body, as they come. If none is missing, nothing is read and no window is made.
+/// Keeps the `left` bytes that are missing of a body, as they come. If none is missing, nothing is read and no window
+/// is made.
 fn keep_rest<R: Read, K: Keeper>(
     input: &mut R,
     left: usize,
@@ -111,8 +112,8 @@ fn keep_rest<R: Read, K: Keeper>(
     keep_out(input, left, body)
 }
 
-/// Keeps the body, of a given length, that follows a head: the part that is held, and the rest as it arrives. If memory is refused for it,
-/// the rest is read and dropped. Returns what became of the body. Nothing is read beyond the body.
+/// Keeps the body, of a given length, that follows a head: the part that is held, and the rest as it arrives. If memory
+/// is refused for it, the rest is read and dropped. Returns what became of the body. Nothing is read beyond the body.
 ///
 /// # Errors
 ///

@@ -89,8 +89,8 @@ fn find_head<R: Read>(input: &mut R, buffer: &mut Vec<u8>) -> Result<Start, Rece
 ///
 /// # Errors
 ///
-/// `Read` if the reader failed; `Silent` if it gave up waiting (`WouldBlock` or `TimedOut`) and nothing is held; `Memory` if memory was
-/// refused.
+/// `Read` if the reader failed; `Silent` if it gave up waiting (`WouldBlock` or `TimedOut`) and nothing is held;
+/// `Memory` if memory was refused.
 pub fn receive_start<R: Read>(input: &mut R, buffer: &mut Vec<u8>) -> Result<Start, ReceiveError>
     ensures { Receives Starts (R.remaining input.old) (R.remaining input.new) buffer.old.items buffer.new.items result }
 {
@@ -104,8 +104,8 @@ pub fn receive_start<R: Read>(input: &mut R, buffer: &mut Vec<u8>) -> Result<Sta
     }
 }
 
-/// Reads until the buffer begins with a whole head that states the size of its body, or can't, or the input is at its end. After the head
-/// the buffer may have part of the body.
+/// Reads until the buffer begins with a whole head that states the size of its body, or can't, or the input is at its
+/// end. After the head the buffer may have part of the body.
 ///
 /// # Errors
 ///

@@ -132,7 +132,8 @@ pub fn read_import(alloc: Global, dir: &StoreDir, body: Body) -> Result<Request,
     Ok(imported(head, body.into_archive()))
 }
 
-/// The request of a whole body of `POST /import`: an import by the lines of the body, with the archive after the empty line.
+/// The request of a whole body of `POST /import`: an import by the lines of the body, with the archive after the empty
+/// line.
 ///
 /// ```rust
 /// use paths::StoreDir;

@@ -73,8 +73,8 @@ impl Body {
     ///
     /// # Errors
     ///
-    /// Memory was refused. If the payload is an archive and all lines before it have arrived, these lines stay; else no byte
-    /// stays.
+    /// Memory was refused. If the payload is an archive and all lines before it have arrived, these lines stay; else no
+    /// byte stays.
     pub fn push(&mut self, piece: &[u8]) -> Result<(), AllocError>
         ensures { TakesPiece self.old piece.now self.new result }
     {

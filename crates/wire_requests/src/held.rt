@@ -4,8 +4,8 @@ ghost use Rattle.std.specs.Prelude.{◌≡◌, ◌++◌, [], OnOk, OnErr};
 use std::alloc::AllocError;
 use std::marker::Model;
 
-/// The bytes of a body whose length is known. The first bytes that arrive make room for all, and then the buffer doesn't grow.
-/// Contracts see the bytes.
+/// The bytes of a body whose length is known. The first bytes that arrive make room for all, and then the buffer
+/// doesn't grow. Contracts see the bytes.
 #[derive(Drop)]
 pub(crate) struct Held {
     /// What has arrived.

@@ -32,8 +32,8 @@ impl Model for Parted {
     ghost invariant = { λ parted. prefix_of (parted.prefix ++ bytes_in parted.archive) ≡ parted.prefix };
 }
 
-/// Whether the lines name the content address of a text, which needs the digest of the contents. No result depends on it:
-/// contents that aren't hashed as they arrive are hashed when the address is tested.
+/// Whether the lines name the content address of a text, which needs the digest of the contents. No result depends on
+/// it: contents that aren't hashed as they arrive are hashed when the address is tested.
 fn names_text_address(prefix: &[u8]) -> bool {
     match str::from_utf8(prefix) {
         Ok(text) => text.starts_with("ca: text:") || text.contains("\nca: text:"),
@@ -41,8 +41,8 @@ fn names_text_address(prefix: &[u8]) -> bool {
     }
 }
 
-/// Prepares the intake before the first bytes of the archive: contents that the lines need are hashed as they arrive. Returns
-/// whether the archive has begun.
+/// Prepares the intake before the first bytes of the archive: contents that the lines need are hashed as they arrive.
+/// Returns whether the archive has begun.
 fn begin(has_begun: bool, prefix: &[u8], rest: &[u8], archive: &mut Intake) -> bool
     ensures { archive.new ≡ archive.old }
 {
@@ -68,7 +68,8 @@ impl Parted {
         }
     }
 
-    /// Takes the next piece. If memory is refused for the archive, the lines stay; if it is refused for the lines, no byte stays.
+    /// Takes the next piece. If memory is refused for the archive, the lines stay; if it is refused for the lines, no
+    /// byte stays.
     pub(crate) fn push(&mut self, piece: &[u8]) -> Result<(), AllocError>
         ensures taken { TakesPiece self.old piece.now self.new result }
         // Once bytes of the archive have arrived, the lines before it stay.

@@ -43,14 +43,14 @@ fn read_whole(
     }
 }
 
-/// The request of a message, made from its kind, the parameters of its target and its whole body. The contents of a text stay in
-/// the buffer of the body, and an archive passes from the body into the request without a copy if the body has it apart from the
-/// lines.
+/// The request of a message, made from its kind, the parameters of its target and its whole body. The contents of a
+/// text stay in the buffer of the body, and an archive passes from the body into the request without a copy if the body
+/// has it apart from the lines.
 ///
 /// # Errors
 ///
-/// `BadPath` exactly if the target names a path that isn't a base name; `BadBodyHead` exactly if it doesn't and the body isn't
-/// one of the kind; `Memory` if memory runs out.
+/// `BadPath` exactly if the target names a path that isn't a base name; `BadBodyHead` exactly if it doesn't and the
+/// body isn't one of the kind; `Memory` if memory runs out.
 pub fn read_request(
     alloc: Global,
     dir: &StoreDir,

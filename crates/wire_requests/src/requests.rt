@@ -18,8 +18,8 @@ pub enum Requests {
 }
 
 impl Requests {
-    /// The request of the route for a method. `None` if the route doesn't have the method, also if memory is refused for its word, since
-    /// the routes' own methods take no memory.
+    /// The request of the route for a method. `None` if the route doesn't have the method, also if memory is refused
+    /// for its word, since the routes' own methods take no memory.
     pub fn kind(self, alloc: Global, method: &[u8]) -> Option<Kind>
         ensures { result ≡ spec.kind_of self method.now }
     {

@@ -62,7 +62,8 @@ fn by_target(kind: Kind, parameters: Parameters) -> Option<Request>
     }
 }
 
-/// The request of a kind without values, or whose values are all names in the target. `BadBodyHead` if the body isn't blank.
+/// The request of a kind without values, or whose values are all names in the target. `BadBodyHead` if the body isn't
+/// blank.
 pub(crate) fn bare(kind: Kind, parameters: Parameters, body: &[u8]) -> Result<Request, AskError>
     ensures { (target : List ℕ) → AreParameters kind target parameters → ReadsTarget kind target body.now result }
 {

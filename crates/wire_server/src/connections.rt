@@ -8,9 +8,9 @@ use std::alloc::Global;
 use std::io;
 use std::io::Write;
 
-/// Serves a number of connections, one after another, and returns how many failed. For each failed one, a line on `errors` says
-/// why; the next connection is served all the same. An idle connection, whose input gives up waiting between two messages, is
-/// closed and not counted.
+/// Serves a number of connections, one after another, and returns how many failed. For each failed one, a line on
+/// `errors` says why; the next connection is served all the same. An idle connection, whose input gives up waiting
+/// between two messages, is closed and not counted.
 ///
 /// # Errors
 ///

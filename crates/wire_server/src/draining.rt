@@ -19,7 +19,8 @@ const SILENCE: u64 = 1;
 /// How many seconds the draining takes at most, whatever the peer does.
 const TIME: u64 = 5;
 
-/// How long the next read may wait: a second at most, and no longer than the time that is left. `None` if no time is left.
+/// How long the next read may wait: a second at most, and no longer than the time that is left. `None` if no time is
+/// left.
 fn patience<C: Clock>(clock: &C, start: Instant) -> io::Result<Option<Duration>>
     ensures silent { IfOk result (λ o. IfSome o (λ d. as_nanos d ≤ 1_000_000_000)) }
     ensures some { IfOk result (λ o. IfSome o (λ d. 0 < as_nanos d)) }
@@ -34,8 +35,8 @@ fn patience<C: Clock>(clock: &C, start: Instant) -> io::Result<Option<Duration>>
     Ok(Some(if left < silence { left } else { silence }))
 }
 
-/// Reads and drops what a peer still sends, until the peer closes the connection, is silent for a second, or has sent 20,987,904
-/// bytes, but for no longer than five seconds.
+/// Reads and drops what a peer still sends, until the peer closes the connection, is silent for a second, or has sent
+/// 20,987,904 bytes, but for no longer than five seconds.
 ///
 /// # Errors
 ///

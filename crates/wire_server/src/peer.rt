@@ -8,8 +8,8 @@ use std::net::TcpStream;
 use std::rt::Clock;
 use std::time::{Duration, Instant};
 
-/// The least number of seconds that a write takes if its time limit is over. The limit is 60 seconds by the ticks of the system,
-/// which may end a little earlier than 60 seconds by the clock.
+/// The least number of seconds that a write takes if its time limit is over. The limit is 60 seconds by the ticks of
+/// the system, which may end a little earlier than 60 seconds by the clock.
 const OVER: u64 = 59;
 
 /// The input of a connection. Each read fails if the connection couldn't be prepared.
@@ -19,8 +19,8 @@ pub struct Incoming {
     is_ready: bool,
 }
 
-/// The output of a connection. Each write fails if the connection couldn't be prepared, and after a write that hit its time limit
-/// before all of its bytes were sent.
+/// The output of a connection. Each write fails if the connection couldn't be prepared, and after a write that hit its
+/// time limit before all of its bytes were sent.
 #[derive(Drop)]
 pub struct Outgoing<'a, C: Clock> {
     stream: Option<TcpStream>,
@@ -75,8 +75,8 @@ impl Read for Incoming {
 }
 
 impl<'a, C: Clock> Write for Outgoing<'a, C> {
-    /// Writes some bytes. After a short write that hit its time limit, each further write fails: a count above 0 may come from
-    /// room in the system's own buffer, and is no sign of a peer who reads.
+    /// Writes some bytes. After a short write that hit its time limit, each further write fails: a count above 0 may
+    /// come from room in the system's own buffer, and is no sign of a peer who reads.
     fn write(&mut self, buf: &[u8]) -> io::Result<usize> {
         let Some(stream) = &mut self.stream else {
             return Err(unprepared());

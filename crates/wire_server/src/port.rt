@@ -12,8 +12,8 @@ use std::time::Duration;
 /// How many seconds a connection waits for a peer: for the next byte of an input, and until a piece of a reply is sent.
 const LIMIT: u64 = 60;
 
-/// The connections of a listener. If a peer sends nothing for 60 seconds, the read that waits for it fails. If a peer doesn't
-/// take a piece of a reply in 60 seconds, the next write fails.
+/// The connections of a listener. If a peer sends nothing for 60 seconds, the read that waits for it fails. If a peer
+/// doesn't take a piece of a reply in 60 seconds, the next write fails.
 #[derive(Drop)]
 pub struct Port<'a, C: Clock> {
     listener: &'a TcpListener,
@@ -29,8 +29,8 @@ impl<'a, C: Clock> Port<'a, C> {
 
 /// Sets the time limits of a connection, and returns a second handle of it, for writing.
 fn prepare(input: &TcpStream) -> io::Result<TcpStream> {
-    // Head and text of a reply are two writes, and none waits for the other to arrive. Where the system doesn't allow that, replies
-    // only take longer, which is no reason to end the connection.
+    // Head and text of a reply are two writes, and none waits for the other to arrive. Where the system doesn't allow
+    // that, replies only take longer, which is no reason to end the connection.
     drop(input.set_nodelay(true));
     input.set_read_timeout(Some(Duration::from_secs(LIMIT)))?;
     input.set_write_timeout(Some(Duration::from_secs(LIMIT)))?;
@@ -46,7 +46,8 @@ impl<'a, C: Clock> Listener for Port<'a, C> {
 
     ghost closed = { λ _. None };
 
-    /// Accepts a connection and sets its limits; if that fails, its first read fails. Then the next connection can be served.
+    /// Accepts a connection and sets its limits; if that fails, its first read fails. Then the next connection can be
+    /// served.
     fn accept(&mut self) -> io::Result<(Incoming, Outgoing<'a, C>)> {
         let (input, _) = self.listener.accept()?;
         let output = prepare(&input).ok();

@@ -58,8 +58,8 @@ impl From<ReceiveError> for Halt {
     }
 }
 
-/// Receives the body of a message whose head is in `held`, as the head decided. The body of a refused message is read and
-/// dropped. So is the rest of a body for which memory is refused; the connection goes on.
+/// Receives the body of a message whose head is in `held`, as the head decided. The body of a refused message is read
+/// and dropped. So is the rest of a body for which memory is refused; the connection goes on.
 fn receive_rest<R: Read, T, A: Responder<T>>(
     input: &mut R,
     held: &[u8],
@@ -114,8 +114,8 @@ fn receive_message<R: Read, T, A: Responder<T>>(
 ///
 /// # Errors
 ///
-/// `Failed` with `Read` if the reader failed, and with `Memory` if memory was refused for a head or for what the head decides;
-/// `Silent` if the reader gave up waiting before a message.
+/// `Failed` with `Read` if the reader failed, and with `Memory` if memory was refused for a head or for what the head
+/// decides; `Silent` if the reader gave up waiting before a message.
 pub(crate) fn receive_next<R: Read, T, A: Responder<T>>(
     input: &mut R,
     buffer: &mut Vec<u8>,

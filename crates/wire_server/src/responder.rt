@@ -24,7 +24,8 @@ pub trait Responder<T> {
     /// A head decides this from a state.
     ghost decides: { T → RequestHead → Self.Course → Type 0 };
 
-    /// The decision by the head of a message, which is a prefix of `held`. The body, of `size` bytes, hasn't arrived yet.
+    /// The decision by the head of a message, which is a prefix of `held`. The body, of `size` bytes, hasn't arrived
+    /// yet.
     ///
     /// # Errors
     ///
@@ -40,8 +41,8 @@ pub trait Responder<T> {
         ensures { (h : RequestHead) → Holds held.now head.now h
             → IfOk result (IsBegun answers decides Self.Body.kept state.now h) };
 
-    /// The response to a message whose head is a prefix of `held` and whose whole body has arrived. If memory is refused, the
-    /// message wasn't answered, or was answered and the response is dropped.
+    /// The response to a message whose head is a prefix of `held` and whose whole body has arrived. If memory is
+    /// refused, the message wasn't answered, or was answered and the response is dropped.
     fn answer(
         &self,
         state: &mut T,
@@ -54,8 +55,8 @@ pub trait Responder<T> {
         ensures { (h : RequestHead) → Holds held.now head.now h → decides state.old h course
             → Answered answers state.old h (Self.Body.kept body) result state.new };
 
-    /// The response to a message whose head is a prefix of `held`, and whose body has arrived but couldn't be held for lack of
-    /// memory. The state stays the same. An error if memory is refused again.
+    /// The response to a message whose head is a prefix of `held`, and whose body has arrived but couldn't be held for
+    /// lack of memory. The state stays the same. An error if memory is refused again.
     fn answer_lost(
         &self,
         state: &T,

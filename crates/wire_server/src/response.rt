@@ -22,7 +22,8 @@ pub struct Response {
 }
 
 impl Response {
-    /// The head of the reply, with the number of the text's bytes. `close`: whether the connection is closed after the reply.
+    /// The head of the reply, with the number of the text's bytes. `close`: whether the connection is closed after the
+    /// reply.
     pub fn head(&self, alloc: Global, close: bool) -> Result<String, AllocError>
         ensures { IfOk result (λ head. string_bytes head
             ≡ reply_head self.now.status self.now.kind.now (option_map (λ methods. methods.now) self.now.allow) close

@@ -23,8 +23,8 @@ fn send_both<W: Write>(output: &mut W, head: &[u8], text: &Pieces) -> io::Result
 ///
 /// # Errors
 ///
-/// `Write` if the writer fails, which then has a prefix of the reply, and not all; `Memory` if memory is refused, and then
-/// nothing is written.
+/// `Write` if the writer fails, which then has a prefix of the reply, and not all; `Memory` if memory is refused, and
+/// then nothing is written.
 pub(crate) fn send_reply<W: Write>(
     alloc: Global,
     output: &mut W,

@@ -90,8 +90,8 @@ pub(crate) fn run<R: Read, W: Write, T, A: Responder<T>>(
     Ok(u64::MAX)
 }
 
-/// Answers the messages of an input one after another, up to its end, the first that closes the connection, or an input that
-/// doesn't begin with a message. Returns how many were answered, a number that stays at its greatest value.
+/// Answers the messages of an input one after another, up to its end, the first that closes the connection, or an input
+/// that doesn't begin with a message. Returns how many were answered, a number that stays at its greatest value.
 ///
 /// # Errors
 ///

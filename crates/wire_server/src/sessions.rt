@@ -65,7 +65,8 @@ fn report_end<E: Write>(fault: WireError, errors: &mut E) -> End
     }
 }
 
-/// Serves one connection. If it fails, a line on `errors` says why: `failed: input`, `failed: output` or `failed: memory`.
+/// Serves one connection. If it fails, a line on `errors` says why: `failed: input`, `failed: output` or `failed:
+/// memory`.
 pub fn serve_connection<R: Read, W: Write, E: Write, T, A: Responder<T>>(
     alloc: Global,
     input: &mut R,
@@ -84,8 +85,8 @@ pub fn serve_connection<R: Read, W: Write, E: Write, T, A: Responder<T>>(
     }
 }
 
-/// Serves the connection of a peer. If it fails, a line on `errors` says why. If the peer is silent for too long between two
-/// messages, nothing is written.
+/// Serves the connection of a peer. If it fails, a line on `errors` says why. If the peer is silent for too long
+/// between two messages, nothing is written.
 pub(crate) fn serve_peer<R: Read, W: Write, E: Write, T, A: Responder<T>>(
     alloc: Global,
     input: &mut R,

@@ -5,7 +5,8 @@ ghost use Rattle.wire_server.specs.Responses.{status_of};
 use http::StatusCode;
 use report::Refusal;
 
-/// The status of a refusal: 404 for something that doesn't exist, 405 for a method that the route doesn't have, else 400.
+/// The status of a refusal: 404 for something that doesn't exist, 405 for a method that the route doesn't have, else
+/// 400.
 pub fn refusal_status(refusal: Refusal) -> StatusCode
     ensures { result ≡ status_of refusal }
 {

@@ -44,8 +44,8 @@ fn timed(
     }
 }
 
-/// Prints the nanoseconds of one digest, of pushing the bytes in pieces of a given size, and of pushing them where what is
-/// found of their contents is asked for too; a line for each round.
+/// Prints the nanoseconds of one digest, of pushing the bytes in pieces of a given size, and of pushing them where what
+/// is found of their contents is asked for too; a line for each round.
 pub fn run(
     rt: &(impl Print + Clock + AllocGlobal),
     size: usize,

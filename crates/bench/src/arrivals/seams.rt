@@ -124,7 +124,8 @@ fn show_pieces(
     println!(rt; "{len} bytes in pieces of {size}: {reported}")
 }
 
-/// Says whether an archive comes out as it has to, in pieces of one byte, and of a byte less than those that are stored.
+/// Says whether an archive comes out as it has to, in pieces of one byte, and of a byte less than those that are
+/// stored.
 fn show_large(rt: &(impl Print + AllocGlobal), expected: &Expected) -> io::Result<()> {
     show_pieces(rt, expected, 1)?;
     show_pieces(rt, expected, SEAM - 1)

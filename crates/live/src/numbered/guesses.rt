@@ -1,6 +1,6 @@
-//! Guesses of the places of paths among rows, made for all paths before the first text is compared: the searches and the comparisons each
-//! wait for memory, and apart from one another they wait less. No clause is about a guess, since the texts are compared anyway: a wrong
-//! guess costs only time.
+//! Guesses of the places of paths among rows, made for all paths before the first text is compared: the searches and
+//! the comparisons each wait for memory, and apart from one another they wait less. No clause is about a guess, since
+//! the texts are compared anyway: a wrong guess costs only time.
 
 use crate::numbered::heads::head_of;
 use crate::numbered::rows::Row;

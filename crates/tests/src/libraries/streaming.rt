@@ -53,7 +53,8 @@ fn writers_that_fail(rt: HostRuntime) {
     }
 }
 
-/// What becomes of the body of the message that a reader gives, if it gives one. Memory is refused for more than some bytes of it.
+/// What becomes of the body of the message that a reader gives, if it gives one. Memory is refused for more than some
+/// bytes of it.
 fn gives_message(
     alloc: Global,
     input: &mut Drip,
