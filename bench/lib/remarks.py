@@ -40,11 +40,12 @@ REMARKS = [
            Tried: the pieces of an archive are sent as they were read, without a copy."""),
     Remark(r"nix: the exponent of .*", "growths of everyday actions", "As in bench/growth."),
     Remark(r"nix: .*by nixkeep-remote over a server: .*", "actions by `nixkeep-remote`",
-           """In a run that asks for nothing, python3 alone takes a sixth of the processors' time. Its module
-           http.client takes half, since it loads email and ssl. A server takes less than a millisecond for most
-           requests (bench/requests). Tried: Debian's python3 in place of one that a script chooses, which took half
-           as long again. Tried: curl as the client, which has rows of its own. Not tried yet: requests without
-           http.client."""),
+           """In a run that asks for nothing, most of the time is the start of python3 and the loading of its module
+           http.client, which loads email. A server takes less than a millisecond for most requests
+           (bench/requests). Tried: Debian's python3 in place of one that a script chooses, which took half as long
+           again. Tried: modules that are loaded when they are needed, without site and ssl, which takes 0.8 of the
+           time. Tried: curl as the client, which has rows of its own. Requests without http.client would be what
+           python3 has, written again."""),
     Remark(r"nix: .*by curl over a server: .*", "actions by curl",
            """Each runs a process, connects, and sends one request. The server's part of that is in
            bench/requests."""),
@@ -57,8 +58,8 @@ REMARKS = [
            has in memory. `sha256sum` of the same bytes takes half as long as the command: a row of the same section.
            Tried: all that is tried for `list`."""),
     Remark(r"growth: .*", "growths",
-           """A file of more than 64 MiB is read with a place for 2,000 of its pages alone. So the opening of `sqlite`
-           reads pages again for the entries of its indexes. Not tried yet: a higher bound."""),
+           """A file of more than 256 MiB is read with a place for 2,000 of its pages alone. So the opening of `sqlite`
+           reads pages again for the entries of its indexes. Tried: a higher bound, which was 64 MiB."""),
     Remark(r"libraries: .*in pieces of 100: what comes", "an archive in pieces of 100 bytes",
            """In six runs of a quiet machine it took 1.13 to 1.19 times as long as one digest. The rest is a call for
            each 100 bytes."""),

@@ -6,8 +6,8 @@ use Rattle.std.specs.Prelude.{ℕ, ◌+◌, ◌/◌, nat_le, cond, max}
 abbrev pub all_pages : ℕ → ℕ → ℕ → ℕ
 all_pages len logged page = max (len / page) logged + 256
 
--- how many pages are cached: together at most 64 MiB, and at least 8,192,000 bytes
+-- how many pages are cached: together at most 256 MiB, and at least 8,192,000 bytes
 abbrev pub cached_pages : ℕ → ℕ → ℕ → ℕ
 cached_pages len logged page =
-    cond (nat_le (all_pages len logged page) (67108864 / page)) (max (all_pages len logged page) (8192000 / page))
+    cond (nat_le (all_pages len logged page) (268435456 / page)) (max (all_pages len logged page) (8192000 / page))
     (8192000 / page)

@@ -18,8 +18,8 @@ use std::rt::HostRuntime;
 /// memory, and some microseconds, when the file is opened, whether a page comes to lie in it or not.
 const LEAST_BYTES: u64 = 8_192_000;
 
-/// How many bytes of pages are kept at most: 64 MiB.
-const MOST_BYTES: u64 = 67_108_864;
+/// How many bytes of pages are kept at most: 256 MiB.
+const MOST_BYTES: u64 = 268_435_456;
 
 /// How many pages a file may grow by before two of them share a place.
 const ROOM: u64 = 256;
