@@ -1,10 +1,10 @@
 -- What waits, by the blocks that are listed.
-use Rattle.std.proofs.Common.{◌≡◌, ℕ, ◌+◌, ◌*◌, ◌/◌, ◌<◌, ◌≤◌, min, List, [], ◌∷◌, ◌++◌, length, replicate, set, Bool, true, false, Option, Some, None, sym, ap, ◌∙◌, subst, inl, inr, ◌⊎◌, arith}
+use Rattle.std.proofs.Common.{◌≡◌, ℕ, ◌+◌, ◌*◌, ◌/◌, ◌<◌, ◌≤◌, min, List, [], ◌∷◌, ◌++◌, length, replicate, set, Bool, true, false, Option, Some, None, refl, sym, ap, ◌∙◌, subst, inl, inr, ◌⊎◌, arith}
 use Rattle.std.specs.Prelude.{Contains, IfNone, IfSome, MatchOption}
 use Rattle.std.proofs.lemmas.Bool.{cases_eq, cases_lt, false≢true}
 use Rattle.std.proofs.lemmas.List.{length-set, length-replicate, get_or-set_same}
 use Rattle.std.proofs.lemmas.List.Elements.{Contains-append_left, Contains-push, Contains-push_cases}
-use Rattle.live.specs.Marking.{IsDequeued, NoneWaits, Waits}
+use Rattle.live.specs.Marking.{IsDequeued, IsDone, IsTaken, NoneWaits, Waits}
 use Rattle.live.specs.Listed.{AllListed, IsListed, ListsMore, NoneBetween, Waiting}
 use Rattle.live.proofs.OneRoot.{consumed_length, none_waits, waits_inside, waits_other}
 use Rattle.live.proofs.Members.{no_member}
@@ -29,6 +29,17 @@ if_some P Q (Some x) m = m
 pub if_none : (P : Type 0) (Q : ℕ → Type 0) (o : Option ℕ) → MatchOption o P Q → IfNone o P
 if_none P Q None m = m
 if_none P Q (Some x) m = tt
+
+-- what the places that wait say of the whole walk, where the marks stay
+pub taken : (first : List ℕ) (old new : List Bool) (o : Option ℕ) → MatchOption o ((new ≡ old) × NoneWaits new) (IsDequeued old new)
+    → IfSome o (IsTaken (record { first = first; waiting = old }) (record { first = first; waiting = new }))
+taken first old new None m = tt
+taken first old new (Some place) m = record { first = refl; waiting = m }
+
+pub done : (first : List ℕ) (old new : List Bool) (o : Option ℕ) → MatchOption o ((new ≡ old) × NoneWaits new) (IsDequeued old new)
+    → IfNone o (IsDone (record { first = first; waiting = old }) (record { first = first; waiting = new }))
+done first old new None m = record { first = refl; waiting = m.0; none = m.1 }
+done first old new (Some place) m = tt
 
 -- there are as many places as before
 pub next_length : (o : Option ℕ) (old new : List Bool) → MatchOption o ((new ≡ old) × NoneWaits new) (IsDequeued old new) → length new ≡ length old

@@ -84,10 +84,11 @@ highest Greater h = refl
 
 module _ (rows : List Row) (rise : Rise (paths_of (rows_view rows))) (p : Path) where
   pub searched_none : IsSearched rows p 0 (length rows)
-  searched_none = record { ordered = omega arith; within = omega arith; less = λ k d a b. absurd (omega arith); greater = λ k d a b. absurd (omega arith) }
+  searched_none = record { rise = rise; ordered = omega arith; within = omega arith; less = λ k d a b. absurd (omega arith); greater = λ k d a b. absurd (omega arith) }
 
   pub searched_up : (low high middle : ℕ) → IsSearched rows p low high → low ≤ middle → middle < high → ((d : Row) → bytes_cmp (get_or rows middle d).path.now p ≡ Less) → IsSearched rows p (middle + 1) high
   searched_up low high middle s a b e = record {
+    rise = rise;
     ordered = omega arith;
     within = s.within;
     less = λ k d x y. lowest (bytes_cmp (get_or rows k d).path.now p) (let n = searchable rows rise p k middle d (omega arith) (let w = s.within in omega arith) in let i = ap ordering_index (e d) in omega arith);
@@ -96,6 +97,7 @@ module _ (rows : List Row) (rise : Rise (paths_of (rows_view rows))) (p : Path) 
 
   pub searched_down : (low high middle : ℕ) → IsSearched rows p low high → low ≤ middle → middle < high → ((d : Row) → bytes_cmp (get_or rows middle d).path.now p ≡ Greater) → IsSearched rows p low middle
   searched_down low high middle s a b e = record {
+    rise = rise;
     ordered = a;
     within = (let w = s.within in omega arith);
     less = s.less;

@@ -23,8 +23,7 @@ impl Walk {
         to: usize,
         counts: bool,
     ) -> Result<(), AllocError>
-        requires range { IsRange graph.now place from to }
-        requires places { length self.old.first ≡ length graph.now }
+        requires { IsRange graph.now place from to (length self.old.first) }
         ensures places { OnOk result (length self.new.first ≡ length graph.now) }
         ensures reached { OnOk result (self.new
             ≡ all_reached none root self.old

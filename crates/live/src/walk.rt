@@ -1,6 +1,6 @@
 //! The marks of a walk, and what waits.
 ghost use Rattle.std.specs.Prelude.{◌≡◌, ◌<◌, length, replicate, false, All, IfNone, IfOk, IfSome, OnOk};
-ghost use Rattle.live.specs.Marking.{Frontier, IsDequeued, NoneWaits, all_reached, reached};
+ghost use Rattle.live.specs.Marking.{Frontier, IsDone, IsTaken, all_reached, reached};
 
 use crate::waiting::Waiting;
 use std::alloc::{AllocError, Global};
@@ -63,9 +63,8 @@ impl Walk {
 
     /// A place that waits no longer.
     pub(crate) fn next(&mut self) -> Option<usize>
-        ensures first { self.new.first ≡ self.old.first }
-        ensures some { IfSome result (IsDequeued self.old.waiting self.new.waiting) }
-        ensures none { IfNone result ((self.new.waiting ≡ self.old.waiting) × NoneWaits self.new.waiting) }
+        ensures some { IfSome result (IsTaken self.old self.new) }
+        ensures none { IfNone result (IsDone self.old self.new) }
     {
         self.waiting.next()
     }

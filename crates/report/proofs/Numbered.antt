@@ -1,14 +1,16 @@
 -- Refusals by their numbers.
-use Rattle.std.proofs.Common.{◌≡◌, ℕ, ◌+◌, List, [], ◌++◌, false, cond, decimal, ◌==◌, get_or, codes, refl, sym, ap, ◌∙◌, ◌<◌}
+use Rattle.std.proofs.Common.{◌≡◌, ◌≢◌, ℕ, ◌+◌, List, [], ◌++◌, Result, Ok, Err, ◌==◌, get_or, codes, refl, sym, ap, ◌∙◌, ◌<◌}
+use Rattle.std.specs.Prelude.{OnOk, is_ok, if◌then◌else◌}
 use Rattle.std.specs.List.{find}
 use Rattle.std.specs.Option.{option_map_or}
 use Rattle.std.specs.Fmt.{digits}
 use Rattle.std.proofs.lemmas.List.{get_or-map}
 use Rattle.std.proofs.lemmas.List.FromFn.{get_or-range_with_len}
+use Rattle.policy.specs.declared.error.KeyWord.{KeyWord}
 use Rattle.policy.specs.declared.error.KeyWord.TheVariants.{Syntax}
 use Rattle.model.specs.declared.refusal.Refusal.{Refusal}
 use Rattle.model.specs.declared.refusal.Refusal.TheVariants.{Truncated, BadTag, BadPadding, BadName, NotSorted, TooDeep, Trailing, TooLarge, BadDigit, BadLength, Overflow, BadStoreName, BadStoreDir, BadStorePath, BadCa, CaMismatch, BadDerivation, DoubleOutput, BadConfig, BadCaller, BadSchema, OtherStoreDir, NotValid, MissingReference, NarHashMismatch, SelfReference, NoRoot, NoProfile, NoGeneration, CurrentGeneration, NoOlderGeneration, GenerationLimit, TooManyReferences, BadRootName, BadLabel, BadHead, BadBodyLength, BodyTooLarge, NoRoute, BadMethod, BadBodyHead, BadSession}
-use Rattle.report.specs.Refusals.{number, name, known_text, refusal_line}
+use Rattle.report.specs.Refusals.{number, known_text, refusal_line}
 use Rattle.report.specs.Laws.{refusals}
 use Rattle.report.proofs.Table.{numbered}
 
@@ -73,5 +75,52 @@ pub configured : (r : Refusal) → number r ≡ 19 → codes "refused: 19 bad-co
 unfolding digits
 configured r e = sym (same_text r (BadConfig Syntax) e)
 
-pub whole : (r : Refusal) → (number r == 19) ≡ false → refusal_line r ≡ known_text r
-whole r e = sym (ap (λ b. cond b (codes "refused: " ++ decimal (number r) ++ codes " " ++ name r) (refusal_line r)) e)
+-- of a refusal that is of no configuration the whole line is known
+pub whole : (r : Refusal) → ((word : KeyWord) → r ≢ BadConfig word) → refusal_line r ≡ known_text r
+whole Truncated other = refl
+whole BadTag other = refl
+whole BadPadding other = refl
+whole BadName other = refl
+whole NotSorted other = refl
+whole TooDeep other = refl
+whole Trailing other = refl
+whole TooLarge other = refl
+whole BadDigit other = refl
+whole BadLength other = refl
+whole Overflow other = refl
+whole BadStoreName other = refl
+whole BadStoreDir other = refl
+whole BadStorePath other = refl
+whole BadCa other = refl
+whole CaMismatch other = refl
+whole BadDerivation other = refl
+whole DoubleOutput other = refl
+whole (BadConfig word) other = absurd (other word refl)
+whole BadCaller other = refl
+whole BadSchema other = refl
+whole OtherStoreDir other = refl
+whole NotValid other = refl
+whole MissingReference other = refl
+whole NarHashMismatch other = refl
+whole SelfReference other = refl
+whole NoRoot other = refl
+whole NoProfile other = refl
+whole NoGeneration other = refl
+whole CurrentGeneration other = refl
+whole NoOlderGeneration other = refl
+whole GenerationLimit other = refl
+whole TooManyReferences other = refl
+whole BadRootName other = refl
+whole BadLabel other = refl
+whole BadHead other = refl
+whole BadBodyLength other = refl
+whole BodyTooLarge other = refl
+whole NoRoute other = refl
+whole BadMethod other = refl
+whole BadBodyHead other = refl
+whole BadSession other = refl
+
+-- bytes that were appended, by a call that may be refused memory
+pub appended : {T E : Type 0} (result : Result T E) (old new bytes : List ℕ) → new ≡ (if is_ok result then old ++ bytes else old) → OnOk result (new ≡ old ++ bytes)
+appended (Ok x) old new bytes e = e
+appended (Err fault) old new bytes e = tt

@@ -54,27 +54,13 @@ const TABLE: [Refusal; 42] = [
     Refusal::BadSession,
 ];
 
-/// The refusal of a number.
-fn numbered(number: usize) -> Refusal
-    requires { (1 ≤ number) × (number ≤ 42) }
-    ensures { number_of result ≡ number }
+/// The line of a refusal, as far as its number determines it.
+fn known_line(refusal: Refusal) -> &'static str
+    ensures { result.now ≡ known_text refusal }
 {
-    TABLE[number - 1]
-}
-
-/// The number of `bad-config`.
-const BAD_CONFIG: usize = 19;
-
-/// The line of the refusal of a number, as far as the number determines it.
-fn known_line(number: usize) -> &'static str
-    requires { (1 ≤ number) × (number ≤ 42) }
-    ensures { (r : TheRefusal) → number_of r ≡ number → result.now ≡ known_text r }
-{
-    let refusal = numbered(number);
-    if number == BAD_CONFIG {
-        "refused: 19 bad-config"
-    } else {
-        refusal_line(refusal)
+    match refusal {
+        Refusal::BadConfig(_) => "refused: 19 bad-config",
+        _ => refusal_line(refusal),
     }
 }
 
@@ -96,5 +82,5 @@ pub fn refusal_text(number: usize, text: &mut Vec<u8>) -> Result<(), AllocError>
         → text.new.items ≡ text.old.items ++ known_text r) }
     ensures err { OnErr result (text.new.items ≡ text.old.items) }
 {
-    text.extend_from_slice(known_line(number).as_bytes())
+    text.extend_from_slice(known_line(TABLE[number - 1]).as_bytes())
 }

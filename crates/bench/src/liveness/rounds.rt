@@ -2,10 +2,10 @@
 
 ghost use Rattle.std.specs.Prelude.{◌<◌, All, length};
 ghost use Rattle.live.specs.Arguments.{rows_view, roots_view};
-ghost use Rattle.live.specs.Numbering.{AllValid, Rise, paths_of};
+ghost use Rattle.live.specs.Numbering.{AreRootsOf};
 
 use super::{KEEP, made};
-use live::{Graph, Root, Roots, Row, are_valid, do_rise, mark, referrers, roots_of};
+use live::{Graph, Root, Roots, Row, are_valid, mark, referrers, roots_of};
 use std::alloc::{AllocError, Global};
 use std::io;
 use std::rt::Clock;
@@ -64,8 +64,7 @@ fn round(
     given: &[Root],
     entries: &[usize],
 ) -> io::Result<()>
-    requires rise { Rise (paths_of (rows_view rows.now)) }
-    requires valid { AllValid (rows_view rows.now) (roots_view given.now) }
+    requires { AreRootsOf (rows_view rows.now) (roots_view given.now) }
 {
     let start = Instant::now(rt)?;
     let graph = Graph::new(rt.alloc(), rows)?;
@@ -91,7 +90,7 @@ fn rounds(
     count: u32,
 ) -> io::Result<()> {
     for _ in 0..count {
-        if do_rise(rows) && are_valid(rows, given) {
+        if are_valid(rows, given) {
             round(rt, rows, given, entries)?;
         }
     }

@@ -1,6 +1,6 @@
 //! Tests of what callers have to meet.
 ghost use Rattle.std.specs.Prelude.{IsTrue};
-ghost use Rattle.live.specs.Numbering.{AllValid, Rise, paths_of};
+ghost use Rattle.live.specs.Numbering.{AreRootsOf, Rise, paths_of};
 ghost use Rattle.live.specs.Arguments.{rows_view, roots_view};
 
 use crate::numbered::places::place_of;
@@ -31,7 +31,7 @@ pub fn do_rise(rows: &[Row]) -> bool
     true
 }
 
-/// Whether each root's target is a row's path.
+/// Whether rows strictly rise and each root's target is a row's path.
 ///
 /// ```rust
 /// use live::{Root, Row};
@@ -43,9 +43,11 @@ pub fn do_rise(rows: &[Row]) -> bool
 /// assert!(rt; live::are_valid(&rows, &[root]) && !live::are_valid(&[], &[root]));
 /// ```
 pub fn are_valid(rows: &[Row], roots: &[Root]) -> bool
-    requires { Rise (paths_of (rows_view rows.now)) }
-    ensures { IsTrue result → AllValid (rows_view rows.now) (roots_view roots.now) }
+    ensures { IsTrue result → AreRootsOf (rows_view rows.now) (roots_view roots.now) }
 {
+    if !do_rise(rows) {
+        return false;
+    }
     for root in roots {
         if place_of(rows, root.target).is_none() {
             return false;

@@ -1,6 +1,6 @@
 //! Making a graph of rows, and roots of their targets.
 ghost use Rattle.std.specs.Prelude.{◌≡◌, ◌<◌, IfOk, All, length};
-ghost use Rattle.live.specs.Numbering.{AllValid, IsAimed, Rise, numbered, paths_of};
+ghost use Rattle.live.specs.Numbering.{AreRootsOf, IsAimed, Rise, numbered, paths_of};
 ghost use Rattle.live.specs.Arguments.{rows_view, roots_view};
 
 use crate::numbered::guesses::Guesses;
@@ -42,7 +42,7 @@ impl Graph {
 }
 
 impl Roots {
-    /// The roots of a graph, in their order. Each target is a row's path.
+    /// The roots of a graph, in their order. Rows strictly rise, and each target is a row's path.
     ///
     /// ```rust
     /// use live::{Root, Roots, Row};
@@ -55,8 +55,7 @@ impl Roots {
     /// assert_eq!(rt; roots.len(), 1);
     /// ```
     pub fn new(alloc: Global, rows: &[Row], roots: &[Root]) -> Result<Roots, AllocError>
-        requires rows { Rise (paths_of (rows_view rows.now)) }
-        requires targets { AllValid (rows_view rows.now) (roots_view roots.now) }
+        requires { AreRootsOf (rows_view rows.now) (roots_view roots.now) }
         ensures aimed { IfOk result (IsAimed (rows_view rows.now) (roots_view roots.now)) }
         ensures inside { IfOk result (λ r. All (λ t. t < length rows.now) r) }
     {

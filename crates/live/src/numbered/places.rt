@@ -18,8 +18,7 @@ use std::marker::Model;
 
 /// The place of a path, if it is a row's, where it can only be from one place on and before another.
 fn place_between(rows: &[Row], path: &StorePath, from: usize, to: usize) -> Option<usize>
-    requires rise { Rise (paths_of (rows_view rows.now)) }
-    requires searched { IsSearched rows.now path.now from to }
+    requires { IsSearched rows.now path.now from to }
     ensures { result ≡ place (paths_of (rows_view rows.now)) path.now }
 {
     let mut low = from;
@@ -58,10 +57,11 @@ pub fn place_of(rows: &[Row], path: &StorePath) -> Option<usize>
     place_between(rows, path, 0, rows.len())
 }
 
-/// The place of a path, by the heads of the rows' paths: paths are compared only where heads are the same.
-fn place_by_head(rows: &[Row], heads: &[u64], path: &StorePath) -> Option<usize>
+/// Where a path can only be, by the heads of the rows' paths: from one place on and before another. A head that is the
+/// path's own ends the search.
+fn range_by_head(rows: &[Row], heads: &[u64], path: &StorePath) -> (usize, usize)
     requires { AreHeaded (paths_of (rows_view rows.now)) heads.now }
-    ensures { result ≡ place (paths_of (rows_view rows.now)) path.now }
+    ensures { IsSearched rows.now path.now result.0 result.1 }
 {
     let head = head_of(path);
     let mut low = 0;
@@ -78,7 +78,7 @@ fn place_by_head(rows: &[Row], heads: &[u64], path: &StorePath) -> Option<usize>
             high = middle;
         }
     }
-    place_between(rows, path, low, high)
+    (low, high)
 }
 
 /// Rows, with the heads and the texts of their paths. Contracts see it as the rows.
@@ -98,14 +98,16 @@ impl<'a> Model for Index<'a> {
 }
 
 impl<'a> Index<'a> {
-    /// The place of a path, if it is a row's, looked for first at a place where it may be.
+    /// The place of a path, if it is a row's, looked for first at a place where it may be, and then by heads: paths are
+    /// compared only where heads are the same.
     fn find(&self, path: &StorePath, guess: usize) -> Option<usize>
         ensures { result ≡ place (paths_of self.now) path.now }
     {
         if guess < self.texts.len() && self.texts[guess] == path.as_str() {
             return Some(guess);
         }
-        place_by_head(self.rows, &self.heads, path)
+        let (low, high) = range_by_head(self.rows, &self.heads, path);
+        place_between(self.rows, path, low, high)
     }
 
     /// The places of the paths that are rows' go to the end of the list.

@@ -17,23 +17,23 @@ work-init c = begin_at (keep_view c.args.keep) c.args.graph.now c.args.roots.now
 pub take-requires : goal.take-requires
 take-requires c = record {
   place = placed (keep_view c.args.keep) c.args.graph.now c.args.roots.now c.len.ensures.inside c.requires
-      c.roots.root c.in-Some.place c.work.walk c.next.new.self c.work.walker c.work.invariant c.in-Some.ensures.some;
-  places = ap length c.in-Some.ensures.first ∙ c.work.invariant.places;
+      c.roots.root c.in-Some.place c.work.walk c.next.new.self c.work.walker c.work.invariant c.in-Some.ensures.some.waiting;
+  places = ap length c.in-Some.ensures.some.first ∙ c.work.invariant.places;
 }
 
 pub work-smaller : goal.work-smaller
 work-smaller c = smaller (keep_view c.args.keep) c.args.graph.now c.args.roots.now c.len.ensures.inside c.requires
     c.roots.root c.len-none.result c.in-Some.place c.work.walk c.next.new.self c.take.new.self c.work.walker c.roots-test.true c.len-none.ensures c.work.invariant
-    c.in-Some.ensures.first c.in-Some.ensures.some c.in_ok-take.ensures.reached
+    c.in-Some.ensures.some.first c.in-Some.ensures.some.waiting c.in_ok-take.ensures.reached
 
 pub work-preserved : goal.work-preserved
 work-preserved c = consumed_at (keep_view c.args.keep) c.args.graph.now c.args.roots.now c.len.ensures.inside c.requires
     c.roots.root c.len-none.result c.in-Some.place c.work.walk c.next.new.self c.take.new.self c.work.walker c.roots-test.true c.len-none.ensures c.work.invariant
-    c.in-Some.ensures.first c.in-Some.ensures.some c.in_ok-take.ensures.reached c.take.new.walker c.in_ok-take.ensures.counted
+    c.in-Some.ensures.some.first c.in-Some.ensures.some.waiting c.in_ok-take.ensures.reached c.take.new.walker c.in_ok-take.ensures.counted
 
 pub roots-preserved : goal.roots-preserved
 roots-preserved c = ended (keep_view c.args.keep) c.args.graph.now c.args.roots.now c.len.ensures.inside c.requires
-    (c.roots.root + 1) c.work.walk c.next.new.self c.work.walker c.work.invariant c.in_default.ensures.first c.in_default.ensures.none.0 c.in_default.ensures.none.1
+    (c.roots.root + 1) c.work.walk c.next.new.self c.work.walker c.work.invariant c.in_default.ensures.none.first c.in_default.ensures.none.waiting c.in_default.ensures.none.none
 
 marking_of : goal.returns-clause-places
 marking_of c = finish_at (keep_view c.args.keep) c.args.graph.now c.args.roots.now c.len.ensures.inside c.requires

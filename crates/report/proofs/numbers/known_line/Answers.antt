@@ -1,6 +1,10 @@
-use Rattle.std.proofs.Common.{◌∙◌}
-use Rattle.report.proofs.Numbered.{configured}
+use Rattle.std.proofs.Common.{ap, ◌∙◌}
+use Rattle.report.specs.Refusals.{number}
+use Rattle.report.proofs.Numbered.{configured, whole}
 use Rattle.report.proofs.numbers.known_line.Goals as goal
 
-pub returns-then-number-eq-BAD_CONFIG : goal.returns-then-number-eq-BAD_CONFIG
-returns-then-number-eq-BAD_CONFIG c = λ r e. configured r (e ∙ c.if-number-eq-BAD_CONFIG.true)
+pub returns-in-BadConfig : goal.returns-in-BadConfig
+returns-in-BadConfig c = configured c.args.refusal (ap number c.in-BadConfig.is)
+
+pub returns-in_default : goal.returns-in_default
+returns-in_default c = c.refusal_line.ensures ∙ whole c.args.refusal c.in_default.not-BadConfig

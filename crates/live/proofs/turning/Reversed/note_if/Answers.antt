@@ -15,7 +15,7 @@ loop-entry-preserved c = noted_part_more c.args.self.now c.loop-entry.self c.not
 
 pub returns : goal.returns
 returns c =
-    let last : c.loop-entry.entry ≡ c.args.to = (let t = c.loop-entry-test.false in let e = c.loop-entry.auto.entry-end c.requires.range.from in omega arith) in
+    let last : c.loop-entry.entry ≡ c.args.to = (let t = c.loop-entry-test.false in let e = c.loop-entry.auto.entry-end c.requires.from in omega arith) in
     let all = subst (λ (k : ℕ). IsNoted c.args.self.now c.loop-entry.self c.args.place (slice_range (held (entries_at c.args.graph.now c.args.place)) c.args.from k)) last c.loop-entry.invariant in
     let counts : c.args.counts ≡ true = c.if-not-counts.false in
     subst (λ (b : Bool). IsNoted c.args.self.now c.loop-entry.self c.args.place (if b then slice_range (held (entries_at c.args.graph.now c.args.place)) c.args.from c.args.to else [])) (sym counts) all

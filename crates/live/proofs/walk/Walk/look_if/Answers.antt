@@ -16,12 +16,12 @@ loop-entry-preserved c =
 
 pub returns-clause-reached : goal.returns-clause-reached
 returns-clause-reached c =
-    let last : c.loop-entry.entry ≡ c.args.to = (let t = c.loop-entry-test.false in let e = c.loop-entry.auto.entry-end c.requires.range.from in omega arith) in
+    let last : c.loop-entry.entry ≡ c.args.to = (let t = c.loop-entry-test.false in let e = c.loop-entry.auto.entry-end c.requires.from in omega arith) in
     (looked_all c.args.none c.args.root (held (entries_at c.args.graph.now c.args.place)) c.args.from c.loop-entry.entry c.args.to c.args.self.now c.loop-entry.self c.args.walker.now c.loop-entry.walker
-    c.args.counts c.if-not-counts.false last c.requires.range.to c.loop-entry.invariant).0
+    c.args.counts c.if-not-counts.false last c.requires.to c.loop-entry.invariant).0
 
 pub returns-clause-counted : goal.returns-clause-counted
 returns-clause-counted c =
-    let last : c.loop-entry.entry ≡ c.args.to = (let t = c.loop-entry-test.false in let e = c.loop-entry.auto.entry-end c.requires.range.from in omega arith) in
+    let last : c.loop-entry.entry ≡ c.args.to = (let t = c.loop-entry-test.false in let e = c.loop-entry.auto.entry-end c.requires.from in omega arith) in
     (looked_all c.args.none c.args.root (held (entries_at c.args.graph.now c.args.place)) c.args.from c.loop-entry.entry c.args.to c.args.self.now c.loop-entry.self c.args.walker.now c.loop-entry.walker
-    c.args.counts c.if-not-counts.false last c.requires.range.to c.loop-entry.invariant).1
+    c.args.counts c.if-not-counts.false last c.requires.to c.loop-entry.invariant).1

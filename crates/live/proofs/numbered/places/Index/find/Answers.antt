@@ -14,4 +14,4 @@ returns-then-eq c =
     (found (paths_of (rows_view c.self.inside.rows.now)) c.self.invariant.headed.rise c.self.inside.texts.items c.self.invariant.texts c.args.guess below c.index.result.now c.as_str.result.now c.args.path.now c.eq.result (c.eq.ensures ∙ ap (λ (t : Bor (List ℕ)). pointwise nat_eq t.now c.as_str.result.now) c.index.ensures) c.if-eq.true c.as_str.ensures.value)
 
 pub returns : goal.returns
-returns c = c.place_by_head.ensures ∙ ap (λ (rows : List Row). place_of (paths_of rows) c.args.path.now) c.self.view_is
+returns c = c.place_between.ensures ∙ ap (λ (rows : List Row). place_of (paths_of rows) c.args.path.now) c.self.view_is

@@ -1,6 +1,6 @@
 use Rattle.std.proofs.Common.{◌+◌, ◌-◌, ◌/◌, ◌<◌, arith, length}
 use Rattle.live.proofs.Searching.{above_head, below_head, searched_down, searched_up}
-use Rattle.live.proofs.numbered.places.place_by_head.Goals as goal
+use Rattle.live.proofs.numbered.places.range_by_head.Goals as goal
 
 pub search-preserved-then-other-head-2 : goal.search-preserved-then-other-head-2
 search-preserved-then-other-head-2 c =
