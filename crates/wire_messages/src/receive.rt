@@ -1,5 +1,5 @@
 //! Messages, read from a reader in pieces of any size.
-ghost use Rattle.std.specs.Prelude.{◌≡◌, ◌<◌, vec_len};
+ghost use Rattle.std.specs.Prelude.{◌≡◌};
 ghost use Rattle.wire_messages.specs.Messages.{ReadsMore, Receives, Starts, Announces};
 
 use crate::error::{Fault, ReceiveError};
@@ -61,11 +61,18 @@ fn read_more<R: Read>(input: &mut R, buffer: &mut Vec<u8>) -> Result<bool, Recei
     }
 }
 
-/// Reads until the buffer, which isn't empty, begins with a whole head, or can't begin with one.
-fn find_head<R: Read>(input: &mut R, buffer: &mut Vec<u8>) -> Result<Start, ReceiveError>
-    requires { 0 < vec_len buffer.old }
+/// Reads until the buffer begins with a whole head, no head can begin it, or the input ends.
+///
+/// # Errors
+///
+/// `Read` if the reader failed; `Silent` if it gave up waiting (`WouldBlock` or `TimedOut`) and nothing is held;
+/// `Memory` if memory was refused.
+pub fn receive_start<R: Read>(input: &mut R, buffer: &mut Vec<u8>) -> Result<Start, ReceiveError>
     ensures { Receives Starts (R.remaining input.old) (R.remaining input.new) buffer.old.items buffer.new.items result }
 {
+    if buffer.is_empty() && !read_more(input, buffer)? {
+        return Ok(Start::NoMore);
+    }
     let mut seen = 0;
     let mut begun = false;
     'head: loop {
@@ -82,25 +89,6 @@ fn find_head<R: Read>(input: &mut R, buffer: &mut Vec<u8>) -> Result<Start, Rece
             Ok(false) => return Ok(Start::NoHead),
             Err(fault) => return Err(within(fault)),
         }
-    }
-}
-
-/// Reads until the buffer begins with a whole head, no head can begin it, or the input ends.
-///
-/// # Errors
-///
-/// `Read` if the reader failed; `Silent` if it gave up waiting (`WouldBlock` or `TimedOut`) and nothing is held;
-/// `Memory` if memory was refused.
-pub fn receive_start<R: Read>(input: &mut R, buffer: &mut Vec<u8>) -> Result<Start, ReceiveError>
-    ensures { Receives Starts (R.remaining input.old) (R.remaining input.new) buffer.old.items buffer.new.items result }
-{
-    if !buffer.is_empty() {
-        return find_head(input, buffer);
-    }
-    if read_more(input, buffer)? {
-        find_head(input, buffer)
-    } else {
-        Ok(Start::NoMore)
     }
 }
 

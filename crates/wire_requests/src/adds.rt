@@ -11,6 +11,7 @@ ghost use Rattle.store_types.specs.View.{request_view};
 ghost use Rattle.wire_requests.specs.View as given;
 ghost use Rattle.wire_requests.specs.Reads.{Reads, ReadsImport};
 
+use crate::arrived::Arrived;
 use crate::body::Body;
 use crate::error::AskError;
 use crate::parted::Parted;
@@ -32,22 +33,12 @@ fn without_prefix(mut bytes: Vec<u8>, n: usize) -> Vec<u8>
     bytes
 }
 
-/// The head of an add, read from a body, and the offset of the contents in the body.
-fn text_prefix(alloc: Global, dir: &StoreDir, body: &[u8]) -> Result<(NamedHead, usize), BodyError>
-    ensures within { IfOk result (λ add. add.1 ≤ length body.now) }
-    ensures ok { IfOk result (λ add. IsNamedBody dir.now body.now add.0 (drop add.1 body.now)) }
-    ensures bad { result ≡ Err BodyError.BadBodyHead → (head : NamedOf) (contents : List ℕ)
-        → IsNamedBody dir.now body.now head contents → ⊥ }
-{
-    let (head, contents) = named_body(alloc, dir, body)?;
-    Ok((head, body.len().saturating_sub(contents.len())))
-}
-
 /// The request that adds a text object, from a body in one buffer.
 fn read_text(alloc: Global, dir: &StoreDir, body: Vec<u8>) -> Result<Request, AskError>
     ensures { (target : List ℕ) → Reads dir.now kinds.AddText target body.items result }
 {
-    let (head, start) = text_prefix(alloc, dir, &body)?;
+    let (head, contents) = named_body(alloc, dir, &body)?;
+    let start = body.len().saturating_sub(contents.len());
     let NamedHead { name, references } = head;
     Ok(Request::AddText {
         name,
@@ -70,7 +61,7 @@ fn named_prefix(alloc: Global, dir: &StoreDir, body: &Parted) -> Result<NamedHea
     ensures bad { result ≡ Err BodyError.BadBodyHead → (head : NamedOf) (nar : List ℕ)
         → IsNamedBody dir.now body.now head nar → ⊥ }
 {
-    let (head, _) = named_body(alloc, dir, body.first_lines())?;
+    let (head, _) = named_body(alloc, dir, body.lines())?;
     Ok(head)
 }
 
@@ -80,7 +71,7 @@ fn import_prefix(alloc: Global, dir: &StoreDir, body: &Parted) -> Result<ImportH
     ensures bad { result ≡ Err BodyError.BadBodyHead → (head : ImportOf) (nar : List ℕ)
         → IsImportBody dir.now body.now head nar → ⊥ }
 {
-    let (head, _) = wire_bodies::import_body(alloc, dir, body.first_lines())?;
+    let (head, _) = wire_bodies::import_body(alloc, dir, body.lines())?;
     Ok(head)
 }
 

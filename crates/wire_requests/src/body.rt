@@ -1,16 +1,15 @@
 //! The body of a message, as it arrives.
 ghost use Rattle.std.specs.Prelude.{◌≡◌, [], IfOk};
-ghost use Rattle.wire_bodies.specs.Prefix.{prefix_of};
 ghost use Rattle.wire_requests.specs.Asks as spec;
 ghost use Rattle.wire_requests.specs.Left.{TakesPiece};
 
+use crate::arrived::Arrived;
 use crate::held::Held;
 use crate::kind::Kind;
 use crate::parted::Parted;
 use std::alloc::{AllocError, Global};
 use std::marker::Model;
 use streams::Sink;
-use wire_bodies::lines_of;
 
 /// The form in which a body is held.
 #[derive(Drop)]
@@ -84,26 +83,6 @@ impl Body {
         }
     }
 
-    /// The lines of the body up to and with the first empty one.
-    pub(crate) fn lines(&self) -> &[u8]
-        ensures { result.now ≡ prefix_of self.now }
-    {
-        match &self.kept {
-            Storage::Whole(held) => lines_of(&held.bytes),
-            Storage::Parted(parted) => parted.first_lines(),
-        }
-    }
-
-    /// All bytes in one buffer.
-    pub(crate) fn into_bytes(self, alloc: Global) -> Result<Vec<u8>, AllocError>
-        ensures { IfOk result (λ bytes. bytes.items ≡ self) }
-    {
-        match self.kept {
-            Storage::Whole(held) => Ok(held.bytes),
-            Storage::Parted(parted) => parted.joined(alloc),
-        }
-    }
-
     /// The body with its payload in an intake.
     pub(crate) fn into_parted(self, alloc: Global) -> Result<Parted, AllocError>
         ensures { IfOk result (λ parted. parted ≡ self) }
@@ -115,6 +94,24 @@ impl Body {
                 Ok(parted)
             }
             Storage::Parted(parted) => Ok(parted),
+        }
+    }
+}
+
+impl Arrived for Body {
+    ghost arrived = { λ body. body };
+
+    fn lines(&self) -> &[u8] {
+        match &self.kept {
+            Storage::Whole(held) => held.lines(),
+            Storage::Parted(parted) => parted.lines(),
+        }
+    }
+
+    fn into_bytes(self, alloc: Global) -> Result<Vec<u8>, AllocError> {
+        match self.kept {
+            Storage::Whole(held) => held.into_bytes(alloc),
+            Storage::Parted(parted) => parted.into_bytes(alloc),
         }
     }
 }

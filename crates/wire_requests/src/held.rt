@@ -1,8 +1,10 @@
 //! A body in one buffer, as it arrives.
 ghost use Rattle.std.specs.Prelude.{◌≡◌, ◌++◌, [], OnOk, OnErr};
 
-use std::alloc::AllocError;
+use crate::arrived::Arrived;
+use std::alloc::{AllocError, Global};
 use std::marker::Model;
+use wire_bodies::lines_of;
 
 /// The bytes of a body whose length is known. The first bytes that arrive make room for all, and then the buffer
 /// doesn't grow. Contracts see the bytes.
@@ -23,24 +25,29 @@ impl Model for Held {
 }
 
 impl Held {
-    /// Appends the next piece. The only error is that memory is refused.
-    fn append(&mut self, piece: &[u8]) -> Result<(), AllocError>
-        ensures { OnOk result (self.new ≡ self.old ++ piece.now) }
-    {
-        let missing = self.size.saturating_sub(self.bytes.len());
-        self.bytes.reserve_exact(missing.max(piece.len()))?;
-        self.bytes.extend_from_slice(piece)
-    }
-
     /// Takes the next piece. If memory is refused, no byte stays.
     pub(crate) fn push(&mut self, piece: &[u8]) -> Result<(), AllocError>
         ensures ok { OnOk result (self.new ≡ self.old ++ piece.now) }
         ensures err { OnErr result (self.new ≡ []) }
     {
-        let appended = self.append(piece);
-        if appended.is_err() {
+        let missing = self.size.saturating_sub(self.bytes.len());
+        let room = missing.max(piece.len());
+        if self.bytes.reserve_exact(room).is_err() || self.bytes.extend_from_slice(piece).is_err() {
             self.bytes.clear();
+            return Err(AllocError);
         }
-        appended
+        Ok(())
+    }
+}
+
+impl Arrived for Held {
+    ghost arrived = { λ held. held };
+
+    fn lines(&self) -> &[u8] {
+        lines_of(&self.bytes)
+    }
+
+    fn into_bytes(self, _: Global) -> Result<Vec<u8>, AllocError> {
+        Ok(self.bytes)
     }
 }

@@ -5,6 +5,7 @@ ghost use Rattle.wire_bodies.specs.Prefix.{rest_of};
 ghost use Rattle.wire_bodies.specs.declared.import.ImportHead.{ImportHead as ImportOf};
 ghost use Rattle.wire_requests.specs.Left.{IsLeftOf};
 
+use crate::arrived::Arrived;
 use crate::body::Body;
 use crate::error::AskError;
 use paths::StoreDir;

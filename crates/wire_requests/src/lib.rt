@@ -2,6 +2,7 @@
 #![tactic(auto)]
 
 mod adds;
+mod arrived;
 mod body;
 mod error;
 mod held;

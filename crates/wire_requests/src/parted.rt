@@ -1,9 +1,10 @@
 //! A body whose payload is an archive, as it arrives.
-ghost use Rattle.std.specs.Prelude.{◌≡◌, [], IfOk, OnErr};
+ghost use Rattle.std.specs.Prelude.{◌≡◌, [], OnErr};
 ghost use Rattle.wire_bodies.specs.Prefix.{prefix_of, rest_of};
 ghost use Rattle.intake.specs.Arriving.{bytes_in};
 ghost use Rattle.wire_requests.specs.Left.{TakesPiece};
 
+use crate::arrived::Arrived;
 use intake::Intake;
 use std::alloc::{AllocError, Global};
 use std::marker::Model;
@@ -87,24 +88,22 @@ impl Parted {
         Ok(())
     }
 
-    /// The lines up to and with the first empty one.
-    pub(crate) fn first_lines(&self) -> &[u8]
-        ensures { result.now ≡ prefix_of self.now }
-    {
-        self.prefix.bytes()
-    }
-
     /// The archive, without a copy.
     pub(crate) fn into_archive(self) -> Intake
         ensures { bytes_in result ≡ rest_of self }
     {
         self.archive
     }
+}
 
-    /// All bytes in one buffer.
-    pub(crate) fn joined(self, alloc: Global) -> Result<Vec<u8>, AllocError>
-        ensures { IfOk result (λ bytes. bytes.items ≡ self) }
-    {
+impl Arrived for Parted {
+    ghost arrived = { λ parted. parted };
+
+    fn lines(&self) -> &[u8] {
+        self.prefix.bytes()
+    }
+
+    fn into_bytes(self, alloc: Global) -> Result<Vec<u8>, AllocError> {
         let mut bytes = self.prefix.bytes().to_vec(alloc)?;
         let archive = self.archive.finish()?.pieces.joined()?;
         bytes.extend_from_slice(&archive)?;

@@ -4,6 +4,7 @@ ghost use Rattle.wire_requests.specs.declared.kind.Kind.TheVariants as kinds;
 ghost use Rattle.wire_requests.specs.Reads.{ReadsBy};
 
 use crate::adds::{add_source, add_text, import};
+use crate::arrived::Arrived;
 use crate::body::Body;
 use crate::error::AskError;
 use crate::kind::Kind;

@@ -8,11 +8,11 @@ use Rattle.wire_requests.proofs.adds.import_prefix.Goals as goal
 pub returns-clause-ok : goal.returns-clause-ok
 returns-clause-ok c =
     let head = c.in_ok-head.head in
-    let said = subst (λ prefix. IsImportBody c.args.dir.now prefix head c.in_ok-head.field-0-1.now) c.first_lines.ensures c.in_ok-head.ensures.ok in
+    let said = subst (λ prefix. IsImportBody c.args.dir.now prefix head c.in_ok-head.field-0-1.now) c.lines.ensures c.in_ok-head.ensures.ok in
     import_all c.args.dir.now c.args.body.now head c.in_ok-head.field-0-1.now said
 
 pub returns-in_err-head-clause-bad : goal.returns-in_err-head-clause-bad
 returns-in_err-head-clause-bad c = λ same head nar is.
     let reported = same_fault c.import_body.result c.from_residual.result c.in_err-head.field-0.0 BadBodyHead c.from_residual.ensures.1 c.in_err-head.was same in
-    let prefix = subst (λ prefix. IsImportBody c.args.dir.now prefix head []) (sym c.first_lines.ensures) (import_prefix c.args.dir.now c.args.body.now head nar is) in
+    let prefix = subst (λ prefix. IsImportBody c.args.dir.now prefix head []) (sym c.lines.ensures) (import_prefix c.args.dir.now c.args.body.now head nar is) in
     c.import_body.ensures.bad reported head [] prefix

@@ -1,4 +1,4 @@
-use Rattle.std.proofs.Common.{◌≡◌, ◌<◌, [], length, subst, sym, refl, rules}
+use Rattle.std.proofs.Common.{◌≡◌, ◌<◌, [], length, subst, sym, rules}
 use Rattle.wire_bodies.specs.Bodies.{IsImportBody}
 use Rattle.wire_requests.proofs.Nothing.{body_bad}
 use Rattle.wire_requests.proofs.Parting.{import_all, import_prefix, none_left, read_of_left}

@@ -3,7 +3,7 @@ use Rattle.std.proofs.Common.{◌≡◌, ◌<◌, ◌≤◌, ◌-◌, length, ta
 use Rattle.httparse.specs.Grammar.{HasNoRequest}
 use Rattle.wire_messages.specs.Heads.{has_begun_in}
 use Rattle.wire_messages.proofs.Reading.{Took}
-use Rattle.wire_messages.proofs.receive.find_head.Given as goal
+use Rattle.wire_messages.proofs.receive.receive_start.Given as goal
 
 abbrev pub invariant-head : goal.invariant-head
 invariant-head g l = record {
