@@ -30,7 +30,7 @@ use Rattle.tool_words.specs.declared.line.Unrooted.TheVariants as unrooted
 use Rattle.tool_words.specs.Asked.{asked_view, optional_text, unroot_view}
 use Rattle.tool_words.specs.Line.{Line, IsLine, IsUsageFault}
 use Rattle.report.specs.Outputs.{Console, Printed, Prints, Stream, Written, on_errors}
-use Rattle.tool_pure.specs.Configuration.{IsConfig, opened_by}
+use Rattle.tool_pure.specs.Configuration.{opened_by}
 use Rattle.tool_pure.specs.Stream.{Answers, Says}
 use Rattle.tool_pure.specs.Who.{StopsFor}
 use Rattle.tool.specs.Works.{Doing}
@@ -116,31 +116,6 @@ module _ {C : Type 0} (remaining : C → Option (List ℕ)) where
   opened_some None = refl
   opened_some (Some (Ok input)) = refl
   opened_some (Some (Err fault)) = refl
-
-  -- a text was read
-  pub text_read : (file : Option (Result C Error)) (text : List ℕ) (Unread : Type 0) → (Unread → ⊥) → (file ≡ None → text ≡ [])
-      → IfSome file (λ o. IfErr o (λ fault. Unread))
-      → IfSome file (λ o. IfOk o (λ input. IfSome (remaining input) (λ all. text ≡ take 1048577 all))) → IsConfig (opened_by remaining file) (Ok text)
-  text_read None text Unread never none opened same = ap (λ t. Ok t) (none refl)
-  text_read (Some (Ok input)) text Unread never none opened same = same
-  text_read (Some (Err fault)) text Unread never none opened same = absurd (never opened)
-
-  -- none was
-  pub none_read : (file : Option (Result C Error)) (stop : Stop) (Unread : Type 0) → (Unread → stop ≡ Failed File) → (file ≡ None → ⊥)
-      → IfSome file (λ o. IfErr o (λ fault. Unread))
-      → IfSome file (λ o. IfOk o (λ input. stop ≡ Failed NoMemory → IfSome (remaining input) (λ all. 0 < length all)))
-      → (stop ≡ Failed NoMemory) ⊎ (stop ≡ Failed File) → IsConfig (opened_by remaining file) (Err stop)
-  none_read None stop Unread is none opened some why = absurd (none refl)
-  none_read (Some (Ok input)) stop Unread is none opened some (inl memory) = inl (memory, some memory)
-  none_read (Some (Ok input)) stop Unread is none opened some (inr unread) = inr unread
-  none_read (Some (Err fault)) stop Unread is none opened some why = is opened
-
--- a result that is no such failure, and one that is just that
-pub no_failure : {A : Type 0} (a : A) (stop : Stop) → ◌≡◌ {A = Result A Stop} (Ok a) (Err stop) → ⊥
-no_failure a stop is = cc
-
-pub that_failure : {A : Type 0} (found stop : Stop) → ◌≡◌ {A = Result A Stop} (Err found) (Err stop) → found ≡ stop
-that_failure found stop is = cc
 
 -- ---- faults of words in the form of `clap`
 

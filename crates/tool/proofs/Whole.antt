@@ -1,6 +1,6 @@
 -- What a body on the input asks, of which all is read.
 use Rattle.std.proofs.Common.{◌≡◌, ◌⊎◌, ◌++◌, ℕ, ◌<◌, List, [], length, take, Option, Some, None, Result, Ok, Err, inl, inr, ap, subst, refl, sym, ◌∙◌, arith, take_all, length-take}
-use Rattle.std.specs.Prelude.{IfErr, IfOk, IfSome, IsOkAnd, is_ok}
+use Rattle.std.specs.Prelude.{IfErr, IfOk, IfSome, IsOkAnd, MatchResult, is_ok}
 use Rattle.clap.specs.Walk.{Text}
 use Rattle.model.specs.World.{Path}
 use Rattle.store_types.specs.View.{request_view}
@@ -59,15 +59,15 @@ body_refused says body_error.Memory stop is none = subst (λ e. IsAsked ⊥ (Rea
 -- what an object asks by what came of the input, or that nothing came
 pub object_came : {A : Type 0} (dir : List ℕ) (o : Text × List Text) (ask : List ℕ → List Path → List ℕ → Request) (input : Stream) (n : List ℕ) (bases : List Path) (most : ℕ)
     (bytes_of : A → List ℕ) (Good : A → Type 0) (came : Result A Stop) (made : Result Made Stop) → on_object dir o ask ≡ Ok (ask n bases)
-    → IfOk came (λ x. IsOkAnd made (λ q. request_view q ≡ ask n bases (bytes_of x))) → IfErr came (λ stop. made ≡ Err stop)
+    → MatchResult came (λ x. IsOkAnd made (λ q. request_view q ≡ ask n bases (bytes_of x))) (λ stop. made ≡ Err stop)
     → IfOk came (λ x. IfSome input.old (λ all. bytes_of x ≡ take most all)) → IfErr came (λ e. (e ≡ Failed Memory) ⊎ (e ≡ Failed Input))
     → (came ≡ Err (Failed Input) → TakesFewer most input.old input.new) → IfOk came Good
     → ((x : A) → Good x → (all : List ℕ) → bytes_of x ≡ take most all → StepsAs (ask n bases (bytes_of x)) (ask n bases all))
     → IsAskedOver (InputFails (is_ok (on_object dir o ask)) most input) (λ bytes. Gives (with_bytes bytes (on_object dir o ask))) input.old made
-object_came dir o ask input n bases most bytes_of Good (Ok x) (Ok q) is view stopped prefix why lost good steps =
-    object_asked dir o (InputFails (is_ok (on_object dir o ask)) most input) ask input.old n bases (bytes_of x) most q is view prefix (steps x good)
-object_came dir o ask input n bases most bytes_of Good (Ok x) (Err stop) is view stopped prefix why lost good steps = absurd view
-object_came dir o ask input n bases most bytes_of Good (Err stop) made is view stopped prefix why lost good steps =
-    subst (λ m. IsAskedOver (InputFails (is_ok (on_object dir o ask)) most input) (λ bytes. Gives (with_bytes bytes (on_object dir o ask))) input.old m) (sym stopped)
+object_came dir o ask input n bases most bytes_of Good (Ok x) (Ok q) is given prefix why lost good steps =
+    object_asked dir o (InputFails (is_ok (on_object dir o ask)) most input) ask input.old n bases (bytes_of x) most q is given prefix (steps x good)
+object_came dir o ask input n bases most bytes_of Good (Ok x) (Err stop) is given prefix why lost good steps = absurd given
+object_came dir o ask input n bases most bytes_of Good (Err stop) made is given prefix why lost good steps =
+    subst (λ m. IsAskedOver (InputFails (is_ok (on_object dir o ask)) most input) (λ bytes. Gives (with_bytes bytes (on_object dir o ask))) input.old m) (sym given)
     (gone (InputFails (is_ok (on_object dir o ask)) most input) (λ bytes. Gives (with_bytes bytes (on_object dir o ask))) input.old stop why
     (λ same. (ap is_ok is, lost (ap (λ e. Err e) same))))

@@ -25,7 +25,8 @@ use Rattle.report.specs.declared.failures.Failure.TheVariants.{Memory, Input}
 use Rattle.tool_pure.specs.declared.stops.Stop.{Stop}
 use Rattle.tool_pure.specs.declared.stops.Stop.TheVariants.{Refused, Failed}
 use Rattle.tool.specs.Bodies.{Imports, Replaces}
-use Rattle.report.specs.Outputs.{Stream}
+use Rattle.report.specs.Outputs.{Console, Stream}
+use Rattle.streams.specs.Reads.{ConsumesAtMost}
 use Rattle.tool_pure.specs.Archive.{max_prefix}
 use Rattle.tool_pure.specs.Object.{is_path_text, most_of_contents, named_fault}
 use Rattle.tool_pure.specs.Stream.{InputFails}
@@ -134,6 +135,11 @@ reads_all runtime = true
 reads_all (serve a) = true
 reads_all _ = false
 
+-- An answer was given. Unless `whole` is true, no more of the input was read than decides whether it is an archive.
+pub record AnswersReading (whole : Bool) (answers : Console → Type 0) (console : Console) : Type 0 where
+  pub answer : answers console
+  pub reads : whole ≡ false → ConsumesAtMost max_prefix console.input.old console.input.new
+
 -- ---- what a program makes of the words and the input
 
 -- each reply and each step of the first request is one of the second too
@@ -164,3 +170,10 @@ IsAskedOver fails ask (Some bytes) made = IsAsked fails (ask bytes) made
 -- what a subcommand asks of a store, by its input
 abbrev pub IsAskedBy : Ask → List ℕ → Caller → Stream → Result Made Stop → Type 0
 IsAskedBy ask dir c input made = IsAskedOver (LosesInput ask dir c input) (Demands ask dir c) input.old made
+
+-- the request that adds an object of the arguments and the input, which is read to a bound, or why there is none
+pub record AsksObject (most : ℕ) (dir : List ℕ) (o : Text × List Text) (ask : List ℕ → List Path → List ℕ → Request)
+    (input : Stream) (made : Result Made Stop) : Type 0 where
+  pub asked : IsAskedOver (InputFails (is_ok (on_object dir o ask)) most input)
+      (λ bytes. Gives (with_bytes bytes (on_object dir o ask))) input.old made
+  pub reads : ConsumesAtMost most input.old input.new

@@ -28,14 +28,14 @@ pub data OnStore : Type 0 where
   -- the store is served over HTTP
   serves : ServeArguments → OnStore
 
--- the work of the code, as contracts see it; `None` where the subcommand makes no request to a store
+-- the work of the code, as contracts see it; there is one, since the subcommand of a call makes a request
 abbrev pub work_view : Work → Option OnStore
-work_view (work.Call c t) = option_map (calls c.now) (asks (asked_view t.now))
+work_view (work.Call asking) = option_map (calls asking.caller.now) (asks (asked_view asking.task.now))
 work_view (work.Serve a) = Some (serves a)
 
 -- whether the input may be read to its end for this work, however long it is
 abbrev pub reads_whole : Work → Bool
-reads_whole (work.Call c t) = reads_all (asked_view t.now)
+reads_whole (work.Call asking) = reads_all (asked_view asking.task.now)
 reads_whole (work.Serve a) = true
 
 -- work that is done over tables

@@ -1,15 +1,13 @@
 //! Requests that add an object.
-ghost use Rattle.std.specs.Prelude.{◌≡◌, IfOk, IfErr, IsOkAnd, Ok, Err, List, ℕ, is_ok};
+ghost use Rattle.std.specs.Prelude.{◌≡◌, IfOk, IfErr, IsOkAnd, MatchResult, Ok, Err, List, ℕ};
 ghost use Rattle.intake.specs.Arriving.{bytes_in};
 ghost use Rattle.tool_words.specs.Asked.{object_view};
 ghost use Rattle.model.specs.Request as asked;
 ghost use Rattle.store_types.specs.View.{request_view};
-ghost use Rattle.streams.specs.Reads.{ConsumesAtMost};
 ghost use Rattle.report.specs.Outputs.{change_of};
 ghost use Rattle.tool_pure.specs.Archive.{max_prefix};
 ghost use Rattle.tool_pure.specs.Object.{most_of_contents};
-ghost use Rattle.tool_pure.specs.Stream.{InputFails};
-ghost use Rattle.tool.specs.Requests.{Gives, IsAsked, IsAskedOver, on_object, with_bytes};
+ghost use Rattle.tool.specs.Requests.{AsksObject, Gives, IsAsked, on_object, with_bytes};
 
 use intake::Intake;
 use paths::StoreDir;
@@ -35,10 +33,10 @@ fn parse_arguments(
 
 /// The request that adds a text object with the contents read, or why they couldn't be read.
 fn text_of(object: Object, came: Result<Vec<u8>, Stop>) -> Result<Request, Stop>
-    ensures came { IfOk came
+    ensures { MatchResult came
         (λ bytes. IsOkAnd result
-        (λ q. request_view q ≡ asked.add_text object.name object.references.items bytes.items)) }
-    ensures stopped { IfErr came (λ stop. result ≡ Err stop) }
+        (λ q. request_view q ≡ asked.add_text object.name object.references.items bytes.items))
+        (λ stop. result ≡ Err stop) }
 {
     let contents = came?;
     Ok(Request::AddText {
@@ -55,14 +53,8 @@ pub(crate) fn add_text<R: Read>(
     object: &ObjectArguments<'_>,
     input: &mut R,
 ) -> Result<Request, Stop>
-    ensures asked { IsAskedOver
-        (InputFails (is_ok (on_object dir.now (object_view object.now)
-        (λ name refs bytes. asked.add_text name refs bytes))) most_of_contents
-        (change_of R.remaining input.old input.new))
-        (λ bytes. Gives (with_bytes bytes (on_object dir.now (object_view object.now)
-        (λ name refs bytes. asked.add_text name refs bytes))))
-        (R.remaining input.old) result }
-    ensures reads { ConsumesAtMost max_prefix (R.remaining input.old) (R.remaining input.new) }
+    ensures { AsksObject most_of_contents dir.now (object_view object.now)
+        (λ name refs bytes. asked.add_text name refs bytes) (change_of R.remaining input.old input.new) result }
 {
     let arguments = parse_arguments(alloc, dir, object)?;
     text_of(arguments, read_input(alloc, input, MOST_OF_CONTENTS))
@@ -70,10 +62,10 @@ pub(crate) fn add_text<R: Read>(
 
 /// The request that adds a source object with the archive read, or why it couldn't be read.
 fn source_of(object: Object, came: Result<Intake, Stop>) -> Result<Request, Stop>
-    ensures came { IfOk came
+    ensures { MatchResult came
         (λ nar. IsOkAnd result
-        (λ q. request_view q ≡ asked.add_source object.name object.references.items (bytes_in nar))) }
-    ensures stopped { IfErr came (λ stop. result ≡ Err stop) }
+        (λ q. request_view q ≡ asked.add_source object.name object.references.items (bytes_in nar)))
+        (λ stop. result ≡ Err stop) }
 {
     let nar = came?;
     Ok(Request::AddSource {
@@ -90,13 +82,8 @@ pub(crate) fn add_source<R: Read>(
     object: &ObjectArguments<'_>,
     input: &mut R,
 ) -> Result<Request, Stop>
-    ensures asked { IsAskedOver
-        (InputFails (is_ok (on_object dir.now (object_view object.now)
-        (λ name refs bytes. asked.add_source name refs bytes))) max_prefix (change_of R.remaining input.old input.new))
-        (λ bytes. Gives (with_bytes bytes (on_object dir.now (object_view object.now)
-        (λ name refs bytes. asked.add_source name refs bytes))))
-        (R.remaining input.old) result }
-    ensures reads { ConsumesAtMost max_prefix (R.remaining input.old) (R.remaining input.new) }
+    ensures { AsksObject max_prefix dir.now (object_view object.now)
+        (λ name refs bytes. asked.add_source name refs bytes) (change_of R.remaining input.old input.new) result }
 {
     let arguments = parse_arguments(alloc, dir, object)?;
     source_of(arguments, receive_archive(alloc, input))

@@ -3,11 +3,9 @@ ghost use Rattle.std.specs.Prelude.{◌≡◌, None, false};
 ghost use Rattle.report.specs.Outputs.{change_of};
 ghost use Rattle.tool.specs.Answer.{AnswersWithoutRequest, AnswersLine, AnswersLs, AnswersSourcePath, AnswersTextPath};
 ghost use Rattle.tool.specs.Files.{DoesFile};
-ghost use Rattle.tool_pure.specs.Archive.{max_prefix};
 ghost use Rattle.tool_words.specs.Asked as asked;
 ghost use Rattle.tool_words.specs.Line.{line_view};
-ghost use Rattle.tool.specs.Requests.{asks, reads_all};
-ghost use Rattle.streams.specs.Reads.{ConsumesAtMost};
+ghost use Rattle.tool.specs.Requests.{AnswersReading, asks, reads_all};
 
 use crate::calls::call;
 use crate::requests::is_asked;
@@ -29,7 +27,7 @@ fn ls_under<R: Read, W: Write, E: Write>(
     output: &mut W,
     errors: &mut E,
 ) -> u8
-    ensures answer { AnswersLs config.now
+    ensures { AnswersReading false (AnswersLs config.now)
         (record {
           input = change_of R.remaining input.old input.new;
           written = record {
@@ -38,7 +36,6 @@ fn ls_under<R: Read, W: Write, E: Write>(
             status = result;
           };
         }) }
-    ensures reads { ConsumesAtMost max_prefix (R.remaining input.old) (R.remaining input.new) }
 {
     if let Err(stop) = settings(alloc, config) {
         return say(stop, errors);
@@ -55,7 +52,7 @@ fn text_path_under<R: Read, W: Write, E: Write>(
     output: &mut W,
     errors: &mut E,
 ) -> u8
-    ensures answer { AnswersTextPath config.now (asked.object_view object.now)
+    ensures { AnswersReading false (AnswersTextPath config.now (asked.object_view object.now))
         (record {
           input = change_of R.remaining input.old input.new;
           written = record {
@@ -64,7 +61,6 @@ fn text_path_under<R: Read, W: Write, E: Write>(
             status = result;
           };
         }) }
-    ensures reads { ConsumesAtMost max_prefix (R.remaining input.old) (R.remaining input.new) }
 {
     match settings(alloc, config) {
         Ok(config) => {
@@ -84,7 +80,7 @@ fn source_path_under<R: Read, W: Write, E: Write>(
     output: &mut W,
     errors: &mut E,
 ) -> u8
-    ensures answer { AnswersSourcePath config.now (asked.object_view object.now)
+    ensures { AnswersReading false (AnswersSourcePath config.now (asked.object_view object.now))
         (record {
           input = change_of R.remaining input.old input.new;
           written = record {
@@ -93,7 +89,6 @@ fn source_path_under<R: Read, W: Write, E: Write>(
             status = result;
           };
         }) }
-    ensures reads { ConsumesAtMost max_prefix (R.remaining input.old) (R.remaining input.new) }
 {
     match settings(alloc, config) {
         Ok(config) => {
@@ -115,8 +110,9 @@ fn answer_without_request<F: Start, R: Read, W: Write, E: Write>(
     errors: &mut E,
 ) -> u8
     requires { asks (asked.asked_view line.now.task) ≡ None }
-    ensures answer { AnswersWithoutRequest (DoesFile F.Start ⟦<FileFrom<F> as Disk>⟧) config.now (line_view line.now)
-        (asked.asked_view line.now.task)
+    ensures { AnswersReading (reads_all (asked.asked_view line.now.task))
+        (AnswersWithoutRequest (DoesFile F.Start ⟦<FileFrom<F> as Disk>⟧) config.now (line_view line.now)
+        (asked.asked_view line.now.task))
         (record {
           input = change_of R.remaining input.old input.new;
           written = record {
@@ -125,8 +121,6 @@ fn answer_without_request<F: Start, R: Read, W: Write, E: Write>(
             status = result;
           };
         }) }
-    ensures reads { reads_all (asked.asked_view line.now.task) ≡ false
-        → ConsumesAtMost max_prefix (R.remaining input.old) (R.remaining input.new) }
 {
     let alloc = rt.alloc();
     match &line.task {
@@ -168,7 +162,8 @@ pub fn answer<F: Start, R: Read, W: Write, E: Write>(
     output: &mut W,
     errors: &mut E,
 ) -> u8
-    ensures answer { AnswersLine (DoesFile F.Start ⟦<FileFrom<F> as Disk>⟧) config.now (line_view line.now)
+    ensures { AnswersReading (reads_all (asked.asked_view line.now.task))
+        (AnswersLine (DoesFile F.Start ⟦<FileFrom<F> as Disk>⟧) config.now (line_view line.now))
         (record {
           input = change_of R.remaining input.old input.new;
           written = record {
@@ -177,8 +172,6 @@ pub fn answer<F: Start, R: Read, W: Write, E: Write>(
             status = result;
           };
         }) }
-    ensures reads { reads_all (asked.asked_view line.now.task) ≡ false
-        → ConsumesAtMost max_prefix (R.remaining input.old) (R.remaining input.new) }
 {
     if is_asked(&line.task) {
         return call(rt, start, config, line, input, output, errors);

@@ -1,15 +1,14 @@
 //! Subcommands that make a request to a store.
-ghost use Rattle.std.specs.Prelude.{◌≡◌, IsSome, Some, false};
+ghost use Rattle.std.specs.Prelude.{◌≡◌, IsSome, Some};
 ghost use Rattle.tool_words.specs.Asked.{asked_view};
 ghost use Rattle.tool_words.specs.Line.{line_view};
-ghost use Rattle.streams.specs.Reads.{ConsumesAtMost};
 ghost use Rattle.report.specs.Outputs.{change_of};
 ghost use Rattle.tool.specs.Answer.{AnswersAsking};
-ghost use Rattle.tool_pure.specs.Archive.{max_prefix};
 ghost use Rattle.tool.specs.Calls.{AnswersIn, Serves};
 ghost use Rattle.tool.specs.Files.{DoesFile};
-ghost use Rattle.tool.specs.Requests.{Ask, asks, reads_all};
+ghost use Rattle.tool.specs.Requests.{AnswersReading, Ask, asks, reads_all};
 
+use crate::caller_task::CallerTask;
 use crate::requests::request;
 use crate::stores::with_tables;
 use crate::work::Work;
@@ -36,19 +35,18 @@ pub(crate) fn call_over<S: Alter + Drop, R: Read, W: Write, E: Write>(
 ) -> u8
     requires asked { IsSome (asks (asked_view task.now)) }
     requires dir { tables.dir ≡ config.store_dir }
-    ensures answer { (ask : Ask) → asks (asked_view task.now) ≡ Some ask → AnswersIn
-        (Serves S.Store config tables caller.now (record {
-          output = change_of W.contents output.old output.new;
-          errors = change_of E.contents errors.old errors.new;
-          status = result;
-        }))
-        ask config.store_dir caller.now (change_of R.remaining input.old input.new) (record {
-          output = change_of W.contents output.old output.new;
-          errors = change_of E.contents errors.old errors.new;
-          status = result;
+    ensures { AnswersReading (reads_all (asked_view task.now))
+        (λ console. (ask : Ask) → asks (asked_view task.now) ≡ Some ask
+        → AnswersIn (Serves S.Store config tables caller.now console.written) ask config.store_dir caller.now
+        console.input console.written)
+        (record {
+          input = change_of R.remaining input.old input.new;
+          written = record {
+            output = change_of W.contents output.old output.new;
+            errors = change_of E.contents errors.old errors.new;
+            status = result;
+          };
         }) }
-    ensures reads { reads_all (asked_view task.now) ≡ false
-        → ConsumesAtMost max_prefix (R.remaining input.old) (R.remaining input.new) }
 {
     match request(alloc, store_dir(&config), caller, task, input) {
         Ok(request) => {
@@ -75,8 +73,9 @@ pub(crate) fn call<F: Start, R: Read, W: Write, E: Write>(
     errors: &mut E,
 ) -> u8
     requires { IsSome (asks (asked_view line.now.task)) }
-    ensures answer { (ask : Ask) → asks (asked_view line.now.task) ≡ Some ask
-        → AnswersAsking (DoesFile F.Start ⟦<FileFrom<F> as Disk>⟧) config.now (line_view line.now) ask
+    ensures { AnswersReading (reads_all (asked_view line.now.task))
+        (λ console. (ask : Ask) → asks (asked_view line.now.task) ≡ Some ask
+        → AnswersAsking (DoesFile F.Start ⟦<FileFrom<F> as Disk>⟧) config.now (line_view line.now) ask console)
         (record {
           input = change_of R.remaining input.old input.new;
           written = record {
@@ -85,8 +84,6 @@ pub(crate) fn call<F: Start, R: Read, W: Write, E: Write>(
             status = result;
           };
         }) }
-    ensures reads { reads_all (asked_view line.now.task) ≡ false
-        → ConsumesAtMost max_prefix (R.remaining input.old) (R.remaining input.new) }
 {
     let config = match settings(rt.alloc(), config) {
         Ok(config) => config,
@@ -94,7 +91,10 @@ pub(crate) fn call<F: Start, R: Read, W: Write, E: Write>(
     };
     match parse_caller(rt.alloc(), line.user, line.group) {
         Ok(caller) => {
-            let work = Work::Call(&caller, &line.task);
+            let work = Work::Call(CallerTask {
+                caller: &caller,
+                task: &line.task,
+            });
             with_tables(rt, start, line.db, config, &work, input, output, errors)
         }
         Err(stop) => say(stop, errors),

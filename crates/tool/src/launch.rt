@@ -8,7 +8,7 @@ ghost use Rattle.tool_pure.specs.Archive.{max_prefix};
 ghost use Rattle.tool_words.specs.Line.{IsLine, IsUsageFault, Line, line_view};
 ghost use Rattle.streams.specs.Reads.{ConsumesAtMost};
 ghost use Rattle.report.specs.Outputs.{Prints, change_of};
-ghost use Rattle.tool.specs.Requests.{reads_all};
+ghost use Rattle.tool.specs.Requests.{AnswersReading, reads_all};
 ghost use Rattle.tool_pure.specs.Configuration.{opened_by};
 ghost use Rattle.tool_pure.specs.Stream.{Answers, Says};
 ghost use Rattle.tool_words.specs.declared.error.CommandError.{CommandError};
@@ -92,7 +92,8 @@ fn execute<F: Start, R: Read, W: Write, E: Write>(
     output: &mut W,
     errors: &mut E,
 ) -> u8
-    ensures answer { RunsLine (DoesFile F.Start ⟦<FileFrom<F> as Disk>⟧) (line_view line.now)
+    ensures { AnswersReading (reads_all (line_view line.now).asked)
+        (RunsLine (DoesFile F.Start ⟦<FileFrom<F> as Disk>⟧) (line_view line.now))
         (record {
           input = change_of R.remaining input.old input.new;
           written = record {
@@ -101,8 +102,6 @@ fn execute<F: Start, R: Read, W: Write, E: Write>(
             status = result;
           };
         }) }
-    ensures reads { reads_all (line_view line.now).asked ≡ false → ConsumesAtMost max_prefix (R.remaining input.old)
-        (R.remaining input.new) }
 {
     let file = open_config(rt, line.config);
     answer_by(rt, start, file, line, input, output, errors)
@@ -118,8 +117,8 @@ fn answer_by<F: Start, C: Read + Drop, R: Read, W: Write, E: Write>(
     output: &mut W,
     errors: &mut E,
 ) -> u8
-    ensures answer { AnswersOpened (DoesFile F.Start ⟦<FileFrom<F> as Disk>⟧) (line_view line.now)
-        (opened_by C.remaining file)
+    ensures { AnswersReading (reads_all (line_view line.now).asked)
+        (AnswersOpened (DoesFile F.Start ⟦<FileFrom<F> as Disk>⟧) (line_view line.now) (opened_by C.remaining file))
         (record {
           input = change_of R.remaining input.old input.new;
           written = record {
@@ -128,8 +127,6 @@ fn answer_by<F: Start, C: Read + Drop, R: Read, W: Write, E: Write>(
             status = result;
           };
         }) }
-    ensures reads { reads_all (line_view line.now).asked ≡ false → ConsumesAtMost max_prefix (R.remaining input.old)
-        (R.remaining input.new) }
 {
     match config_text(rt.alloc(), file) {
         Ok(text) => answer(rt, start, text.as_slice(), line, input, output, errors),

@@ -3,6 +3,7 @@
 
 mod adds;
 mod answers;
+mod caller_task;
 mod calls;
 mod deletions;
 mod files;

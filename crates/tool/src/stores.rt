@@ -1,10 +1,9 @@
 //! The store that a command line works with: that of a file, or one in memory.
-ghost use Rattle.std.specs.Prelude.{◌≡◌, IsSome, Some, false};
-ghost use Rattle.streams.specs.Reads.{ConsumesAtMost};
+ghost use Rattle.std.specs.Prelude.{◌≡◌, Some};
 ghost use Rattle.report.specs.Outputs.{change_of};
 ghost use Rattle.tool_words.specs.Asked.{optional_text};
-ghost use Rattle.tool_pure.specs.Archive.{max_prefix};
 ghost use Rattle.tool.specs.Files.{DoesFile};
+ghost use Rattle.tool.specs.Requests.{AnswersReading};
 ghost use Rattle.tool.specs.Works.{DoesNew, DoesWith, OnStore, reads_whole, work_view};
 
 use crate::files::refuse_file;
@@ -26,8 +25,8 @@ fn in_memory<R: Read, W: Write, E: Write>(
     output: &mut W,
     errors: &mut E,
 ) -> u8
-    requires { IsSome (work_view work.now) }
-    ensures does { (d : OnStore) → work_view work.now ≡ Some d → DoesNew config d
+    ensures { AnswersReading (reads_whole work.now)
+        (λ console. (d : OnStore) → work_view work.now ≡ Some d → DoesNew config d console)
         (record {
           input = change_of R.remaining input.old input.new;
           written = record {
@@ -36,8 +35,6 @@ fn in_memory<R: Read, W: Write, E: Write>(
             status = result;
           };
         }) }
-    ensures reads { reads_whole work.now ≡ false
-        → ConsumesAtMost max_prefix (R.remaining input.old) (R.remaining input.new) }
 {
     match Tables::open_in_memory(rt.alloc(), store_dir(&config)) {
         Ok(tables) => work_over(rt, config, tables, work, input, output, errors),
@@ -63,8 +60,9 @@ fn in_file<F: Start, R: Read, W: Write, E: Write>(
     output: &mut W,
     errors: &mut E,
 ) -> u8
-    requires { IsSome (work_view work.now) }
-    ensures does { (d : OnStore) → work_view work.now ≡ Some d → DoesFile F.Start ⟦<FileFrom<F> as Disk>⟧ config d
+    ensures { AnswersReading (reads_whole work.now)
+        (λ console. (d : OnStore) → work_view work.now ≡ Some d
+        → DoesFile F.Start ⟦<FileFrom<F> as Disk>⟧ config d console)
         (record {
           input = change_of R.remaining input.old input.new;
           written = record {
@@ -73,8 +71,6 @@ fn in_file<F: Start, R: Read, W: Write, E: Write>(
             status = result;
           };
         }) }
-    ensures reads { reads_whole work.now ≡ false
-        → ConsumesAtMost max_prefix (R.remaining input.old) (R.remaining input.new) }
 {
     match tables::open(rt, path, store_dir(&config), start) {
         Ok(tables) => work_over(rt, config, tables, work, input, output, errors),
@@ -100,9 +96,9 @@ pub(crate) fn with_tables<F: Start, R: Read, W: Write, E: Write>(
     output: &mut W,
     errors: &mut E,
 ) -> u8
-    requires { IsSome (work_view work.now) }
-    ensures does { (d : OnStore) → work_view work.now ≡ Some d
-        → DoesWith (DoesFile F.Start ⟦<FileFrom<F> as Disk>⟧) (optional_text db.entry) config d
+    ensures { AnswersReading (reads_whole work.now)
+        (λ console. (d : OnStore) → work_view work.now ≡ Some d
+        → DoesWith (DoesFile F.Start ⟦<FileFrom<F> as Disk>⟧) (optional_text db.entry) config d console)
         (record {
           input = change_of R.remaining input.old input.new;
           written = record {
@@ -111,8 +107,6 @@ pub(crate) fn with_tables<F: Start, R: Read, W: Write, E: Write>(
             status = result;
           };
         }) }
-    ensures reads { reads_whole work.now ≡ false
-        → ConsumesAtMost max_prefix (R.remaining input.old) (R.remaining input.new) }
 {
     match db {
         Some(path) => in_file(rt, start, path, config, work, input, output, errors),

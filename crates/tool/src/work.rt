@@ -1,5 +1,5 @@
 //! What a command line does with a store.
-ghost use Rattle.std.specs.Prelude.{◌≡◌, IsSome, Some, false};
+ghost use Rattle.std.specs.Prelude.{◌≡◌, Some, false};
 ghost use Rattle.sqlite.specs.State.{HasCleanDisk};
 ghost use Rattle.sqlite.specs.Held.{Held, state};
 ghost use Rattle.model.specs.World.{World};
@@ -9,20 +9,21 @@ ghost use Rattle.report.specs.Outputs.{change_of};
 ghost use Rattle.tool_pure.specs.Archive.{max_prefix};
 ghost use Rattle.tool.specs.Works.{DoesIn, DoesOver, OnStore, reads_whole, work_view};
 
+use crate::caller_task::CallerTask;
 use crate::calls::call_over;
 use crate::serve::serve_over;
-use policy::{Caller, Config};
+use policy::Config;
 use sqlite::Alter;
 use std::io::{Read, Write};
 use std::rt::HostRuntime;
 use tables::Tables;
-use tool_words::{ServeArguments, Task};
+use tool_words::ServeArguments;
 
 /// What a command line does with a store.
 #[derive(Drop)]
 pub(crate) enum Work<'a> {
     /// Makes the request of a subcommand, for a caller.
-    Call(&'a Caller, &'a Task<'a>),
+    Call(CallerTask<'a>),
     /// Serves the store over HTTP.
     Serve(ServeArguments),
 }
@@ -37,8 +38,7 @@ pub(crate) fn work_over<S: Alter + Drop, R: Read, W: Write, E: Write>(
     output: &mut W,
     errors: &mut E,
 ) -> u8
-    requires asked { IsSome (work_view work.now) }
-    requires dir { tables.dir ≡ config.store_dir }
+    requires { tables.dir ≡ config.store_dir }
     ensures over { (d : OnStore) → work_view work.now ≡ Some d → DoesOver S.Store config tables d
         (record {
           input = change_of R.remaining input.old input.new;
@@ -62,12 +62,12 @@ pub(crate) fn work_over<S: Alter + Drop, R: Read, W: Write, E: Write>(
         → ConsumesAtMost max_prefix (R.remaining input.old) (R.remaining input.new) }
 {
     match work {
-        Work::Call(caller, task) => call_over(
+        Work::Call(asking) => call_over(
             rt.alloc(),
             config,
             tables,
-            caller,
-            task,
+            asking.caller,
+            asking.task,
             input,
             output,
             errors,

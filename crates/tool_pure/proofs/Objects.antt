@@ -4,13 +4,22 @@ use Rattle.std.specs.List.{list_all}
 use Rattle.std.specs.Option.{option_map_or}
 use Rattle.std.proofs.lemmas.Bool.{cases_lt, lt-ltb, le-ltb}
 use Rattle.paths.specs.Names.{is_store_name}
+use Rattle.paths.specs.declared.store_name.NameError.{NameError}
+use Rattle.paths.specs.declared.store_name.NameError.TheVariants as name_error
 use Rattle.model.specs.declared.refusal.Refusal.{Refusal}
 use Rattle.model.specs.declared.refusal.Refusal.TheVariants.{BadStorePath, TooManyReferences}
 use Rattle.tool_pure.specs.declared.stops.Stop.{Stop}
 use Rattle.tool_pure.specs.declared.stops.Stop.TheVariants.{Refused}
 use Rattle.tool_pure.specs.Object.{is_path_text, named_fault, count_fault, object_fault, text_path_answer, max_contents}
 use Rattle.model.specs.Objects.{most_references}
+use Rattle.tool_pure.specs.Faults.{name_stop}
 use Rattle.tool_pure.specs.Stream.{IsStopBy}
+
+-- the stop of a name that isn't one, or for which there was no memory
+pub bad_name : (dir name : List ℕ) (refs : List (List ℕ)) (fault : NameError) → (fault ≡ name_error.BadStoreName → is_store_name name ≡ false)
+    → IsStopBy (named_fault dir name refs) (name_stop fault)
+bad_name dir name refs name_error.BadStoreName bad = inr (let wrong = bad refl in rw wrong refl)
+bad_name dir name refs name_error.Memory bad = inl refl
 
 pub bad_path : (dir name : List ℕ) (refs : List (List ℕ)) → is_store_name name ≡ true → list_all (is_path_text dir) refs ≡ false
     → named_fault dir name refs ≡ Some BadStorePath

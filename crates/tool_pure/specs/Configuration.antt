@@ -1,5 +1,6 @@
 -- The text of the configuration, by its file.
-use Rattle.std.specs.Prelude.{◌≡◌, ◌⊎◌, ◌<◌, ℕ, length, List, [], Option, Some, None, IfSome, Result, Ok, Err, take}
+use Rattle.std.specs.Prelude.{◌≡◌, ◌⊎◌, ◌<◌, ℕ, length, List, [], Option, Some, None, IfSome, Result, Ok, Err, Vec, take}
+use Rattle.std.specs.declared.alloc.Global.{Global}
 use Rattle.std.specs.declared.io.Error.{Error}
 use Rattle.report.specs.declared.failures.Failure.TheVariants.{Memory, File}
 use Rattle.tool_pure.specs.declared.stops.Stop.{Stop}
@@ -30,3 +31,8 @@ IsConfig (Some (Err fault)) (Err stop) = stop ≡ Failed File
 IsConfig (Some (Ok known)) (Ok text) = IfSome known (λ all. text ≡ take most_of_config all)
 IsConfig (Some (Ok known)) (Err stop) =
     ((stop ≡ Failed Memory) × IfSome known (λ all. 0 < length all)) ⊎ (stop ≡ Failed File)
+
+-- the bytes that were read of a file, or why they couldn't be
+abbrev pub read_bytes : Result (Vec ℕ Global) Stop → Result (List ℕ) Stop
+read_bytes (Ok text) = Ok text.items
+read_bytes (Err stop) = Err stop

@@ -1,14 +1,21 @@
 -- What is read from an input, and an answer to the two outputs.
-use Rattle.std.specs.Prelude.{◌≡◌, ◌⊎◌, ⊤, ℕ, Bool, true, is_none, List, Option, Some, None, Result, Ok, Err, String, string_bytes, option_map}
+use Rattle.std.specs.Prelude.{◌≡◌, ◌⊎◌, ⊤, ℕ, Bool, true, is_none, List, Option, Some, None, Result, Ok, Err, IfErr, IsErrOf, String, string_bytes, option_map}
 use Rattle.std.specs.Io.KnownBytes.{Keeps}
 use Rattle.std.specs.declared.alloc.Global.{Global}
-use Rattle.streams.specs.Reads.{ConsumesAtMost, TakesFewer}
+use Rattle.streams.specs.Reads.{ConsumesAtMost, TakesFewer, TakesSome}
 use Rattle.model.specs.declared.refusal.Refusal.{Refusal}
 use Rattle.report.specs.declared.failures.Failure.TheVariants.{Memory, Input}
 use Rattle.tool_pure.specs.declared.stops.Stop.{Stop}
 use Rattle.tool_pure.specs.declared.stops.Stop.TheVariants.{Refused, Failed}
 use Rattle.report.specs.Outputs.{Console, Offers, Printed, Prints, Stream, Written, on_errors}
 use Rattle.tool_pure.specs.Stop.{stop_text, stop_status}
+
+-- An input was read to a bound. It failed only before the bound, and memory was refused only for bytes that came.
+pub record ReadsUpTo {T : Type 0} (most : ℕ) (stream : Stream) (result : Result T Stop) : Type 0 where
+  pub err : IfErr result (λ e. (e ≡ Failed Memory) ⊎ (e ≡ Failed Input))
+  pub reads : ConsumesAtMost most stream.old stream.new
+  pub input : IsErrOf result (Failed Input) → TakesFewer most stream.old stream.new
+  pub memory : IsErrOf result (Failed Memory) → TakesSome most stream.old stream.new
 
 -- an input is read to a bound, and not at all if a fault is found before
 abbrev pub ReadsFor : Option Refusal → ℕ → Option (List ℕ) → Option (List ℕ) → Type 0
@@ -63,6 +70,18 @@ abbrev pub IsResultOf : Option Refusal → (List ℕ → Result (List ℕ) Stop)
 IsResultOf (Some fault) answer known result = result ≡ Err (Refused fault)
 IsResultOf None answer None result = (bytes : List ℕ) × (result ≡ answer bytes)
 IsResultOf None answer (Some bytes) result = result ≡ answer bytes
+
+-- A result is that of an input. The input was read to a bound, and not at all if a fault was found before.
+pub record IsResultFor (fault : Option Refusal) (most : ℕ) (says : List ℕ → Result (List ℕ) Stop) (input : Stream)
+    (result : Result (List ℕ) Stop) : Type 0 where
+  pub answer : IsFailure (InputFails (is_none fault) most input) result ⊎ IsResultOf fault says input.old result
+  pub reads : ReadsFor fault most input.old input.new
+
+-- The answer to an input was given. The input was read to a bound, and not at all if a fault was found before.
+pub record AnswersInput (fault : Option Refusal) (most : ℕ) (says : List ℕ → Result (List ℕ) Stop) (console : Console)
+    : Type 0 where
+  pub answer : AnswersTo fault most says console
+  pub reads : ReadsFor fault most console.input.old console.input.new
 
 -- why arguments are refused: out of memory, or the fault
 abbrev pub IsStopBy : Option Refusal → Stop → Type 0

@@ -1,6 +1,7 @@
 //! The configuration: its file, and its settings.
-ghost use Rattle.std.specs.Prelude.{◌≡◌, ◌⊎◌, IfOk, IfErr, IfSome, IsErrOf, IsOkAnd, Ok, None, [], ◌<◌, is_some, length, take};
+ghost use Rattle.std.specs.Prelude.{◌≡◌, IfOk, IfErr, Ok, Some, is_some};
 ghost use Rattle.policy.specs.Toml.{config_of};
+ghost use Rattle.tool_pure.specs.Configuration.{IsConfig, opened_by, read_bytes};
 ghost use Rattle.tool_pure.specs.Who.{StopsFor};
 
 use crate::stops::Stop;
@@ -28,13 +29,7 @@ pub fn open_config<Rt: Files>(rt: &Rt, path: Option<&str>) -> Option<io::Result<
 
 /// The text of a configuration file, of which no more than one byte above the limit is read.
 fn file_text<R: Read + Drop>(alloc: Global, file: io::Result<R>) -> Result<Vec<u8>, Stop>
-    ensures unopened { IfErr file (λ fault. IsErrOf result (Stop.Failed Failure.File)) }
-    ensures text { IfOk file
-        (λ input. IfOk result (λ text. IfSome (R.remaining input) (λ all. text.items ≡ take 1048577 all))) }
-    ensures memory { IfOk file
-        (λ input. IfErr result
-        (λ e. e ≡ Stop.Failed Failure.Memory → IfSome (R.remaining input) (λ all. 0 < length all))) }
-    ensures err { IfErr result (λ e. (e ≡ Stop.Failed Failure.Memory) ⊎ (e ≡ Stop.Failed Failure.File)) }
+    ensures { IsConfig (opened_by R.remaining (Some file)) (read_bytes result) }
 {
     let mut input = match file {
         Ok(input) => input,
@@ -58,16 +53,7 @@ pub fn config_text<R: Read + Drop>(
     alloc: Global,
     file: Option<io::Result<R>>,
 ) -> Result<Vec<u8>, Stop>
-    ensures none { file ≡ None → IsOkAnd result (λ text. text.items ≡ []) }
-    ensures unopened { IfSome file (λ opened. IfErr opened (λ fault. IsErrOf result (Stop.Failed Failure.File))) }
-    ensures text { IfSome file
-        (λ opened. IfOk opened
-        (λ input. IfOk result (λ text. IfSome (R.remaining input) (λ all. text.items ≡ take 1048577 all)))) }
-    ensures memory { IfSome file
-        (λ opened. IfOk opened
-        (λ input. IfErr result
-        (λ e. e ≡ Stop.Failed Failure.Memory → IfSome (R.remaining input) (λ all. 0 < length all)))) }
-    ensures err { IfErr result (λ e. (e ≡ Stop.Failed Failure.Memory) ⊎ (e ≡ Stop.Failed Failure.File)) }
+    ensures { IsConfig (opened_by R.remaining file) (read_bytes result) }
 {
     match file {
         Some(file) => file_text(alloc, file),

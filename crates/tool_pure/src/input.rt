@@ -1,9 +1,10 @@
 //! An input, to a bound or all of it.
-ghost use Rattle.std.specs.Prelude.{◌≡◌, ◌⊎◌, ◌++◌, IfOk, IfErr, IfSome, IsErrOf, OnOk, take};
+ghost use Rattle.std.specs.Prelude.{◌≡◌, ◌++◌, IfOk, IfSome, OnOk, take};
 ghost use Rattle.nar.specs.Tree.{IsBytes};
 ghost use Rattle.intake.specs.Arriving.{bytes_in};
 ghost use Rattle.tool_pure.specs.Archive.{max_prefix};
-ghost use Rattle.streams.specs.Reads.{ConsumesAtMost, TakesFewer, TakesSome};
+ghost use Rattle.report.specs.Outputs.{change_of};
+ghost use Rattle.tool_pure.specs.Stream.{ReadsUpTo};
 
 use crate::archive::MOST_OF_ARCHIVE;
 use crate::stops::Stop;
@@ -21,12 +22,7 @@ use streams::{Sink, read_at_most, receive_at_most};
 /// bytes that were read.
 pub fn read_input<R: Read>(alloc: Global, input: &mut R, most: usize) -> Result<Vec<u8>, Stop>
     ensures ok { IfOk result (λ bytes. IfSome (R.remaining input.old) (λ all. bytes.items ≡ take most all)) }
-    ensures err { IfErr result (λ e. (e ≡ Stop.Failed Failure.Memory) ⊎ (e ≡ Stop.Failed Failure.Input)) }
-    ensures reads { ConsumesAtMost most (R.remaining input.old) (R.remaining input.new) }
-    ensures input { IsErrOf result (Stop.Failed Failure.Input)
-        → TakesFewer most (R.remaining input.old) (R.remaining input.new) }
-    ensures memory { IsErrOf result (Stop.Failed Failure.Memory)
-        → TakesSome most (R.remaining input.old) (R.remaining input.new) }
+    ensures read { ReadsUpTo most (change_of R.remaining input.old input.new) result }
 {
     let bytes = read_at_most(alloc, input, most)?;
     Ok(bytes)
@@ -40,12 +36,7 @@ pub fn read_input<R: Read>(alloc: Global, input: &mut R, most: usize) -> Result<
 pub fn receive_archive<R: Read>(alloc: Global, input: &mut R) -> Result<Intake, Stop>
     ensures ok { IfOk result (λ nar. IfSome (R.remaining input.old) (λ all. bytes_in nar ≡ take max_prefix all)) }
     ensures bytes { IfOk result (λ nar. IsBytes (bytes_in nar)) }
-    ensures err { IfErr result (λ e. (e ≡ Stop.Failed Failure.Memory) ⊎ (e ≡ Stop.Failed Failure.Input)) }
-    ensures reads { ConsumesAtMost max_prefix (R.remaining input.old) (R.remaining input.new) }
-    ensures input { IsErrOf result (Stop.Failed Failure.Input)
-        → TakesFewer max_prefix (R.remaining input.old) (R.remaining input.new) }
-    ensures memory { IsErrOf result (Stop.Failed Failure.Memory)
-        → TakesSome max_prefix (R.remaining input.old) (R.remaining input.new) }
+    ensures read { ReadsUpTo max_prefix (change_of R.remaining input.old input.new) result }
 {
     let mut nar = Intake::new(alloc);
     receive_at_most(input, MOST_OF_ARCHIVE, &mut nar)?;
@@ -65,11 +56,7 @@ const UNBOUNDED: usize = usize::MAX;
 pub fn receive_input<R: Read, S: Sink>(input: &mut R, sink: &mut S) -> Result<(), Stop>
     ensures ok { OnOk result
         (IfSome (R.remaining input.old) (λ all. S.received sink.new ≡ S.received sink.old ++ all)) }
-    ensures err { IfErr result (λ e. (e ≡ Stop.Failed Failure.Memory) ⊎ (e ≡ Stop.Failed Failure.Input)) }
-    ensures input { IsErrOf result (Stop.Failed Failure.Input)
-        → TakesFewer UNBOUNDED (R.remaining input.old) (R.remaining input.new) }
-    ensures memory { IsErrOf result (Stop.Failed Failure.Memory)
-        → TakesSome UNBOUNDED (R.remaining input.old) (R.remaining input.new) }
+    ensures read { ReadsUpTo UNBOUNDED (change_of R.remaining input.old input.new) result }
 {
     let count = receive_at_most(input, UNBOUNDED, sink)?;
     if count < UNBOUNDED {

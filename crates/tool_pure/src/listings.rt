@@ -1,9 +1,8 @@
 //! `ls`: the listing of an archive.
-ghost use Rattle.std.specs.Prelude.{◌≡◌, ◌⊎◌, true, IfOk, IfErr, Ok, Err, None, string_bytes};
+ghost use Rattle.std.specs.Prelude.{◌≡◌, ◌⊎◌, IfOk, IfErr, Ok, Err, None, string_bytes};
 ghost use Rattle.report.specs.Outputs.{change_of};
 ghost use Rattle.tool_pure.specs.Archive.{max_prefix, ls_answer};
-ghost use Rattle.streams.specs.Reads.{ConsumesAtMost};
-ghost use Rattle.tool_pure.specs.Stream.{AnswersTo, InputFails, IsFailure, IsResultOf, result_text};
+ghost use Rattle.tool_pure.specs.Stream.{AnswersInput, IsResultFor, result_text};
 
 use crate::archive::{MOST_OF_ARCHIVE, read_archive};
 use crate::input::read_input;
@@ -24,10 +23,7 @@ fn listing(alloc: Global, nar: &[u8]) -> Result<String, Stop>
 }
 
 fn ls_result<R: Read>(alloc: Global, input: &mut R) -> Result<String, Stop>
-    ensures answer { IsFailure
-        (InputFails true max_prefix (change_of R.remaining input.old input.new)) (result_text result)
-        ⊎ IsResultOf None ls_answer (R.remaining input.old) (result_text result) }
-    ensures reads { ConsumesAtMost max_prefix (R.remaining input.old) (R.remaining input.new) }
+    ensures { IsResultFor None max_prefix ls_answer (change_of R.remaining input.old input.new) (result_text result) }
 {
     let nar = read_input(alloc, input, MOST_OF_ARCHIVE)?;
     listing(alloc, nar.as_slice())
@@ -53,7 +49,7 @@ pub fn ls<R: Read, W: Write, E: Write>(
     output: &mut W,
     errors: &mut E,
 ) -> u8
-    ensures answer { AnswersTo None max_prefix ls_answer
+    ensures { AnswersInput None max_prefix ls_answer
         (record {
           input = change_of R.remaining input.old input.new;
           written = record {
@@ -62,7 +58,6 @@ pub fn ls<R: Read, W: Write, E: Write>(
             status = result;
           };
         }) }
-    ensures reads { ConsumesAtMost max_prefix (R.remaining input.old) (R.remaining input.new) }
 {
     give(ls_result(alloc, input), output, errors)
 }

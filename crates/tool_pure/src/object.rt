@@ -1,7 +1,6 @@
 //! The name of a store object and its references, as on the command line.
 ghost use Rattle.std.specs.Prelude.{◌≡◌, ◌⊎◌, IfOk, IfErr, IfSome, None, map, take, string_bytes, true, false};
 ghost use Rattle.std.specs.List.{list_all};
-ghost use Rattle.paths.specs.Names.{is_store_name};
 ghost use Rattle.paths.specs.StorePath.{base_of};
 ghost use Rattle.report.specs.Outputs.{change_of};
 ghost use Rattle.tool_pure.specs.Object.{is_path_text, named_fault, object_fault};
@@ -16,17 +15,6 @@ use std::alloc::{AllocError, Global};
 use std::convert::AsStr;
 use std::io::Read;
 use streams::MAX_REFERENCES;
-
-/// The name of a store object.
-fn parse_name(alloc: Global, text: &str) -> Result<Name, Stop>
-    ensures ok { IfOk result (λ n. (n ≡ text.now) × (is_store_name text.now ≡ true)) }
-    ensures err { IfErr result
-        (λ e. (e ≡ Stop.Failed Failure.Memory)
-        ⊎ ((e ≡ Stop.Refused Refusal.BadStoreName) × (is_store_name text.now ≡ false))) }
-{
-    let name = Name::parse(alloc, text)?;
-    Ok(name)
-}
 
 /// The store path that a path text names.
 pub fn parse_reference(alloc: Global, dir: &StoreDir, text: &str) -> Result<StorePath, Stop>
@@ -87,7 +75,7 @@ pub fn parse_object<S: AsStr>(
         × (o.references.items ≡ map (base_of dir.now) (map S.text references.now))) }
     ensures err { IfErr result (IsStopBy (named_fault dir.now name.now (map S.text references.now))) }
 {
-    let name = parse_name(alloc, name)?;
+    let name = Name::parse(alloc, name)?;
     let references = parse_references(alloc, dir, references)?;
     Ok(Object { name, references })
 }

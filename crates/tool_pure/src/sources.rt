@@ -1,11 +1,11 @@
 //! `source-path`: from an archive and references to a store path.
-ghost use Rattle.std.specs.Prelude.{◌≡◌, ◌≤◌, ◌⊎◌, length, IfOk, IfErr, Ok, Err, is_none, map, string_bytes};
+ghost use Rattle.std.specs.Prelude.{◌≡◌, ◌≤◌, ◌⊎◌, length, IfOk, IfErr, Ok, Err, map, string_bytes};
 ghost use Rattle.nar.specs.Archive.{limit};
 ghost use Rattle.paths.specs.StorePath.{base_of};
 ghost use Rattle.report.specs.Outputs.{change_of};
 ghost use Rattle.tool_pure.specs.Archive.{max_prefix};
 ghost use Rattle.tool_pure.specs.Object.{object_fault, source_path_answer};
-ghost use Rattle.tool_pure.specs.Stream.{AnswersTo, InputFails, ReadsFor, IsFailure, IsResultOf, result_text};
+ghost use Rattle.tool_pure.specs.Stream.{AnswersInput, IsResultFor, result_text};
 
 use crate::archive::{MOST_OF_ARCHIVE, read_archive};
 use crate::object::{Object, read_object};
@@ -39,14 +39,9 @@ fn source_path_result<S: AsStr, R: Read>(
     references: &[S],
     input: &mut R,
 ) -> Result<String, Stop>
-    ensures answer { IsFailure
-        (InputFails (is_none (object_fault dir.now name.now (map S.text references.now))) max_prefix
-        (change_of R.remaining input.old input.new))
-        (result_text result) ⊎ IsResultOf (object_fault dir.now name.now (map S.text references.now))
+    ensures { IsResultFor (object_fault dir.now name.now (map S.text references.now)) max_prefix
         (source_path_answer dir.now name.now (map (base_of dir.now) (map S.text references.now)))
-        (R.remaining input.old) (result_text result) }
-    ensures reads { ReadsFor (object_fault dir.now name.now (map S.text references.now)) max_prefix
-        (R.remaining input.old) (R.remaining input.new) }
+        (change_of R.remaining input.old input.new) (result_text result) }
 {
     let (object, nar) = read_object(alloc, dir, name, references, input, MOST_OF_ARCHIVE)?;
     source_line(alloc, dir, &object, nar.as_slice())
@@ -81,7 +76,7 @@ pub fn source_path<S: AsStr, R: Read, W: Write, E: Write>(
     output: &mut W,
     errors: &mut E,
 ) -> u8
-    ensures answer { AnswersTo (object_fault dir.now name.now (map S.text references.now)) max_prefix
+    ensures { AnswersInput (object_fault dir.now name.now (map S.text references.now)) max_prefix
         (source_path_answer dir.now name.now (map (base_of dir.now) (map S.text references.now)))
         (record {
           input = change_of R.remaining input.old input.new;
@@ -91,8 +86,6 @@ pub fn source_path<S: AsStr, R: Read, W: Write, E: Write>(
             status = result;
           };
         }) }
-    ensures reads { ReadsFor (object_fault dir.now name.now (map S.text references.now)) max_prefix
-        (R.remaining input.old) (R.remaining input.new) }
 {
     give(
         source_path_result(alloc, dir, name, references, input),

@@ -1,9 +1,9 @@
 //! `text-path`: from contents and references to a store path.
-ghost use Rattle.std.specs.Prelude.{◌≡◌, ◌⊎◌, IfOk, IfErr, Ok, Err, is_none, map, string_bytes};
+ghost use Rattle.std.specs.Prelude.{◌≡◌, ◌⊎◌, IfOk, IfErr, Ok, Err, map, string_bytes};
 ghost use Rattle.paths.specs.StorePath.{base_of};
 ghost use Rattle.report.specs.Outputs.{change_of};
 ghost use Rattle.tool_pure.specs.Object.{most_of_contents, object_fault, text_path_answer};
-ghost use Rattle.tool_pure.specs.Stream.{AnswersTo, InputFails, ReadsFor, IsFailure, IsResultOf, result_text};
+ghost use Rattle.tool_pure.specs.Stream.{AnswersInput, IsResultFor, result_text};
 
 use crate::object::{Object, read_object};
 use crate::stops::Stop;
@@ -49,14 +49,9 @@ fn text_path_result<S: AsStr, R: Read>(
     references: &[S],
     input: &mut R,
 ) -> Result<String, Stop>
-    ensures answer { IsFailure
-        (InputFails (is_none (object_fault dir.now name.now (map S.text references.now))) most_of_contents
-        (change_of R.remaining input.old input.new))
-        (result_text result) ⊎ IsResultOf (object_fault dir.now name.now (map S.text references.now))
-        (text_path_answer dir.now name.now (map (base_of dir.now) (map S.text references.now))) (R.remaining input.old)
-        (result_text result) }
-    ensures reads { ReadsFor (object_fault dir.now name.now (map S.text references.now)) most_of_contents
-        (R.remaining input.old) (R.remaining input.new) }
+    ensures { IsResultFor (object_fault dir.now name.now (map S.text references.now)) most_of_contents
+        (text_path_answer dir.now name.now (map (base_of dir.now) (map S.text references.now)))
+        (change_of R.remaining input.old input.new) (result_text result) }
 {
     let (object, contents) = read_object(alloc, dir, name, references, input, MOST_OF_CONTENTS)?;
     text_line(alloc, dir, &object, contents.as_slice())
@@ -91,7 +86,7 @@ pub fn text_path<S: AsStr, R: Read, W: Write, E: Write>(
     output: &mut W,
     errors: &mut E,
 ) -> u8
-    ensures answer { AnswersTo (object_fault dir.now name.now (map S.text references.now)) most_of_contents
+    ensures { AnswersInput (object_fault dir.now name.now (map S.text references.now)) most_of_contents
         (text_path_answer dir.now name.now (map (base_of dir.now) (map S.text references.now)))
         (record {
           input = change_of R.remaining input.old input.new;
@@ -101,8 +96,6 @@ pub fn text_path<S: AsStr, R: Read, W: Write, E: Write>(
             status = result;
           };
         }) }
-    ensures reads { ReadsFor (object_fault dir.now name.now (map S.text references.now)) most_of_contents
-        (R.remaining input.old) (R.remaining input.new) }
 {
     give(
         text_path_result(alloc, dir, name, references, input),

@@ -7,25 +7,31 @@ use Rattle.tool.proofs.Answered.{errors_only}
 use Rattle.tool.proofs.Called.{asked, served, stopped_over}
 use Rattle.tool.proofs.calls.call_over.Goals as goal
 
-pub returns-in-Ok-clause-answer : goal.returns-in-Ok-clause-answer
-returns-in-Ok-clause-answer g c = λ ask is.
-    let input = change_of g.R.Read.remaining c.args.input.now c.request.new.input in
-    let w : Written = record {
-      output = change_of g.W.Write.contents c.args.output.now c.serve-status.new.output;
-      errors = change_of g.E.Write.contents c.args.errors.now c.serve-status.new.errors;
-      status = c.serve-status.result;
-    } in
-    let caller = c.args.caller.now in
-    let made = request_view c.in-Ok.request in
-    asked (Serves g.S.Store c.args.config c.args.tables caller w) ask c.args.config.store_dir caller input c.in-Ok.request w
-    (subst (λ (d : List ℕ). IsAskedBy ask d caller input (Ok c.in-Ok.request)) c.store_dir.ensures (c.in-Ok.ensures.asked ask is))
-    (λ r same. served g.S.Store caller w c.args.config c.args.tables made r c.new-store.result c.serve-status.new.store c.new-store.ensures same c.serve-status.ensures)
+pub returns-in-Ok : goal.returns-in-Ok
+returns-in-Ok g c = record {
+  answer = λ ask is.
+      let input = change_of g.R.Read.remaining c.args.input.now c.request.new.input in
+      let w : Written = record {
+        output = change_of g.W.Write.contents c.args.output.now c.serve-status.new.output;
+        errors = change_of g.E.Write.contents c.args.errors.now c.serve-status.new.errors;
+        status = c.serve-status.result;
+      } in
+      let caller = c.args.caller.now in
+      let made = request_view c.in-Ok.request in
+      asked (Serves g.S.Store c.args.config c.args.tables caller w) ask c.args.config.store_dir caller input c.in-Ok.request w
+      (subst (λ (d : List ℕ). IsAskedBy ask d caller input (Ok c.in-Ok.request)) c.store_dir.ensures (c.in-Ok.ensures.asked ask is))
+      (λ r same. served g.S.Store caller w c.args.config c.args.tables made r c.new-store.result c.serve-status.new.store c.new-store.ensures same c.serve-status.ensures);
+  reads = c.request.ensures.reads;
+}
 
-pub returns-in-Err-clause-answer : goal.returns-in-Err-clause-answer
-returns-in-Err-clause-answer g c = λ ask is.
-    let input = change_of g.R.Read.remaining c.args.input.now c.request.new.input in
-    let out = g.W.Write.contents c.args.output.now in
-    let p : Printed = record { writer = change_of g.E.Write.contents c.args.errors.now c.say.new.writer; status = c.say.result } in
-    let caller = c.args.caller.now in
-    stopped_over (Serves g.S.Store c.args.config c.args.tables caller (errors_only out p)) ask c.args.config.store_dir caller input c.in-Err.stop out p
-    (subst (λ (d : List ℕ). IsAskedBy ask d caller input (Err c.in-Err.stop)) c.store_dir.ensures (c.in-Err.ensures.asked ask is)) c.say.ensures
+pub returns-in-Err : goal.returns-in-Err
+returns-in-Err g c = record {
+  answer = λ ask is.
+      let input = change_of g.R.Read.remaining c.args.input.now c.request.new.input in
+      let out = g.W.Write.contents c.args.output.now in
+      let p : Printed = record { writer = change_of g.E.Write.contents c.args.errors.now c.say.new.writer; status = c.say.result } in
+      let caller = c.args.caller.now in
+      stopped_over (Serves g.S.Store c.args.config c.args.tables caller (errors_only out p)) ask c.args.config.store_dir caller input c.in-Err.stop out p
+      (subst (λ (d : List ℕ). IsAskedBy ask d caller input (Err c.in-Err.stop)) c.store_dir.ensures (c.in-Err.ensures.asked ask is)) c.say.ensures;
+  reads = c.request.ensures.reads;
+}

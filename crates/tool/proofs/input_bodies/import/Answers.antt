@@ -13,4 +13,4 @@ returns g c =
 pub returns-in_err-receive_input : goal.returns-in_err-receive_input
 returns-in_err-receive_input g c =
     let p = err_from_is_err_and c.from_residual.result c.from_residual.ensures.1 in
-    rw (p.1, p.2) (gone ⊤ (Imports c.args.dir.now) (g.R.Read.remaining c.args.input.now) _ c.in_err-receive_input.ensures.err (λ _. tt))
+    rw (p.1, p.2) (gone ⊤ (Imports c.args.dir.now) (g.R.Read.remaining c.args.input.now) _ c.in_err-receive_input.ensures.read.err (λ _. tt))

@@ -1,10 +1,11 @@
-use Rattle.std.proofs.Common.{◌≡◌, true, false, ap, refl, Ok, sym, ◌∙◌}
+use Rattle.std.proofs.Common.{◌≡◌, true, false, None, ap, refl, arith, Ok, sym, ◌∙◌}
 use Rattle.clap.specs.Walk.{texts}
 use Rattle.report.specs.Outputs.{change_of}
 use Rattle.model.specs.Request as request
 use Rattle.store_types.specs.declared.requests.Request.TheVariants.{Collect, List, Dead, Live, ListRoots, Report}
 use Rattle.tool_words.specs.Asked.{asked_view, on_profile_view, on_session_view, optional_text}
 use Rattle.tool.specs.Requests.{asks, import_body, reads_all, runtime_body, change_profile, change_session, drop_root, on_path, on_paths, owner_of, set_root}
+use Rattle.tool_pure.proofs.Results.{within}
 use Rattle.tool.proofs.Requested.{arm, plain_arm, unread_arm, unroot_asks}
 use Rattle.tool.proofs.requests.request.Goals as goal
 
@@ -77,6 +78,13 @@ pub returns-in-AddText-clause-asked : goal.returns-in-AddText-clause-asked
 returns-in-AddText-clause-asked g c = λ ask is.
     arm (asked_view c.args.task.now) _ c.args.dir.now c.args.caller.now (change_of g.R.Read.remaining c.args.input.now c.add_text.new.input) c.add_text.result (ap (λ t. asks (asked_view t)) c.in-AddText.is)
     c.add_text.ensures.asked ask is
+
+pub returns-in-AddText-clause-reads : goal.returns-in-AddText-clause-reads
+returns-in-AddText-clause-reads g c = λ _.
+    within None 16777105 16777224 (g.R.Read.remaining c.args.input.now) (g.R.Read.remaining c.add_text.new.input) (omega arith) c.add_text.ensures.reads
+
+pub returns-in-AddSource-clause-reads : goal.returns-in-AddSource-clause-reads
+returns-in-AddSource-clause-reads g c = λ _. c.add_source.ensures.reads
 
 pub returns-in-AddSource-clause-asked : goal.returns-in-AddSource-clause-asked
 returns-in-AddSource-clause-asked g c = λ ask is.

@@ -22,7 +22,7 @@ returns-in-Ok g c =
     } in
     let serving = serves c.args.arguments in
     under (config_of c.args.config.now) c.in-Ok.config (λ s. Answers (Err (Failed Memory)) console.written ⊎ DoesWith _ (optional_text c.args.db) s serving console)
-    console.written c.in-Ok.ensures.ok (inr (c.with_tables.ensures.does serving refl))
+    console.written c.in-Ok.ensures.ok (inr (c.with_tables.ensures.answer serving refl))
 
 pub returns-in-Err : goal.returns-in-Err
 returns-in-Err g c =

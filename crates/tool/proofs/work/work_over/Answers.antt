@@ -17,7 +17,7 @@ returns-in-Call-clause-over g c = λ d is.
         status = c.call_over.result;
       };
     } in
-    called c.in-Call.caller.now (asks (asked_view c.in-Call.task.now)) (λ x. DoesOver g.S.Store c.args.config c.args.tables x console) c.call_over.ensures.answer d
+    called c.in-Call.asking.caller.now (asks (asked_view c.in-Call.asking.task.now)) (λ x. DoesOver g.S.Store c.args.config c.args.tables x console) c.call_over.ensures.answer d
     (sym (ap work_view c.in-Call.is) ∙ is)
 
 pub returns-in-Call-clause-worlds : goal.returns-in-Call-clause-worlds
@@ -30,8 +30,8 @@ returns-in-Call-clause-worlds g c = λ clean world reported d is.
         status = c.call_over.result;
       };
     } in
-    let caller = c.in-Call.caller.now in
-    called caller (asks (asked_view c.in-Call.task.now)) (λ x. DoesIn c.args.config world x console)
+    let caller = c.in-Call.asking.caller.now in
+    called caller (asks (asked_view c.in-Call.asking.task.now)) (λ x. DoesIn c.args.config world x console)
     (λ ask also. asked_in g.S.Store clean c.args.config c.args.tables world reported ask caller console.input console.written (c.call_over.ensures.answer ask also)) d
     (sym (ap work_view c.in-Call.is) ∙ is)
 

@@ -1,12 +1,17 @@
-use Rattle.std.proofs.Common.{map, Some, option_map, ap, sym, ◌∙◌, inl, inr}
+use Rattle.std.proofs.Common.{map, Some, Err, option_map, ap, sym, ◌∙◌, inl, inr}
 use Rattle.std.proofs.lemmas.List.Folds.{list_all-map}
 use Rattle.std.proofs.lemmas.Result.{err_from_is_err_and}
 use Rattle.std.proofs.lemmas.Simd.{map-map}
 use Rattle.paths.specs.StorePath.{base_of}
 use Rattle.tool_pure.specs.declared.stops.Stop.TheVariants.{Refused}
 use Rattle.tool_pure.specs.Object.{is_path_text}
-use Rattle.tool_pure.proofs.Objects.{bad_path, no_named}
+use Rattle.tool_pure.proofs.Objects.{bad_name, bad_path, no_named}
 use Rattle.tool_pure.proofs.object.parse_object.Goals as goal
+
+pub returns-in_err-name-clause-err : goal.returns-in_err-name-clause-err
+returns-in_err-name-clause-err g c =
+    let p = err_from_is_err_and c.from_residual.result c.from_residual.ensures.1 in
+    rw (p.1, p.2) (bad_name c.args.dir.now c.args.name.now _ _ (λ is. c.in_err-name.ensures.bad.0 (ap (λ e. Err e) is)))
 
 pub returns-in_err-references-clause-err : goal.returns-in_err-references-clause-err
 returns-in_err-references-clause-err g c =

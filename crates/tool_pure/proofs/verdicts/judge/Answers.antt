@@ -1,6 +1,5 @@
 use Rattle.std.proofs.Common.{option_map, Ok, Err, ap, ap₂, sym, ◌∙◌}
 use Rattle.std.specs.Option.{option_map_or}
-use Rattle.policy.specs.Class.{class_of}
 use Rattle.policy.specs.Rules.{first_broken}
 use Rattle.policy.specs.declared.kinds.Class.{Class}
 use Rattle.policy.specs.declared.kinds.Rule.{Rule}
