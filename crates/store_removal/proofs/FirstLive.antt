@@ -1,5 +1,5 @@
 -- The first of some paths that lives, and the root that keeps it.
-use Rattle.std.proofs.Common.{◌≡◌, ℕ, ◌+◌, ◌<◌, Bool, true, cond, ◌||◌, List, [], ◌∷◌, length, take, get_or, slice_get, zero, suc, Option, Some, None, is_some, refl, sym, ap, subst, ◌∙◌, arith}
+use Rattle.std.proofs.Common.{◌≡◌, ℕ, ◌+◌, ◌<◌, Bool, true, cond, ◌||◌, List, [], ◌∷◌, length, take, get_or, slice_get, zero, suc, Option, Some, None, is_some, option_map, refl, sym, ap, subst, ◌∙◌, arith}
 use Rattle.std.specs.Prelude.{filter, find}
 use Rattle.std.specs.List.{list_any}
 use Rattle.std.specs.Option.{option_or}
@@ -9,9 +9,9 @@ use Rattle.paths.specs.Root.{Root, in_order}
 use Rattle.live.specs.Exact.{IsExact}
 use Rattle.live.specs.Graph.{Keep}
 use Rattle.live.specs.Live.{first_root}
-use Rattle.live.specs.Marking.{Marking}
+use Rattle.live.specs.Marking.{Marking, first_of}
 use Rattle.live.specs.Arguments.{root_view, roots_view}
-use Rattle.live.specs.Numbering.{Row, graph_of, no_root, root_at}
+use Rattle.live.specs.Numbering.{Row, graph_of, no_root, path_at, root_at}
 use Rattle.live.specs.Reach.{reaches}
 use Rattle.live.specs.declared.numbered.rows.Root.{Root as Handed}
 use Rattle.live.proofs.Order.{in_order_is}
@@ -59,6 +59,11 @@ module _ {X Y : Type 0} (f : X → Option Y) where
     where
       one : i + 1 ≡ suc i
       one = omega arith
+
+-- the root at the first mark of a path's place is the path's
+pub marked_at : (rows : List Row) (m : Marking) (root : ℕ → Root) (root_of : Path → Option Root) → AreMarked rows m root root_of
+    → (i : ℕ) → i < length rows → (p : Path) → path_at rows i ≡ p → root_of p ≡ option_map root (first_of m i)
+marked_at rows m root root_of marked i inside p at = ap root_of (sym at) ∙ marked.present i inside
 
 -- ---- the first that lives
 

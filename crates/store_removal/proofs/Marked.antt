@@ -16,7 +16,7 @@ use Rattle.policy.specs.Settings.{Settings}
 use Rattle.model.specs.World.{Path, roots_of}
 use Rattle.tables_outline.specs.Outline.{OutlineValue}
 use Rattle.model.specs.Liveness.{keep_of}
-use Rattle.store_removal.specs.Linked.{is_wanted, lives_in, rows_in}
+use Rattle.store_removal.specs.Linked.{AreAimed, AreListed, is_wanted, lives_in, rows_in}
 use Rattle.tables_root_list.specs.Rooted.{rooted}
 use Rattle.store_removal.proofs.Rising.{paths_in, roots_rise, rows_rise}
 use Rattle.store_removal.proofs.Valid.{aims_well, all_marked, valid_all}
@@ -29,9 +29,14 @@ module _ (o : OutlineValue) (rows : List Row) (is : rows ≡ rows_in o) where
     pub valid_rise : RootsRise valid
     valid_rise = subst RootsRise (sym same) (roots_rise o (aims_well o))
 
-    pub valid_targets : AllValid rows valid
-    valid_targets =
-        subst (λ (rs : List Row). AllValid rs valid) (sym is) (subst (AllValid (rows_in o)) (sym same) (valid_all o (roots_of (rooted o))))
+    pub valid_aimed : AreAimed rows valid
+    valid_aimed = record {
+      rows = passed_rise;
+      targets = subst (λ (rs : List Row). AllValid rs valid) (sym is) (subst (AllValid (rows_in o)) (sym same) (valid_all o (roots_of (rooted o))));
+    }
+
+    pub valid_listed : AreListed rows valid
+    valid_listed = record { aimed = valid_aimed; roots = valid_rise }
 
     -- of each path whether it lives
     pub lives_marked : (s : Settings) (keep : Keep) (m : Marking) (n : ℕ) → keep ≡ keep_of s → IsExact keep rows valid m → n ≡ length rows

@@ -22,11 +22,15 @@ row_in e = (e.0, links_in e.1)
 abbrev pub rows_in : OutlineValue → List Row
 rows_in o = map row_in (finite.entries o.objects)
 
--- the paths of rows rise, roots rise, and each root's target is the path of a row
-pub record AreListed (at : List Row) (of : List Root) : Type 0 where
+-- the paths of rows rise, and each root's target is the path of a row
+pub record AreAimed (at : List Row) (of : List Root) : Type 0 where
   pub rows : Rise (paths_of at)
-  pub roots : RootsRise of
   pub targets : AllValid at of
+
+-- the same of rows and roots, and the roots rise
+pub record AreListed (at : List Row) (of : List Root) : Type 0 where
+  pub aimed : AreAimed at of
+  pub roots : RootsRise of
 
 -- whether some root reaches a path
 abbrev pub lives_in : Settings → OutlineValue → Path → Bool

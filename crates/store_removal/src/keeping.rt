@@ -24,20 +24,6 @@ use std::alloc::{AllocError, Global};
 use tables_outline::Outline;
 use tables_root_list::root_list;
 
-/// The place of the first root of a path, by the marks of the rows.
-fn mark_of(rows: &[Row], marks: &Marks, path: &StorePath) -> Option<usize>
-    requires rise { Rise (paths_of (rows_view rows.now)) }
-    requires marks { length marks.now.first ≡ length rows.now }
-    ensures inside { IfSome result (λ k. k < marks.now.none) }
-    ensures root { (root : ℕ → TheRoot) (root_of : Path → Option TheRoot)
-        → AreMarked (rows_view rows.now) marks.now root root_of → option_map root result ≡ root_of path.now }
-{
-    match place_of(rows, path) {
-        Some(place) => marks.first_root(place),
-        None => None,
-    }
-}
-
 /// The place of the first root of the first of some paths that has one, by the marks of the rows.
 fn first_mark(rows: &[Row], marks: &Marks, named: &[StorePath]) -> Option<usize>
     requires rise { Rise (paths_of (rows_view rows.now)) }
@@ -48,7 +34,10 @@ fn first_mark(rows: &[Row], marks: &Marks, named: &[StorePath]) -> Option<usize>
         → option_map root result ≡ first_value root_of named.now }
 {
     for path in named {
-        if let Some(root) = mark_of(rows, marks, path) {
+        let Some(place) = place_of(rows, path) else {
+            continue;
+        };
+        if let Some(root) = marks.first_root(place) {
             return Some(root);
         }
     }

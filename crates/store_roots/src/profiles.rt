@@ -1,18 +1,19 @@
 //! Setting, rolling back and switching profiles, and deleting their generations.
 
-ghost use Rattle.std.specs.Prelude.{◌≡◌, IsTrue, IfOk, OnOk, Some, string_bytes};
+ghost use Rattle.std.specs.Prelude.{◌≡◌, IfOk, Some, string_bytes};
 ghost use Rattle.policy.specs.Settings.{Settings};
 ghost use Rattle.model.specs.World.{World};
 ghost use Rattle.model.specs.Profiles.{number_for, previous, profile_at};
+ghost use Rattle.tables_outline.specs.Maps.{pair_bytes};
 ghost use Rattle.tables_outline.specs.Outline.{outline_of, profile_of};
 ghost use Rattle.model.specs.Tests.{refusal};
-ghost use Rattle.store_types.specs.Tested.{Finds, Tested};
+ghost use Rattle.store_types.specs.Tested.{Finds};
 ghost use Rattle.policy.specs.Caller.{Caller};
 ghost use Rattle.store_steps.specs.Meets.{IsMet};
-ghost use Rattle.std.specs.FinMap as finite;
+ghost use Rattle.store_roots.specs.Profiles.{IsTestedOn};
 ghost use Rattle.model.specs.Request as asked;
 
-use crate::generations::{has_generation, has_number_left, has_older, is_not_current};
+use crate::generations::{has_generation, has_older, is_not_current};
 use crate::naming::are_named;
 use paths::StorePath;
 use sqlite::Alter;
@@ -30,23 +31,23 @@ pub fn next_number(
 ) -> Result<u32, Refusal>
     ensures reported { (s : Settings) (w : World) → outline_of w ≡ outline.now → Finds (λ n. n) result
         (refusal s w (asked.set_profile (string_bytes owned.now.0) (string_bytes owned.now.1) path.now))
-        (number_for (profile_at w (string_bytes owned.now.0, string_bytes owned.now.1)) path.now) }
-    ensures number { IfOk result
-        (λ n. n ≡ number_for (profile_of outline.now (string_bytes owned.now.0, string_bytes owned.now.1)) path.now) }
+        (number_for (profile_at w (pair_bytes owned.now)) path.now) }
+    ensures number { IfOk result (λ n. n ≡ number_for (profile_of outline.now (pair_bytes owned.now)) path.now) }
 {
     are_named(owned)?;
     is_valid(outline, path)?;
-    let number = has_number_left(outline, owned, path)?;
-    Ok(number)
+    match outline.number_left(owned, path) {
+        Some(number) => Ok(number),
+        None => Err(Refusal::GenerationLimit),
+    }
 }
 
 /// Tests a profile that is to be rolled back. Returns the number that becomes current.
 pub fn older(outline: &Outline, owned: &(String, String)) -> Result<u32, Refusal>
-    ensures reported { (s : Settings) (w : World) → outline_of w ≡ outline.now → Finds (λ n. Some n) result
-        (refusal s w (asked.rollback (string_bytes owned.now.0) (string_bytes owned.now.1)))
-        (previous (profile_at w (string_bytes owned.now.0, string_bytes owned.now.1))) }
-    ensures present { OnOk result
-        (IsTrue (finite.contains_key outline.now.profiles (string_bytes owned.now.0, string_bytes owned.now.1))) }
+    ensures tested { IsTestedOn outline.now (pair_bytes owned.now)
+        (asked.rollback (string_bytes owned.now.0) (string_bytes owned.now.1)) result }
+    ensures number { IfOk result
+        (λ n. (w : World) → outline_of w ≡ outline.now → Some n ≡ previous (profile_at w (pair_bytes owned.now))) }
 {
     are_named(owned)?;
     has_profile(outline, owned)?;
@@ -56,10 +57,8 @@ pub fn older(outline: &Outline, owned: &(String, String)) -> Result<u32, Refusal
 
 /// Tests a generation that is to become current.
 pub fn may_switch(outline: &Outline, owned: &(String, String), number: u32) -> Result<(), Refusal>
-    ensures reported { (s : Settings) (w : World) → outline_of w ≡ outline.now
-        → Tested result (refusal s w (asked.switch (string_bytes owned.now.0) (string_bytes owned.now.1) number)) }
-    ensures present { OnOk result
-        (IsTrue (finite.contains_key outline.now.profiles (string_bytes owned.now.0, string_bytes owned.now.1))) }
+    ensures { IsTestedOn outline.now (pair_bytes owned.now)
+        (asked.switch (string_bytes owned.now.0) (string_bytes owned.now.1) number) result }
 {
     are_named(owned)?;
     has_profile(outline, owned)?;
@@ -69,11 +68,8 @@ pub fn may_switch(outline: &Outline, owned: &(String, String), number: u32) -> R
 
 /// Tests a generation that is to be deleted.
 pub fn may_delete(outline: &Outline, owned: &(String, String), number: u32) -> Result<(), Refusal>
-    ensures reported { (s : Settings) (w : World) → outline_of w ≡ outline.now
-        → Tested result
-        (refusal s w (asked.delete_generation (string_bytes owned.now.0) (string_bytes owned.now.1) number)) }
-    ensures present { OnOk result
-        (IsTrue (finite.contains_key outline.now.profiles (string_bytes owned.now.0, string_bytes owned.now.1))) }
+    ensures { IsTestedOn outline.now (pair_bytes owned.now)
+        (asked.delete_generation (string_bytes owned.now.0) (string_bytes owned.now.1) number) result }
 {
     are_named(owned)?;
     has_profile(outline, owned)?;

@@ -6,7 +6,7 @@ ghost use Rattle.policy.specs.Settings.{Settings};
 ghost use Rattle.model.specs.World.{World};
 ghost use Rattle.tables_outline.specs.Outline.{outline_of};
 ghost use Rattle.model.specs.Tests.{refusal, unless};
-ghost use Rattle.store_types.specs.Tested.{Tested};
+ghost use Rattle.store_types.specs.Tested.{Finds, Tested};
 ghost use Rattle.policy.specs.Caller.{Caller};
 ghost use Rattle.store_steps.specs.Meets.{IsMet};
 ghost use Rattle.model.specs.Request as asked;
@@ -23,8 +23,7 @@ use tables_outline::Outline;
 
 /// Tests that a session may have this number. Returns the number.
 fn has_number(number: u64) -> Result<u32, Refusal>
-    ensures reported { Tested result (unless (is_session number) Refusal.BadSession) }
-    ensures number { IfOk result (λ n. n ≡ number) }
+    ensures { Finds (λ n. n) result (unless (is_session number) Refusal.BadSession) number }
 {
     if !is_session(number) {
         return Err(Refusal::BadSession);
@@ -51,8 +50,8 @@ pub fn may_keep(
 
 /// Tests a session that is to end. Returns its number.
 pub fn may_end(owner: &str, number: u64) -> Result<u32, Refusal>
-    ensures reported { (s : Settings) (w : World) → Tested result (refusal s w (asked.end_session owner.now number)) }
-    ensures number { IfOk result (λ n. n ≡ number) }
+    ensures { (s : Settings) (w : World)
+        → Finds (λ n. n) result (refusal s w (asked.end_session owner.now number)) number }
 {
     is_named(owner)?;
     let session = has_number(number)?;

@@ -12,7 +12,7 @@ use Rattle.tables_root_list.specs.Rooted.{rooted}
 use Rattle.store_removal.specs.Sizes.{size_in}
 use Rattle.paths.specs.RootView.{root_view}
 use Rattle.store_removal.proofs.Limited.{limited_reported, sized}
-use Rattle.store_removal.proofs.Marked.{passed_rise, valid_rise, valid_targets}
+use Rattle.store_removal.proofs.Marked.{valid_listed}
 use Rattle.store_removal.proofs.Valid.{aims_well}
 use Rattle.store_removal.proofs.collecting.limited_paths.Goals as goal
 
@@ -22,11 +22,7 @@ places-requires-clause-listed c =
     let same : roots_view c.deref-5.result.now ≡ filter (aims_well o) (roots_of (rooted o)) =
     ap roots_view c.deref-5.ensures.value ∙ c.in_ok-valid.ensures
     ∙ ap (filter (aims_well o)) (ap roots_view c.deref-2.ensures.value ∙ c.in_ok-given.ensures ∙ ap (map root_view) c.deref.ensures.value ∙ c.in_ok-roots.ensures) in
-    record {
-      rows = passed_rise c.args.outline.now (rows_view c.deref-4.result.now) (ap rows_view c.deref-4.ensures.value ∙ c.in_ok-rows.ensures);
-      roots = valid_rise o (rows_view c.deref-4.result.now) (ap rows_view c.deref-4.ensures.value ∙ c.in_ok-rows.ensures) (roots_view c.deref-5.result.now) same;
-      targets = valid_targets o (rows_view c.deref-4.result.now) (ap rows_view c.deref-4.ensures.value ∙ c.in_ok-rows.ensures) (roots_view c.deref-5.result.now) same;
-    }
+    valid_listed o (rows_view c.deref-4.result.now) (ap rows_view c.deref-4.ensures.value ∙ c.in_ok-rows.ensures) (roots_view c.deref-5.result.now) same
 
 pub places-requires-clause-sizes : goal.places-requires-clause-sizes
 places-requires-clause-sizes c =

@@ -9,7 +9,7 @@ use Rattle.model.specs.Seen.{seen_root}
 use Rattle.tables_root_list.specs.Rooted.{rooted}
 use Rattle.paths.specs.RootView.{root_view}
 use Rattle.store_removal.proofs.FirstLive.{all_marked, first_living, root_present, some_living}
-use Rattle.store_removal.proofs.Marked.{passed_rise, valid_rise, valid_targets}
+use Rattle.store_removal.proofs.Marked.{passed_rise, valid_listed}
 use Rattle.store_removal.proofs.Valid.{aims_well}
 use Rattle.store_removal.proofs.keeping.first_live.Goals as goal
 
@@ -19,11 +19,7 @@ marks-requires c =
     let same : roots_view c.deref-4.result.now ≡ filter (aims_well o) (roots_of (rooted o)) =
     ap roots_view c.deref-4.ensures.value ∙ c.in_ok-valid.ensures
     ∙ ap (filter (aims_well o)) (ap roots_view c.deref-2.ensures.value ∙ c.in_ok-given.ensures ∙ ap (map root_view) c.deref.ensures.value ∙ c.in_ok-roots.ensures) in
-    record {
-      rows = passed_rise c.args.outline.now (rows_view c.deref-3.result.now) (ap rows_view c.deref-3.ensures.value ∙ c.in_ok-rows.ensures);
-      roots = valid_rise o (rows_view c.deref-3.result.now) (ap rows_view c.deref-3.ensures.value ∙ c.in_ok-rows.ensures) (roots_view c.deref-4.result.now) same;
-      targets = valid_targets o (rows_view c.deref-3.result.now) (ap rows_view c.deref-3.ensures.value ∙ c.in_ok-rows.ensures) (roots_view c.deref-4.result.now) same;
-    }
+    valid_listed o (rows_view c.deref-3.result.now) (ap rows_view c.deref-3.ensures.value ∙ c.in_ok-rows.ensures) (roots_view c.deref-4.result.now) same
 
 pub first_mark-requires-clause-rise : goal.first_mark-requires-clause-rise
 first_mark-requires-clause-rise c = passed_rise c.args.outline.now (rows_view c.deref-5.result.now) (ap rows_view c.deref-5.ensures.value ∙ c.in_ok-rows.ensures)

@@ -7,7 +7,7 @@ use Rattle.live.specs.Keeping.{keep_view}
 use Rattle.model.specs.World.{roots_of}
 use Rattle.tables_root_list.specs.Rooted.{rooted}
 use Rattle.paths.specs.RootView.{root_view}
-use Rattle.store_removal.proofs.Marked.{passed_rise, lives_marked, valid_rise, valid_targets}
+use Rattle.store_removal.proofs.Marked.{lives_marked, valid_listed}
 use Rattle.store_removal.proofs.Valid.{aims_well}
 use Rattle.store_removal.proofs.living.lives.Goals as goal
 
@@ -17,11 +17,7 @@ marks-requires c =
     let same : roots_view c.deref-3.result.now ≡ filter (aims_well o) (roots_of (rooted o)) =
     ap roots_view c.deref-3.ensures.value ∙ c.in_ok-valid.ensures
     ∙ ap (filter (aims_well o)) (ap roots_view c.deref-2.ensures.value ∙ c.in_ok-given.ensures ∙ ap (map root_view) c.deref.ensures.value ∙ c.in_ok-roots.ensures) in
-    record {
-      rows = passed_rise c.args.outline.now (rows_view c.args.rows.now) c.requires;
-      roots = valid_rise o (rows_view c.args.rows.now) c.requires (roots_view c.deref-3.result.now) same;
-      targets = valid_targets o (rows_view c.args.rows.now) c.requires (roots_view c.deref-3.result.now) same;
-    }
+    valid_listed o (rows_view c.args.rows.now) c.requires (roots_view c.deref-3.result.now) same
 
 pub returns : goal.returns
 returns c =

@@ -21,4 +21,4 @@ pub roots_at-requires : goal.roots_at-requires
 roots_at-requires c =
     let given = roots_view c.args.roots.now in
     inside _ (length given) (length c.args.roots.now) (length-map c.args.roots.now root_view) c.deref.result.now c.in_ok-places.places.items c.deref.ensures.value
-    (c.in_ok-places.ensures.places (rows_view c.args.rows.now) given c.requires.rows c.in_ok-graph.ensures c.in_ok-aims.ensures.aimed)
+    (c.in_ok-places.ensures.places (rows_view c.args.rows.now) given c.requires.aimed.rows c.in_ok-graph.ensures c.in_ok-aims.ensures.aimed)

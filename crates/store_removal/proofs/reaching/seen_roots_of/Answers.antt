@@ -9,7 +9,7 @@ use Rattle.tables_outline.specs.Maps.{labelled_bytes}
 use Rattle.model.specs.Seen.{seen}
 use Rattle.tables_root_list.specs.Rooted.{rooted}
 use Rattle.paths.specs.RootView.{root_view}
-use Rattle.store_removal.proofs.Marked.{passed_rise, valid_targets}
+use Rattle.store_removal.proofs.Marked.{passed_rise, valid_aimed}
 use Rattle.store_removal.proofs.Places.{keeping_reported, none_keeps}
 use Rattle.store_removal.proofs.Valid.{aims_well}
 use Rattle.store_removal.proofs.reaching.seen_roots_of.Goals as goal
@@ -22,16 +22,13 @@ returns-in_default c w is =
     ap (map labelled_bytes) c.new.ensures.items
     ∙ none_keeps c.args.config.now c.args.outline.now (rows_view c.deref.result.now) c.args.path.now (ap rows_view c.deref.ensures.value ∙ c.in_ok-rows.ensures) c.in_default.ensures.none c.args.class w is
 
-pub reaching-requires-clause-rows : goal.reaching-requires-clause-rows
-reaching-requires-clause-rows c = passed_rise c.args.outline.now (rows_view c.deref-4.result.now) (ap rows_view c.deref-4.ensures.value ∙ c.in_ok-rows.ensures)
-
-pub reaching-requires-clause-targets : goal.reaching-requires-clause-targets
-reaching-requires-clause-targets c =
+pub reaching-requires-clause-aimed : goal.reaching-requires-clause-aimed
+reaching-requires-clause-aimed c =
     let o = c.args.outline.now in
     let valid : roots_view c.deref-5.result.now ≡ filter (aims_well o) (roots_of (rooted o)) =
     ap roots_view c.deref-5.ensures.value ∙ c.in_ok-valid.ensures
     ∙ ap (filter (aims_well o)) (ap roots_view c.deref-3.ensures.value ∙ c.in_ok-given.ensures ∙ ap (map root_view) c.deref-2.ensures.value ∙ c.in_ok-roots.ensures) in
-    valid_targets o (rows_view c.deref-4.result.now) (ap rows_view c.deref-4.ensures.value ∙ c.in_ok-rows.ensures) (roots_view c.deref-5.result.now) valid
+    valid_aimed o (rows_view c.deref-4.result.now) (ap rows_view c.deref-4.ensures.value ∙ c.in_ok-rows.ensures) (roots_view c.deref-5.result.now) valid
 
 pub reaching-requires-clause-place : goal.reaching-requires-clause-place
 reaching-requires-clause-place c = subst (λ (n : ℕ). c.in-Some.place < n) (ap length (c.deref.ensures.value ∙ sym c.deref-4.ensures.value)) c.in-Some.ensures.found.0

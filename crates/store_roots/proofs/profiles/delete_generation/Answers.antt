@@ -1,35 +1,25 @@
-use Rattle.std.proofs.Common.{Result, refl, sym, subst, ◌∙◌}
+use Rattle.std.proofs.Common.{refl, sym, ◌∙◌}
 use Rattle.std.proofs.lemmas.Result.{err_from_is_err_and}
 use Rattle.std.specs.Prelude.{string_bytes}
-use Rattle.model.specs.World.{Pair}
-use Rattle.model.specs.Profiles.{profile_at, without_generation}
+use Rattle.model.specs.Profiles.{without_generation}
 use Rattle.model.specs.Request.{delete_generation}
-use Rattle.model.specs.Effects.{with_profile}
-use Rattle.store_types.specs.declared.replies.Answer.{Answer}
 use Rattle.store_types.specs.declared.replies.Answer.TheVariants.{Changed}
-use Rattle.store_types.specs.declared.replies.Stop.{Stop}
 use Rattle.store_types.specs.declared.replies.Stop.TheVariants.{Refused}
-use Rattle.store_steps.specs.Meets.{IsMet}
 use Rattle.tables.specs.Reasons.{NoRow}
-use Rattle.store_steps.proofs.Caused.{write_fails}
-use Rattle.store_steps.proofs.Written.{sound_as, met_by_stopping, met_by_writing}
-use Rattle.store_roots.proofs.ProfileChanges.{present_as, changed_as}
+use Rattle.store_steps.proofs.Written.{met_by_stopping}
 use Rattle.store_steps.proofs.Fits.{no_settings, deletion_fits}
+use Rattle.store_roots.proofs.ProfileChanges.{met_by_changing, present_as, sound_changed}
 use Rattle.store_roots.proofs.profiles.delete_generation.Goals as goal
 
 pub drop_generation-requires-clause-present : goal.drop_generation-requires-clause-present
 drop_generation-requires-clause-present g c =
-    present_as (string_bytes c.args.owned.0) (string_bytes c.args.owned.1) c.as_str.result.now c.as_str-2.result.now c.as_str.ensures.value c.as_str-2.ensures.value
-    c.outline.result.now c.args.tables.now.outline c.outline.ensures c.in_ok-may_delete.ensures.present
+    present_as c.as_str.ensures.value c.as_str-2.ensures.value c.outline.result.now c.args.tables.now.outline c.outline.ensures c.in_ok-may_delete.ensures.present
 
 pub drop_generation-requires-clause-sound : goal.drop_generation-requires-clause-sound
 drop_generation-requires-clause-sound g c =
-    let owner = string_bytes c.args.owned.0 in
-    let name = string_bytes c.args.owned.1 in
-    let owned : Pair = (c.as_str.result.now, c.as_str-2.result.now) in
-    sound_as g.S.Store c.args.tables.now (λ w. with_profile w owned (without_generation (profile_at w owned) c.args.number)) (λ w. with_profile w (owner, name) (without_generation (profile_at w (owner, name)) c.args.number))
-    (λ w t. changed_as owner name c.as_str.result.now c.as_str-2.result.now c.as_str.ensures.value c.as_str-2.ensures.value (λ p. without_generation p c.args.number) w)
-    (λ w t. deletion_fits c.args.tables.now.dir w t.sound owner name c.args.number (c.in_ok-may_delete.ensures.reported no_settings w (t.outline ∙ sym c.outline.ensures)))
+    sound_changed c.as_str.ensures.value c.as_str-2.ensures.value g.S.Store c.args.tables.now (λ p. without_generation p c.args.number)
+    (λ w t. deletion_fits c.args.tables.now.dir w t.sound (string_bytes c.args.owned.0) (string_bytes c.args.owned.1) c.args.number
+    (c.in_ok-may_delete.ensures.reported no_settings w (t.outline ∙ sym c.outline.ensures)))
 
 pub returns-in_err-may_delete : goal.returns-in_err-may_delete
 returns-in_err-may_delete g c s caller =
@@ -38,14 +28,8 @@ returns-in_err-may_delete g c s caller =
 
 pub returns : goal.returns
 returns g c s caller =
-    let owner = string_bytes c.args.owned.0 in
-    let name = string_bytes c.args.owned.1 in
-    let owned : Pair = (c.as_str.result.now, c.as_str-2.result.now) in
-    let asked = delete_generation owner name c.args.number in
-    subst (λ (r : Result Answer Stop). IsMet g.S.Store s caller asked r c.args.tables.now c.drop_generation.new.self) (sym c.answered.ensures)
-    (met_by_writing g.S.Store s caller asked c.args.tables.now c.drop_generation.new.self (λ w. with_profile w owned (without_generation (profile_at w owned) c.args.number)) (Changed)
-    (λ w is. c.in_ok-may_delete.ensures.reported s w (is ∙ sym c.outline.ensures))
-    (λ w is. refl)
-    (λ w is. changed_as owner name c.as_str.result.now c.as_str-2.result.now c.as_str.ensures.value c.as_str-2.ensures.value (λ p. without_generation p c.args.number) w)
-    c.drop_generation.result c.drop_generation.ensures.frame
-    (write_fails g.S.Store asked c.args.tables.now c.drop_generation.new.self refl NoRow (λ t row none. absurd none) Changed c.drop_generation.result c.drop_generation.ensures.cause))
+    met_by_changing c.as_str.ensures.value c.as_str-2.ensures.value g.S.Store c.args.tables.now (λ p. without_generation p c.args.number)
+    s caller (delete_generation (string_bytes c.args.owned.0) (string_bytes c.args.owned.1) c.args.number) c.drop_generation.new.self c.outline.result.now c.outline.ensures Changed
+    (λ w is. (c.in_ok-may_delete.ensures.reported s w is, refl, refl))
+    NoRow refl (λ t row none. absurd none)
+    c.drop_generation.result c.drop_generation.ensures c.answered.result c.answered.ensures

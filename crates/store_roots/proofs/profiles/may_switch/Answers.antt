@@ -1,6 +1,16 @@
-use Rattle.std.proofs.Common.{◌∙◌}
+use Rattle.std.proofs.Common.{◌∙◌, arith, rules}
+use Rattle.std.proofs.lemmas.Grind.{common_steps}
 use Rattle.store_steps.proofs.Passing.{pass}
 use Rattle.store_roots.proofs.profiles.may_switch.Goals as goal
 
-pub returns-clause-reported : goal.returns-clause-reported
-returns-clause-reported c s w is = pass _ _ c.in_ok-are_named.ensures ∙ pass _ _ (c.in_ok-has_profile.ensures.reported w is) ∙ pass _ _ (c.in_ok-has_generation.ensures w is)
+pub returns : goal.returns
+returns c = record {
+  reported = λ s w is. pass _ _ c.in_ok-are_named.ensures ∙ pass _ _ (c.in_ok-has_profile.ensures.reported w is) ∙ pass _ _ (c.in_ok-has_generation.ensures w is);
+  present = c.in_ok-has_profile.ensures.present;
+}
+
+pub returns-in_err-has_generation : goal.returns-in_err-has_generation
+returns-in_err-has_generation c = record {
+  reported = λ s w is. first_of (search rules, grind (arith, common_steps));
+  present = first_of (search rules, grind (arith, common_steps));
+}

@@ -2,5 +2,5 @@ use Rattle.std.proofs.Common.{◌∙◌}
 use Rattle.store_steps.proofs.Passing.{pass}
 use Rattle.store_roots.proofs.temporary.may_end.Goals as goal
 
-pub returns-clause-reported : goal.returns-clause-reported
-returns-clause-reported c s w = pass _ _ c.in_ok-is_named.ensures ∙ pass _ _ c.in_ok-session.ensures.reported
+pub returns : goal.returns
+returns c s w = (pass _ _ c.in_ok-is_named.ensures ∙ pass _ _ c.in_ok-session.ensures.0, c.in_ok-session.ensures.1)
