@@ -192,6 +192,7 @@ fn add_file<S: Alter>(
     let size = archive.len();
     let hash = Sha256::digest(&archive);
     let object = Summary::new(
+        alloc,
         size,
         hash,
         Vec::new(alloc),
@@ -199,7 +200,7 @@ fn add_file<S: Alter>(
         None,
         Vec::new(alloc),
         Vec::new(alloc),
-    );
+    )?;
     let mut nar = Pieces::new(alloc);
     nar.append(archive)?;
     tables.insert_object(path, &nar, object)?;

@@ -72,5 +72,6 @@ pub(crate) fn summary(
         }) }
 {
     let (names, paths) = parted(alloc, outputs)?;
-    Ok(Summary::new(size, hash, in_order(refs), deriver, ca, names, paths))
+    let object = Summary::new(alloc, size, hash, in_order(refs), deriver, ca, names, paths)?;
+    Ok(object)
 }

@@ -1,3 +1,4 @@
+pub mod Described
 mod Generations
 pub mod Ordered
 pub mod Orders

@@ -1,6 +1,6 @@
 -- Changes of one entry of a tree.
 use Rattle.std.proofs.Common.{◌≡◌, List, [], ◌∷◌, Bool, true, false, cond, Some, Option, is_some, refl, sym, ap, ◌∙◌}
-use Rattle.std.specs.Prelude.{option_map, Result, Ok, Err, OnErr}
+use Rattle.std.specs.Prelude.{option_map, Result, Ok, Err, OnOk, OnErr, IsErrAnd}
 use Rattle.std.specs.declared.cmp.Ordering.{Ordering}
 use Rattle.std.specs.Ordering.{eq_by_cmp}
 use Rattle.std.specs.Cmp.{IsTotalOrder, eq_by_cmp_equiv}
@@ -62,3 +62,8 @@ module _ {K X L Y : Type 0} (R : L → L → Ordering) (key : K → L) (value : 
 pub on_err : {A E P : Type 0} (r : Result A E) → P → OnErr r P
 on_err (Ok a) p = tt
 on_err (Err e) p = p
+
+-- an error is no answer, whatever is said of an answer
+pub not_ok : {A E : Type 0} (r : Result A E) (P : Type 0) (Q : E → Type 0) → IsErrAnd r Q → OnOk r P
+not_ok (Ok a) P Q h = absurd h
+not_ok (Err e) P Q h = tt

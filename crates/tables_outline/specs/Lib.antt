@@ -1,3 +1,5 @@
+pub mod Changes
+pub mod Details
 pub mod Filling
 pub mod View
 pub mod Maps

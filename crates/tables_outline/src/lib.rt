@@ -2,6 +2,7 @@
 #![tactic(auto)]
 
 mod borrowed_roots;
+mod details;
 mod filling;
 mod objects;
 mod outline;

@@ -1,7 +1,8 @@
 //! Objects in an outline.
 
-ghost use Rattle.std.specs.Prelude.{◌≡◌, OnOk, OnErr, option_map};
+ghost use Rattle.std.specs.Prelude.{◌≡◌, option_map};
 ghost use Rattle.std.specs.FinMap as finite;
+ghost use Rattle.tables_outline.specs.Changes.{ChangesTo};
 ghost use Rattle.tables_outline.specs.Maps.{put_all};
 
 use crate::outline::Outline;
@@ -51,9 +52,8 @@ impl Outline {
 
     /// Puts an object. If memory is refused, nothing changes.
     pub fn insert_object(&mut self, path: StorePath, object: Summary) -> Result<(), AllocError>
-        ensures done { OnOk result (self.new
-            ≡ record self.old { objects = finite.insert self.old.objects path object }) }
-        ensures failed { OnErr result (self.new ≡ self.old) }
+        ensures { ChangesTo self.old self.new result
+            (record self.old { objects = finite.insert self.old.objects path object }) }
     {
         self.objects.insert(path, object)?;
         Ok(())
@@ -66,9 +66,8 @@ impl Outline {
         alloc: Global,
         objects: Vec<(StorePath, Summary)>,
     ) -> Result<(), AllocError>
-        ensures done { OnOk result (self.new
-            ≡ record self.old { objects = put_all objects.items finite.empty }) }
-        ensures failed { OnErr result (self.new ≡ self.old) }
+        ensures { ChangesTo self.old self.new result
+            (record self.old { objects = put_all objects.items finite.empty }) }
     {
         let made = objects.into_iter().collect(alloc)?;
         self.objects = made;

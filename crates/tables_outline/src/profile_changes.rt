@@ -1,9 +1,10 @@
 //! Profiles in an outline. One that isn't there has no generations.
 
-ghost use Rattle.std.specs.Prelude.{◌≡◌, nat_le, is_some, map, option_map, IfOk, IfSome, IsFalse, IsTrue, OnErr, OnOk};
+ghost use Rattle.std.specs.Prelude.{◌≡◌, nat_le, is_some, map, option_map, IfSome, IsFalse, IsTrue};
 ghost use Rattle.std.specs.FinMap as finite;
 ghost use Rattle.model.specs.Profiles.{has_generation, number_for, previous, put_at, switched, without_generation};
 ghost use Rattle.paths.specs.Decimal.{max_generation};
+ghost use Rattle.tables_outline.specs.Changes.{ChangesTo, PutsOver};
 ghost use Rattle.tables_outline.specs.Maps.{pair_bytes};
 ghost use Rattle.tables_outline.specs.View.{profile_view};
 ghost use Rattle.tables_outline.specs.Outline.{with_profile, profile_of, current_of, without_added};
@@ -93,10 +94,9 @@ impl Outline {
         target: StorePath,
     ) -> Result<(), AllocError>
         requires { IsFalse (finite.contains_key self.old.profiles (pair_bytes owned)) }
-        ensures done { OnOk result (self.new
-            ≡ with_profile self.old (pair_bytes owned)
+        ensures { ChangesTo self.old self.new result
+            (with_profile self.old (pair_bytes owned)
             (put_at (profile_of self.old (pair_bytes owned)) number target)) }
-        ensures failed { OnErr result (self.new ≡ self.old) }
     {
         let generations = BTreeMap::new(alloc);
         let mut profile = Profile {
@@ -115,10 +115,9 @@ impl Outline {
         target: StorePath,
     ) -> Result<(), AllocError>
         requires { IsTrue (finite.contains_key self.old.profiles (pair_bytes owned.now)) }
-        ensures done { OnOk result (self.new
-            ≡ with_profile self.old (pair_bytes owned.now)
+        ensures { ChangesTo self.old self.new result
+            (with_profile self.old (pair_bytes owned.now)
             (put_at (profile_of self.old (pair_bytes owned.now)) number target)) }
-        ensures failed { OnErr result (self.new ≡ self.old) }
     {
         let Some(profile) = self.profiles.get_mut(owned) else {
             return Ok(());
@@ -136,11 +135,10 @@ impl Outline {
         number: u32,
         target: StorePath,
     ) -> Result<Option<u32>, AllocError>
-        ensures done { OnOk result (self.new
-            ≡ with_profile self.old (pair_bytes owned)
-            (put_at (profile_of self.old (pair_bytes owned)) number target)) }
-        ensures had { IfOk result (λ had. had ≡ current_of self.old (pair_bytes owned)) }
-        ensures failed { OnErr result (self.new ≡ self.old) }
+        ensures { PutsOver self.old self.new result
+            (with_profile self.old (pair_bytes owned)
+            (put_at (profile_of self.old (pair_bytes owned)) number target))
+            (current_of self.old (pair_bytes owned)) }
     {
         match self.profile(&owned) {
             Some(profile) => {

@@ -1,9 +1,10 @@
 //! Profiles.
 
-ghost use Rattle.std.specs.Prelude.{◌≡◌, nat_le, is_some, IfSome, IsTrue, OnOk, OnErr};
+ghost use Rattle.std.specs.Prelude.{◌≡◌, nat_le, is_some, IfSome, IsTrue};
 ghost use Rattle.std.specs.FinMap as finite;
 ghost use Rattle.model.specs.Profiles.{has_generation, highest, is_highest, number_for, previous, put_at, switched, without_generation};
 ghost use Rattle.paths.specs.Decimal.{max_generation};
+ghost use Rattle.tables_outline.specs.Changes.{ChangesTo};
 ghost use Rattle.tables_outline.specs.View.{profile_view};
 
 use paths::StorePath;
@@ -92,10 +93,10 @@ impl Profile {
             .last()
     }
 
-    /// Puts a path at a number, which becomes current.
+    /// Puts a path at a number, which becomes current. If memory is refused, nothing changes.
     pub(crate) fn put(&mut self, number: u32, target: StorePath) -> Result<(), AllocError>
-        ensures done { OnOk result (profile_view self.new ≡ put_at (profile_view self.old) number target) }
-        ensures failed { OnErr result (profile_view self.new ≡ profile_view self.old) }
+        ensures { ChangesTo (profile_view self.old) (profile_view self.new) result
+            (put_at (profile_view self.old) number target) }
     {
         self.generations.insert(number, target)?;
         self.current = number;

@@ -1,8 +1,9 @@
 //! Roots in an outline.
 
-ghost use Rattle.std.specs.Prelude.{◌≡◌, OnOk, OnErr, IfOk, IsTrue, option_map, string_bytes};
+ghost use Rattle.std.specs.Prelude.{◌≡◌, IsTrue, string_bytes};
 ghost use Rattle.std.specs.FinMap as finite;
 ghost use Rattle.model.specs.World.{pair_cmp};
+ghost use Rattle.tables_outline.specs.Changes.{PutsOver};
 ghost use Rattle.tables_outline.specs.Maps.{pair_bytes, labelled_bytes, seen_set, unput};
 
 use crate::outline::Outline;
@@ -24,10 +25,9 @@ impl Outline {
         name: String,
         target: StorePath,
     ) -> Result<Option<StorePath>, AllocError>
-        ensures done { OnOk result (self.new
-            ≡ record self.old { permanent = finite.insert self.old.permanent (string_bytes name) target }) }
-        ensures had { IfOk result (λ had. had ≡ finite.get self.old.permanent (string_bytes name)) }
-        ensures failed { OnErr result (self.new ≡ self.old) }
+        ensures { PutsOver self.old self.new result
+            (record self.old { permanent = finite.insert self.old.permanent (string_bytes name) target })
+            (finite.get self.old.permanent (string_bytes name)) }
     {
         let had = self.permanent.insert(name, target)?;
         Ok(had)
@@ -68,10 +68,9 @@ impl Outline {
         owned: (String, String),
         target: StorePath,
     ) -> Result<Option<StorePath>, AllocError>
-        ensures done { OnOk result (self.new
-            ≡ record self.old { user_roots = finite.insert self.old.user_roots (pair_bytes owned) target }) }
-        ensures had { IfOk result (λ had. had ≡ finite.get self.old.user_roots (pair_bytes owned)) }
-        ensures failed { OnErr result (self.new ≡ self.old) }
+        ensures { PutsOver self.old self.new result
+            (record self.old { user_roots = finite.insert self.old.user_roots (pair_bytes owned) target })
+            (finite.get self.old.user_roots (pair_bytes owned)) }
     {
         let had = self.user_roots.insert(owned, target)?;
         Ok(had)

@@ -1,25 +1,25 @@
 //! Objects without the bytes of their archives.
 
-ghost use Rattle.std.specs.Prelude.{◌≡◌, List, ℕ, IsTrue, length, map, string_bytes, option_map};
+ghost use Rattle.std.specs.Prelude.{◌≡◌, List, ℕ, IfOk, IsTrue, length, map, string_bytes, option_map};
 ghost use Rattle.std.specs.FinMap as finite;
 ghost use Rattle.std.specs.FinMap.Entries.{is_sorted};
 ghost use Rattle.std.specs.List.{zip};
 ghost use Rattle.paths.specs.Root.{bytes_cmp, set_of};
 ghost use Rattle.tables_outline.specs.Outline.{rise};
 
+use crate::details::{Details, boxed};
 use paths::{Ca, StorePath};
+use std::alloc::{AllocError, Global};
 use std::marker::Model;
 
-/// An object but for the bytes of its archive. Contracts see its references as a set, and its outputs as a map.
+/// An object but for the bytes of its archive. Contracts see its references as a set, and its outputs as a map. What
+/// few objects have is in a box, so that an index of many objects is small.
 #[derive(Drop)]
 pub struct Summary {
     size: usize,
     hash: [u8; 32],
     references: Vec<StorePath>,
-    deriver: Option<StorePath>,
-    ca: Option<Ca>,
-    names: Vec<String>,
-    outputs: Vec<StorePath>,
+    details: Option<Box<Details>>,
 }
 
 impl Model for Summary {
@@ -45,10 +45,15 @@ impl Summary {
     /// use tables::Summary;
     ///
     /// let (hash, references) = (Sha256::digest("abc"), Vec::new(alloc));
-    /// let object = Summary::new(3, hash, references, None, None, Vec::new(alloc), Vec::new(alloc));
+    /// let object = Summary::new(alloc, 3, hash, references, None, None, Vec::new(alloc), Vec::new(alloc))?;
     /// assert_eq!(rt; object.hash(), &Sha256::digest("abc"));
     /// ```
+    ///
+    /// # Errors
+    ///
+    /// Memory was refused. An object without a deriver, an address and outputs takes none.
     pub fn new(
+        alloc: Global,
         size: usize,
         hash: [u8; 32],
         references: Vec<StorePath>,
@@ -56,30 +61,33 @@ impl Summary {
         ca: Option<Ca>,
         names: Vec<String>,
         outputs: Vec<StorePath>,
-    ) -> Summary
+    ) -> Result<Summary, AllocError>
         requires references { IsTrue (rise references.items) }
         requires names { IsTrue (rise (map string_bytes names.items)) }
         requires paths { length outputs.items ≡ length names.items }
-        ensures { result
-            ≡ record {
+        ensures { IfOk result
+            (λ it. it ≡ record {
               size = size;
               hash = hash;
               references = set_of bytes_cmp references.items;
               deriver = deriver;
-              ca =
-                  ca;
+              ca = ca;
               outputs = finite.from_entries (zip (map string_bytes names.items) outputs.items);
-            } }
+            }) }
     {
-        Summary {
-            size,
-            hash,
-            references,
+        let details = Details {
             deriver,
             ca,
             names,
             outputs,
-        }
+        };
+        let details = boxed(alloc, details)?;
+        Ok(Summary {
+            size,
+            hash,
+            references,
+            details,
+        })
     }
 
     /// The size of the archive in bytes.
@@ -126,7 +134,10 @@ impl Summary {
     pub fn deriver(&self) -> Option<&StorePath>
         ensures { option_map (λ p. p.now) result ≡ self.now.deriver }
     {
-        self.deriver.as_ref()
+        match &self.details {
+            Some(details) => details.deriver.as_ref(),
+            None => None,
+        }
     }
 
     /// The content address, if one is recorded.
@@ -140,7 +151,10 @@ impl Summary {
     pub fn ca(&self) -> Option<Ca>
         ensures { result ≡ self.now.ca }
     {
-        self.ca
+        match &self.details {
+            Some(details) => details.ca,
+            None => None,
+        }
     }
 
     /// The names of the outputs, in order.
@@ -151,7 +165,10 @@ impl Summary {
     pub fn names(&self) -> &[String]
         ensures { map string_bytes result.now ≡ finite.keys self.now.outputs }
     {
-        self.names.as_slice()
+        match &self.details {
+            Some(details) => details.names.as_slice(),
+            None => &[],
+        }
     }
 
     /// The paths of the outputs, in the order of their names.
@@ -162,6 +179,9 @@ impl Summary {
     pub fn outputs(&self) -> &[StorePath]
         ensures { result.now ≡ finite.values self.now.outputs }
     {
-        self.outputs.as_slice()
+        match &self.details {
+            Some(details) => details.outputs.as_slice(),
+            None => &[],
+        }
     }
 }

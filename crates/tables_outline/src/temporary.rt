@@ -1,9 +1,10 @@
 //! What sessions keep, in an outline.
 
-ghost use Rattle.std.specs.Prelude.{◌≡◌, IfOk, IsTrue, OnErr, OnOk};
+ghost use Rattle.std.specs.Prelude.{◌≡◌};
 ghost use Rattle.std.specs.FinMap as finite;
 ghost use Rattle.tables_outline.specs.Maps.{temporary_bytes};
 ghost use Rattle.model.specs.Effects.{is_of_session};
+ghost use Rattle.tables_outline.specs.Changes.{PutsOver};
 ghost use Rattle.tables_outline.specs.Temporary.{entries_of_session, unkept, entries_without_session};
 
 use crate::outline::Outline;
@@ -28,10 +29,9 @@ impl Outline {
     /// Puts a path that a session of an owner keeps, and answers whether it kept it already. If memory is refused,
     /// nothing changes.
     pub fn put_temporary(&mut self, kept: (String, u32, StorePath)) -> Result<bool, AllocError>
-        ensures done { OnOk result (self.new
-            ≡ record self.old { temporary = finite.insert self.old.temporary (temporary_bytes kept) tt }) }
-        ensures had { IfOk result (λ had. had ≡ finite.contains_key self.old.temporary (temporary_bytes kept)) }
-        ensures failed { OnErr result (self.new ≡ self.old) }
+        ensures { PutsOver self.old self.new result
+            (record self.old { temporary = finite.insert self.old.temporary (temporary_bytes kept) tt })
+            (finite.contains_key self.old.temporary (temporary_bytes kept)) }
     {
         let is_new = self.temporary.insert(kept)?;
         Ok(!is_new)

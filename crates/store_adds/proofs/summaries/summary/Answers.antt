@@ -9,7 +9,7 @@ new-requires-clause-references c = subst (λ (l : List (List ℕ)). IsTrue (rise
 
 pub returns : goal.returns
 returns c =
-    c.new.ensures ∙ (λ i. record {
+    c.in_ok-object.ensures ∙ (λ i. record {
       size = c.args.size;
       hash = c.args.hash;
       references = (ap (set_of bytes_cmp) c.in_order.ensures ∙ set_again (set_of bytes_cmp c.args.refs.items)) i;

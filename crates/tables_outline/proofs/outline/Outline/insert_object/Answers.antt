@@ -8,9 +8,12 @@ use Rattle.tables_outline.proofs.Orders.{bytes_total, bytes_antisymmetric}
 use Rattle.tables_outline.proofs.Trees.{inserted}
 use Rattle.tables_outline.proofs.outline.Outline.insert_object.Goals as goal
 
-pub returns-clause-done : goal.returns-clause-done
-returns-clause-done c =
-    ap (λ m. record (outline_view c.self.inside) { objects = m })
-    (ap (seen_map bytes_cmp (λ (p : List ℕ). p) (λ (o : Outlined). o)) c.in_ok-insert.ensures.entries
-    ∙ inserted bytes_cmp (λ (p : List ℕ). p) (λ (o : Outlined). o) bytes_total bytes_antisymmetric c.self.inside.objects.entries c.args.path c.args.object)
-    ∙ ap (λ (o : OutlineValue). record o { objects = finite.insert o.objects c.args.path c.args.object }) c.self.view_is
+pub returns : goal.returns
+returns c = record {
+  done =
+      ap (λ m. record (outline_view c.self.inside) { objects = m })
+      (ap (seen_map bytes_cmp (λ (p : List ℕ). p) (λ (o : Outlined). o)) c.in_ok-insert.ensures.entries
+      ∙ inserted bytes_cmp (λ (p : List ℕ). p) (λ (o : Outlined). o) bytes_total bytes_antisymmetric c.self.inside.objects.entries c.args.path c.args.object)
+      ∙ ap (λ (o : OutlineValue). record o { objects = finite.insert o.objects c.args.path c.args.object }) c.self.view_is;
+  failed = tt;
+}

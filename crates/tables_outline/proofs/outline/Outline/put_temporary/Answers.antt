@@ -11,13 +11,14 @@ again : (b : Bool) → not (not b) ≡ b
 again true = refl
 again false = refl
 
-pub returns-clause-done : goal.returns-clause-done
-returns-clause-done c =
-    ap (λ m. record (outline_view c.self.inside) { temporary = m })
-    (ap (seen_set temporary_cmp temporary_bytes) c.in_ok-is_new.ensures.keys ∙ put_kept c.self.inside.temporary.keys c.args.kept)
-    ∙ ap (λ (o : OutlineValue). record o { temporary = finite.insert o.temporary (temporary_bytes c.args.kept) tt }) c.self.view_is
-
-pub returns-clause-had : goal.returns-clause-had
-returns-clause-had c =
-    ap not c.in_ok-is_new.ensures.added ∙ again _ ∙ has_kept c.self.inside.temporary.keys c.args.kept
-    ∙ ap (λ (o : OutlineValue). finite.contains_key o.temporary (temporary_bytes c.args.kept)) c.self.view_is
+pub returns : goal.returns
+returns c = record {
+  done =
+      ap (λ m. record (outline_view c.self.inside) { temporary = m })
+      (ap (seen_set temporary_cmp temporary_bytes) c.in_ok-is_new.ensures.keys ∙ put_kept c.self.inside.temporary.keys c.args.kept)
+      ∙ ap (λ (o : OutlineValue). record o { temporary = finite.insert o.temporary (temporary_bytes c.args.kept) tt }) c.self.view_is;
+  had =
+      ap not c.in_ok-is_new.ensures.added ∙ again _ ∙ has_kept c.self.inside.temporary.keys c.args.kept
+      ∙ ap (λ (o : OutlineValue). finite.contains_key o.temporary (temporary_bytes c.args.kept)) c.self.view_is;
+  failed = tt;
+}

@@ -12,14 +12,18 @@ use Rattle.tables_outline.proofs.Puts.{get-all, option_same}
 use Rattle.tables_outline.proofs.Trees.{seen_as}
 use Rattle.tables_outline.proofs.outline.Outline.set_objects.Goals as goal
 
-pub returns-clause-done : goal.returns-clause-done
-returns-clause-done c =
+pub returns : goal.returns
+returns c =
     let items = c.args.objects.items in
     let all = put_all items finite.empty in
     let ran = c.in_ok-made.ensures.ran in
     let road = YieldsList-from_vec items c.into_iter.ensures.rest (c.into_iter.ensures.len ∙ c.args.objects.ok.0) in
     let made = subst (λ xs. IsFromIterResult bytes_cmp xs c.in_ok-made.made) (sym (map-id ran.0) ∙ items_from_drains ran.0 ran.1 road) ran.2 in
-    ap (λ m. record (outline_view c.self.inside) { objects = m })
-    (seen_as bytes_cmp (λ (p : List ℕ). p) (λ (o : Outlined). o) bytes_total bytes_antisymmetric c.in_ok-made.made.entries all (λ q.
-    option_same _ ∙ made.0 q ∙ sym (get-all bytes_total bytes_antisymmetric items finite.empty (λ _. None) q (finite.get-empty bytes_cmp q))))
-    ∙ ap (λ (o : OutlineValue). record o { objects = all }) c.self.view_is
+    record {
+      done =
+          ap (λ m. record (outline_view c.self.inside) { objects = m })
+          (seen_as bytes_cmp (λ (p : List ℕ). p) (λ (o : Outlined). o) bytes_total bytes_antisymmetric c.in_ok-made.made.entries all (λ q.
+          option_same _ ∙ made.0 q ∙ sym (get-all bytes_total bytes_antisymmetric items finite.empty (λ _. None) q (finite.get-empty bytes_cmp q))))
+          ∙ ap (λ (o : OutlineValue). record o { objects = all }) c.self.view_is;
+      failed = tt;
+    }
