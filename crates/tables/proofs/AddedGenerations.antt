@@ -1,10 +1,14 @@
--- A generation that is added to a profile, and taken back.
-use Rattle.std.proofs.Common.{◌≡◌, ℕ, List, Bool, true, false, not, ◌&&◌, cond, Some, None, Option, option_map, is_some, refl, sym, ap, ap₂, ◌∙◌, IsTrue}
+-- A generation that is put in a profile, new or not, and taken back.
+use Rattle.std.proofs.Common.{◌≡◌, ℕ, List, Bool, true, false, not, ◌&&◌, cond, Some, None, Option, option_map, is_some, Result, Ok, Err, refl, sym, ap, ap₂, subst, ◌∙◌, IsTrue}
 use Rattle.std.specs.Prelude.{ℤ, pos}
 use Rattle.std.specs.Ordering.{eq_by_cmp, int_cmp, nat_cmp, ordering_then}
 use Rattle.std.specs.Cmp.{eq_by_cmp_equiv, nat_cmp_total}
 use Rattle.std.specs.FinMap as finite
+use Rattle.sqlite_trees.specs.declared.store.Store.{Ghosts}
+use Rattle.sqlite.specs.State.{HasCleanDisk}
+use Rattle.sqlite.specs.Held.{Held, state}
 use Rattle.tables_sql.specs.Contents.{Contents, Triple, triple_cmp}
+use Rattle.tables_sql.specs.declared.failure.Failed.{Failed}
 use Rattle.tables_sql.proofs.Orders.{triple_total, triple_antisymmetric}
 use Rattle.paths.specs.Root.{bytes_cmp}
 use Rattle.model.specs.World.{Path, Pair, pair_cmp, Profile}
@@ -13,11 +17,15 @@ use Rattle.tables_world.specs.Worlds.{IsSoundContents}
 use Rattle.tables_outline.specs.Outline.{OutlineValue, with_profile, profile_of, current_of, without_added}
 use Rattle.tables_outline.proofs.Orders.{nat_antisymmetric, pair_total, pair_antisymmetric}
 use Rattle.tables_outline.proofs.Puts.{tied_is, unput_put, has_put}
+use Rattle.tables_make.specs.Reasons.{IsReason}
+use Rattle.tables.specs.Frames.{StaysSound, CommitsRows, ChangesTables}
 use Rattle.tables.specs.Rewritten.{put_generation}
-use Rattle.tables.proofs.AfterWrites.{Follows}
+use Rattle.tables.specs.RowsPut.{GenerationRows}
+use Rattle.tables.specs.TablesValue.{TablesValue, Agrees}
+use Rattle.tables.proofs.AfterWrites.{Follows, IsWrite, write_agrees, write_commits, write_fails, failure_agrees, failure_seen, rows_as}
 use Rattle.tables.proofs.ProfileRows.{profile_follows}
 use Rattle.tables.specs.Entries.{with_profile_by}
-use Rattle.tables.proofs.ProfileWrites.{both_tied, numbers_tie, here, reported_generation}
+use Rattle.tables.proofs.ProfileWrites.{both_tied, numbers_tie, here, outline_next, profile_write, reported_generation}
 
 -- ---- the rows of the profile
 
@@ -125,3 +133,42 @@ module _ (old put : OutlineValue) (owned key again : Pair) (n : ℕ) (target val
     generation_undone new undone had was back =
         back ∙ (λ i. record (generation_put i) { profiles = without_added (generation_put i) (same_again i) n ((was ∙ ap (current_of old) same) i) })
         ∙ ap (λ m. record old { profiles = m }) (loaded (finite.get old.profiles owned) refl new (switched added current) refl)
+
+-- ---- the write as a whole
+
+module _ {S : Type 0} (g : Ghosts S) (k now : TablesValue S) (view : k ≡ now) (agrees : Agrees g k) (owned : Pair) (n : ℕ) (target : Path) (current : ℕ)
+    (sound : StaysSound g now (with_profile_by owned (λ p. switched (put_at p n target) current)))
+  where
+    abbrev next : Profile → Profile
+    next p = switched (put_at p n target) current
+
+    generation_write : IsWrite g k now (put_generation owned n target current) (with_profile_by owned next) (outline_next owned next)
+    generation_write = profile_write owned next (put_generation owned n target current) g k now view agrees sound (λ clean is_open. add_follows k.dir _ (agrees.rows clean is_open).sound owned n target current)
+
+    -- the path is put as its text
+    module _ (text : Path) (is_text : text ≡ target) (conn : Held S) (outline : OutlineValue) where
+      abbrev changed : TablesValue S
+      changed = record { connection = conn; dir = k.dir; outline = outline }
+
+      of_target : {T E : Type 0} (r : Result T E) → CommitsRows g k.connection conn r (put_generation owned n text current) → CommitsRows g k.connection conn r (put_generation owned n target current)
+      of_target r = rows_as g (put_generation owned n text current) (put_generation owned n target current) (ap {B = Contents → Contents} (λ (t : List ℕ). put_generation owned n t current) is_text)
+
+      module _ {T : Type 0} (u : T) (rows : CommitsRows g {T = T} {E = Failed} k.connection conn (Ok u) (put_generation owned n text current)) (is : outline ≡ outline_next owned next k.outline) where
+        pub made_agrees : Agrees g changed
+        made_agrees = write_agrees g generation_write conn outline u (of_target (Ok u) rows) is
+
+        pub generation_made : {U : Type 0} (v : U) → ChangesTables g now changed (Ok v) (with_profile_by owned next) (GenerationRows owned n target current)
+        generation_made v = record { frame = write_commits g generation_write conn outline u (of_target (Ok u) rows) is v; cause = λ clean. tt }
+
+      -- where it failed the outline is as before
+      module _ {T : Type 0} (e : Failed) (rows : CommitsRows g {T = T} {E = Failed} k.connection conn (Err e) (put_generation owned n text current)) (is : outline ≡ k.outline) where
+        pub unmade_agrees : Agrees g changed
+        unmade_agrees = failure_agrees g generation_write conn outline e (of_target (Err e) rows) is
+
+        pub generation_unmade : {U : Type 0} → (HasCleanDisk (state g conn) → IsReason (GenerationRows owned n text current) (state g k.connection) (state g conn) e)
+            → ChangesTables g {T = U} now changed (Err e) (with_profile_by owned next) (GenerationRows owned n target current)
+        generation_unmade cause = record {
+          frame = write_fails g generation_write conn outline e (of_target (Err e) rows) is e;
+          cause = subst (λ (t : List ℕ). HasCleanDisk (state g conn) → IsReason (GenerationRows owned n t current) (state g now.connection) (state g conn) e) is_text
+              (failure_seen g conn (GenerationRows owned n text current) e view cause);
+        }

@@ -1,11 +1,10 @@
 -- Sound settings, objects and roots are sound rows, and what they put into an outline is the outline of their world.
-use Rattle.std.proofs.Common.{◌≡◌, ℕ, List, Some, None, Option, option_map, is_some, map, refl, sym, ap, subst, ◌∙◌, IsTrue, codes}
+use Rattle.std.proofs.Common.{◌≡◌, ℕ, List, Some, None, Option, option_map, is_some, refl, sym, ap, subst, ◌∙◌, IsTrue, codes}
 use Rattle.std.specs.Prelude.{◌↔◌, MatchOption, Bool, false, IsFalse}
 use Rattle.std.specs.FinMap as finite
 use Rattle.std.proofs.lemmas.Bool.{false≢true}
 use Rattle.std.proofs.lemmas.Option.{same_Some}
 use Rattle.paths.specs.Names.{is_store_dir}
-use Rattle.paths.specs.Root.{bytes_cmp}
 use Rattle.tables_sql.specs.Contents.{Contents, Stored}
 use Rattle.model.specs.World.{Path, Object, no_world}
 use Rattle.tables_world.specs.Rows.{settings, object_in}
@@ -14,7 +13,6 @@ use Rattle.tables_schema.specs.Schemas.{schema_text, has_pieces, has_temporary}
 use Rattle.tables_world.specs.Parts.{AreSoundParts}
 use Rattle.tables_world.specs.Worlds.{rows_of, world_in, IsSoundBy}
 use Rattle.tables_world.proofs.Columns.{object_at}
-use Rattle.model.proofs.Empty.{no_entries}
 use Rattle.tables_world.proofs.SoundParts.{sound_by_parts}
 use Rattle.tables_outline.specs.Outline.{OutlineValue, outlined, outline_of}
 use Rattle.tables_outline.proofs.Orders.{bytes_total, bytes_antisymmetric}
@@ -66,10 +64,6 @@ module _ (schema : Schema) (dir : List ℕ) (c : Contents) where
         let o = some_key (finite.get c.objects p) (sym (ap (λ (m : Objects). finite.contains_key m p) is ∙ same_objects p) ∙ present) in
         (sound.objects.objects p o.0 o.1).path;
   }
-
--- a new outline has no objects
-pub none_yet : (outline_of no_world).objects ≡ finite.empty
-none_yet = ap (λ (es : List (Path × Object)). finite.from_entries {R = bytes_cmp} (map (λ e. (e.0, outlined e.1)) es)) (no_entries Object bytes_cmp)
 
 -- an outline with all objects and all roots of the rows
 pub whole_outline : (c : Contents) (o : OutlineValue) → o ≡ record (outline_of no_world) { objects = (outline_of (world_in c)).objects } → with_roots o c ≡ outline_of (world_in c)

@@ -35,6 +35,7 @@ pub mod SessionChanges
 pub mod SessionRows
 pub mod SetProfiles
 pub mod SoundChanges
+pub mod TablesRead
 pub mod Transactions
 pub mod Unlimited
 pub mod Worlds

@@ -4,9 +4,11 @@ use Rattle.sqlite_trees.specs.declared.store.Store.{Ghosts}
 use Rattle.sqlite.specs.State.{State, HasCleanDisk, IsUnchanged, Survives}
 use Rattle.sqlite.specs.Held.{Held, state}
 use Rattle.tables_schema.specs.Finding.{HasNone}
+use Rattle.tables_schema.specs.declared.recognising.Recognised.{Recognised}
 use Rattle.tables_schema.specs.declared.schema.Schema.{Schema}
 use Rattle.tables_sql.specs.Calls.{Remains, IsDurable, IsReady, KeepsShown}
 use Rattle.tables_rows.specs.Frames.{LeftAsItWas}
+use Rattle.tables_open.specs.Opened.{IsFound}
 use Rattle.tables.specs.TablesValue.{TablesValue}
 use Rattle.tables.specs.Opening.{IsFoundBy, AreRead, IsCause}
 use Rattle.tables.specs.declared.refusing.Cause.{Cause}
@@ -25,6 +27,11 @@ module _ {S : Type 0} (g : Ghosts S) where
     pub idle : conn.in_transaction ≡ false
     pub none : HasCleanDisk (state g conn) → HasNone (state g conn).now.schema
     pub settled : HasCleanDisk (state g conn) → (state g conn).now ≡ (state g conn).committed
+
+  -- no transaction is under way, and what was recognised of the store's tables is what the database has of them
+  pub record IsRecognisedAs (recognised : Recognised) (conn : Held S) : Type 0 where
+    pub idle : conn.in_transaction ≡ false
+    pub found : HasCleanDisk (state g conn) → IsFound recognised (state g conn)
 
   -- The rows are read and tested by a schema. They are those of a directory, or there is a cause. Nothing changes.
   pub record ReadsStore (old new : Held S) (result : Result Loaded Cause) (schema : Schema) (named : List ℕ)

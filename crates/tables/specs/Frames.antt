@@ -1,5 +1,6 @@
--- What each write requires of the tables, and what it promises of them, by the change that it makes of a world.
-use Rattle.std.specs.Prelude.{◌≡◌, false, Result, IsTrue, OnOk, OnErr}
+-- What each write requires of the tables, and what it promises of them, by the change that it makes of a world. Also
+-- what a read of the disk promises.
+use Rattle.std.specs.Prelude.{◌≡◌, false, Option, Result, is_some, IsTrue, IfOk, OnOk, OnErr}
 use Rattle.std.specs.Borrow.{MutBor}
 use Rattle.sqlite_trees.specs.declared.store.Store.{Ghosts}
 use Rattle.sqlite.specs.Effect.{Database}
@@ -99,3 +100,25 @@ module _ {S : Type 0} (g : Ghosts S) where
   -- why something isn't read of the disk
   abbrev pub FailsToAsk : {T : Type 0} → TablesValue S → TablesValue S → Result T Failed → Type 0
   FailsToAsk old new result = FailsInReads g old.connection new.connection result
+
+  -- What is at a path is read of the disk, if anything is, and the tables stay as they are, whether the read succeeds
+  -- or fails. An answer over a clean disk is this of each world of the tables.
+  pub record ReadsTables {T : Type 0} (old new : TablesValue S) (result : Result (Option T) Failed)
+      (shows : World → Option T → Type 0) : Type 0 where
+    -- the store directory stays
+    pub dir : new.dir ≡ old.dir
+    -- what the answer is of each world
+    pub found : HasCleanDisk (state g new.connection) → IfOk result (λ it. (w : World) → HasWorld g old w → shows w it)
+    -- each world that the tables had, they still have
+    pub same : (w : World) → HasWorld g old w → HasWorld g new w
+    -- once a fault has shut the connection, nothing is found
+    pub was_open : HasCleanDisk (state g new.connection)
+        → IfOk result (λ it. IsTrue (is_some it)
+        → IsTrue (state g old.connection).is_open × IsTrue (state g new.connection).is_open)
+    -- the connection shows what it showed
+    pub shown : HasCleanDisk (state g new.connection)
+        → KeepsShown (state g old.connection) (state g new.connection)
+    -- an error has a cause
+    pub cause : FailsToAsk old new result
+    -- a crash leaves what it could leave before
+    pub survives : Survives (state g old.connection) (state g new.connection) (λ _. ⊥)

@@ -1,11 +1,9 @@
 //! Opening a store over a connection.
 
 ghost use Rattle.std.specs.Prelude.{◌≡◌, false};
-ghost use Rattle.sqlite.specs.State.{HasCleanDisk};
 ghost use Rattle.sqlite.specs.Held.{state};
-ghost use Rattle.tables_open.specs.Opened.{IsFound};
 ghost use Rattle.tables.specs.Opening.{OpensStore, LeavesOpening, unlimited};
-ghost use Rattle.tables.specs.Adopted.{Adopts};
+ghost use Rattle.tables.specs.Adopted.{Adopts, IsRecognisedAs};
 
 use crate::earlier::open_earlier;
 use crate::found::{open_existing, open_new};
@@ -26,8 +24,7 @@ pub(crate) fn take<S: Alter>(
     found: Recognised,
     dir: &StoreDir,
 ) -> Result<Tables<S>, Unadopted<S>>
-    requires idle { conn.in_transaction ≡ false }
-    requires found { HasCleanDisk (state S.Store conn) → IsFound found (state S.Store conn) }
+    requires { IsRecognisedAs S.Store found conn }
     ensures { Adopts S.Store dir.now (state S.Store conn) result
         (OpensStore S.Store dir.now (state S.Store conn).now) (LeavesOpening dir.now (state S.Store conn).now) }
 {
@@ -38,29 +35,6 @@ pub(crate) fn take<S: Alter>(
         Recognised::Tables(Schema::V3) => open_existing(alloc, conn, dir),
         Recognised::Other => {
             let cause = Cause::BadSchema;
-            Err(Unadopted { conn, cause })
-        }
-    }
-}
-
-/// Opens a store over a connection that has no limit on steps.
-fn adopt_unlimited<S: Alter>(
-    alloc: Global,
-    conn: Connection<S>,
-    dir: &StoreDir,
-) -> Result<Tables<S>, Unadopted<S>>
-    requires { conn.in_transaction ≡ false }
-    ensures { Adopts S.Store dir.now (state S.Store conn) result
-        (OpensStore S.Store dir.now (state S.Store conn).now) (LeavesOpening dir.now (state S.Store conn).now) }
-{
-    match file::inspect(alloc, conn) {
-        Ok(opened) => {
-            let Opened { conn, found } = opened;
-            take(alloc, conn, found, dir)
-        }
-        Err(unreadable) => {
-            let Unreadable { conn, failure } = unreadable;
-            let cause = Cause::Failed(failure);
             Err(Unadopted { conn, cause })
         }
     }
@@ -101,5 +75,15 @@ pub fn adopt<S: Alter>(
         (OpensStore S.Store dir.now (state S.Store conn).now) (LeavesOpening dir.now (state S.Store conn).now) }
 {
     conn.set_step_limit(None);
-    adopt_unlimited(alloc, conn, dir)
+    match file::inspect(alloc, conn) {
+        Ok(opened) => {
+            let Opened { conn, found } = opened;
+            take(alloc, conn, found, dir)
+        }
+        Err(unreadable) => {
+            let Unreadable { conn, failure } = unreadable;
+            let cause = Cause::Failed(failure);
+            Err(Unadopted { conn, cause })
+        }
+    }
 }

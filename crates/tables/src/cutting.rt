@@ -9,7 +9,7 @@ ghost use Rattle.tables_make.specs.Frames.{MayCut, Writes};
 
 use sqlite::{Alter, Transaction};
 use streams::Pieces;
-use tables_rows::pieces;
+use tables_rows::{Insert, pieces};
 use tables_sql::failure::Failed;
 
 /// Adds a row for each piece of an archive after the first, numbered from 1. The path has none of these rows yet.
@@ -30,7 +30,12 @@ pub(crate) fn put_pieces<S: Alter>(
         if place >= count {
             return Ok(());
         }
-        pieces::insert(tx, base, number, nar.piece(place))?;
+        pieces::Row {
+            base,
+            number,
+            bytes: nar.piece(place),
+        }
+        .insert(tx)?;
     }
     // No memory holds that many.
     Err(Failed::Memory)

@@ -1,16 +1,13 @@
 //! Reads of what the tables hold.
 
-ghost use Rattle.std.specs.Prelude.{◌≡◌, IfOk, IsTrue, is_some, map, option_map};
+ghost use Rattle.std.specs.Prelude.{◌≡◌, IfOk, map, option_map};
 ghost use Rattle.std.specs.FinMap as finite;
-ghost use Rattle.sqlite.specs.State.{HasCleanDisk, Survives};
-ghost use Rattle.sqlite.specs.Held.{state};
-ghost use Rattle.tables_sql.specs.Calls.{KeepsShown};
 ghost use Rattle.model.specs.World.{World, roots_of};
 ghost use Rattle.tables_outline.specs.View.{profile_view};
 ghost use Rattle.tables_outline.specs.Outline.{outlined};
 ghost use Rattle.paths.specs.RootView.{root_view};
 ghost use Rattle.tables.specs.Entries.{object_view};
-ghost use Rattle.tables.specs.Frames.{FailsToAsk};
+ghost use Rattle.tables.specs.Frames.{ReadsTables};
 ghost use Rattle.tables.specs.TablesValue.{HasWorld};
 
 use crate::keeping::Tables;
@@ -60,7 +57,8 @@ fn copied(alloc: Global, object: &Summary) -> Result<Summary, AllocError>
     let deriver = copied_path(object.deriver())?;
     let names = object.names().to_vec(alloc)?;
     let outputs = object.outputs().to_vec(alloc)?;
-    Ok(Summary::new(
+    let copy = Summary::new(
+        alloc,
         object.size(),
         *object.hash(),
         references,
@@ -68,7 +66,8 @@ fn copied(alloc: Global, object: &Summary) -> Result<Summary, AllocError>
         object.ca(),
         names,
         outputs,
-    ))
+    )?;
+    Ok(copy)
 }
 
 impl<S: Alter> Tables<S> {
@@ -109,16 +108,8 @@ impl<S: Alter> Tables<S> {
     ///
     /// Memory was refused or the disk failed.
     pub fn object(&mut self, path: &StorePath) -> Result<Option<Object>, Failed>
-        ensures dir { self.new.dir ≡ self.old.dir }
-        ensures found { HasCleanDisk (state S.Store self.new.connection) → IfOk result (λ o. (w : World)
-            → HasWorld S.Store self.old w → option_map object_view o ≡ finite.get w.objects path.now) }
-        ensures same { (w : World) → HasWorld S.Store self.old w → HasWorld S.Store self.new w }
-        ensures was_open { HasCleanDisk (state S.Store self.new.connection) → IfOk result (λ o. IsTrue (is_some o)
-            → IsTrue (state S.Store self.old.connection).is_open × IsTrue (state S.Store self.new.connection).is_open) }
-        ensures shown { HasCleanDisk (state S.Store self.new.connection)
-            → KeepsShown (state S.Store self.old.connection) (state S.Store self.new.connection) }
-        ensures cause { FailsToAsk S.Store self.old self.new result }
-        ensures survives { Survives (state S.Store self.old.connection) (state S.Store self.new.connection) (λ _. ⊥) }
+        ensures { ReadsTables S.Store self.old self.new result
+            (λ w o. option_map object_view o ≡ finite.get w.objects path.now) }
     {
         let Some(nar) = self.archive(path)? else {
             return Ok(None);

@@ -2,9 +2,9 @@
 //! is sound after each call. A call fails if memory runs out, a row is too large or the disk fails; then nothing has
 //! changed.
 
-ghost use Rattle.std.specs.Prelude.{◌≡◌, IfNone, IsTrue, None, option_map};
+ghost use Rattle.std.specs.Prelude.{◌≡◌, IfNone, IsTrue, option_map};
 ghost use Rattle.std.specs.FinMap as finite;
-ghost use Rattle.model.specs.Profiles.{has_generation, number_for, put_at, set_to, switched, without_generation};
+ghost use Rattle.model.specs.Profiles.{number_for, put_at, set_to, switched, without_generation};
 ghost use Rattle.tables_outline.specs.Outline.{profile_of};
 ghost use Rattle.tables.specs.Entries.{with_numbers, with_profile_by};
 ghost use Rattle.tables.specs.Frames.{StaysSound, ChangesTables};
@@ -52,7 +52,7 @@ impl<S: Alter> Tables<S> {
 
     /// Sets the target of generation `number`, new or not, and makes `current` the current one. Creates the profile if
     /// it is missing.
-    pub(crate) fn put_number(
+    fn put_number(
         &mut self,
         owner: &str,
         name: &str,
@@ -60,30 +60,6 @@ impl<S: Alter> Tables<S> {
         target: &StorePath,
         current: u32,
     ) -> Result<(), Failed>
-        requires sound { StaysSound S.Store self.old
-            (with_profile_by (owner.now, name.now) (λ p. switched (put_at p number target.now) current)) }
-        ensures { ChangesTables S.Store self.old self.new result
-            (with_profile_by (owner.now, name.now) (λ p. switched (put_at p number target.now) current))
-            (GenerationRows (owner.now, name.now) number target.now current) }
-    {
-        let key = owned(self.alloc, owner, name)?;
-        if self.outline.has_generation(&key, number) {
-            self.replace_generation(owner, name, number, target, current)
-        } else {
-            self.put_generation(owner, name, number, target, current)
-        }
-    }
-
-    /// Sets the target of generation `number`, which the profile has, and makes `current` the current one.
-    pub(crate) fn replace_generation(
-        &mut self,
-        owner: &str,
-        name: &str,
-        number: u32,
-        target: &StorePath,
-        current: u32,
-    ) -> Result<(), Failed>
-        requires present { IsTrue (has_generation (profile_of self.old.outline (owner.now, name.now)) number) }
         requires sound { StaysSound S.Store self.old
             (with_profile_by (owner.now, name.now) (λ p. switched (put_at p number target.now) current)) }
         ensures { ChangesTables S.Store self.old self.new result
@@ -99,48 +75,15 @@ impl<S: Alter> Tables<S> {
             target: target.as_str(),
             current,
         };
-        match change::commit(&mut self.connection, &put) {
-            Ok(()) => {
-                self.outline.replace_generation(&key, number, value);
-                self.outline.switch_generation(&key, current);
-                Ok(())
-            }
-            Err(failure) => {
-                drop(value);
-                Err(failure)
-            }
+        if self.outline.has_generation(&key, number) {
+            change::commit(&mut self.connection, &put)?;
+            self.outline.replace_generation(&key, number, value);
+            self.outline.switch_generation(&key, current);
+            return Ok(());
         }
-    }
-
-    /// Adds generation `number`, which the profile doesn't have yet, and makes `current` the current one. Creates the
-    /// profile if it is missing.
-    pub(crate) fn put_generation(
-        &mut self,
-        owner: &str,
-        name: &str,
-        number: u32,
-        target: &StorePath,
-        current: u32,
-    ) -> Result<(), Failed>
-        requires new { finite.get (profile_of self.old.outline (owner.now, name.now)).generations number ≡ None }
-        requires sound { StaysSound S.Store self.old
-            (with_profile_by (owner.now, name.now) (λ p. switched (put_at p number target.now) current)) }
-        ensures { ChangesTables S.Store self.old self.new result
-            (with_profile_by (owner.now, name.now) (λ p. switched (put_at p number target.now) current))
-            (GenerationRows (owner.now, name.now) number target.now current) }
-    {
-        let key = owned(self.alloc, owner, name)?;
         let again = owned(self.alloc, owner, name)?;
-        let value = target.clone()?;
         let had = self.outline.put_generation(self.alloc, key, number, value)?;
         self.outline.switch_generation(&again, current);
-        let put = PutGeneration {
-            owner,
-            name,
-            number,
-            target: target.as_str(),
-            current,
-        };
         match change::commit(&mut self.connection, &put) {
             Ok(()) => Ok(()),
             Err(failure) => {
@@ -175,7 +118,7 @@ impl<S: Alter> Tables<S> {
         if self.outline.has_generation(&key, number) {
             self.switch_generation(owner, name, number)
         } else {
-            self.put_generation(owner, name, number, target, number)
+            self.put_number(owner, name, number, target, number)
         }
     }
 

@@ -86,7 +86,7 @@ impl<S: Alter> Tables<S> {
     /// let mut archive = Vec::new(alloc);
     /// nar::write(&Node::Regular { executable: false, contents: b"mycontent\n" }, &mut archive)?;
     /// let (hash, ca) = (Sha256::digest(&archive), Some(Ca::of_text(b"mycontent\n")));
-    /// let object = Summary::new(128, hash, Vec::new(alloc), None, ca, Vec::new(alloc), Vec::new(alloc));
+    /// let object = Summary::new(alloc, 128, hash, Vec::new(alloc), None, ca, Vec::new(alloc), Vec::new(alloc))?;
     /// let mut nar = Pieces::new(alloc);
     /// nar.append(archive)?;
     /// tables.insert_object(path, &nar, object)?;

@@ -12,7 +12,7 @@ ghost use Rattle.tables.specs.Frames.{IsOpenInside};
 use sqlite::{Alter, Transaction};
 use streams::PIECE_SIZE;
 use tables_outline::Summary;
-use tables_rows::{outputs, pieces, references};
+use tables_rows::{Delete, outputs, pieces, references};
 use tables_sql::failure::Failed;
 
 /// Deletes the rows of an object's references, if it has any.
@@ -31,7 +31,7 @@ pub(crate) fn delete_references<S: Alter>(
     if object.references().is_empty() {
         return Ok(());
     }
-    references::delete_of(tx, base)
+    references::Of { base }.delete(tx)
 }
 
 /// Deletes the rows of an object's outputs, if it has any.
@@ -50,7 +50,7 @@ pub(crate) fn delete_outputs<S: Alter>(
     if object.outputs().is_empty() {
         return Ok(());
     }
-    outputs::delete_of(tx, base)
+    outputs::Of { base }.delete(tx)
 }
 
 /// Deletes the rows of an archive's further pieces, if the object's row doesn't hold the whole archive.
@@ -68,5 +68,5 @@ pub(crate) fn delete_pieces<S: Alter>(
     if object.size() <= PIECE_SIZE {
         return Ok(());
     }
-    pieces::delete_of(tx, base)
+    pieces::Of { base }.delete(tx)
 }

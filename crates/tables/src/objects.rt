@@ -16,7 +16,7 @@ use paths::StorePath;
 use sqlite::{Alter, Transaction};
 use streams::Pieces;
 use tables_outline::Summary;
-use tables_rows::{objects, outputs, references};
+use tables_rows::{Insert, objects, outputs, references};
 use tables_sql::failure::Failed;
 
 /// Adds a row for each reference of a path. The references are distinct; the path has none of these rows yet.
@@ -31,7 +31,8 @@ pub(crate) fn put_references<S: Alter>(
         (RowsOf (ReferenceRow base.now) targets.now) }
 {
     'targets: for target in targets {
-        references::insert(tx, base, target.as_str())?;
+        let target = target.as_str();
+        references::Row { base, target }.insert(tx)?;
     }
     Ok(())
 }
@@ -52,7 +53,12 @@ pub(crate) fn put_outputs<S: Alter>(
         (RowsOf (OutputRow base.now) (zip (map string_bytes names.now) outputs.now)) }
 {
     'outputs: for i in 0..names.len() {
-        outputs::insert(tx, base, names[i].as_str(), outputs[i].as_str())?;
+        outputs::Row {
+            base,
+            name: names[i].as_str(),
+            target: outputs[i].as_str(),
+        }
+        .insert(tx)?;
     }
     Ok(())
 }
@@ -79,14 +85,14 @@ impl<'a> Change for InsertObject<'a> {
     ghost rows = { λ o. ObjectRows o.base.now (stored (row_part o.nar.now) o.object.now.hash o.texts.now.deriver o.texts.now.ca) (finite.keys o.object.now.references) (finite.entries o.object.now.outputs) (further_pieces o.nar.now) };
 
     fn write<S: Alter>(&self, tx: &mut Transaction<'_, S>) -> Result<(), Failed> {
-        objects::insert(
-            tx,
-            self.base,
-            self.nar.first(),
-            self.object.hash(),
-            &self.texts.deriver,
-            &self.texts.ca,
-        )?;
+        objects::Row {
+            base: self.base,
+            nar: self.nar.first(),
+            hash: self.object.hash(),
+            deriver: &self.texts.deriver,
+            ca: &self.texts.ca,
+        }
+        .insert(tx)?;
         put_references(tx, self.base, self.object.references())?;
         put_outputs(tx, self.base, self.object.names(), self.object.outputs())?;
         put_pieces(tx, self.base, self.nar)

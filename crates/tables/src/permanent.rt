@@ -7,7 +7,7 @@ ghost use Rattle.tables.specs.RowsPut.{PermanentRow};
 
 use crate::change::Change;
 use sqlite::{Alter, Transaction};
-use tables_rows::permanent;
+use tables_rows::{Delete, Insert, permanent};
 use tables_sql::failure::Failed;
 
 /// Sets a permanent root, in place of that of its name, if one exists.
@@ -17,8 +17,8 @@ fn replace<S: Alter>(tx: &mut Transaction<'_, S>, name: &str, target: &str) -> R
         (λ c. record c { permanent = finite.insert c.permanent name.now target.now })
         (PermanentRow name.now target.now) }
 {
-    permanent::delete(tx, name)?;
-    permanent::insert(tx, name, target)
+    permanent::Of { name }.delete(tx)?;
+    permanent::Row { name, target }.insert(tx)
 }
 
 /// The change that sets the target of a permanent root, new or not.
@@ -62,6 +62,6 @@ impl<'a> Change for DropPermanent<'a> {
     ghost rows = { λ p. NoRow };
 
     fn write<S: Alter>(&self, tx: &mut Transaction<'_, S>) -> Result<(), Failed> {
-        permanent::delete(tx, self.name)
+        permanent::Of { name: self.name }.delete(tx)
     }
 }

@@ -8,7 +8,7 @@ ghost use Rattle.tables_make.specs.Frames.{Writes};
 
 use crate::change::Change;
 use sqlite::{Alter, Transaction};
-use tables_rows::{generations, profiles};
+use tables_rows::{Delete, Insert, generations, profiles};
 use tables_sql::failure::Failed;
 
 /// Sets the current number of a profile, new or not.
@@ -23,8 +23,13 @@ pub(crate) fn put_current<S: Alter>(
         (λ c. record c { profiles = finite.insert c.profiles (owner.now, name.now) (pos current) })
         (ProfileRow (owner.now, name.now) current) }
 {
-    profiles::delete(tx, owner, name)?;
-    profiles::insert(tx, owner, name, current)
+    profiles::At { owner, name }.delete(tx)?;
+    profiles::Row {
+        owner,
+        name,
+        current,
+    }
+    .insert(tx)
 }
 
 /// The change that sets the current number of a profile.
@@ -72,7 +77,12 @@ impl<'a> Change for DropGeneration<'a> {
     ghost rows = { λ p. NoRow };
 
     fn write<S: Alter>(&self, tx: &mut Transaction<'_, S>) -> Result<(), Failed> {
-        generations::delete(tx, self.owner, self.name, self.number)
+        generations::At {
+            owner: self.owner,
+            name: self.name,
+            number: self.number,
+        }
+        .delete(tx)
     }
 }
 
@@ -100,9 +110,20 @@ impl<'a> Change for PutGeneration<'a> {
     ghost rows = { λ p. GenerationRows (p.owner.now, p.name.now) p.number p.target.now p.current };
 
     fn write<S: Alter>(&self, tx: &mut Transaction<'_, S>) -> Result<(), Failed> {
-        let number = self.number;
+        let (owner, name, number) = (self.owner, self.name, self.number);
         put_current(tx, self.owner, self.name, self.current)?;
-        generations::delete(tx, self.owner, self.name, number)?;
-        generations::insert(tx, self.owner, self.name, number, self.target)
+        generations::At {
+            owner,
+            name,
+            number,
+        }
+        .delete(tx)?;
+        generations::Row {
+            owner,
+            name,
+            number,
+            target: self.target,
+        }
+        .insert(tx)
     }
 }

@@ -1,20 +1,16 @@
 //! Reading of archives.
 
-ghost use Rattle.std.specs.Prelude.{◌≡◌, ◌++◌, is_some, IfOk, IsTrue, option_map};
+ghost use Rattle.std.specs.Prelude.{◌≡◌, ◌++◌, IfOk, option_map};
 ghost use Rattle.std.specs.List.{flat_map};
 ghost use Rattle.std.specs.FinMap as finite;
-ghost use Rattle.sqlite.specs.State.{HasCleanDisk, Survives};
-ghost use Rattle.sqlite.specs.Held.{state};
 ghost use Rattle.tables_schema.specs.Forms.{piece};
-ghost use Rattle.tables_sql.specs.Calls.{HasFurther, KeepsShown};
-ghost use Rattle.model.specs.World.{World};
+ghost use Rattle.tables_sql.specs.Calls.{HasFurther};
 ghost use Rattle.tables_sql.specs.Contents.{contents_of};
 ghost use Rattle.tables_rows.specs.Frames.{FindsInReads};
 ghost use Rattle.tables_world.specs.Rows.{archive_in};
 ghost use Rattle.tables_world.specs.Worlds.{rows_of};
 ghost use Rattle.tables.specs.Entries.{HoldsArchive};
-ghost use Rattle.tables.specs.Frames.{FailsToAsk, MayReadWith};
-ghost use Rattle.tables.specs.TablesValue.{HasWorld};
+ghost use Rattle.tables.specs.Frames.{MayReadWith, ReadsTables};
 
 use crate::keeping::Tables;
 use paths::StorePath;
@@ -22,7 +18,7 @@ use sqlite::{Alter, Connection};
 use std::alloc::{AllocError, Global};
 use streams::{PIECE_SIZE, Pieces};
 use tables_rows::pieces::Piece;
-use tables_rows::{objects, pieces};
+use tables_rows::{Find, objects, pieces};
 use tables_sql::failure::Failed;
 
 /// Joins the part of an archive in the row with the later pieces, in their order, without a copy if each but the last
@@ -59,7 +55,7 @@ pub(crate) fn read_archive<S: Alter>(
         let nar = joined(alloc, object.nar, Vec::new(alloc))?;
         return Ok(Some(nar));
     }
-    let further = pieces::of(alloc, conn, base)?;
+    let further = pieces::Of { base }.find(alloc, conn)?;
     let nar = joined(alloc, object.nar, further)?;
     Ok(Some(nar))
 }
@@ -75,16 +71,8 @@ impl<S: Alter> Tables<S> {
     ///
     /// Memory was refused or the disk failed.
     pub fn archive(&mut self, path: &StorePath) -> Result<Option<Pieces>, Failed>
-        ensures dir { self.new.dir ≡ self.old.dir }
-        ensures found { HasCleanDisk (state S.Store self.new.connection) → IfOk result (λ nar. (w : World)
-            → HasWorld S.Store self.old w → nar ≡ option_map (λ o. o.nar) (finite.get w.objects path.now)) }
-        ensures same { (w : World) → HasWorld S.Store self.old w → HasWorld S.Store self.new w }
-        ensures was_open { HasCleanDisk (state S.Store self.new.connection) → IfOk result (λ nar. IsTrue (is_some nar)
-            → IsTrue (state S.Store self.old.connection).is_open × IsTrue (state S.Store self.new.connection).is_open) }
-        ensures shown { HasCleanDisk (state S.Store self.new.connection)
-            → KeepsShown (state S.Store self.old.connection) (state S.Store self.new.connection) }
-        ensures cause { FailsToAsk S.Store self.old self.new result }
-        ensures survives { Survives (state S.Store self.old.connection) (state S.Store self.new.connection) (λ _. ⊥) }
+        ensures { ReadsTables S.Store self.old self.new result
+            (λ w nar. nar ≡ option_map (λ o. o.nar) (finite.get w.objects path.now)) }
     {
         let Some(object) = self.outline.object(path) else {
             return Ok(None);

@@ -18,7 +18,7 @@ use paths::StorePath;
 use sqlite::{Alter, Connection, Transaction};
 use std::alloc::Global;
 use tables_outline::Outline;
-use tables_rows::objects;
+use tables_rows::{Delete, objects};
 use tables_sql::failure::Failed;
 
 /// Deletes the rows of one object, if it exists: its own, and those of its references, outputs and pieces by the
@@ -33,7 +33,7 @@ fn delete_object<S: Alter>(
     ensures { Writes S.Store tx.old.conn tx.new.conn result (λ c. without_object path.now c) NoRow }
 {
     let base = path.as_str();
-    objects::delete(tx, base)?;
+    objects::Of { base }.delete(tx)?;
     let Some(object) = outline.object(path) else {
         return Ok(());
     };

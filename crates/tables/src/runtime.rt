@@ -13,7 +13,7 @@ use crate::change::Change;
 use paths::StorePath;
 use sqlite::{Alter, Transaction};
 use std::collections::BTreeSet;
-use tables_rows::runtime;
+use tables_rows::{Delete, Insert, runtime};
 use tables_sql::failure::Failed;
 
 /// Adds a row for each runtime root of `roots`. The table has no rows yet.
@@ -29,7 +29,11 @@ pub(crate) fn put_runtime<S: Alter>(
     // Labels and targets rise.
     let _count = roots.len();
     'roots: for root in roots.iter() {
-        runtime::insert(tx, root.0.as_str(), root.1.as_str())?;
+        runtime::Row {
+            label: root.0.as_str(),
+            target: root.1.as_str(),
+        }
+        .insert(tx)?;
     }
     Ok(())
 }
@@ -52,7 +56,7 @@ impl<'a> Change for ReplaceRuntime<'a> {
     ghost rows = { λ p. RowsOf RuntimeRow (map labelled_bytes p.roots.now.keys) };
 
     fn write<S: Alter>(&self, tx: &mut Transaction<'_, S>) -> Result<(), Failed> {
-        runtime::delete_all(tx)?;
+        runtime::All.delete(tx)?;
         put_runtime(tx, self.roots)
     }
 }

@@ -8,7 +8,7 @@ use crate::change::Change;
 use paths::StorePath;
 use sqlite::{Alter, Transaction};
 use std::alloc::{AllocError, Global};
-use tables_rows::temp_roots;
+use tables_rows::{Delete, Insert, temp_roots};
 use tables_sql::failure::Failed;
 
 /// Owned copies of an owner and a target, with the session's number: the form of the outline.
@@ -45,8 +45,13 @@ impl<'a> Change for PutTemporary<'a> {
     ghost rows = { λ p. TemporaryRow (keeps p.owner.now p.session p.target.now) };
 
     fn write<S: Alter>(&self, tx: &mut Transaction<'_, S>) -> Result<(), Failed> {
-        temp_roots::delete(tx, self.owner, self.session, self.target)?;
-        temp_roots::insert(tx, self.owner, self.session, self.target)
+        let row = temp_roots::Row {
+            owner: self.owner,
+            session: self.session,
+            target: self.target,
+        };
+        row.delete(tx)?;
+        row.insert(tx)
     }
 }
 
@@ -71,6 +76,7 @@ impl<'a> Change for EndSession<'a> {
     ghost rows = { λ p. NoRow };
 
     fn write<S: Alter>(&self, tx: &mut Transaction<'_, S>) -> Result<(), Failed> {
-        temp_roots::delete_of(tx, self.owner, self.session)
+        let (owner, session) = (self.owner, self.session);
+        temp_roots::Of { owner, session }.delete(tx)
     }
 }

@@ -6,7 +6,7 @@ ghost use Rattle.tables_outline.specs.Maps.{pair_bytes};
 use crate::change::Change;
 use sqlite::{Alter, Transaction};
 use std::alloc::{AllocError, Global};
-use tables_rows::user_roots;
+use tables_rows::{Delete, Insert, user_roots};
 use tables_sql::failure::Failed;
 
 /// Owned copies of an owner and a name.
@@ -38,8 +38,14 @@ impl<'a> Change for PutUserRoot<'a> {
     ghost rows = { λ p. UserRootRow (p.owner.now, p.name.now) p.target.now };
 
     fn write<S: Alter>(&self, tx: &mut Transaction<'_, S>) -> Result<(), Failed> {
-        user_roots::delete(tx, self.owner, self.name)?;
-        user_roots::insert(tx, self.owner, self.name, self.target)
+        let (owner, name) = (self.owner, self.name);
+        user_roots::At { owner, name }.delete(tx)?;
+        user_roots::Row {
+            owner,
+            name,
+            target: self.target,
+        }
+        .insert(tx)
     }
 }
 
@@ -62,6 +68,7 @@ impl<'a> Change for DropUserRoot<'a> {
     ghost rows = { λ p. NoRow };
 
     fn write<S: Alter>(&self, tx: &mut Transaction<'_, S>) -> Result<(), Failed> {
-        user_roots::delete(tx, self.owner, self.name)
+        let (owner, name) = (self.owner, self.name);
+        user_roots::At { owner, name }.delete(tx)
     }
 }

@@ -16,7 +16,7 @@ use sqlite::{Alter, Transaction};
 use std::alloc::Global;
 use streams::PIECE_SIZE;
 use tables_rows::objects::Object;
-use tables_rows::{objects, pieces};
+use tables_rows::{Delete, Insert, objects, pieces};
 use tables_sql::failure::Failed;
 
 /// Adds the pieces of what is left of an archive, numbered from 1.
@@ -36,7 +36,12 @@ pub(crate) fn put_pieces<S: Alter>(
             return Ok(());
         }
         let (front, after) = rest.split_at(PIECE_SIZE.min(rest.len()));
-        pieces::insert(tx, base, number, front)?;
+        pieces::Row {
+            base,
+            number,
+            bytes: front,
+        }
+        .insert(tx)?;
         rest = after;
     }
     // No memory holds that many.
@@ -52,8 +57,15 @@ pub(crate) fn put_cut<S: Alter>(tx: &mut Transaction<'_, S>, object: &Object) ->
 {
     let base = object.base.as_str();
     let (first, rest) = object.nar.split_at(PIECE_SIZE);
-    objects::delete(tx, base)?;
-    objects::insert(tx, base, first, &object.hash, &object.deriver, &object.ca)?;
+    objects::Of { base }.delete(tx)?;
+    objects::Row {
+        base,
+        nar: first,
+        hash: &object.hash,
+        deriver: &object.deriver,
+        ca: &object.ca,
+    }
+    .insert(tx)?;
     put_pieces(tx, base, rest)
 }
 

@@ -17,7 +17,7 @@ use crate::further;
 use crate::settling::renumber;
 use sqlite::{Alter, Connection, Transaction};
 use std::alloc::Global;
-use tables_rows::objects;
+use tables_rows::{Find, objects};
 use tables_sql::failure::Failed;
 use tables_sql::transaction;
 
@@ -81,7 +81,7 @@ pub fn from_first<S: Alter>(alloc: Global, conn: &mut Connection<S>) -> Result<(
     requires { MayMigrate S.Store conn.old V1 }
     ensures { Migrates S.Store conn.old conn.new result V1 }
 {
-    let bases = objects::keys(alloc, conn)?;
+    let bases = objects::Keys.find(alloc, conn)?;
     commit_first(alloc, conn, &bases)
 }
 

@@ -6,7 +6,7 @@ ghost use Rattle.tables_rows.specs.Frames.{IsInside};
 ghost use Rattle.tables_make.specs.Frames.{Writes};
 
 use sqlite::{Alter, Transaction};
-use tables_rows::meta;
+use tables_rows::{Delete, Insert, meta};
 use tables_schema::Schema;
 use tables_sql::failure::Failed;
 
@@ -15,6 +15,10 @@ pub(crate) fn renumber<S: Alter>(tx: &mut Transaction<'_, S>) -> Result<(), Fail
     requires { IsInside S.Store tx.old.conn }
     ensures { Writes S.Store tx.old.conn tx.new.conn result renumbered SettingRow }
 {
-    meta::delete(tx, "schema")?;
-    meta::insert(tx, "schema", Schema::V3.text())
+    meta::Of { word: "schema" }.delete(tx)?;
+    meta::Row {
+        word: "schema",
+        value: Schema::V3.text(),
+    }
+    .insert(tx)
 }

@@ -27,6 +27,13 @@ pub any_borrowed : (q : Path → Bool) (paths : List (Bor Path)) → list_any q 
 any_borrowed q [] = refl
 any_borrowed q (b ∷ paths) = ap (λ x. q b.now || x) (any_borrowed q paths)
 
+-- paths in order, and a slice of them
+pub here_rise : (own rows : List (Bor Path)) → rows ≡ own → Rises (borrowed own) → Rises (borrowed rows)
+here_rise own rows is up = subst (λ (l : List (Bor Path)). Rises (borrowed l)) (sym is) up
+
+pub any_here : (q : Path → Bool) (paths : List Path) (own rows : List (Bor Path)) → borrowed own ≡ paths → rows ≡ own → list_any q paths ≡ list_any (λ (b : Bor Path). q b.now) rows
+any_here q paths own rows view is = ap (list_any q) (sym view ∙ ap borrowed (sym is)) ∙ any_borrowed q rows
+
 -- the paths of all objects
 module _ (objects : Objects) (paths : List Path) (all : paths ≡ finite.keys objects) where
   pub all_rise : Rises paths

@@ -7,6 +7,7 @@ pub mod Each
 pub mod EachEntry
 pub mod Known
 pub mod Lists
+pub mod Loads
 pub mod OfArchive
 pub mod OfText
 pub mod OwnRows

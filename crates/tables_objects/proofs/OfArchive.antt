@@ -1,11 +1,11 @@
 -- What an archive of a derivation records.
-use Rattle.std.proofs.Common.{◌≡◌, ℕ, List, map, true, false, Option, Some, None, is_some, Result, Ok, Err, refl, sym, ap, subst, ◌∙◌, string_bytes}
-use Rattle.std.specs.Prelude.{if◌then◌else◌, IfOk, MatchOption}
+use Rattle.std.proofs.Common.{◌≡◌, ℕ, List, map, Bool, true, false, not, Option, Some, None, is_some, Result, Ok, Err, IsTrue, refl, sym, ap, subst, ◌∙◌, string_bytes}
+use Rattle.std.specs.Prelude.{if◌then◌else◌, ◌↔◌, IfOk, MatchOption}
 use Rattle.std.specs.declared.alloc.AllocError.{AllocError}
 use Rattle.std.specs.FinMap as finite
 use Rattle.std.proofs.lemmas.Bool.{false≢true}
 use Rattle.nar.specs.declared.error.NarError.{NarError}
-use Rattle.nar.specs.Tree.{Tree, regular}
+use Rattle.nar.specs.Tree.{IsBytes, Tree, regular}
 use Rattle.nar.specs.Archive.{IsArchive}
 use Rattle.nar.specs.Outcome.{outcome_of}
 use Rattle.nar.proofs.Decided.{outcome_archive}
@@ -13,10 +13,9 @@ use Rattle.intake.specs.declared.arriving.Arrived.{Arrived}
 use Rattle.intake.specs.Arriving.{fault_of}
 use Rattle.intake.specs.Described.{DescribesBytes}
 use Rattle.paths.specs.StorePath.{is_derivation}
-use Rattle.paths.specs.ContentAddress.{ContentAddress}
 use Rattle.model.specs.World.{Path}
 use Rattle.model.specs.Objects.{tree_outputs, outputs_at}
-use Rattle.tables_objects.specs.Tested.{IfDerivation, IsListed, IsRecorded, IsSoundArchive, outputs_in}
+use Rattle.tables_objects.specs.Tested.{IfDerivation, IsListed, IsRecorded, outputs_in}
 use Rattle.tables_objects.specs.declared.outputs.Listed.{Listed}
 
 module _ (dir : List ℕ) (p : Path) (nar : List ℕ) (tree : Tree)
@@ -57,30 +56,34 @@ same_tree : (t u : Tree) → ◌≡◌ {A = Result Tree NarError} (Ok t) (Ok u) 
 same_tree t u e = cc
 
 -- bytes without a fault have a tree
-pub tree_found : (r : Result Tree NarError) → fault_of r ≡ None → (t : Tree) × (r ≡ Ok t)
+tree_found : (r : Result Tree NarError) → fault_of r ≡ None → (t : Tree) × (r ≡ Ok t)
 tree_found (Ok t) none = (t, refl)
 tree_found (Err e) none = let no : ⊥ = cc in absurd no
 
-module _ (dir : List ℕ) (p : Path) (a : Arrived) (reported : DescribesBytes a) (sound : a.fault ≡ None) where
-  found : (t : Tree) × (outcome_of a.pieces ≡ Ok t)
-  found = tree_found (outcome_of a.pieces) (sym reported.fault ∙ sound)
-
-  pub reported_of : (r : Result (Option Listed) AllocError) (rows : List (List ℕ × Path))
-      → ((t : Tree) → outcome_of a.pieces ≡ Ok t → IfOk r (λ o. MatchOption o (¬ (IfDerivation dir p t × (rows ≡ finite.entries (outputs_in dir p t)))) (λ l. IfDerivation dir p t × (rows ≡ finite.entries (outputs_in dir p t)) × IsListed (map string_bytes l.names.items) l.paths.items (outputs_in dir p t))))
-      → IfOk r (λ o. MatchOption o (¬ (IsRecorded dir p a.pieces × (rows ≡ finite.entries (outputs_at dir p a.pieces)))) (λ l. IsRecorded dir p a.pieces × (rows ≡ finite.entries (outputs_at dir p a.pieces)) × IsListed (map string_bytes l.names.items) l.paths.items (outputs_at dir p a.pieces)))
-  reported_of r rows h = reported_by dir p a.pieces found.0
-      ((outcome_archive a.pieces found.0 reported.bytes).0 found.1)
-      (λ t is. same_tree found.0 t (sym found.1 ∙ (outcome_archive a.pieces t reported.bytes).1 is))
-      found.1 r rows (h found.0 found.1)
-
-pub no_fault : (o : Option NarError) → is_some o ≡ false → o ≡ None
+no_fault : (o : Option NarError) → is_some o ≡ false → o ≡ None
 no_fault None h = refl
 no_fault (Some e) h = absurd (false≢true (sym h))
 
--- bytes with a fault are no sound archive
-pub no_archive : (dir : List ℕ) (p : Path) (a : Arrived) (hash : List ℕ) (ca : Option ContentAddress) (refs : List Path) (outputs : List (List ℕ × Path)) → DescribesBytes a → is_some a.fault ≡ true
-    → ¬ IsSoundArchive dir p a.pieces hash ca refs outputs
-no_archive dir p a hash ca refs outputs reported faulty = λ s.
-    let tree = s.recorded.tree in
-    let none : a.fault ≡ None = reported.fault ∙ ap fault_of ((outcome_archive a.pieces tree reported.bytes).1 s.recorded.archive) in
-    absurd (false≢true (sym (ap is_some none) ∙ faulty))
+none_so : (b : Bool) → not b ≡ false → b ≡ true
+none_so true h = refl
+none_so false h = absurd (false≢true (sym h))
+
+-- what is found of the bytes says whether they are an archive
+pub archive_found : (nar : List ℕ) (a : Arrived) → a.pieces ≡ nar → DescribesBytes a → (b : Bool) → is_some a.fault ≡ not b → IsTrue b ↔ ((t : Tree) × IsArchive t nar)
+archive_found nar a view described b is = (
+  λ yes.
+      let found = tree_found (outcome_of a.pieces) (sym described.fault ∙ no_fault a.fault (is ∙ ap not yes)) in
+      (found.0, subst (IsArchive found.0) view ((outcome_archive a.pieces found.0 described.bytes).0 found.1)),
+  λ it. none_so b (sym is ∙ ap is_some (described.fault ∙ ap fault_of ((outcome_archive a.pieces it.0 described.bytes).1 (subst (IsArchive it.0) (sym view) it.1)))),
+)
+
+module _ (dir : List ℕ) (p : Path) (nar own : List ℕ) (view : own ≡ nar) (bytes : IsBytes own) (archive : (t : Tree) × IsArchive t nar) where
+  outcome : outcome_of own ≡ Ok archive.0
+  outcome = (outcome_archive own archive.0 bytes).1 (subst (IsArchive archive.0) (sym view) archive.1)
+
+  pub reported_of : (r : Result (Option Listed) AllocError) (rows : List (List ℕ × Path))
+      → ((t : Tree) → outcome_of own ≡ Ok t → IfOk r (λ o. MatchOption o (¬ (IfDerivation dir p t × (rows ≡ finite.entries (outputs_in dir p t)))) (λ l. IfDerivation dir p t × (rows ≡ finite.entries (outputs_in dir p t)) × IsListed (map string_bytes l.names.items) l.paths.items (outputs_in dir p t))))
+      → IfOk r (λ o. MatchOption o (¬ (IsRecorded dir p nar × (rows ≡ finite.entries (outputs_at dir p nar)))) (λ l. IsRecorded dir p nar × (rows ≡ finite.entries (outputs_at dir p nar)) × IsListed (map string_bytes l.names.items) l.paths.items (outputs_at dir p nar)))
+  reported_of r rows h = reported_by dir p nar archive.0 archive.1
+      (λ t is. same_tree archive.0 t (sym outcome ∙ (outcome_archive own t bytes).1 (subst (IsArchive t) (sym view) is)))
+      (ap outcome_of (sym view) ∙ outcome) r rows (h archive.0 outcome)

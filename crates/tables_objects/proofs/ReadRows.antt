@@ -23,8 +23,10 @@ use Rattle.tables_sql.specs.Entries.{piece_in, stored_of, IsStored}
 use Rattle.model.specs.World.{Path}
 use Rattle.tables_objects.specs.declared.reading.ObjectRows.{ObjectRows}
 use Rattle.tables_objects.specs.declared.joined.Joined.{Joined}
-use Rattle.tables_objects.specs.Rows.{AreRowsOf, AreJoined}
+use Rattle.tables_objects.specs.declared.source.Source.{Source}
+use Rattle.tables_objects.specs.Rows.{AreRowsOf, AreJoined, AreStored}
 use Rattle.tables_objects.specs.Pieces.{HasPiecesBy}
+use Rattle.tables_objects.specs.Loading.{MayReadBy, MayReadFrom}
 use Rattle.tables_objects.proofs.Columns.{parts_read}
 use Rattle.tables_objects.proofs.Each.{shown_of, no_change}
 
@@ -77,6 +79,10 @@ further_after a b d read survives had clean =
     let same = (read clean).0 in
     further_still a b d same.now_is (had (clean_before a b (λ _. ⊥) survives clean) same.was_open)
 
+-- a state that shows the same has the same rows in other tables
+pub joined_still : (a b : State) (all : Joined) → b.now ≡ a.now → AreJoined (contents_of a.now) all → AreJoined (contents_of b.now) all
+joined_still a b all same h = subst (λ (d : Database). AreJoined (contents_of d) all) (sym same) h
+
 module _ {S : Type 0} {g : Ghosts S} where
   -- no read yet
   pub as_it_was : (a : Held S) → MayRead g a → (HasCleanDisk (state g a) → IsTrue (state g a).is_open) → LeftAsItWas g a a
@@ -96,6 +102,20 @@ module _ {S : Type 0} {g : Ghosts S} where
     no_table = λ clean has is_open. further_after (state g a) (state g b) (λ d. (contents_of d).pieces ≡ finite.empty) read left.survives (λ early up. had.no_table early has up) clean;
   }
 
--- a state that shows the same has the same rows in other tables
-pub joined_still : (a b : State) (all : Joined) → b.now ≡ a.now → AreJoined (contents_of a.now) all → AreJoined (contents_of b.now) all
-joined_still a b all same h = subst (λ (d : Database). AreJoined (contents_of d) all) (sym same) h
+  -- so it may be read as before
+  pub by_after : (schema : Schema) (a b : Held S) → LeftAsItWas g a b → (HasCleanDisk (state g b) → IsUnchanged (state g a) (state g b)) → MayReadBy g schema a → MayReadBy g schema b
+  by_after schema a b left read may = record {
+    frame = record { idle = left.idle; ready = left.ready };
+    pieces = pieces_after schema a b left read may.pieces;
+  }
+
+  -- and from a source, with other rows read ahead
+  pub from_after : (source : Source) (before after : List Object) (a b : Held S) → LeftAsItWas g a b → (HasCleanDisk (state g b) → IsUnchanged (state g a) (state g b))
+      → MayReadFrom g source before a → (HasCleanDisk (state g b) → AreStored (contents_of (state g a).now) after) → MayReadFrom g source after b
+  from_after source before after a b left read may ahead = record {
+    frame = record { idle = left.idle; ready = left.ready };
+    opened = λ clean. (read clean).0.is_open;
+    pieces = pieces_after source.schema a b left read may.pieces;
+    joined = λ clean. joined_still (state g a) (state g b) source.joined.now (read clean).0.now_is (may.joined (clean_before (state g a) (state g b) (λ _. ⊥) left.survives clean));
+    ahead = λ clean. subst (λ (d : Database). AreStored (contents_of d) after) (sym (read clean).0.now_is) (ahead clean);
+  }

@@ -1,5 +1,5 @@
 -- One object, tested by its rows and put among the others.
-use Rattle.std.proofs.Common.{◌≡◌, ℕ, ℤ, List, [], ◌∷◌, ◌++◌, refl, length, Bool, Some, Option, sym, ap, subst, ◌∙◌, IsTrue}
+use Rattle.std.proofs.Common.{◌≡◌, ℕ, ℤ, List, [], ◌∷◌, ◌++◌, refl, length, Bool, Some, None, Option, sym, ap, subst, ◌∙◌, IsTrue}
 use Rattle.std.specs.Prelude.{◌↔◌, MatchOption}
 use Rattle.std.specs.FinMap as finite
 use Rattle.std.proofs.lemmas.Option.{same_Some}
@@ -25,6 +25,10 @@ use Rattle.tables_objects.specs.Rows.{AreRowsOf}
 use Rattle.tables_objects.specs.Loaded.{Objects, IsCutBy, IsSoundOne, filled, with_stored, with_object}
 use Rattle.tables_objects.proofs.Paths.{set_again}
 use Rattle.tables_objects.proofs.SoundRows.{row_of_tested, tested_of_row}
+
+-- no object is there
+pub no_object : (schema : Schema) (dir : List ℕ) (c : Contents) (p : Path) → finite.get c.objects p ≡ None → IsSoundOne schema dir c p → ⊥
+no_object schema dir c p none s = let e = sym none ∙ s.found in cc
 
 module _ (schema : Schema) (dir : List ℕ) (c : Contents) (p : Path) (r : ObjectRows) (h : AreRowsOf c p r)
     (refs : List Reference) (outs : List Output) (refs_are : targets_of refs ≡ finite.keys (references_in (rows_of c) p)) (outs_are : named_of outs ≡ finite.entries (outputs_in (rows_of c) p)) where

@@ -4,4 +4,5 @@ pub mod Pieces
 pub mod Rising
 pub mod Rows
 pub mod Loaded
+pub mod Loading
 pub mod Tested

@@ -1,10 +1,9 @@
 -- What is tested of the rows of one object.
-use Rattle.std.specs.Prelude.{◌≡◌, ℕ, ◌≤◌, Bool, true, false, not, ◌&&◌, if◌then◌else◌, Ok, List, [], ◌∷◌, map, length, Option, Some, None, is_some, IsTrue, IsOk, String, string_bytes}
+use Rattle.std.specs.Prelude.{◌≡◌, ℕ, ◌≤◌, Bool, true, false, not, ◌&&◌, if◌then◌else◌, Ok, List, [], ◌∷◌, map, length, Option, Some, None, is_some, IsTrue, IsOk, string_bytes}
 use Rattle.std.specs.List.{list_any, zip}
 use Rattle.std.specs.Str.{bytes_eq}
 use Rattle.std.specs.Ordering.{is_lt}
 use Rattle.std.specs.FinMap as finite
-use Rattle.std.specs.declared.alloc.Global.{Global}
 use Rattle.sha2.specs.Sha256.{sha256}
 use Rattle.nar.specs.declared.error.NarError.{NarError}
 use Rattle.nar.specs.Tree.{Tree, regular}

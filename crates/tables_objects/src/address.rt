@@ -3,10 +3,9 @@
 ghost use Rattle.std.specs.Prelude.{◌≡◌, IfOk};
 ghost use Rattle.std.specs.List.{list_any};
 ghost use Rattle.std.specs.Str.{bytes_eq};
-ghost use Rattle.intake.specs.Described.{DescribesBytes};
 ghost use Rattle.tables_objects.specs.Tested as tested;
 
-use intake::Arrived;
+use crate::passing::ArchiveBytes;
 use paths::{Ca, StoreDir, StorePath, VerifyError};
 use std::alloc::{AllocError, Global};
 
@@ -27,12 +26,11 @@ pub(crate) fn fits_address(
     alloc: Global,
     dir: &StoreDir,
     path: &StorePath,
-    archive: &Arrived,
+    archive: &ArchiveBytes,
     ca: Option<Ca>,
     refs: &[StorePath],
 ) -> Result<bool, AllocError>
-    requires reported { DescribesBytes archive.now }
-    ensures { IfOk result (λ ok. ok ≡ tested.fits_address ca dir.now path.now refs.now archive.now.pieces) }
+    ensures { IfOk result (λ ok. ok ≡ tested.fits_address ca dir.now path.now refs.now archive.now) }
 {
     let Some(ca) = ca else {
         return Ok(true);

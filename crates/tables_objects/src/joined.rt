@@ -6,17 +6,17 @@ ghost use Rattle.std.specs.List.{list_all};
 ghost use Rattle.std.specs.FinMap as finite;
 ghost use Rattle.sqlite.specs.State.{HasCleanDisk};
 ghost use Rattle.sqlite.specs.Held.{state};
-ghost use Rattle.tables_rows.specs.Frames.{MayRead, FindsInReads};
-ghost use Rattle.tables_objects.specs.Pieces.{HasPiecesBy};
+ghost use Rattle.tables_rows.specs.Frames.{FindsInReads};
 ghost use Rattle.tables_sql.specs.Entries.{numbered_in, output_of, reference_of};
 ghost use Rattle.tables_objects.specs.Rows.{AreJoined};
 ghost use Rattle.tables_objects.specs.Loaded.{is_output, is_owned, is_reference};
+ghost use Rattle.tables_objects.specs.Loading.{MayReadBy};
 
-use crate::members::{are_outputs, are_owned, are_references, paths_in};
+use crate::members::{Paths, are_outputs, are_owned, are_references};
 use sqlite::{Alter, Connection};
 use std::alloc::{AllocError, Global};
 use tables_outline::Outline;
-use tables_rows::{outputs, pieces, references};
+use tables_rows::{Find, outputs, pieces, references};
 use tables_schema::Schema;
 use tables_sql::failure::Failed;
 use tables_sql::outputs::Output;
@@ -37,16 +37,15 @@ fn keys_of<S: Alter>(
     conn: &mut Connection<S>,
     schema: Schema,
 ) -> Result<Vec<PieceKey>, Failed>
-    requires frame { MayRead S.Store conn.old }
+    requires tables { MayReadBy S.Store schema conn.old }
     requires opened { HasCleanDisk (state S.Store conn.old) → IsTrue (state S.Store conn.old).is_open }
-    requires pieces { HasPiecesBy S.Store schema conn.old }
     ensures { FindsInReads S.Store conn.old conn.new result
         (λ c all. map numbered_in all.items ≡ finite.keys c.pieces) }
 {
     if !schema.has_pieces() {
         return Ok(Vec::new(alloc));
     }
-    pieces::keys(alloc, conn)
+    pieces::Keys.find(alloc, conn)
 }
 
 /// All references and outputs, and which pieces there are.
@@ -55,12 +54,11 @@ pub(crate) fn read_joined<S: Alter>(
     conn: &mut Connection<S>,
     schema: Schema,
 ) -> Result<Joined, Failed>
-    requires frame { MayRead S.Store conn.old }
-    requires pieces { HasPiecesBy S.Store schema conn.old }
+    requires { MayReadBy S.Store schema conn.old }
     ensures { FindsInReads S.Store conn.old conn.new result AreJoined }
 {
-    let references = references::all(alloc, conn)?;
-    let outputs = outputs::all(alloc, conn)?;
+    let references = references::All.find(alloc, conn)?;
+    let outputs = outputs::All.find(alloc, conn)?;
     let pieces = keys_of(alloc, conn, schema)?;
     Ok(Joined {
         references,
@@ -80,7 +78,7 @@ pub(crate) fn are_joined(
         && list_all (is_output outline.now.objects) (map output_of joined.now.outputs.items))
         && list_all (is_owned outline.now.objects) (map numbered_in joined.now.pieces.items))) }
 {
-    let paths = paths_in(alloc, outline)?;
+    let paths = Paths::of(alloc, outline)?;
     if !are_references(&paths, &joined.references) {
         return Ok(false);
     }

@@ -15,6 +15,7 @@ mod reading;
 mod reading_ahead;
 mod recorded;
 mod references;
+mod source;
 mod texts;
 
 pub use loading::load_objects;

@@ -1,15 +1,9 @@
 //! All objects of the rows, tested and put into the outline, and what is tested with them.
 
-ghost use Rattle.std.specs.Prelude.{◌≡◌, ◌↔◌, IsTrue, IfOk};
-ghost use Rattle.std.specs.FinMap as finite;
-ghost use Rattle.sqlite.specs.State.{HasCleanDisk};
-ghost use Rattle.sqlite.specs.Held.{state};
-ghost use Rattle.tables_sql.specs.Contents.{contents_of};
-ghost use Rattle.tables_rows.specs.Frames.{MayRead, ReadsOnly};
-ghost use Rattle.tables_objects.specs.Pieces.{HasPiecesBy};
 ghost use Rattle.tables_world.specs.Worlds.{rows_of, world_in};
 ghost use Rattle.tables_outline.specs.Outline.{outline_of};
 ghost use Rattle.tables_objects.specs.Loaded.{AreSoundInPieces};
+ghost use Rattle.tables_objects.specs.Loading.{MayReadBy, Loads};
 
 use crate::joined::{are_joined, read_joined};
 use crate::loading_each::load_all;
@@ -22,8 +16,8 @@ use tables_sql::failure::Failed;
 
 /// Whether the objects of the rows are sound in a store directory, by their schema: each archive cut the right way,
 /// each object with its whole archive, its references and its outputs, each reference one of an object to an object,
-/// and each output and each piece one of an object. If so, they are put into the outline, which has no objects before.
-/// Archives are read one after another. The first schema has no table of pieces.
+/// and each output and each piece one of an object. If so, they replace the objects of the outline. Archives are read
+/// one after another. The first schema has no table of pieces.
 ///
 /// # Errors
 ///
@@ -35,18 +29,10 @@ pub fn load_objects<S: Alter>(
     dir: &StoreDir,
     outline: &mut Outline,
 ) -> Result<bool, Failed>
-    requires frame { MayRead S.Store conn.old }
-    requires pieces { HasPiecesBy S.Store schema conn.old }
-    requires empty { outline.old.objects ≡ finite.empty }
-    ensures read { ReadsOnly S.Store conn.old conn.new result }
-    ensures reported { HasCleanDisk (state S.Store conn.new)
-        → IfOk result
-        (λ ok. IsTrue ok ↔ AreSoundInPieces schema dir.now (rows_of (contents_of (state S.Store conn.old).now))) }
-    ensures loaded { HasCleanDisk (state S.Store conn.new)
-        → IfOk result
-        (λ ok. IsTrue ok
-        → outline.new
-        ≡ record outline.old { objects = (outline_of (world_in (contents_of (state S.Store conn.old).now))).objects }) }
+    requires { MayReadBy S.Store schema conn.old }
+    ensures { Loads S.Store conn.old conn.new result outline.new
+        (λ c. AreSoundInPieces schema dir.now (rows_of c))
+        (λ c. record outline.old { objects = (outline_of (world_in c)).objects }) }
 {
     let joined = read_joined(alloc, conn, schema)?;
     if !load_all(alloc, conn, schema, dir, outline, &joined)? {

@@ -1,30 +1,30 @@
 //! Objects, tested one after another, and then put into the outline together.
 
-ghost use Rattle.std.specs.Prelude.{◌≡◌, ◌↔◌, IsTrue, IfOk, OnOk, map, string_bytes};
+ghost use Rattle.std.specs.Prelude.{◌≡◌, ◌↔◌, [], IsTrue, IfOk, OnOk, map, string_bytes};
 ghost use Rattle.std.specs.List.{AllByRecursion};
 ghost use Rattle.std.specs.FinMap as finite;
 ghost use Rattle.sqlite.specs.State.{HasCleanDisk};
 ghost use Rattle.sqlite.specs.Held.{state};
 ghost use Rattle.tables_sql.specs.Contents.{contents_of};
-ghost use Rattle.tables_rows.specs.Frames.{MayRead, ReadsOnly};
-ghost use Rattle.tables_objects.specs.Pieces.{HasPiecesBy};
 ghost use Rattle.tables_sql.specs.Entries.{stored_of};
 ghost use Rattle.tables_objects.specs.Cut.{parts_of, whole_of};
 ghost use Rattle.tables_objects.specs.Rows.{AreJoined, AreStored};
 ghost use Rattle.tables_objects.specs.Tested.{IsSoundAt, kept_of, named_of, targets_of};
 ghost use Rattle.tables_objects.specs.Loaded.{IsCutBy, IsSoundOne, filled, with_object, with_objects};
+ghost use Rattle.tables_objects.specs.Loading.{MayReadBy, MayReadFrom, Loads};
 
 use crate::cutting::is_cut;
 use crate::groups::group;
 use crate::joined::Joined;
 use crate::objects::sound_object;
 use crate::reading::{ObjectRows, rows_at};
+use crate::source::Source;
 use paths::{StoreDir, StorePath};
 use sqlite::{Alter, Connection};
 use std::alloc::{AllocError, Global};
 use std::collections::VecDeque;
 use tables_outline::{Outline, Summary};
-use tables_rows::objects;
+use tables_rows::{Find, objects};
 use tables_schema::Schema;
 use tables_sql::failure::Failed;
 use tables_sql::objects::Object;
@@ -74,87 +74,57 @@ fn load_rows(
     Ok(true)
 }
 
-/// Whether this base is an object's, whose rows are sound. If so, it is added to `found`. Rows of other tables were
-/// read before.
+/// Whether this base is an object's, whose rows are sound. If so, it is added to `found`.
 fn load_object<S: Alter>(
     alloc: Global,
     conn: &mut Connection<S>,
-    schema: Schema,
+    source: &Source<'_>,
+    ahead: &mut VecDeque<Object>,
     dir: &StoreDir,
     found: &mut Vec<(StorePath, Summary)>,
-    joined: &Joined,
-    ahead: &mut VecDeque<Object>,
-    bases: &[String],
     base: &str,
 ) -> Result<bool, Failed>
-    requires frame { MayRead S.Store conn.old }
-    requires opened { HasCleanDisk (state S.Store conn.old) → IsTrue (state S.Store conn.old).is_open }
-    requires pieces { HasPiecesBy S.Store schema conn.old }
-    requires joined { HasCleanDisk (state S.Store conn.old)
-        → AreJoined (contents_of (state S.Store conn.old).now) joined.now }
-    requires ahead { HasCleanDisk (state S.Store conn.old)
-        → AreStored (contents_of (state S.Store conn.old).now) ahead.old.items }
-    ensures read { ReadsOnly S.Store conn.old conn.new result }
-    ensures reported { HasCleanDisk (state S.Store conn.new)
-        → IfOk result
-        (λ ok. IsTrue ok ↔ IsSoundOne schema dir.now (contents_of (state S.Store conn.old).now) base.now) }
-    ensures loaded { HasCleanDisk (state S.Store conn.new)
-        → IfOk result
-        (λ ok. IsTrue ok
-        → filled found.new.items
-        ≡ with_object (contents_of (state S.Store conn.old).now) base.now (filled found.old.items)) }
+    requires { MayReadFrom S.Store source.now ahead.old.items conn.old }
+    ensures object { Loads S.Store conn.old conn.new result (filled found.new.items)
+        (λ c. IsSoundOne source.now.schema dir.now c base.now)
+        (λ c. with_object c base.now (filled found.old.items)) }
     ensures ahead { HasCleanDisk (state S.Store conn.new)
         → OnOk result (AreStored (contents_of (state S.Store conn.old).now) ahead.new.items) }
 {
-    let Some(rows) = rows_at(alloc, conn, schema, &joined.pieces, ahead, bases, base)? else {
+    let Some(rows) = rows_at(alloc, conn, source, ahead, base)? else {
         return Ok(false);
     };
-    let references = group(&joined.references, base);
-    let outputs = group(&joined.outputs, base);
+    let references = group(&source.joined.references, base);
+    let outputs = group(&source.joined.outputs, base);
+    let schema = source.schema;
     Ok(load_rows(alloc, schema, dir, found, rows, references, outputs)?)
 }
 
-/// Whether each base is an object's, whose rows are sound. If so, they are added to `found`.
+/// Whether each base of the source is an object's, whose rows are sound. If so, they are added to `found`.
 fn load_each<S: Alter>(
     alloc: Global,
     conn: &mut Connection<S>,
-    schema: Schema,
+    source: &Source<'_>,
     dir: &StoreDir,
     found: &mut Vec<(StorePath, Summary)>,
-    joined: &Joined,
-    bases: &[String],
 ) -> Result<bool, Failed>
-    requires frame { MayRead S.Store conn.old }
-    requires opened { HasCleanDisk (state S.Store conn.old) → IsTrue (state S.Store conn.old).is_open }
-    requires pieces { HasPiecesBy S.Store schema conn.old }
-    requires joined { HasCleanDisk (state S.Store conn.old)
-        → AreJoined (contents_of (state S.Store conn.old).now) joined.now }
-    ensures read { ReadsOnly S.Store conn.old conn.new result }
-    ensures reported { HasCleanDisk (state S.Store conn.new)
-        → IfOk result
-        (λ ok. IsTrue ok
-        ↔ AllByRecursion (IsSoundOne schema dir.now (contents_of (state S.Store conn.old).now))
-        (map string_bytes bases.now)) }
-    ensures loaded { HasCleanDisk (state S.Store conn.new)
-        → IfOk result
-        (λ ok. IsTrue ok
-        → filled found.new.items
-        ≡ with_objects (contents_of (state S.Store conn.old).now) (map string_bytes bases.now)
-        (filled found.old.items)) }
+    requires { MayReadFrom S.Store source.now [] conn.old }
+    ensures { Loads S.Store conn.old conn.new result (filled found.new.items)
+        (λ c. AllByRecursion (IsSoundOne source.now.schema dir.now c) (map string_bytes source.now.bases.now))
+        (λ c. with_objects c (map string_bytes source.now.bases.now) (filled found.old.items)) }
 {
     let mut ahead = VecDeque::new(alloc);
+    let bases = source.bases;
     'bases: for base in bases {
         let base = base.as_str();
-        if !load_object(
-            alloc, conn, schema, dir, found, joined, &mut ahead, bases, base,
-        )? {
+        if !load_object(alloc, conn, source, &mut ahead, dir, found, base)? {
             return Ok(false);
         }
     }
     Ok(true)
 }
 
-/// Whether all objects of the rows are sound, each by itself. If so, they are put into the outline.
+/// Whether all objects of the rows are sound, each by itself. If so, they replace the objects of the outline.
 pub(crate) fn load_all<S: Alter>(
     alloc: Global,
     conn: &mut Connection<S>,
@@ -163,29 +133,21 @@ pub(crate) fn load_all<S: Alter>(
     outline: &mut Outline,
     joined: &Joined,
 ) -> Result<bool, Failed>
-    requires frame { MayRead S.Store conn.old }
-    requires pieces { HasPiecesBy S.Store schema conn.old }
+    requires tables { MayReadBy S.Store schema conn.old }
     requires joined { HasCleanDisk (state S.Store conn.old)
         → AreJoined (contents_of (state S.Store conn.old).now) joined.now }
-    requires empty { outline.old.objects ≡ finite.empty }
-    ensures read { ReadsOnly S.Store conn.old conn.new result }
-    ensures reported { HasCleanDisk (state S.Store conn.new)
-        → IfOk result
-        (λ ok. IsTrue ok
-        ↔ AllByRecursion (IsSoundOne schema dir.now (contents_of (state S.Store conn.old).now))
-        (finite.keys (contents_of (state S.Store conn.old).now).objects)) }
-    ensures loaded { HasCleanDisk (state S.Store conn.new)
-        → IfOk result
-        (λ ok. IsTrue ok
-        → outline.new
-        ≡ record outline.old {
-          objects = with_objects (contents_of (state S.Store conn.old).now)
-              (finite.keys (contents_of (state S.Store conn.old).now).objects) outline.old.objects;
-        }) }
+    ensures { Loads S.Store conn.old conn.new result outline.new
+        (λ c. AllByRecursion (IsSoundOne schema dir.now c) (finite.keys c.objects))
+        (λ c. record outline.old { objects = with_objects c (finite.keys c.objects) finite.empty }) }
 {
-    let bases = objects::keys(alloc, conn)?;
+    let bases = objects::Keys.find(alloc, conn)?;
+    let source = Source {
+        schema,
+        joined,
+        bases: &bases,
+    };
     let mut found = Vec::new(alloc);
-    if !load_each(alloc, conn, schema, dir, &mut found, joined, &bases)? {
+    if !load_each(alloc, conn, &source, dir, &mut found)? {
         return Ok(false);
     }
     outline.set_objects(alloc, found)?;

@@ -8,21 +8,47 @@ ghost use Rattle.std.specs.Option.{ForSome, option_copied};
 ghost use Rattle.tables_sql.specs.Entries.{numbered_in, reference_of, output_of};
 ghost use Rattle.tables_objects.specs.Known as known;
 ghost use Rattle.tables_objects.specs.Known.{is_known, borrowed};
-ghost use Rattle.tables_objects.specs.Rising.{Rises};
 
 use crate::groups::first_of;
 use paths::StorePath;
 use std::alloc::{AllocError, Global};
+use std::marker::Model;
 use tables_outline::Outline;
 use tables_sql::outputs::Output;
 use tables_sql::pieces::PieceKey;
 use tables_sql::references::Reference;
 
+/// Paths in order, borrowed. Contracts see them as a list.
+#[derive(Drop)]
+pub(crate) struct Paths<'a> {
+    paths: Vec<&'a StorePath>,
+}
+
+impl<'a> Model for Paths<'a> {
+    ghost use Rattle.std.specs.Prelude.{List};
+    ghost use Rattle.model.specs.World.{Path};
+    ghost use Rattle.tables_objects.specs.Known.{borrowed};
+    ghost use Rattle.tables_objects.specs.Rising.{Rises};
+
+    ghost Value = { List Path };
+
+    ghost view = { λ p. borrowed p.paths.items };
+
+    ghost invariant = { λ p. Rises (borrowed p.paths.items) };
+}
+
+impl<'a> Paths<'a> {
+    /// The paths of all objects.
+    pub(crate) fn of(alloc: Global, outline: &'a Outline) -> Result<Paths<'a>, AllocError>
+        ensures { IfOk result (λ all. all ≡ finite.keys outline.now.objects) }
+    {
+        let paths = paths_in(alloc, outline)?;
+        Ok(Paths { paths })
+    }
+}
+
 /// The paths of all objects, borrowed, in order.
-pub(crate) fn paths_in<'a>(
-    alloc: Global,
-    outline: &'a Outline,
-) -> Result<Vec<&'a StorePath>, AllocError>
+fn paths_in<'a>(alloc: Global, outline: &'a Outline) -> Result<Vec<&'a StorePath>, AllocError>
     ensures { IfOk result (λ v. borrowed v.items ≡ finite.keys outline.now.objects) }
 {
     let mut paths = Vec::new(alloc);
@@ -33,11 +59,10 @@ pub(crate) fn paths_in<'a>(
 }
 
 /// Whether a text is one of the paths.
-fn is_known(paths: &[&StorePath], text: &str) -> bool
-    requires { Rises (borrowed paths.now) }
-    ensures { result ≡ is_known (borrowed paths.now) text.now }
+fn is_known(paths: &Paths<'_>, text: &str) -> bool
+    ensures { result ≡ is_known paths.now text.now }
 {
-    match first_of(paths, text) {
+    match first_of(&paths.paths, text) {
         Some(path) => {
             // A path is a base name.
             let _base = path.as_str();
@@ -58,10 +83,9 @@ fn is_last(last: Option<&str>, text: &str) -> bool
 
 /// Whether a text is one of the paths, as the last one was, if there is one. Rows come in the order of their bases, so
 /// each base is looked up once.
-fn is_next_known(paths: &[&StorePath], last: Option<&str>, text: &str) -> bool
-    requires rises { Rises (borrowed paths.now) }
-    requires last { ForSome (option_copied last) (λ base. is_known (borrowed paths.now) base ≡ true) }
-    ensures { result ≡ is_known (borrowed paths.now) text.now }
+fn is_next_known(paths: &Paths<'_>, last: Option<&str>, text: &str) -> bool
+    requires { ForSome (option_copied last) (λ base. is_known paths.now base ≡ true) }
+    ensures { result ≡ is_known paths.now text.now }
 {
     if is_last(last, text) {
         return true;
@@ -69,37 +93,27 @@ fn is_next_known(paths: &[&StorePath], last: Option<&str>, text: &str) -> bool
     is_known(paths, text)
 }
 
-/// Whether the base and the target of a reference are among the paths.
-fn is_reference(paths: &[&StorePath], last: Option<&str>, row: &Reference) -> bool
-    requires rises { Rises (borrowed paths.now) }
-    requires last { ForSome (option_copied last) (λ base. is_known (borrowed paths.now) base ≡ true) }
-    ensures { result ≡ known.is_known_reference (borrowed paths.now) (reference_of row.now) }
-{
-    if !is_next_known(paths, last, row.base.as_str()) {
-        return false;
-    }
-    is_known(paths, row.target.as_str())
-}
-
 /// Whether each reference is one of a path to a path.
-pub(crate) fn are_references(paths: &[&StorePath], rows: &[Reference]) -> bool
-    requires { Rises (borrowed paths.now) }
-    ensures { result ≡ list_all (known.is_known_reference (borrowed paths.now)) (map reference_of rows.now) }
+pub(crate) fn are_references(paths: &Paths<'_>, rows: &[Reference]) -> bool
+    ensures { result ≡ list_all (known.is_known_reference paths.now) (map reference_of rows.now) }
 {
     let mut last = None;
     'rows: for row in rows {
-        if !is_reference(paths, last, row) {
+        let base = row.base.as_str();
+        if !is_next_known(paths, last, base) {
             return false;
         }
-        last = Some(row.base.as_str());
+        if !is_known(paths, row.target.as_str()) {
+            return false;
+        }
+        last = Some(base);
     }
     true
 }
 
 /// Whether each output is a path's.
-pub(crate) fn are_outputs(paths: &[&StorePath], rows: &[Output]) -> bool
-    requires { Rises (borrowed paths.now) }
-    ensures { result ≡ list_all (known.is_known_output (borrowed paths.now)) (map output_of rows.now) }
+pub(crate) fn are_outputs(paths: &Paths<'_>, rows: &[Output]) -> bool
+    ensures { result ≡ list_all (known.is_known_output paths.now) (map output_of rows.now) }
 {
     let mut last = None;
     'rows: for row in rows {
@@ -113,9 +127,8 @@ pub(crate) fn are_outputs(paths: &[&StorePath], rows: &[Output]) -> bool
 }
 
 /// Whether each piece is one of a path's archive.
-pub(crate) fn are_owned(paths: &[&StorePath], rows: &[PieceKey]) -> bool
-    requires { Rises (borrowed paths.now) }
-    ensures { result ≡ list_all (known.is_known_piece (borrowed paths.now)) (map numbered_in rows.now) }
+pub(crate) fn are_owned(paths: &Paths<'_>, rows: &[PieceKey]) -> bool
+    ensures { result ≡ list_all (known.is_known_piece paths.now) (map numbered_in rows.now) }
 {
     let mut last = None;
     'rows: for row in rows {

@@ -1,12 +1,13 @@
 //! An object, tested by its rows.
 
-ghost use Rattle.std.specs.Prelude.{◌≡◌, None, IfOk, IsTrue, MatchOption, is_some, length, map, string_bytes};
+ghost use Rattle.std.specs.Prelude.{◌≡◌, IfOk, IsTrue, MatchOption, length, map, string_bytes};
 ghost use Rattle.std.specs.List.{zip};
 ghost use Rattle.std.specs.FinMap as finite;
 ghost use Rattle.sha2.specs.Sha256.{sha256};
 ghost use Rattle.paths.specs.Root.{bytes_cmp, set_of};
 ghost use Rattle.tables_sql.specs.Entries.{stored_of};
-ghost use Rattle.intake.specs.Described.{DescribesBytes};
+ghost use Rattle.nar.specs.Archive.{IsArchive};
+ghost use Rattle.nar.specs.Tree.{Tree};
 ghost use Rattle.model.specs.Objects.{outputs_at};
 ghost use Rattle.tables_outline.specs.Outline.{rise};
 ghost use Rattle.tables_objects.specs.Cut.{parts_of, whole_of};
@@ -14,10 +15,9 @@ ghost use Rattle.tables_objects.specs.Tested.{IsListed, IsRecorded, IsSoundArchi
 
 use crate::address::{are_same, fits_address};
 use crate::outputs::{Listed, recorded};
-use crate::passing::archive_of;
+use crate::passing::ArchiveBytes;
 use crate::references::paths_of;
 use crate::texts::{address_of, deriver_of, path_of};
-use intake::Arrived;
 use paths::{Ca, StoreDir, StorePath};
 use std::alloc::{AllocError, Global};
 use streams::MAX_REFERENCES;
@@ -32,54 +32,54 @@ fn sound_outputs(
     alloc: Global,
     dir: &StoreDir,
     path: &StorePath,
-    archive: &Arrived,
+    archive: &ArchiveBytes,
     rows: &[Output],
 ) -> Result<Option<Listed>, AllocError>
-    requires reported { DescribesBytes archive.now }
-    requires sound { archive.now.fault ≡ None }
+    requires { (t : Tree) × IsArchive t archive.now }
     ensures { IfOk result (λ o. MatchOption o
-        (¬ (IsRecorded dir.now path.now archive.now.pieces
-        × (named_of rows.now ≡ finite.entries (outputs_at dir.now path.now archive.now.pieces))))
-        (λ l. IsRecorded dir.now path.now archive.now.pieces
-        × (named_of rows.now ≡ finite.entries (outputs_at dir.now path.now archive.now.pieces))
-        × IsListed (map string_bytes l.names.items) l.paths.items (outputs_at dir.now path.now archive.now.pieces))) }
+        (¬ (IsRecorded dir.now path.now archive.now
+        × (named_of rows.now ≡ finite.entries (outputs_at dir.now path.now archive.now))))
+        (λ l. IsRecorded dir.now path.now archive.now
+        × (named_of rows.now ≡ finite.entries (outputs_at dir.now path.now archive.now))
+        × IsListed (map string_bytes l.names.items) l.paths.items (outputs_at dir.now path.now archive.now))) }
 {
-    recorded(alloc, dir, path, &archive.pieces, rows)
+    recorded(alloc, dir, path, &archive.arrived.pieces, rows)
 }
 
 /// What is kept of an object with this archive.
 fn summary_of(
-    archive: &Arrived,
+    alloc: Global,
+    archive: &ArchiveBytes,
     refs: Vec<StorePath>,
     deriver: Option<StorePath>,
     ca: Option<Ca>,
     outputs: Listed,
-) -> Summary
+) -> Result<Summary, AllocError>
     requires refs { IsTrue (rise refs.items) }
     requires names { IsTrue (rise (map string_bytes outputs.names.items)) }
     requires paths { length outputs.paths.items ≡ length (map string_bytes outputs.names.items) }
-    ensures { result
-        ≡ record {
-          size = length archive.now.pieces;
-          hash = archive.now.nar_hash;
-          references = set_of bytes_cmp
-              refs.items;
+    ensures { IfOk result
+        (λ s. s ≡ record {
+          size = length archive.now;
+          hash = sha256 archive.now;
+          references = set_of bytes_cmp refs.items;
           deriver = deriver;
           ca = ca;
-          outputs = finite.from_entries
-              (zip (map string_bytes outputs.names.items) outputs.paths.items);
-        } }
+          outputs = finite.from_entries (zip (map string_bytes outputs.names.items) outputs.paths.items);
+        }) }
 {
     let Listed { names, paths } = outputs;
-    let size = archive.pieces.len();
-    Summary::new(size, archive.nar_hash, refs, deriver, ca, names, paths)
-}
-
-/// Whether what has passed is no archive.
-fn has_fault(archive: &Arrived) -> bool
-    ensures { result ≡ is_some archive.now.fault }
-{
-    archive.fault.is_some()
+    let size = archive.arrived.pieces.len();
+    Summary::new(
+        alloc,
+        size,
+        archive.digest(),
+        refs,
+        deriver,
+        ca,
+        names,
+        paths,
+    )
 }
 
 /// What is kept of an object, where its digest, its address and its outputs are those of its archive.
@@ -87,38 +87,40 @@ fn sound_archive(
     alloc: Global,
     dir: &StoreDir,
     path: &StorePath,
-    archive: &Arrived,
+    archive: &ArchiveBytes,
     hash: &[u8],
     refs: Vec<StorePath>,
     deriver: Option<StorePath>,
     ca: Option<Ca>,
     outputs: &[Output],
 ) -> Result<Option<Summary>, AllocError>
-    requires reported { DescribesBytes archive.now }
-    requires refs { IsTrue (rise refs.items) }
+    requires { IsTrue (rise refs.items) }
     ensures { IfOk result (λ o. MatchOption o
-        (¬ IsSoundArchive dir.now path.now archive.now.pieces hash.now ca refs.items (named_of outputs.now))
-        (λ s. IsSoundArchive dir.now path.now archive.now.pieces hash.now ca refs.items (named_of outputs.now)
+        (¬ IsSoundArchive dir.now path.now archive.now hash.now ca refs.items (named_of outputs.now))
+        (λ s. IsSoundArchive dir.now path.now archive.now hash.now ca refs.items (named_of outputs.now)
         × (s ≡ record {
-          size = length archive.now.pieces;
-          hash = sha256 archive.now.pieces;
+          size = length archive.now;
+          hash = sha256 archive.now;
           references = set_of bytes_cmp refs.items;
           deriver = deriver;
           ca = ca;
-          outputs = outputs_at dir.now path.now archive.now.pieces;
+          outputs = outputs_at dir.now path.now archive.now;
         }))) }
 {
-    if !are_same(hash, &archive.nar_hash) {
+    if !are_same(hash, &archive.digest()) {
         return Ok(None);
     }
-    if has_fault(archive) {
+    if !archive.is_archive() {
         return Ok(None);
     }
     if !fits_address(alloc, dir, path, archive, ca, &refs)? {
         return Ok(None);
     }
     match sound_outputs(alloc, dir, path, archive, outputs)? {
-        Some(listed) => Ok(Some(summary_of(archive, refs, deriver, ca, listed))),
+        Some(listed) => {
+            let summary = summary_of(alloc, archive, refs, deriver, ca, listed)?;
+            Ok(Some(summary))
+        }
         None => Ok(None),
     }
 }
@@ -158,7 +160,7 @@ pub(crate) fn sound_object(
         return Ok(None);
     };
     let Object { nar, hash, .. } = object;
-    let archive = archive_of(alloc, nar, pieces)?;
+    let archive = ArchiveBytes::of(alloc, nar, pieces)?;
     match sound_archive(
         alloc, dir, &path, &archive, &hash, refs, deriver, ca, outputs,
     )? {

@@ -1,12 +1,17 @@
 //! An archive as its row and its pieces hold it.
 
-ghost use Rattle.std.specs.Prelude.{◌≡◌, ◌++◌, IfOk};
-ghost use Rattle.intake.specs.Described.{DescribesBytes};
+ghost use Rattle.std.specs.Prelude.{◌≡◌, ◌↔◌, ◌++◌, IfOk, IsTrue};
+ghost use Rattle.sha2.specs.Sha256.{sha256};
+ghost use Rattle.nar.specs.Archive.{IsArchive};
+ghost use Rattle.nar.specs.Tree.{Tree};
+ghost use Rattle.paths.specs.Facts.{HasFactsFor};
 ghost use Rattle.tables_world.specs.Pieces.{joined};
 ghost use Rattle.tables_objects.specs.Cut.{parts_of};
 
 use intake::Arrived;
+use paths::{Facts, Method};
 use std::alloc::{AllocError, Global};
+use std::marker::Model;
 use streams::Pieces;
 use tables_sql::pieces::Piece;
 
@@ -23,14 +28,54 @@ fn gathered(alloc: Global, row: Vec<u8>, pieces: Vec<Piece>) -> Result<Pieces, A
     Ok(all)
 }
 
-/// The archive of a row and its pieces, and what is found of it.
-pub(crate) fn archive_of(
-    alloc: Global,
-    row: Vec<u8>,
-    pieces: Vec<Piece>,
-) -> Result<Arrived, AllocError>
-    ensures pieces { IfOk result (λ a. a.pieces ≡ row.items ++ joined (parts_of pieces.items)) }
-    ensures reported { IfOk result DescribesBytes }
-{
-    Arrived::of_pieces(alloc, gathered(alloc, row, pieces)?)
+/// The bytes of what is to be an archive, with what is found of them. Contracts see the bytes.
+#[derive(Drop)]
+pub(crate) struct ArchiveBytes {
+    pub(crate) arrived: Arrived,
+}
+
+impl Model for ArchiveBytes {
+    ghost use Rattle.std.specs.Prelude.{List, ℕ};
+    ghost use Rattle.intake.specs.Described.{DescribesBytes};
+
+    ghost Value = { List ℕ };
+
+    ghost view = { λ a. a.arrived.pieces };
+
+    ghost invariant = { λ a. DescribesBytes a.arrived };
+}
+
+impl ArchiveBytes {
+    /// The bytes of a row and of its pieces, one after another.
+    pub(crate) fn of(
+        alloc: Global,
+        row: Vec<u8>,
+        pieces: Vec<Piece>,
+    ) -> Result<ArchiveBytes, AllocError>
+        ensures { IfOk result (λ a. a ≡ row.items ++ joined (parts_of pieces.items)) }
+    {
+        let arrived = Arrived::of_pieces(alloc, gathered(alloc, row, pieces)?)?;
+        Ok(ArchiveBytes { arrived })
+    }
+
+    /// The SHA-256 digest of the bytes.
+    pub(crate) fn digest(&self) -> [u8; 32]
+        ensures { result ≡ sha256 self.now }
+    {
+        self.arrived.nar_hash
+    }
+
+    /// Whether the bytes are an archive.
+    pub(crate) fn is_archive(&self) -> bool
+        ensures { IsTrue result ↔ ((t : Tree) × IsArchive t self.now) }
+    {
+        self.arrived.fault.is_none()
+    }
+
+    /// The facts of the bytes for a content address of this method.
+    pub(crate) fn facts_for(&self, method: Method) -> Facts
+        ensures { HasFactsFor method self.now result }
+    {
+        self.arrived.facts_for(method)
+    }
 }

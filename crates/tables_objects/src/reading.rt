@@ -1,26 +1,24 @@
 //! The row of one object and its pieces, read.
 
-ghost use Rattle.std.specs.Prelude.{◌≡◌, IsTrue, map};
+ghost use Rattle.std.specs.Prelude.{◌≡◌, [], map};
 ghost use Rattle.std.specs.Ordering.{eq_by_cmp};
 ghost use Rattle.std.specs.FinMap as finite;
-ghost use Rattle.sqlite.specs.State.{HasCleanDisk};
-ghost use Rattle.sqlite.specs.Held.{state};
-ghost use Rattle.tables_sql.specs.Contents.{contents_of, texts_cmp};
-ghost use Rattle.tables_rows.specs.Frames.{MayRead, FindsInReads};
-ghost use Rattle.tables_objects.specs.Pieces.{HasPiecesBy};
-ghost use Rattle.tables_sql.specs.Entries.{piece_in, numbered_in};
+ghost use Rattle.tables_sql.specs.Contents.{texts_cmp};
+ghost use Rattle.tables_rows.specs.Frames.{FindsInReads};
+ghost use Rattle.tables_sql.specs.Entries.{piece_in};
+ghost use Rattle.tables_objects.specs.Loading.{MayReadFrom};
 ghost use Rattle.tables_objects.specs.Rows.{AreRowsAt, AreStored};
 
 use crate::groups::group;
 use crate::reading_ahead::object_at;
+use crate::source::Source;
 use sqlite::{Alter, Connection};
 use std::alloc::Global;
 use std::collections::VecDeque;
-use tables_rows::pieces;
-use tables_schema::Schema;
+use tables_rows::{Find, pieces};
 use tables_sql::failure::Failed;
 use tables_sql::objects::Object;
-use tables_sql::pieces::{Piece, PieceKey};
+use tables_sql::pieces::Piece;
 
 /// The row of an object, and its pieces.
 #[derive(Drop)]
@@ -34,51 +32,37 @@ pub(crate) struct ObjectRows {
 fn pieces_of<S: Alter>(
     alloc: Global,
     conn: &mut Connection<S>,
-    schema: Schema,
-    keys: &[PieceKey],
+    source: &Source<'_>,
     base: &str,
 ) -> Result<Vec<Piece>, Failed>
-    requires frame { MayRead S.Store conn.old }
-    requires opened { HasCleanDisk (state S.Store conn.old) → IsTrue (state S.Store conn.old).is_open }
-    requires pieces { HasPiecesBy S.Store schema conn.old }
-    requires listed { HasCleanDisk (state S.Store conn.old)
-        → map numbered_in keys.now ≡ finite.keys (contents_of (state S.Store conn.old).now).pieces }
+    requires { MayReadFrom S.Store source.now [] conn.old }
     ensures { FindsInReads S.Store conn.old conn.new result (λ c all. map piece_in all.items
         ≡ finite.entries (finite.retain_keys c.pieces (λ k. eq_by_cmp texts_cmp k.0 base.now))) }
 {
-    if !schema.has_pieces() {
+    if !source.schema.has_pieces() {
         return Ok(Vec::new(alloc));
     }
-    if group(keys, base).is_empty() {
+    if group(&source.joined.pieces, base).is_empty() {
         return Ok(Vec::new(alloc));
     }
-    pieces::of(alloc, conn, base)
+    pieces::Of { base }.find(alloc, conn)
 }
 
-/// The row and the pieces of a path, if it is an object's. Which pieces there are is listed already, and so are the
-/// bases of all objects. Some rows were read ahead.
+/// The row and the pieces of a path, if it is an object's. Some rows were read ahead.
 pub(crate) fn rows_at<S: Alter>(
     alloc: Global,
     conn: &mut Connection<S>,
-    schema: Schema,
-    keys: &[PieceKey],
+    source: &Source<'_>,
     ahead: &mut VecDeque<Object>,
-    bases: &[String],
     base: &str,
 ) -> Result<Option<ObjectRows>, Failed>
-    requires frame { MayRead S.Store conn.old }
-    requires opened { HasCleanDisk (state S.Store conn.old) → IsTrue (state S.Store conn.old).is_open }
-    requires pieces { HasPiecesBy S.Store schema conn.old }
-    requires listed { HasCleanDisk (state S.Store conn.old)
-        → map numbered_in keys.now ≡ finite.keys (contents_of (state S.Store conn.old).now).pieces }
-    requires ahead { HasCleanDisk (state S.Store conn.old)
-        → AreStored (contents_of (state S.Store conn.old).now) ahead.old.items }
+    requires { MayReadFrom S.Store source.now ahead.old.items conn.old }
     ensures { FindsInReads S.Store conn.old conn.new result
         (λ c o. AreRowsAt c base.now o × AreStored c ahead.new.items) }
 {
-    let Some(object) = object_at(alloc, conn, schema, ahead, bases, base)? else {
+    let Some(object) = object_at(alloc, conn, source, ahead, base)? else {
         return Ok(None);
     };
-    let pieces = pieces_of(alloc, conn, schema, keys, base)?;
+    let pieces = pieces_of(alloc, conn, source, base)?;
     Ok(Some(ObjectRows { object, pieces }))
 }

@@ -2,17 +2,17 @@
 
 ghost use Rattle.std.specs.Prelude.{◌≡◌, ◌↔◌, Some, IfSome, IsTrue, string_bytes};
 ghost use Rattle.std.specs.FinMap as finite;
-ghost use Rattle.sqlite.specs.State.{HasCleanDisk};
-ghost use Rattle.sqlite.specs.Held.{state};
-ghost use Rattle.tables_sql.specs.Contents.{Contents, contents_of};
+ghost use Rattle.tables_sql.specs.Contents.{Contents};
 ghost use Rattle.tables_sql.specs.Entries.{IsStored, stored_of};
-ghost use Rattle.tables_rows.specs.Frames.{MayRead, FindsInReads};
+ghost use Rattle.tables_rows.specs.Frames.{FindsInReads};
+ghost use Rattle.tables_objects.specs.Loading.{MayReadFrom};
 ghost use Rattle.tables_objects.specs.Rows.{AreStored};
 
+use crate::source::Source;
 use sqlite::{Alter, Connection};
 use std::alloc::Global;
 use std::collections::VecDeque;
-use tables_rows::objects;
+use tables_rows::{Find, objects};
 use tables_schema::Schema;
 use tables_sql::failure::Failed;
 use tables_sql::objects::Object;
@@ -37,21 +37,18 @@ fn last_with<'a>(schema: Schema, bases: &'a [String], base: &'a str) -> &'a str 
 fn fill<S: Alter>(
     alloc: Global,
     conn: &mut Connection<S>,
-    schema: Schema,
+    source: &Source<'_>,
     ahead: &mut VecDeque<Object>,
-    bases: &[String],
     base: &str,
 ) -> Result<(), Failed>
-    requires frame { MayRead S.Store conn.old }
-    requires opened { HasCleanDisk (state S.Store conn.old) → IsTrue (state S.Store conn.old).is_open }
-    requires ahead { HasCleanDisk (state S.Store conn.old)
-        → AreStored (contents_of (state S.Store conn.old).now) ahead.old.items }
+    requires { MayReadFrom S.Store source.now ahead.old.items conn.old }
     ensures { FindsInReads S.Store conn.old conn.new result (λ c _. AreStored c ahead.new.items) }
 {
     if !ahead.is_empty() {
         return Ok(());
     }
-    let found = objects::between(alloc, conn, base, last_with(schema, bases, base))?;
+    let last = last_with(source.schema, source.bases, base);
+    let found = objects::Between { first: base, last }.find(alloc, conn)?;
     *ahead = VecDeque::from_vec(found);
     Ok(())
 }
@@ -78,24 +75,19 @@ fn next_of(ahead: &mut VecDeque<Object>, base: &str) -> Option<Object>
     Some(next)
 }
 
-/// The object of a base, if there is one: the next of those that were read ahead, or one that is read alone. `bases`
-/// are those of all objects, in order.
+/// The object of a base, if there is one: the next of those that were read ahead, or one that is read alone.
 pub(crate) fn object_at<S: Alter>(
     alloc: Global,
     conn: &mut Connection<S>,
-    schema: Schema,
+    source: &Source<'_>,
     ahead: &mut VecDeque<Object>,
-    bases: &[String],
     base: &str,
 ) -> Result<Option<Object>, Failed>
-    requires frame { MayRead S.Store conn.old }
-    requires opened { HasCleanDisk (state S.Store conn.old) → IsTrue (state S.Store conn.old).is_open }
-    requires ahead { HasCleanDisk (state S.Store conn.old)
-        → AreStored (contents_of (state S.Store conn.old).now) ahead.old.items }
+    requires { MayReadFrom S.Store source.now ahead.old.items conn.old }
     ensures { FindsInReads S.Store conn.old conn.new result
         (λ c o. IsStored c.objects base.now o × AreStored c ahead.new.items) }
 {
-    fill(alloc, conn, schema, ahead, bases, base)?;
+    fill(alloc, conn, source, ahead, base)?;
     if let Some(object) = next_of(ahead, base) {
         return Ok(Some(object));
     }

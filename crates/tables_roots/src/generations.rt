@@ -6,8 +6,8 @@ use crate::targets::target_of;
 use sqlite::{Alter, Connection};
 use std::alloc::{AllocError, Global};
 use tables_outline::Outline;
-use tables_rows::generations as stored;
 use tables_rows::generations::Generation;
+use tables_rows::{Find, generations as stored};
 use tables_sql::failure::Failed;
 
 impl RootTable for Generation {
@@ -32,7 +32,7 @@ impl RootTable for Generation {
     ghost with_rows = { λ o c. record o { profiles = (world_in c).profiles } };
 
     fn all<S: Alter>(alloc: Global, conn: &mut Connection<S>) -> Result<Vec<Generation>, Failed> {
-        stored::all(alloc, conn)
+        stored::All.find(alloc, conn)
     }
 
     fn take(self, alloc: Global, outline: &mut Outline) -> Result<bool, AllocError> {

@@ -6,8 +6,8 @@ use paths::is_plain_name;
 use sqlite::{Alter, Connection};
 use std::alloc::{AllocError, Global};
 use tables_outline::Outline;
-use tables_rows::permanent as stored;
 use tables_rows::permanent::PermanentRoot;
+use tables_rows::{Find, permanent as stored};
 use tables_sql::failure::Failed;
 
 impl RootTable for PermanentRoot {
@@ -31,7 +31,7 @@ impl RootTable for PermanentRoot {
         alloc: Global,
         conn: &mut Connection<S>,
     ) -> Result<Vec<PermanentRoot>, Failed> {
-        stored::all(alloc, conn)
+        stored::All.find(alloc, conn)
     }
 
     fn take(self, alloc: Global, outline: &mut Outline) -> Result<bool, AllocError> {

@@ -12,8 +12,8 @@ use sqlite::{Alter, Connection};
 use std::alloc::{AllocError, Global};
 use tables_outline::Outline;
 use tables_rows::generations::Generation;
-use tables_rows::profiles as stored;
 use tables_rows::profiles::Profile;
+use tables_rows::{Find, profiles as stored};
 use tables_sql::failure::Failed;
 
 /// The rows of profiles by themselves: each is put into the outline without generations.
@@ -35,7 +35,7 @@ impl RootTable for Profile {
     ghost with_rows = { λ o c. record o { profiles = bare_profiles c.profiles } };
 
     fn all<S: Alter>(alloc: Global, conn: &mut Connection<S>) -> Result<Vec<Profile>, Failed> {
-        stored::all(alloc, conn)
+        stored::All.find(alloc, conn)
     }
 
     fn take(self, alloc: Global, outline: &mut Outline) -> Result<bool, AllocError> {

@@ -1,17 +1,14 @@
 //! All roots.
 
-ghost use Rattle.std.specs.Prelude.{◌≡◌, ◌↔◌, IsTrue, IsFalse, IfOk};
+ghost use Rattle.std.specs.Prelude.{◌≡◌, ◌↔◌, IsTrue, IfOk};
 ghost use Rattle.std.specs.FinMap as finite;
 ghost use Rattle.sqlite.specs.State.{HasCleanDisk};
 ghost use Rattle.sqlite.specs.Held.{state};
-ghost use Rattle.tables_schema.specs.Forms.{temp_root};
 ghost use Rattle.tables_sql.specs.Contents.{contents_of};
-ghost use Rattle.tables_sql.specs.Calls.{HasFurther};
-ghost use Rattle.tables_schema.specs.Schemas.{has_temporary};
 ghost use Rattle.tables_world.specs.Worlds.{rows_of};
 ghost use Rattle.tables_roots.specs.Loaded.{are_fixed, are_moving, are_roots, with_fixed, with_moving, with_explicit, with_roots, HasNoExplicit, AreAllSound, AreObjects};
-ghost use Rattle.tables_roots.specs.Loading.{MayLoad, Loads};
-ghost use Rattle.tables_rows.specs.Frames.{MayRead, ReadsOnly};
+ghost use Rattle.tables_roots.specs.Loading.{MayLoad, MayLoadAll, Loads};
+ghost use Rattle.tables_rows.specs.Frames.{ReadsOnly};
 
 use crate::profiles;
 use crate::table::load_table;
@@ -84,17 +81,7 @@ pub fn load_roots<S: Alter>(
     schema: Schema,
     outline: &mut Outline,
 ) -> Result<bool, Failed>
-    requires frame { MayRead S.Store conn.old }
-    requires exists { HasCleanDisk (state S.Store conn.old) → IsTrue (has_temporary schema)
-        → IsTrue (state S.Store conn.old).is_open → HasFurther (state S.Store conn.old).now temp_root }
-    requires no_table { HasCleanDisk (state S.Store conn.old) → IsFalse (has_temporary schema)
-        → IsTrue (state S.Store conn.old).is_open → (contents_of (state S.Store conn.old).now).temp_roots
-        ≡ finite.empty }
-    requires permanent { HasCleanDisk (state S.Store conn.old) → outline.old.permanent ≡ finite.empty }
-    requires user_roots { HasCleanDisk (state S.Store conn.old) → outline.old.user_roots ≡ finite.empty }
-    requires profiles { HasCleanDisk (state S.Store conn.old) → outline.old.profiles ≡ finite.empty }
-    requires runtime { HasCleanDisk (state S.Store conn.old) → outline.old.runtime ≡ finite.empty }
-    requires temporary { HasCleanDisk (state S.Store conn.old) → outline.old.temporary ≡ finite.empty }
+    requires { MayLoadAll S.Store schema conn.old outline.old }
     ensures read { ReadsOnly S.Store conn.old conn.new result }
     ensures reported { HasCleanDisk (state S.Store conn.new) → IfOk result
         (λ ok. AreObjects outline.old.objects (contents_of (state S.Store conn.old).now)

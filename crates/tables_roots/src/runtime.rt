@@ -6,8 +6,8 @@ use paths::labels::is_runtime_label;
 use sqlite::{Alter, Connection};
 use std::alloc::{AllocError, Global};
 use tables_outline::Outline;
-use tables_rows::runtime as stored;
 use tables_rows::runtime::RuntimeRoot;
+use tables_rows::{Find, runtime as stored};
 use tables_sql::failure::Failed;
 
 impl RootTable for RuntimeRoot {
@@ -28,7 +28,7 @@ impl RootTable for RuntimeRoot {
     ghost with_rows = { λ o c. record o { runtime = c.runtime } };
 
     fn all<S: Alter>(alloc: Global, conn: &mut Connection<S>) -> Result<Vec<RuntimeRoot>, Failed> {
-        stored::all(alloc, conn)
+        stored::All.find(alloc, conn)
     }
 
     fn take(self, alloc: Global, outline: &mut Outline) -> Result<bool, AllocError> {

@@ -1,20 +1,17 @@
 //! The settings.
 
 ghost use Rattle.std.specs.Prelude.{◌≡◌, List, ℕ, IsTrue, IfOk, MatchOption, map};
-ghost use Rattle.sqlite.specs.State.{HasCleanDisk};
-ghost use Rattle.sqlite.specs.Held.{state};
-ghost use Rattle.tables_sql.specs.Contents.{contents_of};
 ghost use Rattle.tables_sql.specs.Entries.{setting_of};
 ghost use Rattle.paths.specs.Names.{is_store_dir};
 ghost use Rattle.tables_world.specs.Rows.{settings};
 ghost use Rattle.tables_roots.specs.Settings.{two_settings};
-ghost use Rattle.tables_rows.specs.Frames.{MayRead, ReadsOnly};
+ghost use Rattle.tables_rows.specs.Frames.{MayRead, FindsInReads};
 
 use paths::{StoreDir, StoreDirError};
 use sqlite::{Alter, Connection};
 use std::alloc::{AllocError, Global};
-use tables_rows::meta as stored;
 use tables_rows::meta::Setting;
+use tables_rows::{Find, meta as stored};
 use tables_schema::Schema;
 use tables_sql::failure::Failed;
 
@@ -52,12 +49,10 @@ pub fn read<S: Alter>(
     schema: Schema,
 ) -> Result<Option<StoreDir>, Failed>
     requires frame { MayRead S.Store conn.old }
-    ensures read { ReadsOnly S.Store conn.old conn.new result }
-    ensures reported { HasCleanDisk (state S.Store conn.new) → IfOk result
-        (λ o. MatchOption o ((dir : List ℕ) → IsTrue (is_store_dir dir)
-        → ¬ ((contents_of (state S.Store conn.old).now).meta ≡ settings schema dir))
-        (λ d. IsTrue (is_store_dir d) × ((contents_of (state S.Store conn.old).now).meta ≡ settings schema d))) }
+    ensures { FindsInReads S.Store conn.old conn.new result
+        (λ c o. MatchOption o ((dir : List ℕ) → IsTrue (is_store_dir dir) → ¬ (c.meta ≡ settings schema dir))
+        (λ d. IsTrue (is_store_dir d) × (c.meta ≡ settings schema d))) }
 {
-    let all = stored::all(alloc, conn)?;
+    let all = stored::All.find(alloc, conn)?;
     Ok(directory_of(alloc, all.as_slice(), schema)?)
 }

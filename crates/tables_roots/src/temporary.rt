@@ -7,8 +7,8 @@ use paths::is_plain_name;
 use sqlite::{Alter, Connection};
 use std::alloc::{AllocError, Global};
 use tables_outline::Outline;
-use tables_rows::temp_roots as stored;
 use tables_rows::temp_roots::TempRoot;
+use tables_rows::{Find, temp_roots as stored};
 use tables_sql::failure::Failed;
 
 impl RootTable for TempRoot {
@@ -35,7 +35,7 @@ impl RootTable for TempRoot {
     ghost with_rows = { λ o c. record o { temporary = (world_in c).temporary } };
 
     fn all<S: Alter>(alloc: Global, conn: &mut Connection<S>) -> Result<Vec<TempRoot>, Failed> {
-        stored::all(alloc, conn)
+        stored::All.find(alloc, conn)
     }
 
     fn take(self, alloc: Global, outline: &mut Outline) -> Result<bool, AllocError> {

@@ -6,8 +6,8 @@ use paths::is_plain_name;
 use sqlite::{Alter, Connection};
 use std::alloc::{AllocError, Global};
 use tables_outline::Outline;
-use tables_rows::user_roots as stored;
 use tables_rows::user_roots::UserRoot;
+use tables_rows::{Find, user_roots as stored};
 use tables_sql::failure::Failed;
 
 impl RootTable for UserRoot {
@@ -28,7 +28,7 @@ impl RootTable for UserRoot {
     ghost with_rows = { λ o c. record o { user_roots = c.user_roots } };
 
     fn all<S: Alter>(alloc: Global, conn: &mut Connection<S>) -> Result<Vec<UserRoot>, Failed> {
-        stored::all(alloc, conn)
+        stored::All.find(alloc, conn)
     }
 
     fn take(self, alloc: Global, outline: &mut Outline) -> Result<bool, AllocError> {

@@ -5,6 +5,7 @@ use Rattle.std.specs.Borrow.{MutBor}
 use Rattle.sqlite_value.specs.Order.{Row}
 use Rattle.sqlite_schema.specs.declared.schema.Table.{Table}
 use Rattle.sqlite_trees.specs.declared.store.Store.{Ghosts}
+use Rattle.sqlite.specs.Effect.{Database}
 use Rattle.sqlite.specs.State.{HasCleanDisk, IsUnchanged, Survives}
 use Rattle.sqlite.specs.Held.{Held, state}
 use Rattle.tables_sql.specs.Calls.{IsReady, KeepsShown, Changes, HasFurther}
@@ -29,9 +30,13 @@ module _ {S : Type 0} (g : Ghosts S) where
     pub ready : HasCleanDisk (state g new) → IsTrue (state g new).is_open → IsReady (state g new)
     pub survives : Survives (state g old) (state g new) (λ _. ⊥)
 
+  -- the database meets this condition, unless a fault has shut the connection
+  abbrev pub Meets : Held S → (Database → Type 0) → Type 0
+  Meets at condition = HasCleanDisk (state g at) → IsTrue (state g at).is_open → condition (state g at).now
+
   -- a further table is there, unless a fault has shut the connection
   abbrev pub HasTable : Held S → Table → Type 0
-  HasTable at table = HasCleanDisk (state g at) → IsTrue (state g at).is_open → HasFurther (state g at).now table
+  HasTable at table = Meets at (λ db. HasFurther db table)
 
   -- ---- what a call is about
 
@@ -77,14 +82,6 @@ module _ {S : Type 0} (g : Ghosts S) where
     pub frame : LeftAsItWas old new
     pub reads : Reads old new result shows
     pub cause : FailsWithCause old new result
-
-  -- a read of a further table, which still exists afterwards
-  pub record FindsInFurther {T : Type 0} (old new : Held S) (result : Result T Failed) (table : Table)
-      (shows : Contents → T → Type 0) : Type 0 where
-    pub frame : LeftAsItWas old new
-    pub reads : Reads old new result shows
-    pub cause : FailsWithCause old new result
-    pub exists : HasTable new table
 
   -- and a read inside a transaction, of what that has written so far
   pub record FindsInside {T : Type 0} (old new : MutBor (Held S)) (result : Result T Failed)

@@ -12,6 +12,9 @@ pub mod profiles;
 mod reading;
 pub mod references;
 pub mod runtime;
+mod statements;
 pub mod temp_roots;
 pub mod user_roots;
 mod within;
+
+pub use statements::{Delete, Find, Found, Insert};

@@ -1,16 +1,15 @@
 //! The outputs of derivations.
 #![tactic(auto, using(tables_sql::proofs::OutputLemmas::all_read, tables_sql::proofs::OutputLemmas::of_read))]
 
-ghost use Rattle.std.specs.Prelude.{◌∷◌, [], ◌≡◌, map, not};
+ghost use Rattle.std.specs.Prelude.{◌∷◌, [], ◌≡◌, map};
 ghost use Rattle.sqlite_value.specs.declared.value.Value.TheVariants.{Text};
 ghost use Rattle.tables_schema.specs.Forms.{outs};
-ghost use Rattle.std.specs.Ordering.{eq_by_cmp};
 ghost use Rattle.std.specs.FinMap as finite;
-ghost use Rattle.tables_sql.specs.Contents.{texts_cmp};
+ghost use Rattle.tables_sql.specs.Contents.{Bytes};
 ghost use Rattle.tables_sql.specs.Entries.{output_of};
-ghost use Rattle.tables_rows.specs.Frames.{MayRead, IsInside, Finds, Inserts, Removes};
+ghost use Rattle.tables_rows.specs.Keys.{same, with_keys, without_keys};
 
-use crate::reading;
+use crate::{Delete, Find, Found, Insert, reading};
 use sqlite::{Alter, Connection, Transaction, params};
 use std::alloc::Global;
 use tables_sql::failure::Failed;
@@ -18,68 +17,70 @@ pub use tables_sql::outputs::Output;
 use tables_sql::statement;
 
 /// All outputs, in order.
-pub fn all<S: Alter>(alloc: Global, conn: &mut Connection<S>) -> Result<Vec<Output>, Failed>
-    requires frame { MayRead S.Store conn.old }
-    ensures { Finds S.Store conn.old conn.new result
-        (λ c all. map output_of all.items ≡ finite.entries c.outs) }
-{
-    reading::select(
-        alloc,
-        conn,
-        "SELECT base, name, target FROM outs ORDER BY base, name",
-        &[],
-    )
+#[derive(Drop)]
+pub struct All;
+
+impl Find for All {
+    type Entry = Output;
+
+    ghost shows = { λ it c all. map output_of all ≡ finite.entries c.outs };
+
+    fn find<S: Alter>(&self, alloc: Global, conn: &mut Connection<S>) -> Found<Output> {
+        let text = "SELECT base, name, target FROM outs ORDER BY base, name";
+        reading::select(alloc, conn, text, &[])
+    }
 }
 
 /// The outputs of this base, in order.
-pub fn of<S: Alter>(
-    alloc: Global,
-    conn: &mut Connection<S>,
-    base: &str,
-) -> Result<Vec<Output>, Failed>
-    requires frame { MayRead S.Store conn.old }
-    ensures { Finds S.Store conn.old conn.new result
-        (λ c all. map output_of all.items
-        ≡ finite.entries (finite.retain_keys c.outs (λ k. eq_by_cmp texts_cmp k.0 base.now))) }
-{
-    reading::select(
-        alloc,
-        conn,
-        "SELECT base, name, target FROM outs WHERE base = ?1 ORDER BY base, name",
-        params![base],
-    )
+#[derive(Drop)]
+pub struct Of<'a> {
+    pub base: &'a str,
 }
 
-/// Adds one output. If its key is there already, the answer is `Disk` and nothing changes, unless the call fails
-/// otherwise.
-pub fn insert<S: Alter>(
-    tx: &mut Transaction<'_, S>,
-    base: &str,
-    name: &str,
-    target: &str,
-) -> Result<(), Failed>
-    requires { IsInside S.Store tx.old.conn }
-    ensures { Inserts S.Store tx.old.conn tx.new.conn result
-        outs (Text base.now ∷ Text name.now ∷ Text target.now ∷ [])
-        (λ c. finite.get c.outs (base.now, name.now))
-        (λ c. record c { outs = finite.insert c.outs (base.now, name.now) target.now }) }
-{
-    // A text is UTF-8.
-    let _base = base.as_bytes();
-    let _name = name.as_bytes();
-    let _target = target.as_bytes();
-    statement::add(
-        tx,
-        "INSERT INTO outs (base, name, target) VALUES (?1, ?2, ?3)",
-        params![base, name, target],
-    )
+impl<'a> Find for Of<'a> {
+    type Entry = Output;
+
+    ghost shows = { λ it c all. map output_of all ≡ finite.entries (with_keys c.outs (λ k. same k.0 it.base.now)) };
+
+    fn find<S: Alter>(&self, alloc: Global, conn: &mut Connection<S>) -> Found<Output> {
+        let text = "SELECT base, name, target FROM outs WHERE base = ?1 ORDER BY base, name";
+        reading::select(alloc, conn, text, params![self.base])
+    }
 }
 
-/// Removes the outputs of this base.
-pub fn delete_of<S: Alter>(tx: &mut Transaction<'_, S>, base: &str) -> Result<(), Failed>
-    requires { IsInside S.Store tx.old.conn }
-    ensures { Removes S.Store tx.old.conn tx.new.conn result
-        (λ c. record c { outs = finite.retain_keys c.outs (λ k. not (eq_by_cmp texts_cmp k.0 base.now)) }) }
-{
-    statement::remove(tx, "DELETE FROM outs WHERE base = ?1", params![base])
+impl<'a> Delete for Of<'a> {
+    ghost change = { λ it c. record c { outs = without_keys c.outs (λ k. same k.0 it.base.now) } };
+
+    fn delete<S: Alter>(&self, tx: &mut Transaction<'_, S>) -> Result<(), Failed> {
+        statement::remove(tx, "DELETE FROM outs WHERE base = ?1", params![self.base])
+    }
+}
+
+/// The row of one output.
+#[derive(Drop)]
+pub struct Row<'a> {
+    pub base: &'a str,
+    pub name: &'a str,
+    pub target: &'a str,
+}
+
+impl<'a> Insert for Row<'a> {
+    ghost table = { outs };
+
+    ghost columns = { λ it. Text it.base.now ∷ Text it.name.now ∷ Text it.target.now ∷ [] };
+
+    ghost Kept = { Bytes };
+
+    ghost present = { λ it c. finite.get c.outs (it.base.now, it.name.now) };
+
+    ghost change = { λ it c. record c { outs = finite.insert c.outs (it.base.now, it.name.now) it.target.now } };
+
+    fn insert<S: Alter>(&self, tx: &mut Transaction<'_, S>) -> Result<(), Failed> {
+        // A text is UTF-8.
+        let _base = self.base.as_bytes();
+        let _name = self.name.as_bytes();
+        let _target = self.target.as_bytes();
+        let text = "INSERT INTO outs (base, name, target) VALUES (?1, ?2, ?3)";
+        statement::add(tx, text, params![self.base, self.name, self.target])
+    }
 }

@@ -1,16 +1,14 @@
 //! The profiles, each with the number of its current generation.
 #![tactic(auto, using(tables_sql::proofs::ProfileLemmas::all_read, tables_sql::proofs::ProfileLemmas::at_read, tables_sql::proofs::ProfileLemmas::of_read))]
 
-ghost use Rattle.std.specs.Prelude.{◌∷◌, [], ◌≡◌, ◌&&◌, map, not, pos};
+ghost use Rattle.std.specs.Prelude.{◌∷◌, [], ◌≡◌, ◌&&◌, map, pos, ℤ};
 ghost use Rattle.sqlite_value.specs.declared.value.Value.TheVariants.{Int, Text};
 ghost use Rattle.tables_schema.specs.Forms.{profile};
-ghost use Rattle.std.specs.Ordering.{eq_by_cmp};
 ghost use Rattle.std.specs.FinMap as finite;
-ghost use Rattle.tables_sql.specs.Contents.{texts_cmp};
 ghost use Rattle.tables_sql.specs.Entries.{current_of};
-ghost use Rattle.tables_rows.specs.Frames.{MayRead, IsInside, Finds, Inserts, Removes};
+ghost use Rattle.tables_rows.specs.Keys.{same, with_keys, without_keys};
 
-use crate::reading;
+use crate::{Delete, Find, Found, Insert, reading};
 use sqlite::{Alter, Connection, Transaction, params};
 use std::alloc::Global;
 use tables_sql::failure::Failed;
@@ -18,95 +16,95 @@ pub use tables_sql::profiles::Profile;
 use tables_sql::statement;
 
 /// All profiles, in order.
-pub fn all<S: Alter>(alloc: Global, conn: &mut Connection<S>) -> Result<Vec<Profile>, Failed>
-    requires frame { MayRead S.Store conn.old }
-    ensures { Finds S.Store conn.old conn.new result
-        (λ c all. map current_of all.items ≡ finite.entries c.profiles) }
-{
-    reading::select(
-        alloc,
-        conn,
-        "SELECT owner, name, cur FROM profile ORDER BY owner, name",
-        &[],
-    )
+#[derive(Drop)]
+pub struct All;
+
+impl Find for All {
+    type Entry = Profile;
+
+    ghost shows = { λ it c all. map current_of all ≡ finite.entries c.profiles };
+
+    fn find<S: Alter>(&self, alloc: Global, conn: &mut Connection<S>) -> Found<Profile> {
+        let text = "SELECT owner, name, cur FROM profile ORDER BY owner, name";
+        reading::select(alloc, conn, text, &[])
+    }
 }
 
 /// The profiles of this owner, in order.
-pub fn of<S: Alter>(
-    alloc: Global,
-    conn: &mut Connection<S>,
-    owner: &str,
-) -> Result<Vec<Profile>, Failed>
-    requires frame { MayRead S.Store conn.old }
-    ensures { Finds S.Store conn.old conn.new result
-        (λ c all. map current_of all.items
-        ≡ finite.entries (finite.retain_keys c.profiles (λ k. eq_by_cmp texts_cmp k.0 owner.now))) }
-{
-    reading::select(
-        alloc,
-        conn,
-        "SELECT owner, name, cur FROM profile WHERE owner = ?1 ORDER BY owner, name",
-        params![owner],
-    )
+#[derive(Drop)]
+pub struct Of<'a> {
+    pub owner: &'a str,
+}
+
+impl<'a> Find for Of<'a> {
+    type Entry = Profile;
+
+    ghost shows = { λ it c all. map current_of all
+        ≡ finite.entries (with_keys c.profiles (λ k. same k.0 it.owner.now)) };
+
+    fn find<S: Alter>(&self, alloc: Global, conn: &mut Connection<S>) -> Found<Profile> {
+        let text = "SELECT owner, name, cur FROM profile WHERE owner = ?1 ORDER BY owner, name";
+        reading::select(alloc, conn, text, params![self.owner])
+    }
 }
 
 /// The profile of this owner and this name, if there is one.
-pub fn at<S: Alter>(
-    alloc: Global,
-    conn: &mut Connection<S>,
-    owner: &str,
-    name: &str,
-) -> Result<Vec<Profile>, Failed>
-    requires frame { MayRead S.Store conn.old }
-    ensures { Finds S.Store conn.old conn.new result
-        (λ c all. map current_of all.items
-        ≡ finite.entries (finite.retain_keys c.profiles
-        (λ k. eq_by_cmp texts_cmp k.0 owner.now && eq_by_cmp texts_cmp k.1 name.now))) }
-{
-    reading::select(
-        alloc,
-        conn,
-        "SELECT owner, name, cur FROM profile WHERE owner = ?1 AND name = ?2 ORDER BY owner, name",
-        params![owner, name],
-    )
+#[derive(Drop)]
+pub struct At<'a> {
+    pub owner: &'a str,
+    pub name: &'a str,
 }
 
-/// Adds one profile. If its key is there already, the answer is `Disk` and nothing changes, unless the call fails
-/// otherwise.
-pub fn insert<S: Alter>(
-    tx: &mut Transaction<'_, S>,
-    owner: &str,
-    name: &str,
-    current: u32,
-) -> Result<(), Failed>
-    requires { IsInside S.Store tx.old.conn }
-    ensures { Inserts S.Store tx.old.conn tx.new.conn result
-        profile (Text owner.now ∷ Text name.now ∷ Int (pos current) ∷ [])
-        (λ c. finite.get c.profiles (owner.now, name.now))
-        (λ c. record c { profiles = finite.insert c.profiles (owner.now, name.now) (pos current) }) }
-{
-    // A text is UTF-8.
-    let _owner = owner.as_bytes();
-    let _name = name.as_bytes();
-    statement::add(
-        tx,
-        "INSERT INTO profile (owner, name, cur) VALUES (?1, ?2, ?3)",
-        params![owner, name, current],
-    )
+impl<'a> Find for At<'a> {
+    type Entry = Profile;
+
+    ghost shows = { λ it c all. map current_of all
+        ≡ finite.entries (with_keys c.profiles (λ k. same k.0 it.owner.now && same k.1 it.name.now)) };
+
+    fn find<S: Alter>(&self, alloc: Global, conn: &mut Connection<S>) -> Found<Profile> {
+        let text =
+            "SELECT owner, name, cur FROM profile WHERE owner = ?1 AND name = ?2 ORDER BY owner, name";
+        reading::select(alloc, conn, text, params![self.owner, self.name])
+    }
 }
 
-/// Removes the profile of this owner and this name, if there is one.
-pub fn delete<S: Alter>(tx: &mut Transaction<'_, S>, owner: &str, name: &str) -> Result<(), Failed>
-    requires { IsInside S.Store tx.old.conn }
-    ensures { Removes S.Store tx.old.conn tx.new.conn result
-        (λ c. record c {
-          profiles = finite.retain_keys c.profiles
-              (λ k. not (eq_by_cmp texts_cmp k.0 owner.now && eq_by_cmp texts_cmp k.1 name.now));
-        }) }
-{
-    statement::remove(
-        tx,
-        "DELETE FROM profile WHERE owner = ?1 AND name = ?2",
-        params![owner, name],
-    )
+impl<'a> Delete for At<'a> {
+    ghost change = { λ it c. record c {
+      profiles = without_keys c.profiles (λ k. same k.0 it.owner.now && same k.1 it.name.now);
+    } };
+
+    fn delete<S: Alter>(&self, tx: &mut Transaction<'_, S>) -> Result<(), Failed> {
+        let text = "DELETE FROM profile WHERE owner = ?1 AND name = ?2";
+        statement::remove(tx, text, params![self.owner, self.name])
+    }
+}
+
+/// The row of one profile.
+#[derive(Drop)]
+pub struct Row<'a> {
+    pub owner: &'a str,
+    pub name: &'a str,
+    pub current: u32,
+}
+
+impl<'a> Insert for Row<'a> {
+    ghost table = { profile };
+
+    ghost columns = { λ it. Text it.owner.now ∷ Text it.name.now ∷ Int (pos it.current) ∷ [] };
+
+    ghost Kept = { ℤ };
+
+    ghost present = { λ it c. finite.get c.profiles (it.owner.now, it.name.now) };
+
+    ghost change = { λ it c. record c {
+      profiles = finite.insert c.profiles (it.owner.now, it.name.now) (pos it.current);
+    } };
+
+    fn insert<S: Alter>(&self, tx: &mut Transaction<'_, S>) -> Result<(), Failed> {
+        // A text is UTF-8.
+        let _owner = self.owner.as_bytes();
+        let _name = self.name.as_bytes();
+        let text = "INSERT INTO profile (owner, name, cur) VALUES (?1, ?2, ?3)";
+        statement::add(tx, text, params![self.owner, self.name, self.current])
+    }
 }

@@ -26,7 +26,7 @@ returns c =
     let references = c.in_ok-references.ensures.items_if_clones_equal (λ x y h. h) ∙ c.references.ensures in
     let names = same_texts c.names.result.now c.in_ok-names.names.items c.in_ok-names.ensures.ok ∙ c.names.ensures in
     let outputs = c.in_ok-outputs.ensures.items_if_clones_equal (λ x y h. h) ∙ c.outputs.ensures in
-    c.new.ensures ∙ (λ i. record {
+    c.in_ok-copy.ensures ∙ (λ i. record {
       size = c.size.ensures i;
       hash = c.hash.ensures i;
       references = (ap (set_of bytes_cmp) references ∙ set_again c.args.object.now.references) i;

@@ -1,6 +1,9 @@
 use Rattle.std.proofs.Common.{arith}
 use Rattle.tables.proofs.files.open.Goals as goal
 
+pub take-requires : goal.take-requires
+take-requires g c = record { idle = c.in-Ok.ensures.idle; found = c.in-Ok.ensures.found }
+
 pub returns-in-Ok-take-clause-opens : goal.returns-in-Ok-take-clause-opens
 returns-in-Ok-take-clause-opens g c =
     let here = c.in-Ok.ensures in

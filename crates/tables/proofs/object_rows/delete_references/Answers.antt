@@ -20,7 +20,7 @@ returns-then-is_empty g c = record {
 
 pub returns : goal.returns
 returns g c = record {
-  frame = c.delete_of.ensures.frame;
-  done = c.delete_of.ensures.done;
-  cause = λ clean. as_reason _ _ (removal_reason _ (state g.S.Store c.args.tx.now.conn.now) (state g.S.Store c.delete_of.new.tx.conn.now)) c.delete_of.result (c.delete_of.ensures.cause clean);
+  frame = c.delete.ensures.frame;
+  done = c.delete.ensures.done;
+  cause = λ clean. as_reason _ _ (removal_reason _ (state g.S.Store c.args.tx.now.conn.now) (state g.S.Store c.delete.new.tx.conn.now)) c.delete.result (c.delete.ensures.cause clean);
 }

@@ -43,9 +43,9 @@ targets-preserved g c =
     let left = drop c.targets.target-index all in
     let rest = drop (c.targets.target-index + 1) all in
     let split : left ≡ item ∷ rest = left_at all c.targets.target-index item c.targets-test.true c.target-item.is in
-    let same : change left was ≡ change rest (record was { refs = finite.insert was.refs (base, c.as_str.result.now) tt }) =
+    let same : change left was ≡ change rest (record was { refs = finite.insert was.refs (base, c.as_str-target.result.now) tt }) =
     ap (λ (xs : List Path). change xs was) split
-    ∙ ap (λ t. change rest (record was { refs = finite.insert was.refs (base, t) tt })) (sym c.as_str.ensures.value) in
+    ∙ ap (λ t. change rest (record was { refs = finite.insert was.refs (base, t) tt })) (sym c.as_str-target.ensures.value) in
     record {
       same_reference = c.in_ok-insert.ensures.frame.same_reference ∙ c.targets.invariant.same_reference;
       goes = λ clean. goes_next change all first now next left rest _ (c.targets.invariant.goes (clean_before now next _ c.insert.ensures.frame.survives clean)) (c.in_ok-insert.ensures.done clean) same;
@@ -53,7 +53,7 @@ targets-preserved g c =
           let free = subst (λ ts. AreFree was.refs (map keys ts)) split (c.targets.invariant.free (clean_before now next _ c.insert.ensures.frame.survives clean)) in
           let after = free_next pair_total was.refs (base, item) tt (map keys rest) free in
           subst (λ (x : Contents). AreFree x.refs (map keys rest)) (sym (c.in_ok-insert.ensures.done clean).contents)
-          (subst (λ (t : Path). AreFree (finite.insert was.refs (base, t) tt) (map keys rest)) (sym c.as_str.ensures.value) after);
+          (subst (λ (t : Path). AreFree (finite.insert was.refs (base, t) tt) (map keys rest)) (sym c.as_str-target.ensures.value) after);
       survives = survives_both first now next c.targets.invariant.survives c.insert.ensures.frame.survives;
     }
 
@@ -77,11 +77,11 @@ returns-in_err-insert g c = record {
       let split : left ≡ item ∷ rest = left_at all c.targets.target-index item c.targets-test.true c.target-item.is in
       let early = clean_before now next _ c.insert.ensures.frame.survives clean in
       let free = subst (λ ts. AreFree was.refs (map (λ (t : Path). (base, t)) ts)) split (c.targets.invariant.free early) in
-      let row : Row = Text base ∷ Text c.as_str.result.now ∷ [] in
-      let is : row ≡ Text base ∷ Text item ∷ [] = ap (λ t. Text base ∷ Text t ∷ []) c.as_str.ensures.value in
+      let row : Row = Text base ∷ Text c.as_str-target.result.now ∷ [] in
+      let is : row ≡ Text base ∷ Text item ∷ [] = ap (λ t. Text base ∷ Text t ∷ []) c.as_str-target.ensures.value in
       passed_on c.from_residual.result _ _ c.from_residual.ensures.1
       (next_reason _ first now next _ (c.targets.invariant.goes early).changes c.targets.invariant.survives _
-      (put_reason _ now next _ row _ (of_item (ReferenceRow base) all rest item c.targets.target-index split _ row (refl, is)) (is_none _ (ap (λ t. finite.get was.refs (base, t)) c.as_str.ensures.value ∙ free.free.0)) _ (c.in_err-insert.ensures.cause clean)));
+      (put_reason _ now next _ row _ (of_item (ReferenceRow base) all rest item c.targets.target-index split _ row (refl, is)) (is_none _ (ap (λ t. finite.get was.refs (base, t)) c.as_str-target.ensures.value ∙ free.free.0)) _ (c.in_err-insert.ensures.cause clean)));
 }
 
 pub returns : goal.returns

@@ -14,8 +14,8 @@ use Rattle.tables.proofs.ReadArchives.{none_read, all_read, row_read}
 use Rattle.tables_rows.proofs.Several.{finds_failed, left_then, memory_failed, one_failed, reads_then}
 use Rattle.tables.proofs.reading.read_archive.Goals as goal
 
-pub of-requires-clause-exists : goal.of-requires-clause-exists
-of-requires-clause-exists g c clean is_open =
+pub find-requires-clause-exists : goal.find-requires-clause-exists
+find-requires-clause-exists g c clean is_open =
     let shown = c.get.ensures.frame.same clean in
     let early : HasCleanDisk (state g.S.Store c.args.conn.now) = omega (arith, c.get.ensures.frame.survives.clean, clean) in
     subst (λ (d : Database). HasFurther d piece) (sym (shown.now is_open)) (c.requires.tables early (shown.was_open is_open)).0
@@ -32,15 +32,15 @@ returns-in_default g c = record {
 
 pub returns : goal.returns
 returns g c = record {
-  frame = left_then _ _ _ c.get.ensures.frame c.of.ensures.frame;
+  frame = left_then _ _ _ c.get.ensures.frame c.find.ensures.found.frame;
   reads = λ clean.
       let base = c.args.base.now in
       let s0 = state g.S.Store c.args.conn.now in
       let s1 = state g.S.Store c.get.new.conn in
-      let s2 = state g.S.Store c.of.new.conn in
-      let early : HasCleanDisk s1 = omega (arith, c.of.ensures.frame.survives.clean, clean) in
+      let s2 = state g.S.Store c.find.new.conn in
+      let early : HasCleanDisk s1 = omega (arith, c.find.ensures.found.frame.survives.clean, clean) in
       let first = c.in_ok-found.ensures.reads early in
-      let next = c.in_ok-further.ensures.reads clean in
+      let next = c.in_ok-further.ensures.found.reads clean in
       let stored = subst (IsStored (contents_of s0.now).objects base) c.in-Some.is first.1 in
       let listed = next.1 ∙ ap (λ (d : Database). finite.entries (finite.retain_keys (contents_of d).pieces (λ k. eq_by_cmp bytes_cmp k.0 base))) first.0.0.now_is in (
         unchanged_then s0 s1 s2 first.0 next.0,
@@ -84,9 +84,9 @@ pub returns-in_err-further : goal.returns-in_err-further
 returns-in_err-further g c =
     let r = c.from_residual-in_err-further.result in
     finds_failed _ _ r _ _ c.from_residual-in_err-further.ensures.1
-    (reads_then _ _ _ r c.get.ensures.frame (λ clean. (c.in_ok-found.ensures.reads clean).0) (one_failed _ _ r _ c.from_residual-in_err-further.ensures.1 c.of.ensures.frame c.in_err-further.ensures.cause))
+    (reads_then _ _ _ r c.get.ensures.frame (λ clean. (c.in_ok-found.ensures.reads clean).0) (one_failed _ _ r _ c.from_residual-in_err-further.ensures.1 c.find.ensures.found.frame c.in_err-further.ensures.found.cause))
 
 pub returns-in_err-nar-2 : goal.returns-in_err-nar-2
 returns-in_err-nar-2 g c =
     let r = c.from_residual-in_err-nar-2.result in
-    finds_failed _ _ r _ _ c.from_residual-in_err-nar-2.ensures.1 (memory_failed _ _ r c.from_residual-in_err-nar-2.ensures.1 (left_then _ _ _ c.get.ensures.frame c.of.ensures.frame))
+    finds_failed _ _ r _ _ c.from_residual-in_err-nar-2.ensures.1 (memory_failed _ _ r c.from_residual-in_err-nar-2.ensures.1 (left_then _ _ _ c.get.ensures.frame c.find.ensures.found.frame))

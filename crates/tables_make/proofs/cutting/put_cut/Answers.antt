@@ -21,8 +21,8 @@ use Rattle.tables_make.proofs.Inside.{done_fails, done_stays}
 use Rattle.tables_make.proofs.Failed.{none_done, always_failed}
 use Rattle.tables_make.proofs.cutting.put_cut.Goals as goal
 
-pub insert-requires : goal.insert-requires
-insert-requires g c clean = under_after (state g.S.Store c.args.tx.now.conn.now) (state g.S.Store c.delete.new.tx.conn.now) _ (c.in_ok-delete.ensures.done clean)
+pub insert-requires-clause-under : goal.insert-requires-clause-under
+insert-requires-clause-under g c clean = under_after (state g.S.Store c.args.tx.now.conn.now) (state g.S.Store c.delete.new.tx.conn.now) _ (c.in_ok-delete.ensures.done clean)
 
 pub returns : goal.returns
 returns g c = record {

@@ -11,16 +11,16 @@ pub returns-then-not-has_pieces : goal.returns-then-not-has_pieces
 returns-then-not-has_pieces g c =
     let s = state g.S.Store c.args.conn.now in
     record {
-      frame = as_it_was c.args.conn.now c.requires.frame c.requires.opened;
+      frame = as_it_was c.args.conn.now c.requires.tables.frame c.requires.opened;
       reads = λ clean. (
         no_change s (c.requires.opened clean),
-        ap (map numbered_in) c.new.ensures.items ∙ sym (no_pieces (contents_of s.now).pieces (c.requires.pieces.no_table clean (sym c.has_pieces.ensures ∙ c.if-not-has_pieces.true) (c.requires.opened clean))),
+        ap (map numbered_in) c.new.ensures.items ∙ sym (no_pieces (contents_of s.now).pieces (c.requires.tables.pieces.no_table clean (sym c.has_pieces.ensures ∙ c.if-not-has_pieces.true) (c.requires.opened clean))),
       );
       cause = λ _. tt;
     }
 
-pub keys-requires-clause-exists : goal.keys-requires-clause-exists
-keys-requires-clause-exists g c clean is_open = c.requires.pieces.exists clean (sym c.has_pieces.ensures ∙ c.if-not-has_pieces.false) is_open
+pub find-requires-clause-exists : goal.find-requires-clause-exists
+find-requires-clause-exists g c clean is_open = c.requires.tables.pieces.exists clean (sym c.has_pieces.ensures ∙ c.if-not-has_pieces.false) is_open
 
 pub returns : goal.returns
-returns g c = finds_one _ _ c.keys.result _ c.keys.ensures.frame c.keys.ensures.reads c.keys.ensures.cause
+returns g c = finds_one _ _ c.find.result _ c.find.ensures.found.frame c.find.ensures.found.reads c.find.ensures.found.cause

@@ -13,7 +13,7 @@ abbrev pub invariant-bases : goal.invariant-bases
 invariant-bases g l = record {
   frame : LeftAsItWas g.S.Store l.fn.conn l.conn;
   unchanged : HasCleanDisk (state g.S.Store l.conn) → IsUnchanged (state g.S.Store l.fn.conn) (state g.S.Store l.conn);
-  decides : HasCleanDisk (state g.S.Store l.conn) → Decides l.schema l.dir (contents_of (state g.S.Store l.fn.conn).now) (map string_bytes l.bases) (drop l.base-index l.bases);
+  decides : HasCleanDisk (state g.S.Store l.conn) → Decides l.source.schema l.dir (contents_of (state g.S.Store l.fn.conn).now) (map string_bytes l.bases) (drop l.base-index l.bases);
   makes : HasCleanDisk (state g.S.Store l.conn) → Makes (contents_of (state g.S.Store l.fn.conn).now) (filled l.fn.found.items) (map string_bytes l.bases) (drop l.base-index l.bases) (filled l.found.items);
   ahead : HasCleanDisk (state g.S.Store l.conn) → AreStored (contents_of (state g.S.Store l.fn.conn).now) l.ahead.items;
 }

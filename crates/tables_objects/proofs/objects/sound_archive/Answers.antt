@@ -1,10 +1,9 @@
 use Rattle.std.proofs.Common.{sym, ◌∙◌}
-use Rattle.tables_objects.specs.Tested.{named_of}
-use Rattle.tables_objects.proofs.OfArchive.{no_archive, no_fault}
+use Rattle.std.proofs.lemmas.Bool.{false≢true}
 use Rattle.tables_objects.proofs.objects.sound_archive.Goals as goal
 
-pub returns-then-has_fault : goal.returns-then-has_fault
-returns-then-has_fault c = no_archive c.args.dir.now c.args.path.now c.args.archive.now c.args.hash.now c.args.ca c.args.refs.items (named_of c.args.outputs.now) c.requires.reported (sym c.has_fault.ensures ∙ c.if-has_fault.true)
+pub returns-then-not-is_archive : goal.returns-then-not-is_archive
+returns-then-not-is_archive c = λ sound. false≢true (sym c.if-not-is_archive.true ∙ c.is_archive.ensures.1 (sound.recorded.tree, sound.recorded.archive))
 
-pub sound_outputs-requires-clause-sound : goal.sound_outputs-requires-clause-sound
-sound_outputs-requires-clause-sound c = no_fault c.args.archive.now.fault (sym c.has_fault.ensures ∙ c.if-has_fault.false)
+pub sound_outputs-requires : goal.sound_outputs-requires
+sound_outputs-requires c = c.is_archive.ensures.0 c.if-not-is_archive.false

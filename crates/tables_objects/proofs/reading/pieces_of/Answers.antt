@@ -1,7 +1,7 @@
 use Rattle.std.proofs.Common.{map, sym, ap, ◌∙◌}
 use Rattle.sqlite.specs.Held.{state}
 use Rattle.tables_sql.specs.Contents.{contents_of}
-use Rattle.tables_sql.specs.Entries.{piece_in}
+use Rattle.tables_sql.specs.Entries.{numbered_in, piece_in}
 use Rattle.tables_rows.proofs.Several.{finds_one}
 use Rattle.tables_objects.proofs.Columns.{no_parts}
 use Rattle.tables_objects.proofs.Each.{no_change}
@@ -29,13 +29,13 @@ returns-then-is_empty g c =
       reads = λ clean. (
         no_change s (c.requires.opened clean),
         ap (map piece_in) c.new-then-is_empty.ensures.items
-            ∙ sym (no_parts (contents_of s.now) c.args.base.now c.args.keys.now c.group.result.now (c.requires.listed clean) c.group.ensures (none_left c.group.result.now (sym c.is_empty.ensures ∙ c.if-is_empty.true))),
+            ∙ sym (no_parts (contents_of s.now) c.args.base.now c.deref.result.now c.group.result.now (ap (map numbered_in) c.deref.ensures.value ∙ (c.requires.joined clean).pieces) c.group.ensures (none_left c.group.result.now (sym c.is_empty.ensures ∙ c.if-is_empty.true))),
       );
       cause = λ _. tt;
     }
 
-pub of-requires-clause-exists : goal.of-requires-clause-exists
-of-requires-clause-exists g c clean is_open = c.requires.pieces.exists clean (sym c.has_pieces.ensures ∙ c.if-not-has_pieces.false) is_open
+pub find-requires-clause-exists : goal.find-requires-clause-exists
+find-requires-clause-exists g c clean is_open = c.requires.pieces.exists clean (sym c.has_pieces.ensures ∙ c.if-not-has_pieces.false) is_open
 
 pub returns : goal.returns
-returns g c = finds_one _ _ c.of.result _ c.of.ensures.frame c.of.ensures.reads c.of.ensures.cause
+returns g c = finds_one _ _ c.find.result _ c.find.ensures.found.frame c.find.ensures.found.reads c.find.ensures.found.cause

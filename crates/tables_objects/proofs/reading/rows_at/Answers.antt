@@ -1,26 +1,15 @@
-use Rattle.std.proofs.Common.{◌≡◌, sym, ap, subst, ◌∙◌}
-use Rattle.std.specs.FinMap as finite
-use Rattle.sqlite.specs.Effect.{Database}
+use Rattle.std.proofs.Common.{[], subst}
 use Rattle.sqlite.specs.State.{HasCleanDisk}
 use Rattle.sqlite.specs.Held.{state}
 use Rattle.tables_sql.specs.Contents.{contents_of}
 use Rattle.tables_sql.specs.Entries.{IsStored}
 use Rattle.tables_rows.proofs.Several.{left_then, several_failed, finds_failed, reads_then}
-use Rattle.tables_objects.proofs.ReadRows.{clean_before, pieces_after, rows_read}
+use Rattle.tables_objects.proofs.ReadRows.{clean_before, from_after, rows_read}
 use Rattle.tables_objects.proofs.reading.rows_at.Goals as goal
 
-pub pieces_of-requires-clause-opened : goal.pieces_of-requires-clause-opened
-pieces_of-requires-clause-opened g c clean = (c.in_ok-object.ensures.reads clean).0.0.is_open
-
-pub pieces_of-requires-clause-pieces : goal.pieces_of-requires-clause-pieces
-pieces_of-requires-clause-pieces g c = pieces_after c.args.schema c.args.conn.now c.object_at.new.conn c.object_at.ensures.frame (λ clean. (c.in_ok-object.ensures.reads clean).0) c.requires.pieces
-
-pub pieces_of-requires-clause-listed : goal.pieces_of-requires-clause-listed
-pieces_of-requires-clause-listed g c clean =
-    let s0 = state g.S.Store c.args.conn.now in
-    let s1 = state g.S.Store c.object_at.new.conn in
-    c.requires.listed (clean_before s0 s1 (λ _. ⊥) c.object_at.ensures.frame.survives clean)
-    ∙ sym (ap (λ (d : Database). finite.keys (contents_of d).pieces) (c.in_ok-object.ensures.reads clean).0.0.now_is)
+pub pieces_of-requires : goal.pieces_of-requires
+pieces_of-requires g c =
+    from_after c.args.source.now c.args.ahead.now.items [] c.args.conn.now c.object_at.new.conn c.object_at.ensures.frame (λ clean. (c.in_ok-object.ensures.reads clean).0) c.requires (λ _. tt)
 
 pub returns-in_err-object : goal.returns-in_err-object
 returns-in_err-object g c =

@@ -1,4 +1,4 @@
-use Rattle.std.proofs.Common.{None, option_map, sym, subst, IsTrue}
+use Rattle.std.proofs.Common.{option_map, sym, subst, IsTrue}
 use Rattle.std.specs.Prelude.{IfNone}
 use Rattle.std.specs.FinMap as finite
 use Rattle.model.specs.World.{Pair}
@@ -11,6 +11,11 @@ pub switch_generation-requires-clause-present : goal.switch_generation-requires-
 switch_generation-requires-clause-present g c =
     let owned : Pair = (c.args.owner.now, c.args.name.now) in
     subst (λ o. IfNone o (IsTrue (finite.contains_key c.args.self.now.outline.profiles owned))) c.in-None.is c.requires.present
+
+pub switch_generation-requires-clause-sound : goal.switch_generation-requires-clause-sound
+switch_generation-requires-clause-sound g c =
+    let owned : Pair = (c.args.owner.now, c.args.name.now) in
+    subst (λ o. StaysSound g.S.Store c.args.self.now (with_numbers owned (option_map (λ e. (e.0, e.1.now)) o) c.args.current)) c.in-None.is c.requires.sound
 
 pub put_number-requires : goal.put_number-requires
 put_number-requires g c =
@@ -26,11 +31,6 @@ returns-in-Some g c = record {
       let owned : Pair = (c.args.owner.now, c.args.name.now) in
       subst (λ o. FailsToChange g.S.Store c.args.self.now c.put_number.new.self c.put_number.result (NumberedRows owned (option_map (λ e. (e.0, e.1.now)) o) c.args.current)) (sym c.in-Some.is) c.put_number.ensures.cause;
 }
-
-pub switch_generation-requires-clause-sound : goal.switch_generation-requires-clause-sound
-switch_generation-requires-clause-sound g c =
-    let owned : Pair = (c.args.owner.now, c.args.name.now) in
-    subst (λ o. StaysSound g.S.Store c.args.self.now (with_numbers owned (option_map (λ e. (e.0, e.1.now)) o) c.args.current)) c.in-None.is c.requires.sound
 
 pub returns-in-None : goal.returns-in-None
 returns-in-None g c = record {

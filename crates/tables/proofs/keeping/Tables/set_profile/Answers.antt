@@ -21,10 +21,10 @@ switch_generation-requires-clause-sound g c =
     let owned : Pair = (c.args.owner.now, c.args.name.now) in
     set_sound g.S.Store c.args.self.now owned c.args.target.now (λ p. switched p c.args.number) (set_is_switch (profile_of c.args.self.now.outline owned) c.args.target.now c.args.number c.requires.number (sym (ap₂ (λ (n : TablesValue _) (k : Pair). has_generation (profile_of n.outline k) c.args.number) c.self.view_is c.in_ok-key.ensures) ∙ sym c.has_generation.ensures ∙ c.if-has_generation.true)) c.requires.sound
 
-pub put_generation-requires-clause-sound : goal.put_generation-requires-clause-sound
-put_generation-requires-clause-sound g c =
+pub put_number-requires : goal.put_number-requires
+put_number-requires g c =
     let owned : Pair = (c.args.owner.now, c.args.name.now) in
-    set_sound g.S.Store c.args.self.now owned c.args.target.now (λ p. put_at p c.args.number c.args.target.now) (set_is_new (profile_of c.args.self.now.outline owned) c.args.target.now c.args.number c.requires.number) c.requires.sound
+    record { sound = set_sound g.S.Store c.args.self.now owned c.args.target.now (λ p. put_at p c.args.number c.args.target.now) (set_is_new (profile_of c.args.self.now.outline owned) c.args.target.now c.args.number c.requires.number) c.requires.sound }
 
 pub returns-then-has_generation : goal.returns-then-has_generation
 returns-then-has_generation g c = record {
@@ -40,6 +40,6 @@ pub returns : goal.returns
 returns g c = record {
   frame =
       let owned : Pair = (c.args.owner.now, c.args.name.now) in
-      set_commits g.S.Store c.args.self.now owned c.args.target.now (λ p. put_at p c.args.number c.args.target.now) (set_is_new (profile_of c.args.self.now.outline owned) c.args.target.now c.args.number c.requires.number) c.put_generation.result c.put_generation.new.self c.put_generation.ensures.frame;
-  cause = c.put_generation.ensures.cause;
+      set_commits g.S.Store c.args.self.now owned c.args.target.now (λ p. put_at p c.args.number c.args.target.now) (set_is_new (profile_of c.args.self.now.outline owned) c.args.target.now c.args.number c.requires.number) c.put_number.result c.put_number.new.self c.put_number.ensures.frame;
+  cause = c.put_number.ensures.cause;
 }

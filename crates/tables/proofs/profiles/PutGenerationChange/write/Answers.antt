@@ -15,11 +15,11 @@ use Rattle.tables_make.proofs.Failing.{err_kept}
 use Rattle.tables_make.proofs.Reasons.{as_reason, is_none, more_reason, next_reason, put_reason, removal_reason}
 use Rattle.tables.proofs.profiles.PutGenerationChange.write.Goals as goal
 
-pub delete-requires : goal.delete-requires
-delete-requires g c clean = under_after (state g.S.Store c.args.tx.now.conn.now) (state g.S.Store c.put_current.new.tx.conn.now) _ (c.in_ok-put_current.ensures.done clean)
+pub delete-requires-clause-under : goal.delete-requires-clause-under
+delete-requires-clause-under g c clean = under_after (state g.S.Store c.args.tx.now.conn.now) (state g.S.Store c.put_current.new.tx.conn.now) _ (c.in_ok-put_current.ensures.done clean)
 
-pub insert-requires : goal.insert-requires
-insert-requires g c clean =
+pub insert-requires-clause-under : goal.insert-requires-clause-under
+insert-requires-clause-under g c clean =
     let a = state g.S.Store c.args.tx.now.conn.now in
     let b = state g.S.Store c.put_current.new.tx.conn.now in
     let d = state g.S.Store c.delete.new.tx.conn.now in

@@ -12,8 +12,8 @@ use Rattle.tables_sql.proofs.TestFailures.{passed_on, survives_both}
 use Rattle.tables_make.proofs.Reasons.{as_reason, is_none, next_reason, put_reason, removal_reason}
 use Rattle.tables.proofs.user_roots.PutUserRootChange.write.Goals as goal
 
-pub insert-requires : goal.insert-requires
-insert-requires g c clean = under_after (state g.S.Store c.args.tx.now.conn.now) (state g.S.Store c.delete.new.tx.conn.now) _ (c.in_ok-delete.ensures.done clean)
+pub insert-requires-clause-under : goal.insert-requires-clause-under
+insert-requires-clause-under g c clean = under_after (state g.S.Store c.args.tx.now.conn.now) (state g.S.Store c.delete.new.tx.conn.now) _ (c.in_ok-delete.ensures.done clean)
 
 pub returns-clause-frame : goal.returns-clause-frame
 returns-clause-frame g c =

@@ -6,9 +6,9 @@ use Rattle.tables_roots.proofs.generations.GenerationRootTable.all.Goals as goal
 
 pub returns : goal.returns
 returns g c = record {
-  frame = c.all.ensures.frame;
+  frame = c.find.ensures.found.frame;
   reads = λ clean.
-      reads_so c.all.result _ _ _ (c.all.ensures.reads clean)
+      reads_so c.find.result _ _ _ (c.find.ensures.found.reads clean)
       (λ all listed o filled. load_generations all.items o (contents_of (state g.S.Store c.args.conn.now).now) listed filled);
-  cause = c.all.ensures.cause;
+  cause = c.find.ensures.found.cause;
 }

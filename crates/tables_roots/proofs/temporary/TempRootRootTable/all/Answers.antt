@@ -11,12 +11,12 @@ use Rattle.tables_roots.proofs.temporary.TempRootRootTable.all.Goals as goal
 
 pub returns : goal.returns
 returns g c = record {
-  frame = c.all.ensures.frame;
+  frame = c.find.ensures.found.frame;
   reads = λ clean.
       let stored = (contents_of (state g.S.Store c.args.conn.now).now).temp_roots in
-      reads_so c.all.result _ _ _ (c.all.ensures.reads clean) (λ all listed.
+      reads_so c.find.result _ _ _ (c.find.ensures.found.reads clean) (λ all listed.
       load_entries temp_root_of is_temporary_root member (λ (o : OutlineValue). o.temporary) (λ m (o : OutlineValue). record o { temporary = m })
       (record { objects = λ m o. refl; read_back = λ m o. refl; last = λ m n o. refl; same = λ o. refl })
       _ (finite.entries stored) (temporary_again stored) all.items listed);
-  cause = c.all.ensures.cause;
+  cause = c.find.ensures.found.cause;
 }

@@ -1,0 +1,13 @@
+//! What objects are read from.
+
+use crate::joined::Joined;
+use tables_schema::Schema;
+
+/// A database by its schema, with what is read of it before its objects: all rows of other tables, and the bases of all
+/// objects, in order.
+#[derive(Drop)]
+pub(crate) struct Source<'a> {
+    pub(crate) schema: Schema,
+    pub(crate) joined: &'a Joined,
+    pub(crate) bases: &'a [String],
+}
