@@ -26,7 +26,8 @@ REMARKS = [
     Remark(r"counts: memory .*", "memory of the index",
            """An object is an entry of a tree. It has a list of its references, with their texts in blocks of their
            own. Tried: a tree that is built of all objects in order, so its nodes are full. That saved 238 bytes of
-           636. Not tried yet: paths that are shared, and one block for what few objects have."""),
+           636. Tried: one block for what few objects have. That saved 103 bytes of 398. Not tried yet: paths that are
+           shared."""),
     Remark(r"(requests|http): .* 16 MiB.*: (time|next to one SHA-256 of it by the same crate)",
            "adds of 16 MiB to a file",
            """`sqlite` copies each byte of a value when it is bound, evaluated and made a row. It copies each again
