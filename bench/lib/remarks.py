@@ -15,7 +15,7 @@ REMARKS = [
     Remark(r"stores: `list` on 100 objects .*: memory", "`list` of 100 objects of 1 MiB, its memory",
            """The opening of `sqlite` alone holds 105 MiB for 100 MiB of rows, with any options. It copies all rows of
            a table into one list (`all_rows`). Tried: nixkeep's own tests hold one archive at a time, which saved 16
-           MiB."""),
+           MiB. A later program keeps all pages of a file of up to 256 MiB, and takes 202 MiB here."""),
     Remark(r"stores: `list` on .*: (time|100,000 .*)", "`list` of many small objects",
            """Of 100 instructions, the opening of `sqlite` takes 56 and SHA-256 24 (bench/counts). The opening looks up
            the row of each entry of each index. Tried: a place in memory for each page. That saved 10 of 100
