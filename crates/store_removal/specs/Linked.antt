@@ -27,7 +27,7 @@ pub record AreAimed (at : List Row) (of : List Root) : Type 0 where
   pub rows : Rise (paths_of at)
   pub targets : AllValid at of
 
--- the same of rows and roots, and the roots rise
+-- the paths of rows rise, each root's target is the path of a row, and the roots rise
 pub record AreListed (at : List Row) (of : List Root) : Type 0 where
   pub aimed : AreAimed at of
   pub roots : RootsRise of
