@@ -1,5 +1,6 @@
 //! Store paths.
 ghost use Rattle.std.specs.Prelude.{◌≡◌, ◌↔◌, List, ℕ, IfOk, string_bytes, length, ◌++◌, codes, true, false, nat_eq, Some, refl};
+ghost use Rattle.std.specs.Arc.{arc_str_bytes};
 ghost use Rattle.std.specs.Ordering.{nat_cmp};
 ghost use Rattle.std.specs.Cmp.{partial_equiv_from_equiv};
 ghost use Rattle.std.specs.Cmp.Lexicographic.{pointwise, slice_cmp, nat_list_eq_equiv, nat_list_cmp_total, texts_ties, texts_po};
@@ -15,6 +16,7 @@ use std::alloc::{AllocError, Global};
 use std::cmp::Ordering;
 use std::fmt;
 use std::marker::Model;
+use std::sync::ArcStr;
 use thiserror::Error;
 
 /// Whether some bytes are a base name: 32 digits, `-`, a store name.
@@ -50,15 +52,15 @@ fn base_of<'a>(dir: &StoreDir, text: &'a str) -> &'a str
 /// base name, by which paths are ordered.
 #[derive(Drop)]
 pub struct StorePath {
-    base: String,
+    base: ArcStr,
 }
 
 impl Model for StorePath {
     ghost Value = { List ℕ };
 
-    ghost view = { λ p. string_bytes p.base };
+    ghost view = { λ p. arc_str_bytes p.base };
 
-    ghost invariant = { λ p. is_base_name (string_bytes p.base) ≡ true };
+    ghost invariant = { λ p. is_base_name (arc_str_bytes p.base) ≡ true };
 }
 
 /// Why a text gives no store path.
@@ -123,7 +125,7 @@ impl StorePath {
         if !is_base_name(text.as_bytes()) {
             return Err(StorePathError::BadStorePath);
         }
-        let base = String::from_str(alloc, text)?;
+        let base = ArcStr::from_str(alloc, text)?;
         Ok(StorePath { base })
     }
 
@@ -137,6 +139,7 @@ impl StorePath {
         let mut base = digits;
         base.push_str("-")?;
         base.push_str(name)?;
+        let base = ArcStr::from_string(base)?;
         Ok(StorePath { base })
     }
 
