@@ -1,6 +1,6 @@
 //! The rows of one path among all rows of a table, which are in the order of their paths.
 
-ghost use Rattle.std.specs.Prelude.{◌≡◌, List, ℕ, true, false, filter, map, MatchOption};
+ghost use Rattle.std.specs.Prelude.{◌≡◌, List, ℕ, true, false, filter, map, is_some, IfSome};
 ghost use Rattle.std.specs.List.{list_any};
 ghost use Rattle.std.specs.Ordering.{eq_by_cmp};
 ghost use Rattle.paths.specs.Root.{bytes_cmp};
@@ -50,6 +50,14 @@ impl OfPath for PieceKey {
     }
 }
 
+impl OfPath for StorePath {
+    ghost base_of = { λ path. path };
+
+    fn base(&self) -> &str {
+        self.as_str()
+    }
+}
+
 impl OfPath for &StorePath {
     ghost base_of = { λ path. path.now };
 
@@ -60,10 +68,9 @@ impl OfPath for &StorePath {
 
 /// The first row of a path among rows in order, if there is one.
 pub(crate) fn first_of<'a, T: OfPath>(rows: &'a [T], base: &str) -> Option<&'a T>
-    ensures { Rises (map T.base_of rows.now) → MatchOption result
-        (list_any (λ row. eq_by_cmp bytes_cmp base.now (T.base_of row)) rows.now ≡ false)
-        (λ row. (list_any (λ r. eq_by_cmp bytes_cmp base.now (T.base_of r)) rows.now ≡ true)
-        × (base.now ≡ T.base_of row.now)) }
+    ensures found { IfSome result (λ row. base.now ≡ T.base_of row.now) }
+    ensures any { Rises (map T.base_of rows.now)
+        → is_some result ≡ list_any (λ row. eq_by_cmp bytes_cmp base.now (T.base_of row)) rows.now }
 {
     let start = rows.partition_point(|row| row.base() < base);
     let (_, rest) = rows.split_at(start);

@@ -19,6 +19,7 @@ use crate::joined::Joined;
 use crate::objects::sound_object;
 use crate::reading::{ObjectRows, rows_at};
 use crate::source::Source;
+use crate::texts::new_path;
 use paths::{StoreDir, StorePath};
 use sqlite::{Alter, Connection};
 use std::alloc::{AllocError, Global};
@@ -45,7 +46,7 @@ fn is_cut_by(schema: Schema, row: &[u8], pieces: &[Piece]) -> bool
 /// Whether the rows of an object are sound. If so, it is added to `found`.
 fn load_rows(
     alloc: Global,
-    schema: Schema,
+    source: &Source<'_>,
     dir: &StoreDir,
     found: &mut Vec<(StorePath, Summary)>,
     rows: ObjectRows,
@@ -53,7 +54,7 @@ fn load_rows(
     outputs: &[Output],
 ) -> Result<bool, AllocError>
     ensures reported { IfOk result
-        (λ ok. IsTrue ok ↔ (IsCutBy schema (stored_of rows.object).1.nar (parts_of rows.pieces.items)
+        (λ ok. IsTrue ok ↔ (IsCutBy source.now.schema (stored_of rows.object).1.nar (parts_of rows.pieces.items)
         × IsSoundAt dir.now (stored_of rows.object).0 (whole_of (stored_of rows.object).1 (parts_of rows.pieces.items))
         (targets_of references.now) (named_of outputs.now))) }
     ensures loaded { IfOk result (λ ok. IsTrue ok
@@ -63,10 +64,18 @@ fn load_rows(
         (targets_of references.now))) }
 {
     let ObjectRows { object, pieces } = rows;
-    if !is_cut_by(schema, &object.nar, &pieces) {
+    if !is_cut_by(source.schema, &object.nar, &pieces) {
         return Ok(false);
     }
-    let Some((path, summary)) = sound_object(alloc, dir, object, pieces, references, outputs)?
+    let Some((path, summary)) = sound_object(
+        alloc,
+        source.paths,
+        dir,
+        object,
+        pieces,
+        references,
+        outputs,
+    )?
     else {
         return Ok(false);
     };
@@ -96,8 +105,7 @@ fn load_object<S: Alter>(
     };
     let references = group(&source.joined.references, base);
     let outputs = group(&source.joined.outputs, base);
-    let schema = source.schema;
-    Ok(load_rows(alloc, schema, dir, found, rows, references, outputs)?)
+    Ok(load_rows(alloc, source, dir, found, rows, references, outputs)?)
 }
 
 /// Whether each base of the source is an object's, whose rows are sound. If so, they are added to `found`.
@@ -124,6 +132,17 @@ fn load_each<S: Alter>(
     Ok(true)
 }
 
+/// The paths of those of these texts that are base names, in the same order.
+fn new_paths(alloc: Global, bases: &[String]) -> Result<Vec<StorePath>, AllocError> {
+    let mut paths = Vec::with_capacity(alloc, bases.len())?;
+    for base in bases {
+        if let Some(path) = new_path(alloc, base.as_str())? {
+            paths.push(path)?;
+        }
+    }
+    Ok(paths)
+}
+
 /// Whether all objects of the rows are sound, each by itself. If so, they replace the objects of the outline.
 pub(crate) fn load_all<S: Alter>(
     alloc: Global,
@@ -141,10 +160,12 @@ pub(crate) fn load_all<S: Alter>(
         (λ c. record outline.old { objects = with_objects c (finite.keys c.objects) finite.empty }) }
 {
     let bases = objects::Keys.find(alloc, conn)?;
+    let paths = new_paths(alloc, &bases)?;
     let source = Source {
         schema,
         joined,
         bases: &bases,
+        paths: &paths,
     };
     let mut found = Vec::new(alloc);
     if !load_each(alloc, conn, &source, dir, &mut found)? {

@@ -125,10 +125,11 @@ fn sound_archive(
     }
 }
 
-/// The path of an object and what is kept of it, where its rows are sound. That each reference is an object isn't asked
-/// here.
+/// The path of an object and what is kept of it, where its rows are sound. They share the texts of the same paths among
+/// these, which are in order. That each reference is an object isn't asked here.
 pub(crate) fn sound_object(
     alloc: Global,
+    paths: &[StorePath],
     dir: &StoreDir,
     object: Object,
     pieces: Vec<Piece>,
@@ -147,16 +148,16 @@ pub(crate) fn sound_object(
     if references.len() > MAX_REFERENCES {
         return Ok(None);
     }
-    let Some(path) = path_of(alloc, object.base.as_str())? else {
+    let Some(path) = path_of(alloc, paths, object.base.as_str())? else {
         return Ok(None);
     };
-    let Some(deriver) = deriver_of(alloc, &object.deriver)? else {
+    let Some(deriver) = deriver_of(alloc, paths, &object.deriver)? else {
         return Ok(None);
     };
     let Some(ca) = address_of(alloc, &object.ca)? else {
         return Ok(None);
     };
-    let Some(refs) = paths_of(alloc, references)? else {
+    let Some(refs) = paths_of(alloc, paths, references)? else {
         return Ok(None);
     };
     let Object { nar, hash, .. } = object;

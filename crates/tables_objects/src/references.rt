@@ -20,27 +20,29 @@ fn is_above(last: Option<&str>, text: &str) -> bool
     }
 }
 
-/// The paths that the rows refer to, if they are base names in order.
+/// The paths that the rows refer to, if they are base names in order. They share the texts of the same paths among these,
+/// which are in order.
 pub(crate) fn paths_of(
     alloc: Global,
+    paths: &[StorePath],
     rows: &[Reference],
 ) -> Result<Option<Vec<StorePath>>, AllocError>
     ensures { IfOk result
         (λ o. MatchOption o (are_paths None (targets_of rows.now) ≡ false)
         (λ v. (v.items ≡ targets_of rows.now) × (are_paths None (targets_of rows.now) ≡ true))) }
 {
-    let mut paths = Vec::with_capacity(alloc, rows.len())?;
+    let mut found = Vec::with_capacity(alloc, rows.len())?;
     let mut last = None;
     'rows: for row in rows {
         let text = row.target.as_str();
         if !is_above(last, text) {
             return Ok(None);
         }
-        let Some(path) = path_of(alloc, text)? else {
+        let Some(path) = path_of(alloc, paths, text)? else {
             return Ok(None);
         };
-        paths.push(path)?;
+        found.push(path)?;
         last = Some(text);
     }
-    Ok(Some(paths))
+    Ok(Some(found))
 }

@@ -5,11 +5,12 @@ ghost use Rattle.paths.specs.StorePath.{is_base_name};
 ghost use Rattle.tables_world.specs.Rows.{address_in};
 ghost use Rattle.tables_objects.specs.Tested.{is_base_if_any, is_address_if_any};
 
+use crate::groups::first_of;
 use paths::{Ca, CaError, StorePath, StorePathError};
 use std::alloc::{AllocError, Global};
 
-/// The path of a base name, if a text is one.
-pub(crate) fn path_of(alloc: Global, text: &str) -> Result<Option<StorePath>, AllocError>
+/// A new path of a base name, if a text is one.
+pub(crate) fn new_path(alloc: Global, text: &str) -> Result<Option<StorePath>, AllocError>
     ensures { IfOk result
         (λ o. MatchOption o (is_base_name text.now ≡ false) (λ p. (p ≡ text.now) × (is_base_name text.now ≡ true))) }
 {
@@ -20,9 +21,30 @@ pub(crate) fn path_of(alloc: Global, text: &str) -> Result<Option<StorePath>, Al
     }
 }
 
+/// The path of a base name, if a text is one. It shares the text of the same path among these, which are in order.
+pub(crate) fn path_of(
+    alloc: Global,
+    paths: &[StorePath],
+    text: &str,
+) -> Result<Option<StorePath>, AllocError>
+    ensures { IfOk result
+        (λ o. MatchOption o (is_base_name text.now ≡ false) (λ p. (p ≡ text.now) × (is_base_name text.now ≡ true))) }
+{
+    match first_of(paths, text) {
+        Some(path) => {
+            // A path is a base name.
+            let _base = path.as_str();
+            let shared = path.clone()?;
+            Ok(Some(shared))
+        }
+        None => new_path(alloc, text),
+    }
+}
+
 /// The deriver, if one is recorded, where its text is a base name.
 pub(crate) fn deriver_of(
     alloc: Global,
+    paths: &[StorePath],
     text: &Option<String>,
 ) -> Result<Option<Option<StorePath>>, AllocError>
     ensures { IfOk result
@@ -32,7 +54,7 @@ pub(crate) fn deriver_of(
     let Some(text) = text else {
         return Ok(Some(None));
     };
-    match path_of(alloc, text.as_str())? {
+    match path_of(alloc, paths, text.as_str())? {
         Some(path) => Ok(Some(Some(path))),
         None => Ok(None),
     }

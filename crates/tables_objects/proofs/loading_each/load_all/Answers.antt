@@ -29,6 +29,11 @@ pub returns-in_err-bases : goal.returns-in_err-bases
 returns-in_err-bases g c =
     load_failed _ _ _ _ _ c.from_residual.result _ c.from_residual.ensures.1 (one_failed _ _ c.from_residual.result _ c.from_residual.ensures.1 c.find.ensures.found.frame c.in_err-bases.ensures.found.cause)
 
+pub returns-in_err-paths : goal.returns-in_err-paths
+returns-in_err-paths g c =
+    load_failed _ _ _ _ _ c.from_residual-in_err-paths.result _ c.from_residual-in_err-paths.ensures.1
+    (memory_failed _ _ c.from_residual-in_err-paths.result c.from_residual-in_err-paths.ensures.1 c.find.ensures.found.frame)
+
 pub returns-in_err-load_each : goal.returns-in_err-load_each
 returns-in_err-load_each g c =
     load_failed _ _ _ _ _ c.from_residual-in_err-load_each.result _ c.from_residual-in_err-load_each.ensures.1
@@ -44,7 +49,7 @@ returns-then-not-branch g c =
     (reads_done _ _ _ _ (reads_then c.args.conn.now c.find.new.conn c.load_each.new.conn _ c.find.ensures.found.frame (λ clean. (c.in_ok-bases.ensures.found.reads clean).0) c.in_ok-load_each.ensures.read))
     (λ clean sound.
     let read = c.in_ok-bases.ensures.found.reads (clean_before s1 s2 (λ _. ⊥) c.load_each.ensures.read.frame.survives clean) in
-    false≢true (sym c.if-not-branch.true ∙ (as_asked c.args.schema c.args.dir.now (contents_of s1.now) (contents_of s0.now) (map string_bytes c.deref.result.now) (ap contents_of read.0.0.now_is) (ap (map string_bytes) c.deref.ensures.value ∙ read.1) _ (c.in_ok-load_each.ensures.reported clean)).1 sound))
+    false≢true (sym c.if-not-branch.true ∙ (as_asked c.args.schema c.args.dir.now (contents_of s1.now) (contents_of s0.now) (map string_bytes c.deref-2.result.now) (ap contents_of read.0.0.now_is) (ap (map string_bytes) c.deref-2.ensures.value ∙ read.1) _ (c.in_ok-load_each.ensures.reported clean)).1 sound))
 
 pub returns-in_err-set_objects : goal.returns-in_err-set_objects
 returns-in_err-set_objects g c =
@@ -60,13 +65,13 @@ returns g c =
     (reads_done _ _ _ _ (reads_then c.args.conn.now c.find.new.conn c.load_each.new.conn _ c.find.ensures.found.frame (λ clean. (c.in_ok-bases.ensures.found.reads clean).0) c.in_ok-load_each.ensures.read))
     (λ clean.
     let read = c.in_ok-bases.ensures.found.reads (clean_before s1 s2 (λ _. ⊥) c.load_each.ensures.read.frame.survives clean) in
-    (as_asked c.args.schema c.args.dir.now (contents_of s1.now) (contents_of s0.now) (map string_bytes c.deref.result.now) (ap contents_of read.0.0.now_is) (ap (map string_bytes) c.deref.ensures.value ∙ read.1) _ (c.in_ok-load_each.ensures.reported clean)).0 c.if-not-branch.false)
+    (as_asked c.args.schema c.args.dir.now (contents_of s1.now) (contents_of s0.now) (map string_bytes c.deref-2.result.now) (ap contents_of read.0.0.now_is) (ap (map string_bytes) c.deref-2.ensures.value ∙ read.1) _ (c.in_ok-load_each.ensures.reported clean)).0 c.if-not-branch.false)
     (λ clean.
     let read = c.in_ok-bases.ensures.found.reads (clean_before s1 s2 (λ _. ⊥) c.load_each.ensures.read.frame.survives clean) in
     let old : OutlineValue = c.args.outline.now in
-    let ps : List Path = map string_bytes c.deref.result.now in
+    let ps : List Path = map string_bytes c.deref-2.result.now in
     c.in_ok-set_objects.ensures.done
     ∙ ap (λ (m : Objects). record old { objects = m }) (
     c.in_ok-load_each.ensures.loaded clean c.if-not-branch.false
     ∙ ap (λ (l : List (Path × Outlined)). with_objects (contents_of s1.now) ps (filled l)) c.new-found.ensures.items
-    ∙ ap₂ (λ (x : Contents) (l : List Path). with_objects x l finite.empty) (ap contents_of read.0.0.now_is) (ap (map string_bytes) c.deref.ensures.value ∙ read.1)))
+    ∙ ap₂ (λ (x : Contents) (l : List Path). with_objects x l finite.empty) (ap contents_of read.0.0.now_is) (ap (map string_bytes) c.deref-2.ensures.value ∙ read.1)))

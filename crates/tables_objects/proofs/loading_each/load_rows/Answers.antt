@@ -11,13 +11,13 @@ pub returns-then-not-is_cut_by-clause-reported : goal.returns-then-not-is_cut_by
 returns-then-not-is_cut_by-clause-reported c = (
   λ h. absurd (false≢true h),
   λ both. absurd (false≢true (sym c.if-not-is_cut_by.true ∙ c.is_cut_by.ensures.1
-      (cut_so c.args.schema c.args.rows.object.nar.items c.deref.result.now c.args.rows.pieces.items c.deref-2.result.now (sym c.deref.ensures.value) (sym c.deref-2.ensures.value) both.0))),
+      (cut_so c.args.source.now.schema c.args.rows.object.nar.items c.deref.result.now c.args.rows.pieces.items c.deref-2.result.now (sym c.deref.ensures.value) (sym c.deref-2.ensures.value) both.0))),
 )
 
 pub returns-clause-reported : goal.returns-clause-reported
 returns-clause-reported c =
     let rows = c.args.rows in
-    let cut = cut_so c.args.schema c.deref.result.now rows.object.nar.items c.deref-2.result.now rows.pieces.items c.deref.ensures.value c.deref-2.ensures.value (c.is_cut_by.ensures.0 c.if-not-is_cut_by.false) in
+    let cut = cut_so c.args.source.now.schema c.deref.result.now rows.object.nar.items c.deref-2.result.now rows.pieces.items c.deref.ensures.value c.deref-2.ensures.value (c.is_cut_by.ensures.0 c.if-not-is_cut_by.false) in
     let sound = sound_found c.args.dir.now ((stored_of rows.object).0, whole_of (stored_of rows.object).1 (parts_of rows.pieces.items)) (targets_of c.args.references.now) (named_of c.args.outputs.now) c.in_ok-path.field-0 (c.in-Some.path, c.in-Some.summary) c.in-Some.is c.in_ok-path.ensures in (
       λ _. (cut, sound),
       λ _. refl,

@@ -10,9 +10,9 @@ pub returns-in-Some : goal.returns-in-Some
 returns-in-Some c =
     let text = c.args.text.now in
     let own = c.paths.inside.paths.items in
-    let reported = c.in-Some.ensures (here_rise own c.deref.result.now c.deref.ensures.value c.paths.invariant) in
-    sym (and_so (is_base_name text) _ (ap is_base_name reported.1 ∙ c.as_str-base.ensures.valid)
-    (any_here (λ q. eq_by_cmp bytes_cmp text q) c.args.paths.now own c.deref.result.now c.paths.view_is c.deref.ensures.value ∙ reported.0))
+    let found = c.in-Some.ensures.any (here_rise own c.deref.result.now c.deref.ensures.value c.paths.invariant) in
+    sym (and_so (is_base_name text) _ (ap is_base_name c.in-Some.ensures.found ∙ c.as_str-base.ensures.valid)
+    (any_here (λ q. eq_by_cmp bytes_cmp text q) c.args.paths.now own c.deref.result.now c.paths.view_is c.deref.ensures.value ∙ sym found))
 
 pub returns-in-None : goal.returns-in-None
 returns-in-None c =
@@ -20,4 +20,4 @@ returns-in-None c =
     let own = c.paths.inside.paths.items in
     sym (and_no (is_base_name text) _
     (any_here (λ q. eq_by_cmp bytes_cmp text q) c.args.paths.now own c.deref.result.now c.paths.view_is c.deref.ensures.value
-    ∙ c.in-None.ensures (here_rise own c.deref.result.now c.deref.ensures.value c.paths.invariant)))
+    ∙ sym (c.in-None.ensures.any (here_rise own c.deref.result.now c.deref.ensures.value c.paths.invariant))))

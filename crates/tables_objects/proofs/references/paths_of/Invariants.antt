@@ -7,5 +7,5 @@ use Rattle.tables_objects.proofs.references.paths_of.Given as goal
 abbrev pub invariant-rows : goal.invariant-rows
 invariant-rows l = record {
   decides : are_paths (option_copied l.last) (targets_of (drop l.row-index l.rows)) ≡ are_paths None (targets_of l.rows);
-  seen : l.paths.items ++ targets_of (drop l.row-index l.rows) ≡ targets_of l.rows;
+  seen : l.found.items ++ targets_of (drop l.row-index l.rows) ≡ targets_of l.rows;
 }

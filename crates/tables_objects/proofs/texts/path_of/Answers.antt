@@ -1,12 +1,9 @@
-use Rattle.std.proofs.Common.{◌≡◌, ℕ, List, refl, subst, true}
+use Rattle.std.proofs.Common.{sym, ap, ◌∙◌}
 use Rattle.paths.specs.StorePath.{is_base_name}
 use Rattle.tables_objects.proofs.texts.path_of.Goals as goal
 
-pub returns-in-Ok : goal.returns-in-Ok
-returns-in-Ok c = let h = c.in-Ok.ensures.ok in (h.0, subst (λ (text : List ℕ). is_base_name text ≡ true) h.0 h.1)
-
-pub returns-in-Err-BadStorePath : goal.returns-in-Err-BadStorePath
-returns-in-Err-BadStorePath c = c.in-Err-BadStorePath.ensures.bad.0 (rw c.in-Err-BadStorePath.field-0-is refl)
-
-pub returns-in-Err-Memory : goal.returns-in-Err-Memory
-returns-in-Err-Memory c = tt
+pub returns-in_ok-shared-in-Some : goal.returns-in_ok-shared-in-Some
+returns-in_ok-shared-in-Some c = (
+  c.in_ok-shared-in-Some.ensures.cases ∙ sym c.in-Some.ensures.found,
+  ap is_base_name c.in-Some.ensures.found ∙ c.as_str-base.ensures.valid,
+)
