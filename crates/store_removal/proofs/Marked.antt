@@ -11,12 +11,12 @@ use Rattle.live.specs.Graph.{Keep}
 use Rattle.live.specs.Arguments.{row_view, rows_view}
 use Rattle.live.specs.declared.numbered.rows.Row.{Row as Handed}
 use Rattle.live.specs.Marking.{Marking, first_of}
-use Rattle.live.specs.Numbering.{AllValid, Rise, RootsRise, Row, paths_of}
+use Rattle.live.specs.Numbering.{AllValid, AreRootsOf, Rise, RootsRise, Row, paths_of}
 use Rattle.policy.specs.Settings.{Settings}
 use Rattle.model.specs.World.{Path, roots_of}
 use Rattle.tables_outline.specs.Outline.{OutlineValue}
 use Rattle.model.specs.Liveness.{keep_of}
-use Rattle.store_removal.specs.Linked.{AreAimed, AreListed, is_wanted, lives_in, rows_in}
+use Rattle.store_removal.specs.Linked.{AreListed, is_wanted, lives_in, rows_in}
 use Rattle.tables_root_list.specs.Rooted.{rooted}
 use Rattle.store_removal.proofs.Rising.{paths_in, roots_rise, rows_rise}
 use Rattle.store_removal.proofs.Valid.{aims_well, all_marked, valid_all}
@@ -29,7 +29,7 @@ module _ (o : OutlineValue) (rows : List Row) (is : rows ≡ rows_in o) where
     pub valid_rise : RootsRise valid
     valid_rise = subst RootsRise (sym same) (roots_rise o (aims_well o))
 
-    pub valid_aimed : AreAimed rows valid
+    pub valid_aimed : AreRootsOf rows valid
     valid_aimed = record {
       rows = passed_rise;
       targets = subst (λ (rs : List Row). AllValid rs valid) (sym is) (subst (AllValid (rows_in o)) (sym same) (valid_all o (roots_of (rooted o))));

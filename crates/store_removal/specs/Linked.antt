@@ -3,7 +3,7 @@ use Rattle.std.specs.Prelude.{Bool, not, if◌then◌else◌, List, map}
 use Rattle.std.specs.FinMap as finite
 use Rattle.live.specs.Graph.{Links}
 use Rattle.live.specs.Live.{is_live}
-use Rattle.live.specs.Numbering.{AllValid, Rise, RootsRise, Row, graph_of, paths_of}
+use Rattle.live.specs.Numbering.{AreRootsOf, RootsRise, Row, graph_of}
 use Rattle.paths.specs.Root.{Root}
 use Rattle.policy.specs.Settings.{Settings}
 use Rattle.model.specs.World.{Path, roots_of}
@@ -22,14 +22,9 @@ row_in e = (e.0, links_in e.1)
 abbrev pub rows_in : OutlineValue → List Row
 rows_in o = map row_in (finite.entries o.objects)
 
--- the paths of rows rise, and each root's target is the path of a row
-pub record AreAimed (at : List Row) (of : List Root) : Type 0 where
-  pub rows : Rise (paths_of at)
-  pub targets : AllValid at of
-
--- the paths of rows rise, each root's target is the path of a row, and the roots rise
+-- roots of rows, which rise themselves
 pub record AreListed (at : List Row) (of : List Root) : Type 0 where
-  pub aimed : AreAimed at of
+  pub aimed : AreRootsOf at of
   pub roots : RootsRise of
 
 -- whether some root reaches a path

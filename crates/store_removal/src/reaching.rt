@@ -4,13 +4,12 @@ ghost use Rattle.std.specs.Prelude.{◌≡◌, ◌<◌, All, IfOk, length, map};
 ghost use Rattle.live.specs.Arguments.{roots_view, rows_view};
 ghost use Rattle.live.specs.Live.{roots_that_reach};
 ghost use Rattle.live.specs.Keeping.{keep_view};
-ghost use Rattle.live.specs.Numbering.{graph_of, path_at, root_at};
+ghost use Rattle.live.specs.Numbering.{AreRootsOf, graph_of, path_at, root_at};
 ghost use Rattle.model.specs.World.{World};
 ghost use Rattle.tables_outline.specs.Maps.{labelled_bytes};
 ghost use Rattle.tables_outline.specs.Outline.{outline_of};
 ghost use Rattle.model.specs.Liveness.{roots_that_keep};
 ghost use Rattle.model.specs.Seen.{seen as seen_by};
-ghost use Rattle.store_removal.specs.Linked.{AreAimed};
 
 use crate::borrowing::{borrowed_roots, of_valid};
 use crate::linking::rows;
@@ -47,7 +46,7 @@ fn reaching<'a>(
     roots: &[Root<'a>],
     place: usize,
 ) -> Result<Vec<Root<'a>>, AllocError>
-    requires aimed { AreAimed (rows_view rows.now) (roots_view roots.now) }
+    requires aimed { AreRootsOf (rows_view rows.now) (roots_view roots.now) }
     requires place { place < length rows.now }
     ensures { IfOk result
         (λ v. roots_view v.items
