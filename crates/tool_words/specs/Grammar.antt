@@ -1,11 +1,11 @@
 -- The subcommands and the whole command line as `clap` gets them.
-use Rattle.std.specs.Prelude.{◌≡◌, codes, [], ◌∷◌, fold, false}
+use Rattle.std.specs.Prelude.{◌≡◌, codes, fold, false}
 use Rattle.clap.specs.Simple.{App, app_of, new_app, with_rule, with_subcommand}
 use Rattle.clap.specs.declared.builder.command.Command.{Command}
 use Rattle.clap.specs.declared.builder.command.Command.TheViews.{out-Command}
 use Rattle.tool_words.specs.declared.verb.Verb.{Verb}
 use Rattle.tool_words.specs.declared.verb.Verb.TheVariants.{Who, TextPath, SourcePath, Ls, AddText, AddSource, Import, Runtime, Info, CatNar, Why, List as ListPaths, Roots, Live, Dead, Report, Root, Unroot, Profile, Temp, Gc, Delete, Serve}
-use Rattle.tool_words.specs.Verbs.{verb_name}
+use Rattle.tool_words.specs.Verbs.{verb_name, verbs}
 use Rattle.tool_words.specs.Arguments.{option_named, number_option, flag_named, required_argument, optional_argument, references_argument, paths_argument}
 
 -- a command as `clap` gets it, of whose arguments none is for the subcommands too
@@ -72,23 +72,32 @@ options_app = with_rule (with_rule (with_rule (with_rule (new_app (codes "nixkee
 abbrev pub adding : App → App → App
 adding app subcommand = with_subcommand app subcommand.top
 
--- the subcommands that have no arguments
-abbrev pub with_plain : App → App
-with_plain app =
-    fold (λ a verb. adding a (plain_app verb)) app
-    (Who ∷ Ls ∷ Import ∷ Runtime ∷ ListPaths ∷ Roots ∷ Live ∷ Dead ∷ Report ∷ [])
-
--- the subcommands that name an object
-abbrev pub with_objects : App → App
-with_objects app =
-    fold adding app (object_app TextPath ∷ object_app SourcePath ∷ object_app AddText ∷ object_app AddSource
-    ∷ path_app Info ∷ path_app CatNar ∷ path_app Why ∷ [])
-
--- the others
-abbrev pub with_changes : App → App
-with_changes app =
-    fold adding app (root_app ∷ unroot_app ∷ profile_app ∷ temp_app ∷ gc_app ∷ delete_app ∷ serve_app ∷ [])
+-- a subcommand with its arguments
+abbrev pub app_for : Verb → App
+app_for Who = plain_app Who
+app_for Ls = plain_app Ls
+app_for Import = plain_app Import
+app_for Runtime = plain_app Runtime
+app_for ListPaths = plain_app ListPaths
+app_for Roots = plain_app Roots
+app_for Live = plain_app Live
+app_for Dead = plain_app Dead
+app_for Report = plain_app Report
+app_for TextPath = object_app TextPath
+app_for SourcePath = object_app SourcePath
+app_for AddText = object_app AddText
+app_for AddSource = object_app AddSource
+app_for Info = path_app Info
+app_for CatNar = path_app CatNar
+app_for Why = path_app Why
+app_for Root = root_app
+app_for Unroot = unroot_app
+app_for Profile = profile_app
+app_for Temp = temp_app
+app_for Gc = gc_app
+app_for Delete = delete_app
+app_for Serve = serve_app
 
 -- `nixkeep [OPTIONS] SUBCOMMAND ..`
 unfoldable pub nixkeep_app : App
-nixkeep_app = with_changes (with_objects (with_plain options_app))
+nixkeep_app = fold (λ app verb. adding app (app_for verb)) options_app verbs

@@ -30,10 +30,11 @@ verb_name Gc = codes "gc"
 verb_name Delete = codes "delete"
 verb_name Serve = codes "serve"
 
--- all subcommands
+-- all subcommands, in the order of the help
 abbrev pub verbs : List Verb
-verbs = Who ∷ TextPath ∷ SourcePath ∷ Ls ∷ AddText ∷ AddSource ∷ Import ∷ Runtime ∷ Info ∷ CatNar ∷ Why ∷ ListPaths
-    ∷ Roots ∷ Live ∷ Dead ∷ Report ∷ Root ∷ Unroot ∷ Profile ∷ Temp ∷ Gc ∷ Delete ∷ Serve ∷ []
+verbs = Who ∷ Ls ∷ Import ∷ Runtime ∷ ListPaths ∷ Roots ∷ Live ∷ Dead ∷ Report ∷ TextPath
+    ∷ SourcePath ∷ AddText ∷ AddSource ∷ Info ∷ CatNar ∷ Why ∷ Root ∷ Unroot ∷ Profile
+    ∷ Temp ∷ Gc ∷ Delete ∷ Serve ∷ []
 
 -- the subcommand of this name
 abbrev pub verb_named : List ℕ → Option Verb

@@ -30,24 +30,24 @@ pub(crate) enum Verb {
     Serve,
 }
 
-/// Each subcommand.
-const VERBS: [Verb; 23] = [
+/// Each subcommand, in the order of the help.
+pub(crate) const VERBS: [Verb; 23] = [
     Verb::Who,
-    Verb::TextPath,
-    Verb::SourcePath,
     Verb::Ls,
-    Verb::AddText,
-    Verb::AddSource,
     Verb::Import,
     Verb::Runtime,
-    Verb::Info,
-    Verb::CatNar,
-    Verb::Why,
     Verb::List,
     Verb::Roots,
     Verb::Live,
     Verb::Dead,
     Verb::Report,
+    Verb::TextPath,
+    Verb::SourcePath,
+    Verb::AddText,
+    Verb::AddSource,
+    Verb::Info,
+    Verb::CatNar,
+    Verb::Why,
     Verb::Root,
     Verb::Unroot,
     Verb::Profile,
