@@ -43,7 +43,7 @@ fn reported(rt: &(impl Print + Clock), word: &str, start: Instant) -> io::Result
 
 /// What walks against the edges, from the first path.
 fn backward(rt: &(impl Print + Clock + AllocGlobal), graph: &Graph, roots: &Roots) -> io::Result<()>
-    requires { All (λ t. t < length graph.now) roots.now }
+    requires inside { All (λ t. t < length graph.now) roots.now }
 {
     if graph.len() == 0 {
         return Ok(());
