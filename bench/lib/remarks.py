@@ -23,11 +23,6 @@ REMARKS = [
            pieces. That saved 13 of 100. Tried: look-ups among texts without a path. That saved 1 of 100. Tried: one
            query of a table for its texts and rowids. That saved 4 of 100. Tried: one query for sixteen objects in
            place of one for each. That saved 6 of 100."""),
-    Remark(r"counts: memory .*", "memory of the index",
-           """An object is an entry of a tree. It has a list of its references, with their texts in blocks of their
-           own. Tried: a tree that is built of all objects in order, so its nodes are full. That saved 238 bytes of
-           636. Tried: one block for what few objects have. That saved 103 bytes of 398. Not tried yet: paths that are
-           shared."""),
     Remark(r"(requests|http): .* 16 MiB.*: (time|next to one SHA-256 of it by the same crate)",
            "adds of 16 MiB to a file",
            """`sqlite` copies each byte of a value when it is bound, evaluated and made a row. It copies each again
