@@ -15,14 +15,18 @@ REMARKS = [
     Remark(r"stores: `list` on 100 objects .*: memory", "`list` of 100 objects of 1 MiB, its memory",
            """The opening of `sqlite` alone holds 105 MiB for 100 MiB of rows, with any options. It copies all rows of
            a table into one list (`all_rows`). Tried: nixkeep's own tests hold one archive at a time, which saved 16
-           MiB. A later program keeps all pages of a file of up to 256 MiB, and takes 202 MiB here."""),
-    Remark(r"stores: `list` on .*: (time|100,000 .*)", "`list` of many small objects",
-           """Of 100 instructions, the opening of `sqlite` takes 56 and SHA-256 24 (bench/counts). The opening looks up
-           the row of each entry of each index. Tried: a place in memory for each page. That saved 10 of 100
-           instructions, and two of three reads. Tried: one query each for all references, all outputs and all keys of
-           pieces. That saved 13 of 100. Tried: look-ups among texts without a path. That saved 1 of 100. Tried: one
-           query of a table for its texts and rowids. That saved 4 of 100. Tried: one query for sixteen objects in
-           place of one for each. That saved 6 of 100."""),
+           MiB. The other 97 MiB are the pages of the file: nixkeep keeps all pages of a file of up to 256 MiB. With
+           place for 2,000 pages it took 106 MiB, and 3.1 times as long as C SQLite in place of 2.6. Then `list` of
+           100,000 objects took 11.9 times as long as of 10,000."""),
+    Remark(r"stores: `list` on .*: (time|100,000 .*)|nix: .* by a command: .*", "actions by a command",
+           """A command opens the file, and tests all of it before it answers. Real Nix opens its database and trusts
+           it. So a command takes as long as `list`, whatever it does. A server tests its file once. Of 100
+           instructions, the opening of `sqlite` takes 56 and SHA-256 24 (bench/counts). The opening looks up the row
+           of each entry of each index. Tried: a place in memory for each page. That saved 10 of 100 instructions, and
+           two of three reads. Tried: one query each for all references, all outputs and all keys of pieces. That saved
+           13 of 100. Tried: look-ups among texts without a path. That saved 1 of 100. Tried: one query of a table for
+           its texts and rowids. That saved 4 of 100. Tried: one query for sixteen objects in place of one for each.
+           That saved 6 of 100. Tried: paths that are shared, which changed nothing."""),
     Remark(r"(requests|http): .* 16 MiB.*: (time|next to one SHA-256 of it by the same crate)",
            "adds of 16 MiB to a file",
            """`sqlite` copies each byte of a value when it is bound, evaluated and made a row. It copies each again
@@ -33,7 +37,8 @@ REMARKS = [
     Remark(r"requests: 100 archives of 1 MiB .*: time", "archives of 1 MiB that a server sends",
            """The server also sends each archive to a client on the machine. C SQLite only reads the rows. nixkeep takes
            1.2 times as long as a server that reads them by C SQLite: a row of the same section compares the two.
-           Tried: the pieces of an archive are sent as they were read, without a copy."""),
+           Tried: the pieces of an archive are sent as they were read, without a copy. A later program keeps all pages
+           of this file in memory. It took 1.3 times as long as C SQLite."""),
     Remark(r"nix: the exponent of .*", "growths of everyday actions", "As in bench/growth."),
     Remark(r"nix: .*by nixkeep-remote over a server: .*", "actions by `nixkeep-remote`",
            """In a run that asks for nothing, most of the time is the start of python3 and the loading of its module
@@ -45,14 +50,10 @@ REMARKS = [
     Remark(r"nix: .*by curl over a server: .*", "actions by curl",
            """Each runs a process, connects, and sends one request. The server's part of that is in
            bench/requests."""),
-    Remark(r"nix: .* by a command: .*", "actions by a command",
-           """A command opens the file, and tests all of it before it answers. Real Nix opens its database and trusts
-           it. So a command takes as long as `list`, whatever it does. Tried: all that is tried for `list`. A server
-           tests its file once."""),
     Remark(r"nix: `cat-nar` of 16 MiB: time", "`cat-nar`, next to a copy of the file by `cat`",
            """A command reads the file, and hashes the archive before it prints it. `cat` reads a file that the kernel
            has in memory. `sha256sum` of the same bytes takes half as long as the command: a row of the same section.
-           Tried: all that is tried for `list`."""),
+           Tried: all that is tried for the opening."""),
     Remark(r"growth: .*", "growths",
            """A file of more than 256 MiB is read with a place for 2,000 of its pages alone. So the opening of `sqlite`
            reads pages again for the entries of its indexes. Tried: a higher bound, which was 64 MiB."""),
