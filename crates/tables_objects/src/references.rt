@@ -20,8 +20,8 @@ fn is_above(last: Option<&str>, text: &str) -> bool
     }
 }
 
-/// The paths that the rows refer to, if they are base names in order. They share the texts of the same paths among these,
-/// which are in order.
+/// The paths that the rows refer to, if they are base names in order. They share the texts of the same paths among
+/// `paths`, which are in order.
 pub(crate) fn paths_of(
     alloc: Global,
     paths: &[StorePath],
