@@ -1,5 +1,5 @@
 //! The generations of profiles.
-#![tactic(auto, using(tables_sql::proofs::GenerationLemmas::all_read, tables_sql::proofs::GenerationLemmas::of_read))]
+#![tactic(auto, using(tables_sql::proofs::GenerationLemmas::all_read))]
 
 ghost use Rattle.std.specs.Prelude.{◌∷◌, [], ◌≡◌, ◌&&◌, map, pos};
 ghost use Rattle.sqlite_value.specs.declared.value.Value.TheVariants.{Int, Text};
@@ -7,7 +7,7 @@ ghost use Rattle.tables_schema.specs.Forms.{generation};
 ghost use Rattle.std.specs.FinMap as finite;
 ghost use Rattle.tables_sql.specs.Contents.{Bytes};
 ghost use Rattle.tables_sql.specs.Entries.{generation_in};
-ghost use Rattle.tables_rows.specs.Keys.{same, same_number, with_keys, without_keys};
+ghost use Rattle.tables_rows.specs.Keys.{same, same_number, without_keys};
 
 use crate::{Delete, Find, Found, Insert, reading};
 use sqlite::{Alter, Connection, Transaction, params};
@@ -28,26 +28,6 @@ impl Find for All {
     fn find<S: Alter>(&self, alloc: Global, conn: &mut Connection<S>) -> Found<Generation> {
         let text = "SELECT owner, name, num, target FROM generation ORDER BY owner, name, num";
         reading::select(alloc, conn, text, &[])
-    }
-}
-
-/// The generations of this owner and this name, in order.
-#[derive(Drop)]
-pub struct Of<'a> {
-    pub owner: &'a str,
-    pub name: &'a str,
-}
-
-impl<'a> Find for Of<'a> {
-    type Entry = Generation;
-
-    ghost shows = { λ it c all. map generation_in all
-        ≡ finite.entries (with_keys c.generations (λ k. same k.0 it.owner.now && same k.1 it.name.now)) };
-
-    fn find<S: Alter>(&self, alloc: Global, conn: &mut Connection<S>) -> Found<Generation> {
-        let text =
-            "SELECT owner, name, num, target FROM generation WHERE owner = ?1 AND name = ?2 ORDER BY owner, name, num";
-        reading::select(alloc, conn, text, params![self.owner, self.name])
     }
 }
 
@@ -87,7 +67,7 @@ impl<'a> Insert for Row<'a> {
     }
 }
 
-/// The generation of this owner, this name and this number, if there is one.
+/// The generation of this owner, this name and this number.
 #[derive(Drop)]
 pub struct At<'a> {
     pub owner: &'a str,

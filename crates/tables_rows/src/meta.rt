@@ -1,5 +1,5 @@
 //! The settings of the database: each a word and its value.
-#![tactic(auto, using(tables_sql::proofs::SettingLemmas::all_read, tables_sql::proofs::SettingLemmas::of_read))]
+#![tactic(auto, using(tables_sql::proofs::SettingLemmas::all_read))]
 
 ghost use Rattle.std.specs.Prelude.{◌∷◌, [], ◌≡◌, map};
 ghost use Rattle.sqlite_value.specs.declared.value.Value.TheVariants.{Text};
@@ -7,7 +7,7 @@ ghost use Rattle.tables_schema.specs.Forms.{meta};
 ghost use Rattle.std.specs.FinMap as finite;
 ghost use Rattle.tables_sql.specs.Contents.{Bytes};
 ghost use Rattle.tables_sql.specs.Entries.{setting_of};
-ghost use Rattle.tables_rows.specs.Keys.{same, with_keys, without_keys};
+ghost use Rattle.tables_rows.specs.Keys.{same, without_keys};
 
 use crate::{Delete, Find, Found, Insert, reading};
 use sqlite::{Alter, Connection, Transaction, params};
@@ -30,21 +30,10 @@ impl Find for All {
     }
 }
 
-/// The setting of this word, if there is one.
+/// The setting of this word.
 #[derive(Drop)]
 pub struct Of<'a> {
     pub word: &'a str,
-}
-
-impl<'a> Find for Of<'a> {
-    type Entry = Setting;
-
-    ghost shows = { λ it c all. map setting_of all ≡ finite.entries (with_keys c.meta (λ k. same k it.word.now)) };
-
-    fn find<S: Alter>(&self, alloc: Global, conn: &mut Connection<S>) -> Found<Setting> {
-        let text = "SELECT word, val FROM meta WHERE word = ?1 ORDER BY word";
-        reading::select(alloc, conn, text, params![self.word])
-    }
 }
 
 impl<'a> Delete for Of<'a> {

@@ -1,12 +1,12 @@
 //! The objects, with their archives.
-#![tactic(auto, using(tables_sql::proofs::ListingLemmas::all_read, tables_sql::proofs::ListingLemmas::keys_read, tables_sql::proofs::ObjectLemmas::of_read, crate::proofs::Ranges::reads))]
+#![tactic(auto, using(tables_sql::proofs::ListingLemmas::keys_read, tables_sql::proofs::ObjectLemmas::of_read, crate::proofs::Ranges::reads))]
 
 ghost use Rattle.std.specs.Prelude.{◌∷◌, [], ◌≡◌, map, string_bytes};
 ghost use Rattle.sqlite_value.specs.declared.value.Value.TheVariants.{Text, Blob};
 ghost use Rattle.tables_schema.specs.Forms.{object};
 ghost use Rattle.std.specs.FinMap as finite;
-ghost use Rattle.tables_sql.specs.Contents.{without_archive, Stored};
-ghost use Rattle.tables_sql.specs.Entries.{text_or_null, stored_of, listed_of, IsStored, stored};
+ghost use Rattle.tables_sql.specs.Contents.{Stored};
+ghost use Rattle.tables_sql.specs.Entries.{text_or_null, stored_of, IsStored, stored};
 ghost use Rattle.tables_rows.specs.Frames.{MayRead, Finds};
 ghost use Rattle.tables_rows.specs.Keys.{same, with_keys, without_keys};
 ghost use Rattle.tables_rows.specs.Ranges.{is_between};
@@ -16,23 +16,8 @@ use crate::{Delete, Find, Found, Insert, reading};
 use sqlite::{Alter, Connection, Transaction, params};
 use std::alloc::Global;
 use tables_sql::failure::Failed;
-pub use tables_sql::objects::{Listed, Object};
+pub use tables_sql::objects::Object;
 use tables_sql::statement;
-
-/// All objects without their archives, in the order of their bases.
-#[derive(Drop)]
-pub struct All;
-
-impl Find for All {
-    type Entry = Listed;
-
-    ghost shows = { λ it c all. map listed_of all ≡ map without_archive (finite.entries c.objects) };
-
-    fn find<S: Alter>(&self, alloc: Global, conn: &mut Connection<S>) -> Found<Listed> {
-        let text = "SELECT base, hash, deriver, ca FROM object ORDER BY base";
-        reading::select(alloc, conn, text, &[])
-    }
-}
 
 /// The bases of all objects, in order. It copies no archive.
 #[derive(Drop)]

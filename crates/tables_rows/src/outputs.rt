@@ -1,5 +1,5 @@
 //! The outputs of derivations.
-#![tactic(auto, using(tables_sql::proofs::OutputLemmas::all_read, tables_sql::proofs::OutputLemmas::of_read))]
+#![tactic(auto, using(tables_sql::proofs::OutputLemmas::all_read))]
 
 ghost use Rattle.std.specs.Prelude.{◌∷◌, [], ◌≡◌, map};
 ghost use Rattle.sqlite_value.specs.declared.value.Value.TheVariants.{Text};
@@ -7,7 +7,7 @@ ghost use Rattle.tables_schema.specs.Forms.{outs};
 ghost use Rattle.std.specs.FinMap as finite;
 ghost use Rattle.tables_sql.specs.Contents.{Bytes};
 ghost use Rattle.tables_sql.specs.Entries.{output_of};
-ghost use Rattle.tables_rows.specs.Keys.{same, with_keys, without_keys};
+ghost use Rattle.tables_rows.specs.Keys.{same, without_keys};
 
 use crate::{Delete, Find, Found, Insert, reading};
 use sqlite::{Alter, Connection, Transaction, params};
@@ -31,21 +31,10 @@ impl Find for All {
     }
 }
 
-/// The outputs of this base, in order.
+/// The outputs of this base.
 #[derive(Drop)]
 pub struct Of<'a> {
     pub base: &'a str,
-}
-
-impl<'a> Find for Of<'a> {
-    type Entry = Output;
-
-    ghost shows = { λ it c all. map output_of all ≡ finite.entries (with_keys c.outs (λ k. same k.0 it.base.now)) };
-
-    fn find<S: Alter>(&self, alloc: Global, conn: &mut Connection<S>) -> Found<Output> {
-        let text = "SELECT base, name, target FROM outs WHERE base = ?1 ORDER BY base, name";
-        reading::select(alloc, conn, text, params![self.base])
-    }
 }
 
 impl<'a> Delete for Of<'a> {

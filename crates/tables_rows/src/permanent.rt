@@ -1,5 +1,5 @@
 //! The permanent roots.
-#![tactic(auto, using(tables_sql::proofs::PermanentRootLemmas::all_read, tables_sql::proofs::PermanentRootLemmas::of_read))]
+#![tactic(auto, using(tables_sql::proofs::PermanentRootLemmas::all_read))]
 
 ghost use Rattle.std.specs.Prelude.{◌∷◌, [], ◌≡◌, map};
 ghost use Rattle.sqlite_value.specs.declared.value.Value.TheVariants.{Text};
@@ -7,7 +7,7 @@ ghost use Rattle.tables_schema.specs.Forms.{permanent};
 ghost use Rattle.std.specs.FinMap as finite;
 ghost use Rattle.tables_sql.specs.Contents.{Bytes};
 ghost use Rattle.tables_sql.specs.Entries.{permanent_of};
-ghost use Rattle.tables_rows.specs.Keys.{same, with_keys, without_keys};
+ghost use Rattle.tables_rows.specs.Keys.{same, without_keys};
 
 use crate::{Delete, Find, Found, Insert, reading};
 use sqlite::{Alter, Connection, Transaction, params};
@@ -31,22 +31,10 @@ impl Find for All {
     }
 }
 
-/// The permanent root of this name, if there is one.
+/// The permanent root of this name.
 #[derive(Drop)]
 pub struct Of<'a> {
     pub name: &'a str,
-}
-
-impl<'a> Find for Of<'a> {
-    type Entry = PermanentRoot;
-
-    ghost shows = { λ it c all. map permanent_of all
-        ≡ finite.entries (with_keys c.permanent (λ k. same k it.name.now)) };
-
-    fn find<S: Alter>(&self, alloc: Global, conn: &mut Connection<S>) -> Found<PermanentRoot> {
-        let text = "SELECT name, target FROM permanent WHERE name = ?1 ORDER BY name";
-        reading::select(alloc, conn, text, params![self.name])
-    }
 }
 
 impl<'a> Delete for Of<'a> {

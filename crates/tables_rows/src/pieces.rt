@@ -1,5 +1,5 @@
 //! The pieces of archives, where there is a table of them.
-#![tactic(auto, using(tables_sql::proofs::PieceLemmas::all_read, tables_sql::proofs::PieceKeyLemmas::keys_read, tables_sql::proofs::PieceLemmas::of_read))]
+#![tactic(auto, using(tables_sql::proofs::PieceKeyLemmas::keys_read, tables_sql::proofs::PieceLemmas::of_read))]
 
 ghost use Rattle.std.specs.Prelude.{◌∷◌, [], ◌≡◌, map, pos};
 ghost use Rattle.sqlite_value.specs.declared.value.Value.TheVariants.{Int, Text, Blob};
@@ -30,23 +30,6 @@ impl Find for Keys {
 
     fn find<S: Alter>(&self, alloc: Global, conn: &mut Connection<S>) -> Found<PieceKey> {
         let text = "SELECT base, num FROM piece ORDER BY base, num";
-        reading::select(alloc, conn, text, &[])
-    }
-}
-
-/// All pieces with their bytes, in the order of their bases and then of their numbers.
-#[derive(Drop)]
-pub struct All;
-
-impl Find for All {
-    type Entry = Piece;
-
-    ghost needs = { λ db. HasFurther db piece };
-
-    ghost shows = { λ it c all. map piece_in all ≡ finite.entries c.pieces };
-
-    fn find<S: Alter>(&self, alloc: Global, conn: &mut Connection<S>) -> Found<Piece> {
-        let text = "SELECT base, num, bytes FROM piece ORDER BY base, num";
         reading::select(alloc, conn, text, &[])
     }
 }

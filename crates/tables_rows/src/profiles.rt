@@ -1,12 +1,12 @@
 //! The profiles, each with the number of its current generation.
-#![tactic(auto, using(tables_sql::proofs::ProfileLemmas::all_read, tables_sql::proofs::ProfileLemmas::at_read, tables_sql::proofs::ProfileLemmas::of_read))]
+#![tactic(auto, using(tables_sql::proofs::ProfileLemmas::all_read))]
 
 ghost use Rattle.std.specs.Prelude.{◌∷◌, [], ◌≡◌, ◌&&◌, map, pos, ℤ};
 ghost use Rattle.sqlite_value.specs.declared.value.Value.TheVariants.{Int, Text};
 ghost use Rattle.tables_schema.specs.Forms.{profile};
 ghost use Rattle.std.specs.FinMap as finite;
 ghost use Rattle.tables_sql.specs.Entries.{current_of};
-ghost use Rattle.tables_rows.specs.Keys.{same, with_keys, without_keys};
+ghost use Rattle.tables_rows.specs.Keys.{same, without_keys};
 
 use crate::{Delete, Find, Found, Insert, reading};
 use sqlite::{Alter, Connection, Transaction, params};
@@ -30,42 +30,11 @@ impl Find for All {
     }
 }
 
-/// The profiles of this owner, in order.
-#[derive(Drop)]
-pub struct Of<'a> {
-    pub owner: &'a str,
-}
-
-impl<'a> Find for Of<'a> {
-    type Entry = Profile;
-
-    ghost shows = { λ it c all. map current_of all
-        ≡ finite.entries (with_keys c.profiles (λ k. same k.0 it.owner.now)) };
-
-    fn find<S: Alter>(&self, alloc: Global, conn: &mut Connection<S>) -> Found<Profile> {
-        let text = "SELECT owner, name, cur FROM profile WHERE owner = ?1 ORDER BY owner, name";
-        reading::select(alloc, conn, text, params![self.owner])
-    }
-}
-
-/// The profile of this owner and this name, if there is one.
+/// The profile of this owner and this name.
 #[derive(Drop)]
 pub struct At<'a> {
     pub owner: &'a str,
     pub name: &'a str,
-}
-
-impl<'a> Find for At<'a> {
-    type Entry = Profile;
-
-    ghost shows = { λ it c all. map current_of all
-        ≡ finite.entries (with_keys c.profiles (λ k. same k.0 it.owner.now && same k.1 it.name.now)) };
-
-    fn find<S: Alter>(&self, alloc: Global, conn: &mut Connection<S>) -> Found<Profile> {
-        let text =
-            "SELECT owner, name, cur FROM profile WHERE owner = ?1 AND name = ?2 ORDER BY owner, name";
-        reading::select(alloc, conn, text, params![self.owner, self.name])
-    }
 }
 
 impl<'a> Delete for At<'a> {

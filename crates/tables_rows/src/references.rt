@@ -1,12 +1,12 @@
 //! The references: which path an object refers to.
-#![tactic(auto, using(tables_sql::proofs::ReferenceLemmas::all_read, tables_sql::proofs::ReferenceLemmas::of_read))]
+#![tactic(auto, using(tables_sql::proofs::ReferenceLemmas::all_read))]
 
 ghost use Rattle.std.specs.Prelude.{◌∷◌, [], ◌≡◌, map, ⊤};
 ghost use Rattle.sqlite_value.specs.declared.value.Value.TheVariants.{Text};
 ghost use Rattle.tables_schema.specs.Forms.{refs};
 ghost use Rattle.std.specs.FinMap as finite;
 ghost use Rattle.tables_sql.specs.Entries.{reference_of};
-ghost use Rattle.tables_rows.specs.Keys.{same, with_keys, without_keys};
+ghost use Rattle.tables_rows.specs.Keys.{same, without_keys};
 
 use crate::{Delete, Find, Found, Insert, reading};
 use sqlite::{Alter, Connection, Transaction, params};
@@ -30,21 +30,10 @@ impl Find for All {
     }
 }
 
-/// The references of this base, in order.
+/// The references of this base.
 #[derive(Drop)]
 pub struct Of<'a> {
     pub base: &'a str,
-}
-
-impl<'a> Find for Of<'a> {
-    type Entry = Reference;
-
-    ghost shows = { λ it c all. map reference_of all ≡ finite.entries (with_keys c.refs (λ k. same k.0 it.base.now)) };
-
-    fn find<S: Alter>(&self, alloc: Global, conn: &mut Connection<S>) -> Found<Reference> {
-        let text = "SELECT base, target FROM refs WHERE base = ?1 ORDER BY base, target";
-        reading::select(alloc, conn, text, params![self.base])
-    }
 }
 
 impl<'a> Delete for Of<'a> {

@@ -1,12 +1,11 @@
 //! The runtime roots.
-#![tactic(auto, using(tables_sql::proofs::RuntimeRootLemmas::all_read, tables_sql::proofs::RuntimeRootLemmas::of_read))]
+#![tactic(auto, using(tables_sql::proofs::RuntimeRootLemmas::all_read))]
 
 ghost use Rattle.std.specs.Prelude.{◌∷◌, [], ◌≡◌, map, ⊤};
 ghost use Rattle.sqlite_value.specs.declared.value.Value.TheVariants.{Text};
 ghost use Rattle.tables_schema.specs.Forms.{runtime};
 ghost use Rattle.std.specs.FinMap as finite;
 ghost use Rattle.tables_sql.specs.Entries.{runtime_of};
-ghost use Rattle.tables_rows.specs.Keys.{same, with_keys, without_keys};
 
 use crate::{Delete, Find, Found, Insert, reading};
 use sqlite::{Alter, Connection, Transaction, params};
@@ -35,33 +34,6 @@ impl Delete for All {
 
     fn delete<S: Alter>(&self, tx: &mut Transaction<'_, S>) -> Result<(), Failed> {
         statement::remove(tx, "DELETE FROM runtime", &[])
-    }
-}
-
-/// The runtime roots of this label, in order.
-#[derive(Drop)]
-pub struct Of<'a> {
-    pub label: &'a str,
-}
-
-impl<'a> Find for Of<'a> {
-    type Entry = RuntimeRoot;
-
-    ghost shows = { λ it c all. map runtime_of all
-        ≡ finite.entries (with_keys c.runtime (λ k. same k.0 it.label.now)) };
-
-    fn find<S: Alter>(&self, alloc: Global, conn: &mut Connection<S>) -> Found<RuntimeRoot> {
-        let text = "SELECT label, target FROM runtime WHERE label = ?1 ORDER BY label, target";
-        reading::select(alloc, conn, text, params![self.label])
-    }
-}
-
-impl<'a> Delete for Of<'a> {
-    ghost change = { λ it c. record c { runtime = without_keys c.runtime (λ k. same k.0 it.label.now) } };
-
-    fn delete<S: Alter>(&self, tx: &mut Transaction<'_, S>) -> Result<(), Failed> {
-        let text = "DELETE FROM runtime WHERE label = ?1";
-        statement::remove(tx, text, params![self.label])
     }
 }
 

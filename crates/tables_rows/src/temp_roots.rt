@@ -1,5 +1,5 @@
 //! The temporary roots of sessions, where there is a table of them.
-#![tactic(auto, using(tables_sql::proofs::TempRootLemmas::all_read, tables_sql::proofs::TempRootLemmas::of_read))]
+#![tactic(auto, using(tables_sql::proofs::TempRootLemmas::all_read))]
 
 ghost use Rattle.std.specs.Prelude.{◌∷◌, [], ◌≡◌, ◌&&◌, map, pos, ⊤};
 ghost use Rattle.sqlite_value.specs.declared.value.Value.TheVariants.{Int, Text};
@@ -7,7 +7,7 @@ ghost use Rattle.tables_schema.specs.Forms.{temp_root};
 ghost use Rattle.std.specs.FinMap as finite;
 ghost use Rattle.tables_sql.specs.Calls.{HasFurther};
 ghost use Rattle.tables_sql.specs.Entries.{temp_root_of};
-ghost use Rattle.tables_rows.specs.Keys.{same, same_number, with_keys, without_keys};
+ghost use Rattle.tables_rows.specs.Keys.{same, same_number, without_keys};
 
 use crate::{Delete, Find, Found, Insert, reading};
 use sqlite::{Alter, Connection, Transaction, params};
@@ -33,26 +33,11 @@ impl Find for All {
     }
 }
 
-/// The temporary roots of this owner's session, in order.
+/// The temporary roots of this owner's session.
 #[derive(Drop)]
 pub struct Of<'a> {
     pub owner: &'a str,
     pub session: u32,
-}
-
-impl<'a> Find for Of<'a> {
-    type Entry = TempRoot;
-
-    ghost needs = { λ db. HasFurther db temp_root };
-
-    ghost shows = { λ it c all. map temp_root_of all
-        ≡ finite.entries (with_keys c.temp_roots (λ k. same k.0 it.owner.now && same_number k.1 (pos it.session))) };
-
-    fn find<S: Alter>(&self, alloc: Global, conn: &mut Connection<S>) -> Found<TempRoot> {
-        let text =
-            "SELECT owner, session, target FROM temp_root WHERE owner = ?1 AND session = ?2 ORDER BY owner, session, target";
-        reading::select(alloc, conn, text, params![self.owner, self.session])
-    }
 }
 
 impl<'a> Delete for Of<'a> {

@@ -1,5 +1,5 @@
 //! The roots of users.
-#![tactic(auto, using(tables_sql::proofs::UserRootLemmas::all_read, tables_sql::proofs::UserRootLemmas::at_read, tables_sql::proofs::UserRootLemmas::of_read))]
+#![tactic(auto, using(tables_sql::proofs::UserRootLemmas::all_read))]
 
 ghost use Rattle.std.specs.Prelude.{◌∷◌, [], ◌≡◌, ◌&&◌, map};
 ghost use Rattle.sqlite_value.specs.declared.value.Value.TheVariants.{Text};
@@ -7,7 +7,7 @@ ghost use Rattle.tables_schema.specs.Forms.{user_root};
 ghost use Rattle.std.specs.FinMap as finite;
 ghost use Rattle.tables_sql.specs.Contents.{Bytes};
 ghost use Rattle.tables_sql.specs.Entries.{user_root_of};
-ghost use Rattle.tables_rows.specs.Keys.{same, with_keys, without_keys};
+ghost use Rattle.tables_rows.specs.Keys.{same, without_keys};
 
 use crate::{Delete, Find, Found, Insert, reading};
 use sqlite::{Alter, Connection, Transaction, params};
@@ -31,43 +31,11 @@ impl Find for All {
     }
 }
 
-/// The user roots of this owner, in order.
-#[derive(Drop)]
-pub struct Of<'a> {
-    pub owner: &'a str,
-}
-
-impl<'a> Find for Of<'a> {
-    type Entry = UserRoot;
-
-    ghost shows = { λ it c all. map user_root_of all
-        ≡ finite.entries (with_keys c.user_roots (λ k. same k.0 it.owner.now)) };
-
-    fn find<S: Alter>(&self, alloc: Global, conn: &mut Connection<S>) -> Found<UserRoot> {
-        let text =
-            "SELECT owner, name, target FROM user_root WHERE owner = ?1 ORDER BY owner, name";
-        reading::select(alloc, conn, text, params![self.owner])
-    }
-}
-
-/// The user root of this owner and this name, if there is one.
+/// The user root of this owner and this name.
 #[derive(Drop)]
 pub struct At<'a> {
     pub owner: &'a str,
     pub name: &'a str,
-}
-
-impl<'a> Find for At<'a> {
-    type Entry = UserRoot;
-
-    ghost shows = { λ it c all. map user_root_of all
-        ≡ finite.entries (with_keys c.user_roots (λ k. same k.0 it.owner.now && same k.1 it.name.now)) };
-
-    fn find<S: Alter>(&self, alloc: Global, conn: &mut Connection<S>) -> Found<UserRoot> {
-        let text =
-            "SELECT owner, name, target FROM user_root WHERE owner = ?1 AND name = ?2 ORDER BY owner, name";
-        reading::select(alloc, conn, text, params![self.owner, self.name])
-    }
 }
 
 impl<'a> Delete for At<'a> {

@@ -16,7 +16,7 @@ use Rattle.tables_sql.proofs.Truths.{cast_null, cast_int, and_so}
 use Rattle.tables_sql.proofs.Means.{insert_means}
 use Rattle.tables_sql.proofs.Ordered.{Place, IsColumn}
 use Rattle.tables_sql.proofs.ContentsLemmas.{generation_set}
-use Rattle.tables_sql.proofs.Parts.{IsAsked, added, selected, removed, said_two, said_three}
+use Rattle.tables_sql.proofs.Parts.{IsAsked, added, selected, removed, said_three}
 use Rattle.tables_sql.proofs.KeyOrders.{by_triple}
 use Rattle.tables_sql.proofs.Legible.{generation_row}
 use Rattle.tables_sql.proofs.FreeKeys.{agreed_three}
@@ -75,15 +75,6 @@ all_asked = ((_, _, _, _, refl, refl, refl), refl, λ s at tree known. (rw (know
 abbrev pub all : Selection table reading all_text [] (λ _. true)
 all = selected table reading places_are refl all_text [] all_asked (λ r kind. refl)
 
-abbrev pub of_text : List ℕ
-of_text = codes "SELECT owner, name, num, target FROM generation WHERE owner = ?1 AND name = ?2 ORDER BY owner, name, num"
-
-pub of : (owner : List ℕ) (name : List ℕ) → Selection table reading of_text (Text owner ∷ Text name ∷ []) (λ k. eq_by_cmp texts_cmp k.0 owner && eq_by_cmp texts_cmp k.1 name)
-unfolding everything
-of owner name =
-    selected table reading places_are refl of_text (Text owner ∷ Text name ∷ []) ((_, _, _, _, refl, refl, refl), refl, λ s at tree known. (rw (known.low, known.by_tree), rw (known.low, known.by_tree) refl))
-    (λ r kind. said_two (Text owner) (Text name) r (let k = key_is r kind in (k.0, k.1)))
-
 -- ---- those gone
 
 abbrev pub delete_text : List ℕ
@@ -99,6 +90,3 @@ removal owner name number =
 
 pub all_read : IsSelect all_text
 all_read = all.reads
-
-pub of_read : IsSelect of_text
-of_read = (of [] []).reads

@@ -7,7 +7,7 @@ use Rattle.sqlite_trees.specs.View.{is_int}
 use Rattle.sqlite.specs.Values.{IsInt}
 use Rattle.tables_sql.specs.Contents.{is_text, is_blob, is_text_or_null, is_pair, is_triple, is_profile, is_generation, is_object, is_piece, is_session_path}
 use Rattle.tables_sql.specs.Texts.{IsReadable}
-use Rattle.tables_sql.specs.Entries.{IsLegibleIfAny, IsBlob, IsPairRow, IsTripleRow, IsProfileRow, IsGenerationRow, IsObjectRow, IsListedRow, IsPieceRow, IsPieceKeyRow, IsTempRootRow}
+use Rattle.tables_sql.specs.Entries.{IsLegibleIfAny, IsBlob, IsPairRow, IsTripleRow, IsProfileRow, IsGenerationRow, IsObjectRow, IsPieceRow, IsPieceKeyRow, IsTempRootRow}
 use Rattle.tables_sql.specs.Reading.{IsLegible, IsTextRow}
 use Rattle.tables_sql.proofs.Truths.{and_so}
 use Rattle.tables_sql.proofs.Typed.{base_is}
@@ -72,10 +72,6 @@ object_row r h utf8 =
     let three = and_so _ _ four.0 in
     let two = and_so _ _ three.0 in
     (refl, text (column r 1) (base_is r h) first, blob (column r 2) (and_so _ _ two.0).1, blob (column r 3) two.1, text_if_any (column r 4) three.1 fourth, text_if_any (column r 5) four.1 fifth)
-
--- the same without the archive
-pub listed_row : (r : Row) → is_object r ≡ true → IsReadableTo 5 r → IsListedRow (column r 1 ∷ column r 3 ∷ column r 4 ∷ column r 5 ∷ [])
-listed_row r h utf8 = let all = object_row r h utf8 in (refl, all.1, all.3, all.4, all.5)
 
 -- and the path alone
 pub path_row : (r : Row) → is_object r ≡ true → IsReadableTo 5 r → IsTextRow (column r 1 ∷ [])

@@ -1,5 +1,5 @@
 -- The table of pieces, described once, and what the texts of its statements mean.
-use Rattle.std.proofs.Common.{ℕ, ℤ, List, [], ◌∷◌, codes, true, ◌&&◌, refl}
+use Rattle.std.proofs.Common.{ℕ, ℤ, List, [], ◌∷◌, codes, ◌&&◌, refl}
 use Rattle.std.specs.Ordering.{eq_by_cmp}
 use Rattle.std.specs.List.{AllByRecursion}
 use Rattle.sqlite_value.specs.declared.value.Value.TheVariants.{Int, Text, Blob}
@@ -18,7 +18,7 @@ use Rattle.tables_sql.proofs.Truths.{cast_null, cast_int, and_so}
 use Rattle.tables_sql.proofs.Means.{insert_means}
 use Rattle.tables_sql.proofs.Ordered.{Place, IsColumn}
 use Rattle.tables_sql.proofs.FurtherTables.{piece_kept, pieces_held, pieces_set}
-use Rattle.tables_sql.proofs.Parts.{IsAsked, added, selected, removed, said_one}
+use Rattle.tables_sql.proofs.Parts.{added, selected, removed, said_one}
 use Rattle.tables_sql.proofs.KeyOrders.{by_numbered}
 use Rattle.tables_sql.proofs.Legible.{piece_row}
 use Rattle.tables_sql.proofs.FreeKeys.{agreed_two}
@@ -81,16 +81,6 @@ reading = record {
   orders = λ params filter tree. by_numbered;
 }
 
-abbrev pub all_text : List ℕ
-all_text = codes "SELECT base, num, bytes FROM piece ORDER BY base, num"
-
-pub all_asked : IsAsked table reading all_text []
-unfolding everything
-all_asked = ((_, _, _, _, refl, refl, refl), refl, λ s at tree known. (rw (known.low, known.by_tree), rw (known.low, known.by_tree) refl))
-
-abbrev pub all : Selection table reading all_text [] (λ _. true)
-all = selected table reading places_are refl all_text [] all_asked (λ r kind. refl)
-
 abbrev pub of_text : List ℕ
 of_text = codes "SELECT base, num, bytes FROM piece WHERE base = ?1 ORDER BY base, num"
 
@@ -112,9 +102,6 @@ removal base =
     (λ r kind. said_one (Text base) r (and_so _ _ (and_so _ _ kind).0).0)
 
 -- ---- they are SELECTs
-
-pub all_read : IsSelect all_text
-all_read = all.reads
 
 pub of_read : IsSelect of_text
 of_read = (of []).reads

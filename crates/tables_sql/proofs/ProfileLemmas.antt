@@ -16,7 +16,7 @@ use Rattle.tables_sql.proofs.Truths.{cast_null, cast_int, and_so}
 use Rattle.tables_sql.proofs.Means.{insert_means}
 use Rattle.tables_sql.proofs.Ordered.{Place, IsColumn}
 use Rattle.tables_sql.proofs.ContentsLemmas.{profile_set}
-use Rattle.tables_sql.proofs.Parts.{IsAsked, added, selected, removed, said_one, said_two}
+use Rattle.tables_sql.proofs.Parts.{IsAsked, added, selected, removed, said_two}
 use Rattle.tables_sql.proofs.KeyOrders.{by_pair}
 use Rattle.tables_sql.proofs.Legible.{profile_row}
 use Rattle.tables_sql.proofs.FreeKeys.{agreed_two}
@@ -71,24 +71,6 @@ all_asked = ((_, _, _, _, refl, refl, refl), refl, λ s at tree known. (rw (know
 abbrev pub all : Selection table reading all_text [] (λ _. true)
 all = selected table reading places_are refl all_text [] all_asked (λ r kind. refl)
 
-abbrev pub of_text : List ℕ
-of_text = codes "SELECT owner, name, cur FROM profile WHERE owner = ?1 ORDER BY owner, name"
-
-pub of : (owner : List ℕ) → Selection table reading of_text (Text owner ∷ []) (λ k. eq_by_cmp texts_cmp k.0 owner)
-unfolding everything
-of owner =
-    selected table reading places_are refl of_text (Text owner ∷ []) ((_, _, _, _, refl, refl, refl), refl, λ s at tree known. (rw (known.low, known.by_tree), rw (known.low, known.by_tree) refl))
-    (λ r kind. said_one (Text owner) r (and_so _ _ (and_so _ _ kind).0).0)
-
-abbrev pub at_text : List ℕ
-at_text = codes "SELECT owner, name, cur FROM profile WHERE owner = ?1 AND name = ?2 ORDER BY owner, name"
-
-pub at : (owner : List ℕ) (name : List ℕ) → Selection table reading at_text (Text owner ∷ Text name ∷ []) (λ k. eq_by_cmp texts_cmp k.0 owner && eq_by_cmp texts_cmp k.1 name)
-unfolding everything
-at owner name =
-    selected table reading places_are refl at_text (Text owner ∷ Text name ∷ []) ((_, _, _, _, refl, refl, refl), refl, λ s at tree known. (rw (known.low, known.by_tree), rw (known.low, known.by_tree) refl))
-    (λ r kind. said_two (Text owner) (Text name) r (and_so _ _ (and_so _ _ kind).0))
-
 -- ---- those gone
 
 abbrev pub delete_text : List ℕ
@@ -104,9 +86,3 @@ removal owner name =
 
 pub all_read : IsSelect all_text
 all_read = all.reads
-
-pub of_read : IsSelect of_text
-of_read = (of []).reads
-
-pub at_read : IsSelect at_text
-at_read = (at [] []).reads

@@ -1,12 +1,11 @@
 -- The table of runtime roots, described once, and what the texts of its statements mean.
 use Rattle.std.proofs.Common.{ℕ, List, [], ◌∷◌, codes, true, ◌&&◌, refl}
-use Rattle.std.specs.Ordering.{eq_by_cmp}
 use Rattle.std.specs.List.{AllByRecursion}
 use Rattle.sqlite_value.specs.declared.value.Value.TheVariants.{Int, Text}
 use Rattle.sqlite_value.specs.Order.{bytes}
 use Rattle.sqlite_tied.specs.Compute.{everything}
 use Rattle.tables_schema.specs.Forms.{runtime}
-use Rattle.tables_sql.specs.Contents.{texts_cmp, is_text, is_pair, member_of, Pair}
+use Rattle.tables_sql.specs.Contents.{is_text, is_pair, member_of, Pair}
 use Rattle.tables_sql.specs.Queries.{IsSelect}
 use Rattle.tables_sql.specs.Entries.{runtime_of, ShowsRuntimeRoot, IsPairRow}
 use Rattle.tables_sql.proofs.Orders.{pair_total, pair_antisymmetric}
@@ -14,7 +13,7 @@ use Rattle.tables_sql.proofs.Truths.{cast_null, and_so}
 use Rattle.tables_sql.proofs.Means.{insert_means}
 use Rattle.tables_sql.proofs.Ordered.{Place, IsColumn}
 use Rattle.tables_sql.proofs.ContentsLemmas.{runtime_set}
-use Rattle.tables_sql.proofs.Parts.{IsAsked, added, selected, removed, said_one}
+use Rattle.tables_sql.proofs.Parts.{IsAsked, added, selected, removed}
 use Rattle.tables_sql.proofs.KeyOrders.{by_pair}
 use Rattle.tables_sql.proofs.Legible.{pair_row}
 use Rattle.tables_sql.proofs.FreeKeys.{agreed_two}
@@ -69,26 +68,6 @@ all_asked = ((_, _, _, _, refl, refl, refl), refl, λ s at tree known. (rw (know
 abbrev pub all : Selection table reading all_text [] (λ _. true)
 all = selected table reading places_are refl all_text [] all_asked (λ r kind. refl)
 
-abbrev pub of_text : List ℕ
-of_text = codes "SELECT label, target FROM runtime WHERE label = ?1 ORDER BY label, target"
-
-pub of : (label : List ℕ) → Selection table reading of_text (Text label ∷ []) (λ k. eq_by_cmp texts_cmp k.0 label)
-unfolding everything
-of label =
-    selected table reading places_are refl of_text (Text label ∷ []) ((_, _, _, _, refl, refl, refl), refl, λ s at tree known. (rw (known.low, known.by_tree), rw (known.low, known.by_tree) refl))
-    (λ r kind. said_one (Text label) r (and_so _ _ kind).0)
-
--- ---- those gone
-
-abbrev pub delete_of_text : List ℕ
-delete_of_text = codes "DELETE FROM runtime WHERE label = ?1"
-
-pub removal : (label : List ℕ) → Removal table delete_of_text (Text label ∷ []) (λ k. eq_by_cmp texts_cmp k.0 label)
-unfolding everything
-removal label =
-    removed table places places_are refl delete_of_text (Text label ∷ []) ((_, _, _, _, refl, refl, refl), refl, λ s at tree known. (rw (known.low, known.by_tree), rw (known.low, known.by_tree) refl))
-    (λ r kind. said_one (Text label) r (and_so _ _ kind).0)
-
 -- ---- all gone
 
 abbrev pub delete_all_text : List ℕ
@@ -104,6 +83,3 @@ removal_all =
 
 pub all_read : IsSelect all_text
 all_read = all.reads
-
-pub of_read : IsSelect of_text
-of_read = (of []).reads

@@ -71,15 +71,6 @@ all_asked = ((_, _, _, _, refl, refl, refl), refl, λ s at tree known. (rw (know
 abbrev pub all : Selection table reading all_text [] (λ _. true)
 all = selected table reading places_are refl all_text [] all_asked (λ r kind. refl)
 
-abbrev pub of_text : List ℕ
-of_text = codes "SELECT word, val FROM meta WHERE word = ?1 ORDER BY word"
-
-pub of : (word : List ℕ) → Selection table reading of_text (Text word ∷ []) (λ k. eq_by_cmp texts_cmp k word)
-unfolding everything
-of word =
-    selected table reading places_are refl of_text (Text word ∷ []) ((_, _, _, _, refl, refl, refl), refl, λ s at tree known. (rw (known.low, known.by_tree), rw (known.low, known.by_tree) refl))
-    (λ r kind. said_one (Text word) r (and_so _ _ kind).0)
-
 -- ---- those gone
 
 abbrev pub delete_text : List ℕ
@@ -95,6 +86,3 @@ removal word =
 
 pub all_read : IsSelect all_text
 all_read = all.reads
-
-pub of_read : IsSelect of_text
-of_read = (of []).reads

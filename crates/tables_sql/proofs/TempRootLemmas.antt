@@ -1,6 +1,5 @@
 -- The table of temporary roots, described once, and what the texts of its statements mean.
 use Rattle.std.proofs.Common.{◌≡◌, ℕ, ℤ, List, [], ◌∷◌, codes, true, ◌&&◌, refl}
-use Rattle.std.specs.Prelude.{pos}
 use Rattle.std.specs.Ordering.{eq_by_cmp, int_cmp}
 use Rattle.std.specs.List.{AllByRecursion}
 use Rattle.sqlite_value.specs.declared.value.Value.TheVariants.{Int, Text}
@@ -96,15 +95,6 @@ all_asked = ((_, _, _, _, refl, refl, refl), refl, λ s at tree known. (rw (know
 abbrev pub all : Selection table reading all_text [] (λ _. true)
 all = selected table reading places_are refl all_text [] all_asked (λ r kind. refl)
 
-abbrev pub of_text : List ℕ
-of_text = codes "SELECT owner, session, target FROM temp_root WHERE owner = ?1 AND session = ?2 ORDER BY owner, session, target"
-
-pub of : (owner : List ℕ) (session : ℤ) → Selection table reading of_text (Text owner ∷ Int session ∷ []) (λ k. eq_by_cmp texts_cmp k.0 owner && eq_by_cmp int_cmp k.1 session)
-unfolding everything
-of owner session =
-    selected table reading places_are refl of_text (Text owner ∷ Int session ∷ []) ((_, _, _, _, refl, refl, refl), refl, λ s at tree known. (rw (known.low, known.by_tree), rw (known.low, known.by_tree) refl))
-    (λ r kind. said_two (Text owner) (Int session) r (let k = key_is r kind in (k.0, k.1)))
-
 -- ---- those gone
 
 abbrev pub delete_of_text : List ℕ
@@ -129,6 +119,3 @@ removal_one owner session target =
 
 pub all_read : IsSelect all_text
 all_read = all.reads
-
-pub of_read : IsSelect of_text
-of_read = (of [] (pos 0)).reads

@@ -95,12 +95,6 @@ pub record Changes (old new : State) (change : Contents → Contents) : Type 0 w
   pub mode : new.in_transaction ≡ true
   pub marks : new.marks ≡ old.marks
 
--- All nine tables are there and nothing is uncommitted, unless a fault has shut the connection. Rowids and texts aren't
--- tested yet.
-pub record HasSettledTables (s : State) : Type 0 where
-  pub has : IsTrue s.is_open → HasTables s.now.schema
-  pub settled : IsTrue s.is_open → s.now ≡ s.committed
-
 -- Where the connection is still open it was open, and it shows what it showed, with the same last commit.
 pub record KeepsShown (old new : State) : Type 0 where
   pub was_open : IsTrue new.is_open → IsTrue old.is_open

@@ -61,16 +61,6 @@ pub record Stored : Type 0 where
   pub deriver : Option Bytes
   pub ca : Option Bytes
 
--- what it holds besides its path and its archive
-pub record Described : Type 0 where
-  pub hash : Bytes
-  pub deriver : Option Bytes
-  pub ca : Option Bytes
-
--- an object and its path, without its archive
-abbrev pub without_archive : Bytes × Stored → Bytes × Described
-without_archive e = (e.0, record { hash = e.1.hash; deriver = e.1.deriver; ca = e.1.ca })
-
 pub record Contents : Type 0 where
   -- each word and its value
   pub meta : finite.FinMap texts_cmp Bytes

@@ -6,10 +6,9 @@ use Rattle.sqlite_value.specs.declared.value.Value.TheVariants.{Null, Int, Text,
 use Rattle.sqlite_value.specs.Order.{Row, column}
 use Rattle.std.specs.FinMap as finite
 use Rattle.sqlite.specs.Values.{IsInt, or_null}
-use Rattle.tables_sql.specs.Contents.{Bytes, Pair, Triple, Numbered, SessionPath, Stored, Described, texts_cmp}
+use Rattle.tables_sql.specs.Contents.{Bytes, Pair, Triple, Numbered, SessionPath, Stored, texts_cmp}
 use Rattle.tables_sql.specs.declared.meta.Setting.{Setting}
 use Rattle.tables_sql.specs.declared.objects.Object.{Object}
-use Rattle.tables_sql.specs.declared.objects.Listed.{Listed}
 use Rattle.tables_sql.specs.declared.references.Reference.{Reference}
 use Rattle.tables_sql.specs.declared.outputs.Output.{Output}
 use Rattle.tables_sql.specs.declared.permanent.PermanentRoot.{PermanentRoot}
@@ -54,21 +53,6 @@ abbrev pub ShowsObject : Row → Object → Type 0
 ShowsObject row e =
     (column row 0 ≡ Text (string_bytes e.base)) × (column row 1 ≡ Blob e.nar.items) × (column row 2 ≡ Blob e.hash.items)
     × ShowsOptional (column row 3) e.deriver × ShowsOptional (column row 4) e.ca
-
-abbrev pub listed_of : Listed → Bytes × Described
-listed_of e = (
-  string_bytes e.base,
-  record {
-    hash = e.hash.items;
-    deriver = option_map string_bytes e.deriver;
-    ca = option_map string_bytes e.ca;
-  },
-)
-
-abbrev pub ShowsListed : Row → Listed → Type 0
-ShowsListed row e =
-    (column row 0 ≡ Text (string_bytes e.base)) × (column row 1 ≡ Blob e.hash.items)
-    × ShowsOptional (column row 2) e.deriver × ShowsOptional (column row 3) e.ca
 
 abbrev pub reference_of : Reference → Pair × Unit {0}
 reference_of e = ((string_bytes e.base, string_bytes e.target), tt)
@@ -170,12 +154,6 @@ abbrev pub IsObjectRow : Row → Type 0
 IsObjectRow row =
     (length row ≡ 5) × IsLegible (column row 0) × IsBlob (column row 1) × IsBlob (column row 2)
     × IsLegibleIfAny (column row 3) × IsLegibleIfAny (column row 4)
-
--- an object without its archive
-abbrev pub IsListedRow : Row → Type 0
-IsListedRow row =
-    (length row ≡ 4) × IsLegible (column row 0) × IsBlob (column row 1) × IsLegibleIfAny (column row 2)
-    × IsLegibleIfAny (column row 3)
 
 abbrev pub IsPieceRow : Row → Type 0
 IsPieceRow row = (length row ≡ 3) × IsLegible (column row 0) × IsInt (column row 1) × IsBlob (column row 2)

@@ -3,7 +3,7 @@
 ghost use Rattle.tables_schema.specs.Forms.{object};
 ghost use Rattle.std.specs.Ordering.{is_lt};
 ghost use Rattle.tables_sql.specs.Contents.{texts_cmp};
-ghost use Rattle.tables_sql.specs.Entries.{stored_of, ShowsObject, listed_of, ShowsListed, IsObjectRow, IsListedRow};
+ghost use Rattle.tables_sql.specs.Entries.{stored_of, ShowsObject, IsObjectRow};
 
 use crate::entry::Entry;
 use crate::failure::Failed;
@@ -38,36 +38,6 @@ impl Entry for Object {
     }
 
     fn is_below(&self, other: &Object) -> bool {
-        self.base < other.base
-    }
-}
-
-/// An object without its archive.
-#[derive(Debug, Drop)]
-pub struct Listed {
-    pub base: String,
-    pub hash: Vec<u8>,
-    pub deriver: Option<String>,
-    pub ca: Option<String>,
-}
-
-impl Entry for Listed {
-    ghost is_shown = { ShowsListed };
-
-    ghost is_legible = { IsListedRow };
-
-    ghost is_below = { λ a b. is_lt (texts_cmp (listed_of a).0 (listed_of b).0) };
-
-    fn read(row: &Row) -> Result<Listed, Failed> {
-        Ok(Listed {
-            base: row.get(0)?,
-            hash: row.get(1)?,
-            deriver: row.get(2)?,
-            ca: row.get(3)?,
-        })
-    }
-
-    fn is_below(&self, other: &Listed) -> bool {
         self.base < other.base
     }
 }
