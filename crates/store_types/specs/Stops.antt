@@ -1,15 +1,11 @@
--- How a fault of an archive, or of a derivation text, stops a request: with its refusal, or with a failure if it is
--- that memory was refused.
+-- How a fault of a derivation text stops a request: with its refusal, or with a failure if it is that memory was
+-- refused.
 use Rattle.std.specs.Option.{option_map_or}
-use Rattle.nar.specs.declared.error.NarError.{NarError}
 use Rattle.drv.specs.declared.error.DrvError.{DrvError}
-use Rattle.model.specs.Faults.{archive_refusal, derivation_refusal}
+use Rattle.model.specs.Faults.{derivation_refusal}
 use Rattle.tables_sql.specs.declared.failure.Failed.TheVariants.{Memory}
 use Rattle.store_types.specs.declared.replies.Stop.{Stop}
 use Rattle.store_types.specs.declared.replies.Stop.TheVariants.{Refused, Failed}
-
-abbrev pub archive_stop : NarError → Stop
-archive_stop fault = option_map_or Refused (archive_refusal fault) (Failed Memory)
 
 abbrev pub derivation_stop : DrvError → Stop
 derivation_stop fault = option_map_or Refused (derivation_refusal fault) (Failed Memory)

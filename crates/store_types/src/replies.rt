@@ -1,16 +1,15 @@
 //! The replies of a store.
 
 ghost use Rattle.std.specs.Prelude.{◌≡◌};
-ghost use Rattle.store_types.specs.Stops.{archive_stop, derivation_stop};
+ghost use Rattle.store_types.specs.Stops.{derivation_stop};
 ghost use Rattle.store_types.specs.declared.replies.Stop.TheVariants.{Failed as failed, Refused as refused};
 ghost use Rattle.tables_sql.specs.declared.failure.Failed.TheVariants.{Memory as memory};
 
 use drv::DrvError;
 use model::Refusal;
-use nar::NarError;
 use paths::{Ca, StorePath};
 use policy::Rule;
-use std::alloc::{AllocError, AllocFailed};
+use std::alloc::AllocError;
 use streams::Pieces;
 use tables_sql::failure::Failed;
 
@@ -100,14 +99,6 @@ impl From<AllocError> for Stop {
     }
 }
 
-impl<T: Drop> From<AllocFailed<T>> for Stop {
-    ghost from_gives = { λ _ e. e ≡ failed memory };
-
-    fn from(_e: AllocFailed<T>) -> Stop {
-        Stop::Failed(Failed::Memory)
-    }
-}
-
 impl From<Refusal> for Stop {
     ghost from_gives = { λ r e. e ≡ refused r };
 
@@ -121,17 +112,6 @@ impl From<Failed> for Stop {
 
     fn from(failure: Failed) -> Stop {
         Stop::Failed(failure)
-    }
-}
-
-impl From<NarError> for Stop {
-    ghost from_gives = { λ fault e. e ≡ archive_stop fault };
-
-    fn from(fault: NarError) -> Stop {
-        match Refusal::of_archive(fault) {
-            Some(refusal) => Stop::Refused(refusal),
-            None => Stop::Failed(Failed::Memory),
-        }
     }
 }
 
