@@ -9,6 +9,7 @@ mod outline;
 mod profile_changes;
 mod profiles;
 mod roots;
+mod sharing;
 mod summary;
 mod temporary;
 

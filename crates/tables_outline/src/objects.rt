@@ -50,11 +50,14 @@ impl Outline {
         &self.objects
     }
 
-    /// Puts an object. If memory is refused, nothing changes.
+    /// Puts an object. Each reference to it or to an object of the index shares the text of that path, so that an
+    /// index of many objects is small. If memory is refused, nothing changes.
     pub fn insert_object(&mut self, path: StorePath, object: Summary) -> Result<(), AllocError>
         ensures { ChangesTo self.old self.new result
             (record self.old { objects = finite.insert self.old.objects path object }) }
     {
+        let mut object = object;
+        object.share_references(&path, &self.objects);
         self.objects.insert(path, object)?;
         Ok(())
     }

@@ -8,8 +8,10 @@ ghost use Rattle.paths.specs.Root.{bytes_cmp, set_of};
 ghost use Rattle.tables_outline.specs.Outline.{rise};
 
 use crate::details::{Details, boxed};
+use crate::sharing::share;
 use paths::{Ca, StorePath};
 use std::alloc::{AllocError, Global};
+use std::collections::BTreeMap;
 use std::marker::Model;
 
 /// An object but for the bytes of its archive. Contracts see its references as a set, and its outputs as a map. What
@@ -88,6 +90,17 @@ impl Summary {
             references,
             details,
         })
+    }
+
+    /// Lets each reference share the text of an equal path, `new` or a key of `objects`, if there is one.
+    pub(crate) fn share_references(
+        &mut self,
+        new: &StorePath,
+        objects: &BTreeMap<StorePath, Summary>,
+    )
+        ensures same { self.new ≡ self.old }
+    {
+        share(&mut self.references, new, objects);
     }
 
     /// The size of the archive in bytes.

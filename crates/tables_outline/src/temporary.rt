@@ -19,13 +19,6 @@ fn is_of_session(kept: &(String, u32, StorePath), owner: &str, session: u32) -> 
 }
 
 impl Outline {
-    /// Whether a session of an owner keeps a path.
-    pub fn has_temporary(&self, kept: &(String, u32, StorePath)) -> bool
-        ensures { result ≡ finite.contains_key self.now.temporary (temporary_bytes kept.now) }
-    {
-        self.temporary.contains(kept)
-    }
-
     /// Puts a path that a session of an owner keeps, and answers whether it kept it already. If memory is refused,
     /// nothing changes.
     pub fn put_temporary(&mut self, kept: (String, u32, StorePath)) -> Result<bool, AllocError>

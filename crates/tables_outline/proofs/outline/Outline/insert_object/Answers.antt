@@ -13,7 +13,8 @@ returns c = record {
   done =
       ap (λ m. record (outline_view c.self.inside) { objects = m })
       (ap (seen_map bytes_cmp (λ (p : List ℕ). p) (λ (o : Outlined). o)) c.in_ok-insert.ensures.entries
-      ∙ inserted bytes_cmp (λ (p : List ℕ). p) (λ (o : Outlined). o) bytes_total bytes_antisymmetric c.self.inside.objects.entries c.args.path c.args.object)
+      ∙ inserted bytes_cmp (λ (p : List ℕ). p) (λ (o : Outlined). o) bytes_total bytes_antisymmetric c.self.inside.objects.entries c.args.path c.share_references.new.self
+      ∙ ap (λ (o : Outlined). finite.insert (outline_view c.self.inside).objects c.args.path o) c.share_references.ensures.same)
       ∙ ap (λ (o : OutlineValue). record o { objects = finite.insert o.objects c.args.path c.args.object }) c.self.view_is;
   failed = tt;
 }
