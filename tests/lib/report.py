@@ -1,5 +1,5 @@
-"""How a script of these folders is called and how it reports. Each check that passes is counted, the first that fails
-ends the script, and the last line is `N passed, M failed`."""
+"""How a script of these folders is called and how it reports. Each check that passes is counted. The first that fails
+ends the script, unless it says `goes_wrong`. The last line is `N passed, M failed`."""
 import argparse
 import functools
 import os
@@ -17,6 +17,7 @@ from tests.lib import program
 PACKAGES = {"cc": "gcc", "nix": "nix-bin", "nix-store": "nix-bin", "nix-instantiate": "nix-bin", "nix-hash": "nix-bin",
             "nginx": "nginx-light"}
 passed = 0
+wrong = []
 
 
 class Failed(Exception):
@@ -34,6 +35,12 @@ def fail(what, kept=None):
             shutil.copy(kept, place)
         what = f"{what}\nsee {place}"
     raise Failed(what)
+
+
+def goes_wrong(text):
+    """Prints a check that failed, after which the script goes on, and its first line again at the end."""
+    wrong.append(text.partition("\n")[0])
+    tell(text)
 
 
 def passes(count=1):
@@ -141,6 +148,8 @@ def main(run):
     except Failed as why:
         tell(why)
         failed = 1
+    for line in wrong:
+        tell(f"failed: {line.strip()}")
     tell(f"{passed} passed, {failed} failed")
     sys.exit(1 if failed else 0)
 

@@ -9,6 +9,8 @@ import time
 from tests.lib import program, report
 
 TESTS = f"{program.HERE}/tests"
+# How many of the last lines of a run that failed are shown again.
+LAST = 30
 
 
 def spent():
@@ -78,10 +80,13 @@ def told(ran):
 
 
 def show_parts(found):
-    """A table of the runs, those first that took most of the processors."""
-    report.tell(f"\n{'minutes of parts':30}{'processor':>10}{'clock':>8}")
+    """A table of the runs, those first that took most of the processors, and the ends of those that failed."""
+    report.tell(f"\n{'minutes of parts':30}{'processor':>10}{'clock':>8}{'passed':>8}{'failed':>8}")
     for it in sorted(found, key=lambda it: -it.work):
-        report.tell(f"{it.name:30}{it.work:10.1f}{it.minutes:8.1f}")
+        report.tell(f"{it.name:30}{it.work:10.1f}{it.minutes:8.1f}{it.passed:8}{it.failed:8}")
+    for it in found:
+        if it.failed:
+            report.tell(f"\n{it.name} failed, and ended so:\n" + "\n".join(it.output.splitlines()[-LAST:]))
 
 
 def together(found, more_failed=0):

@@ -34,7 +34,7 @@ class Checks:
             report.passes()
         else:
             self.failed += 1
-            report.tell(f"{what}:\n  came   {came if isinstance(came, str) else report.short(came)}")
+            report.goes_wrong(f"{what}:\n  came   {came if isinstance(came, str) else report.short(came)}")
 
 
 def script(doc, parts, skip=(), start=lambda program, folder: program):
