@@ -1,10 +1,15 @@
 """Messages to the server of a store, and its replies."""
+import collections
 import contextlib
+import random
 import re
 import socket
 import time
 
 from tests.lib import report
+
+# The ports that `free_port` chooses from, and what holds the last of those that it chose. Cases choose from lower ones.
+PORTS, TAKEN = (10_000, 32_000), collections.deque(maxlen=100)
 
 # What a store says of itself.
 TOLD = [("root", "GET", f"/{it}") for it in ("paths", "roots", "live", "report")]
@@ -62,6 +67,14 @@ def connected(port, ran=None, timeout=None, within=150):
 
 
 def free_port():
-    """A port of this machine where nobody listens."""
-    with socket.create_server(("127.0.0.1", 0)) as listener:
-        return listener.getsockname()[1]
+    """A port of this machine where nobody listens, below those that the system gives to clients. No other process gets
+    it from here until something listens there: an abstract socket of its name is taken."""
+    while True:
+        port, taken = random.randrange(*PORTS), socket.socket(socket.AF_UNIX)
+        with contextlib.suppress(OSError), socket.socket() as client:
+            taken.bind(f"\0nixkeep-test-port-{port}")
+            # (nothing listens here to find that out: a program that is being started would hold it open for a while)
+            if client.connect_ex(("127.0.0.1", port)):
+                TAKEN.append(taken)
+                return port
+        taken.close()
