@@ -1,6 +1,6 @@
 -- The answer of a command line whose configuration or words are refused, or for which memory ran out.
-use Rattle.std.proofs.Common.{◌≡◌, ◌≢◌, ◌⊎◌, ◌↔◌, ◌<◌, ℕ, length, Bool, true, false, List, [], Option, Some, None, Result, Ok, Err, String, Global, inl, inr, ap, subst, refl, sym, take, ◌∙◌}
-use Rattle.std.specs.Prelude.{IfErr, IfOk, IfSome, IsTrue, OnErr, is_some, string_bytes}
+use Rattle.std.proofs.Common.{◌≡◌, ◌≢◌, ◌⊎◌, ◌↔◌, ℕ, Bool, true, false, List, Option, Some, None, Result, Ok, Err, String, Global, inl, inr, subst, refl, sym, ◌∙◌}
+use Rattle.std.specs.Prelude.{IfOk, IsTrue, OnErr, is_some, string_bytes}
 use Rattle.std.specs.Io.KnownBytes.{Keeps}
 use Rattle.std.specs.declared.alloc.AllocError.{AllocError}
 use Rattle.std.specs.declared.io.Error.{Error}
@@ -17,7 +17,7 @@ use Rattle.policy.specs.Toml.{config_of}
 use Rattle.policy.specs.declared.error.KeyWord.{KeyWord}
 use Rattle.tool_words.specs.declared.error.CommandError.{CommandError}
 use Rattle.tool_words.specs.declared.error.CommandError.TheVariants.{Usage, Misuse, Memory}
-use Rattle.report.specs.declared.failures.Failure.TheVariants.{Memory as NoMemory, File}
+use Rattle.report.specs.declared.failures.Failure.TheVariants.{Memory as NoMemory}
 use Rattle.tool_pure.specs.declared.stops.Stop.{Stop}
 use Rattle.tool_pure.specs.declared.stops.Stop.TheVariants.{Failed}
 use Rattle.tool_words.specs.declared.error.UsageFault.{UsageFault}

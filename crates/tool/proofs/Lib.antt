@@ -1,6 +1,7 @@
 pub mod Answered
 pub mod Called
 pub mod Done
+pub mod Openings
 pub mod RefusedPrefixes
 pub mod Requested
 pub mod Whole

@@ -1,6 +1,6 @@
 -- What is asked of a store, by the words and the input of a command line.
-use Rattle.std.proofs.Common.{◌≡◌, ◌⊎◌, ℕ, Bool, true, false, List, [], map, take, Option, Some, None, option_map, Result, Ok, Err, inl, inr, ap, ap₂, subst, refl, sym, ◌∙◌}
-use Rattle.std.specs.Prelude.{IfOk, IfErr, IfSome}
+use Rattle.std.proofs.Common.{◌≡◌, ◌⊎◌, ℕ, true, false, List, [], map, take, Option, Some, None, option_map, Result, Ok, Err, inl, inr, ap, ap₂, subst, refl, sym, ◌∙◌}
+use Rattle.std.specs.Prelude.{IfSome}
 use Rattle.std.specs.List.{list_all}
 use Rattle.std.specs.Option.{option_map_or}
 use Rattle.paths.specs.StorePath.{base_of}

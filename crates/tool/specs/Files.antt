@@ -1,5 +1,5 @@
 -- What is done with a store in a file.
-use Rattle.std.specs.Prelude.{◌⊎◌, ℕ, List, Err}
+use Rattle.std.specs.Prelude.{◌⊎◌, ℕ, List, Result, Ok, Err}
 use Rattle.tables.specs.Disk as disk
 use Rattle.tables.specs.DiskCalls as calls
 use Rattle.tables.specs.Modelled.{Modelled}
@@ -8,6 +8,7 @@ use Rattle.sqlite_std_file.specs.declared.host.Host.{Host}
 use Rattle.sqlite_wal.specs.Files.{image_at}
 use Rattle.sqlite_store.specs.declared.store.FileStore.{FileStore}
 use Rattle.sqlite.specs.Files.{over_files}
+use Rattle.sqlite_trees.specs.declared.store.Store as store
 use Rattle.tables.specs.TablesValue.{TablesValue}
 use Rattle.model.specs.Reply.{failed}
 use Rattle.store_types.specs.View.{failure_view}
@@ -28,6 +29,12 @@ abbrev pub AnswersCause : List ℕ → Cause → Written → Type 0
 AnswersCause dir BadSchema w = Answers (Err (Refused refusal.BadSchema)) w
 AnswersCause dir OtherStoreDir w = Answers (Err (Refused refusal.OtherStoreDir)) w
 AnswersCause dir (CauseFailed f) w = IsPrinted dir (failed (failure_view f)) w
+
+-- the work is done over the tables that an opening gave, or the cause is reported for which it gave none
+abbrev pub DoesOpening : {S D : Type 0} {h : disk.Ghosts D} → store.Ghosts S
+    → Result (TablesValue S) (Unopened S D h) → Doing
+DoesOpening g (Ok t) s d console = DoesOver g s t d console
+DoesOpening g (Err e) s d console = AnswersCause s.store_dir (cause_of e) console.written
 
 -- `start` is ghost: what a theorem assumes of the file. No code reads it, so the definitions cover every value.
 module _ {S : Type 0} {host : calls.Ghosts Host} (start : Ghosts S) (g : disk.Ghosts (Modelled Host S host start)) where
