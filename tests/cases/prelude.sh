@@ -55,9 +55,9 @@ without() {
 
 # ---- HTTP
 
-# `free_port`: a port where nobody listens. Scripts choose theirs from 10,000 on.
+# `free_port`: a port where nobody listens. The fixed ports of pages are above 8,000, and scripts choose from 10,000 on.
 free_port() {
-  while port=$((2000 + RANDOM % 8000)) && (exec 3<>"/dev/tcp/127.0.0.1/$port") 2>/dev/null; do :; done
+  while port=$((2000 + RANDOM % 6000)) && (exec 3<>"/dev/tcp/127.0.0.1/$port") 2>/dev/null; do :; done
   echo "$port"
 }
 

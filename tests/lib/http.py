@@ -67,14 +67,16 @@ def connected(port, ran=None, timeout=None, within=150):
 
 
 def free_port():
-    """A port of this machine where nobody listens, below those that the system gives to clients. No other process gets
-    it from here until something listens there: an abstract socket of its name is taken."""
+    """A port of this machine where nobody listens, below those that the system gives to clients. Until this process
+    has chosen a hundred more, no other gets it from here: an abstract socket of its name is taken."""
     while True:
         port, taken = random.randrange(*PORTS), socket.socket(socket.AF_UNIX)
-        with contextlib.suppress(OSError), socket.socket() as client:
+        try:
             taken.bind(f"\0nixkeep-test-port-{port}")
-            # (nothing listens here to find that out: a program that is being started would hold it open for a while)
+        except OSError:
+            continue
+        # (nothing listens here to find that out: a program that is being started would hold it open for a while)
+        with socket.socket() as client:
             if client.connect_ex(("127.0.0.1", port)):
                 TAKEN.append(taken)
                 return port
-        taken.close()

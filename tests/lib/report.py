@@ -1,5 +1,5 @@
 """How a script of these folders is called and how it reports. Each check that passes is counted. The first that fails
-ends the script, unless it says `goes_wrong`. The last line is `N passed, M failed`."""
+ends the script, unless `goes_wrong` reports it. The last line is `N passed, M failed`."""
 import argparse
 import functools
 import os
@@ -149,7 +149,7 @@ def main(run):
         tell(why)
         failed = 1
     for line in wrong:
-        tell(f"failed: {line.strip()}")
+        tell(f"failed: {line.strip().rstrip(':')}")
     tell(f"{passed} passed, {failed} failed")
     sys.exit(1 if failed else 0)
 

@@ -33,8 +33,8 @@ class Store:
 class Server:
     """The program, serving a number of connections on a port; it is killed where it hasn't ended."""
 
-    def __init__(self, file, *options, connections=1_000_000, port=None, **how):
-        self.port = port or free_port()
+    def __init__(self, file, *options, connections=1_000_000, **how):
+        self.port = free_port()
         words = [file, *options, "serve", "--port", str(self.port), "--connections", str(connections)]
         self.ran = subprocess.Popen(words, **{"stdin": subprocess.DEVNULL, "stderr": subprocess.PIPE, **how})
 
