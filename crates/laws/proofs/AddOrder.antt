@@ -49,23 +49,23 @@ breaks b r e = ap (λ x. unless x r) e
 few : (n m : ℕ) (r : Refusal) → n ≤ m → unless (nat_le n m) r ≡ None
 few n m r le = holds_up (nat_le n m) r (le-leb n m le)
 
-many : (n m : ℕ) (r : Refusal) → m < n → unless (nat_le n m) r ≡ Some r
+pub many : (n m : ℕ) (r : Refusal) → m < n → unless (nat_le n m) r ≡ Some r
 many n m r lt = breaks (nat_le n m) r (false_from_ne_true (nat_le n m) (λ h. let le = leb-true n m h in omega arith))
 
 no_self : (refs : List Path) (p : Path) → (Contains refs p → ⊥) → unless (not (holds refs p)) SelfReference ≡ None
 no_self refs p out = holds_up (not (holds refs p)) SelfReference (ap not (false_from_ne_true (holds refs p) (λ h. out (held_is refs p h))))
 
-a_self : (refs : List Path) (p : Path) → Contains refs p → unless (not (holds refs p)) SelfReference ≡ Some SelfReference
+pub a_self : (refs : List Path) (p : Path) → Contains refs p → unless (not (holds refs p)) SelfReference ≡ Some SelfReference
 a_self refs p c = breaks (not (holds refs p)) SelfReference (ap not (is_held refs p c))
 
-misses : (w : World) (p : Path) (refs : List Path) → HasMissingReference w p refs → unless (is_complete w p refs) MissingReference ≡ Some MissingReference
+pub misses : (w : World) (p : Path) (refs : List Path) → HasMissingReference w p refs → unless (is_complete w p refs) MissingReference ≡ Some MissingReference
 misses w p refs h = breaks (is_complete w p refs) MissingReference (or_from (has w p) (list_all (λ r. has w r || same r p) refs) h.fresh (false_from_ne_true (list_all (λ r. has w r || same r p) refs) (λ all.
     false≢true (sym (or_from (has w h.reference) (same h.reference p) h.missing (false_from_ne_true (same h.reference p) (λ e. h.other (same_is h.reference p e))))
     ∙ all_member (λ r. has w r || same r p) refs h.reference all h.listed))))
 
 -- ---- derivations
 
-asked : (p : Path) (f : Option Refusal) → IsTrue (is_derivation p) → if_derivation p f ≡ f
+pub asked : (p : Path) (f : Option Refusal) → IsTrue (is_derivation p) → if_derivation p f ≡ f
 asked p f e = ap (λ b. if b then f else None) e
 
 right : (p : Path) (f : Option Refusal) → (IsTrue (is_derivation p) → f ≡ None) → if_derivation p f ≡ None
@@ -96,7 +96,7 @@ no_tree_fault dir (directory entries) h = absurd (h BadDerivation (other (λ x c
     apart : {x : Bool} {contents : List ℕ} → directory entries ≡ regular x contents → ⊥
     apart e = cc
 
-bad_tree : (dir : List ℕ) (p : Path) (r : Result Tree NarError) (t : Tree) (e : DrvError) → r ≡ Ok t → IsTrue (is_derivation p) → IsFaultyTree dir t e → if_derivation p (tree_fault dir r) ≡ derivation_refusal e
+pub bad_tree : (dir : List ℕ) (p : Path) (r : Result Tree NarError) (t : Tree) (e : DrvError) → r ≡ Ok t → IsTrue (is_derivation p) → IsFaultyTree dir t e → if_derivation p (tree_fault dir r) ≡ derivation_refusal e
 bad_tree dir p r t e is drv f = asked p (tree_fault dir r) drv ∙ ap (tree_fault dir) is ∙ faulty dir t e f
 
 good_tree : (dir : List ℕ) (p : Path) (r : Result Tree NarError) (t : Tree) → r ≡ Ok t → IsRightTree dir p t → if_derivation p (tree_fault dir r) ≡ None
@@ -149,7 +149,7 @@ module _ (dir : List ℕ) (i : Imported) where
       by None k = refl
       by (Some a) k = holds_up (not (holds i.refs i.path)) SelfReference (k a refl)
 
-  selfish : (a : ContentAddress) → i.ca ≡ Some a → Contains i.refs i.path → unless is_selfless SelfReference ≡ Some SelfReference
+  pub selfish : (a : ContentAddress) → i.ca ≡ Some a → Contains i.refs i.path → unless is_selfless SelfReference ≡ Some SelfReference
   selfish a e c = ap (λ ca. unless (is_none ca || not (holds i.refs i.path)) SelfReference) e ∙ a_self i.refs i.path c
 
   verified : ((a : ContentAddress) → i.ca ≡ Some a → IsTrue (verifies a dir i.path (finite.keys (set_of bytes_cmp i.refs)) i.nar)) → unless (is_verified dir i.path (added_import dir i).object i.ca) CaMismatch ≡ None
@@ -159,7 +159,7 @@ module _ (dir : List ℕ) (i : Imported) where
       by None k = refl
       by (Some a) k = holds_up (verifies a dir i.path (finite.keys (set_of bytes_cmp i.refs)) i.nar) CaMismatch (k a refl)
 
-  mismatched : (a : ContentAddress) → i.ca ≡ Some a → IsFalse (verifies a dir i.path (finite.keys (set_of bytes_cmp i.refs)) i.nar) → unless (is_verified dir i.path (added_import dir i).object i.ca) CaMismatch ≡ Some CaMismatch
+  pub mismatched : (a : ContentAddress) → i.ca ≡ Some a → IsFalse (verifies a dir i.path (finite.keys (set_of bytes_cmp i.refs)) i.nar) → unless (is_verified dir i.path (added_import dir i).object i.ca) CaMismatch ≡ Some CaMismatch
   mismatched a e f = ap (λ ca. unless (is_verified dir i.path (added_import dir i).object ca) CaMismatch) e ∙ breaks (verifies a dir i.path (finite.keys (set_of bytes_cmp i.refs)) i.nar) CaMismatch f
 
   -- the first three tests

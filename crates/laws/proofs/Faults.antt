@@ -21,7 +21,7 @@ use Rattle.model.proofs.Passed.{met, passed, all_member}
 
 -- ---- sessions
 
-in_bounds : (n : ℕ) → IsTrue (is_session n) → IsInBounds n
+pub in_bounds : (n : ℕ) → IsTrue (is_session n) → IsInBounds n
 in_bounds n h = let both = and_parts (nat_le 1 n) (nat_le n 4194304) h in record { lowest = leb-true 1 n both.0; highest = leb-true n 4194304 both.1 }
 
 is_in_bounds : (n : ℕ) → IsInBounds n → IsTrue (is_session n)

@@ -20,10 +20,12 @@ pub mod LabelsAndOrder
 pub mod LabelsDiffer
 pub mod Leave
 pub mod NamedLive
+pub mod NotDone
 pub mod NotListed
 pub mod Numbers
 pub mod ObjectListings
 pub mod OneByOne
+pub mod Operations
 pub mod Others
 pub mod Planting
 pub mod ProfileChanges

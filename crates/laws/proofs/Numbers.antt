@@ -129,3 +129,29 @@ module _ (p : Profile) where
     where
       contradiction : {a b : ℕ} → a < b → b ≤ a → ⊥
       contradiction h k = omega (arith, h, k)
+
+  -- a previous one is below the current
+  pub some_below : IsTrue (is_some (previous p)) → (m : ℕ) × IsTrue (has_generation p m) × (m < p.current)
+  some_below h = by (previous p) refl h
+    where
+      by : (o : Option ℕ) → previous p ≡ o → IsTrue (is_some o) → (m : ℕ) × IsTrue (has_generation p m) × (m < p.current)
+      by None e t = absurd (false≢true t)
+      by (Some m) e t =
+          let inside = from_filtered (λ k. nat_lt k p.current) (numbers p) m (last_in (filter (λ k. nat_lt k p.current) (numbers p)) m e) in
+          (m, listed_key nat_cmp_total p.generations m inside.0, ltb-true m p.current inside.1)
+
+  -- there is one highest
+  one_highest : (n m : ℕ) → IsHighest p n → IsHighest p m → n ≡ m
+  one_highest n m h k = let less = k.greatest n h.present in let more = h.greatest m k.present in omega (arith, less, more)
+
+  -- a path gets one number
+  pub one_number : (t : Path) (n m : ℕ) → IsNumberFor p t n → IsNumberFor p t m → n ≡ m
+  one_number t n m (again h at) (again k on) = one_highest n m h k
+  one_number t n m (again h at) (next j k off is) = absurd (off (subst (λ (x : ℕ). finite.get p.generations x ≡ Some t) (one_highest n j h k) at))
+  one_number t n m (again h at) (first none is) = absurd (false≢true (sym (none n) ∙ h.present))
+  one_number t n m (next i h off is) (again k at) = absurd (off (subst (λ (x : ℕ). finite.get p.generations x ≡ Some t) (one_highest m i k h) at))
+  one_number t n m (next i h off is) (next j k out it) = let same = one_highest i j h k in omega (arith, same, is, it)
+  one_number t n m (next i h off is) (first none it) = absurd (false≢true (sym (none i) ∙ h.present))
+  one_number t n m (first none is) (again k at) = absurd (false≢true (sym (none m) ∙ k.present))
+  one_number t n m (first none is) (next j k out it) = absurd (false≢true (sym (none j) ∙ k.present))
+  one_number t n m (first none is) (first nor it) = is ∙ sym it

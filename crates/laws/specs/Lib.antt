@@ -13,6 +13,7 @@ pub mod LabelsAndOrder
 pub mod Laws
 pub mod Permissions
 pub mod OneByOne
+pub mod Operations
 pub mod Others
 pub mod Planting
 pub mod Reasons

@@ -128,6 +128,13 @@ RefusalsHaveReasons =
     (s : Settings) (w : World) (c : Caller) (q : Request) (r : Refusal) (new : World) → Step s w c q (refused r) new
     → HasFault s w q r
 
+-- The converse: a request that has a fault isn't done. It is refused for this fault or one that is tested before it,
+-- unless a rule denies it or it fails.
+abbrev pub FaultsAreNotDone : Type 0
+FaultsAreNotDone =
+    (s : Settings) (w : World) (c : Caller) (q : Request) (a : Answer) (new : World) → Step s w c q (done a) new
+    → (r : Refusal) → HasFault s w q r → ⊥
+
 -- a path of which something is answered is valid
 pub record MentionsTheValid (s : Settings) (w : World) (c : Caller) (p : Path) : Type 0 where
   pub info_ : (a : Answer) (new : World) → Step s w c (info p) (done a) new → IsTrue (has w p)

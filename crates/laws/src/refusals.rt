@@ -2,7 +2,7 @@
 
 ghost use Rattle.laws.specs.Laws.{DenialsNameTheLiving, FailsPastTheRules, LeavesUnlessDone, MayFail, OthersShowNoRoot};
 ghost use Rattle.laws.specs.Faults.{NamedAreValid, NamesComeFirst, PathsComeBeforeNumbers, ProfilesComeNext, SessionFaultsAreReported};
-ghost use Rattle.laws.specs.Reasons.{DenialsAreForTheFirst, RefusalsHaveReasons, MentionedAreValid};
+ghost use Rattle.laws.specs.Reasons.{DenialsAreForTheFirst, FaultsAreNotDone, RefusalsHaveReasons, MentionedAreValid};
 
 /// A denial for a live path is for the first path that is live of the named, in the order given, and shows its
 /// first root, as the caller sees it. A denial by another rule shows no root.
@@ -33,10 +33,11 @@ pub fn first_faults_are_reported()
     ensures named { NamedAreValid }
 {}
 
-/// A request is refused only for a fault that it has. Answers about a path are for a valid path. A deletion is denied
-/// for the first named path that is live.
+/// A request is refused only for a fault that it has, and one that has a fault isn't done. Answers about a path are for
+/// a valid path. A deletion is denied for the first named path that is live.
 pub fn refusals_and_denials_have_reasons()
     ensures refusals { RefusalsHaveReasons }
+    ensures faults { FaultsAreNotDone }
     ensures reported { MentionedAreValid }
     ensures denials { DenialsAreForTheFirst }
 {}

@@ -3,6 +3,7 @@
 ghost use Rattle.laws.specs.Reliance.{NobodyPlants, NothingIsReplaced, RootsAreTheirOwners, StrangersAreDenied};
 ghost use Rattle.model.specs.Request.{collect, delete};
 ghost use Rattle.laws.specs.Planting.{NobodyPlantsInRuns};
+ghost use Rattle.laws.specs.Operations.{PlainRequestsOnlyAdd, ReadsAndAddsAlonePlain};
 ghost use Rattle.laws.specs.Others.{OthersOnlyLose, OwnersMay, TrustedMay};
 ghost use Rattle.laws.specs.Permissions.{AllMayAsk, NobodyIgnoresLiveness};
 
@@ -34,4 +35,11 @@ pub fn owners_are_respected()
     ensures others { OthersOnlyLose }
     ensures trusted { TrustedMay }
     ensures own { OwnersMay }
+{}
+
+/// The rules ask nothing but to connect of a request that only reads, or adds a text or a source. Each other request
+/// has an operation of its own, for which a rule can ask more. So what every caller may ask changes nothing else.
+pub fn each_change_has_an_operation()
+    ensures own { ReadsAndAddsAlonePlain }
+    ensures changes { PlainRequestsOnlyAdd }
 {}
