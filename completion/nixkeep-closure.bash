@@ -37,7 +37,7 @@ _nixkeep_closure() {
     --permanent) return ;;
   esac
   case $action in
-    '') words='--server --db --config --as --me --credentials --ca --nix-store --program --session --dry-run --help push pull copy' ;;
+    '') words='--server --db --config --as --me --credentials --ca --nix-store --program --session --dry-run --version --help push pull copy' ;;
     push) words='--root --permanent --profile --help' ;;
     pull) words='--root --profile --help' ;;
     copy) words='--to --to-config --root --permanent --profile --help' ;;

@@ -7,7 +7,7 @@ _nixkeep_explain() {
   if [[ $previous == --rescue ]]; then
     mapfile -t COMPREPLY < <(compgen -d -- "$current")
   elif [[ $current == -* && $previous != --config ]]; then
-    mapfile -t COMPREPLY < <(compgen -W '--config --usage --rescue --help' -- "$current")
+    mapfile -t COMPREPLY < <(compgen -W '--config --log --usage --rescue --version --help' -- "$current")
   else
     mapfile -t COMPREPLY < <(compgen -f -- "$current")
   fi

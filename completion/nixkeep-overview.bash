@@ -6,9 +6,9 @@ _nixkeep_overview() {
     --db | --config | --output) mapfile -t COMPREPLY < <(compgen -f -- "$word") ;;
     --user) mapfile -t COMPREPLY < <(compgen -u -- "$word") ;;
     --group) mapfile -t COMPREPLY < <(compgen -g -- "$word") ;;
-    --store | --why) ;;
+    --store | --name | --why) ;;
     *)
-      mapfile -t COMPREPLY < <(compgen -W "--db --store --user --group --config --why --output --help" -- "$word")
+      mapfile -t COMPREPLY < <(compgen -W "--db --store --user --group --config --name --why --output --version --help" -- "$word")
       ;;
   esac
 }

@@ -1,8 +1,9 @@
 # bash completion for nixkeep-remote
 
-# Prints the words that may stand for a store path: paths of the server, where one is named and answers soon.
+# Prints the words that may stand for a store path: paths of the server, where one is named and answers soon. `compgen -W` runs
+# what a word contains, such as `$(..)`, so only lines pass that have the characters of store paths and no others.
 _nixkeep_remote_paths() {
-  timeout 2 nixkeep-remote "${options[@]}" list 2>/dev/null </dev/null
+  timeout 2 nixkeep-remote "${options[@]}" list 2>/dev/null </dev/null | LC_ALL=C grep -aEx '(/[0-9A-Za-z+._?=-]+)+'
 }
 
 # Sets `command` to the subcommand, `values` to the values after it, and `options` to the options before it.
@@ -60,7 +61,7 @@ _nixkeep_remote() {
   _nixkeep_remote_words
   case $command in
     '')
-      words='--server --as --me --credentials --ca --store-dir --help who ls import runtime list roots live dead report
+      words='--server --as --me --credentials --ca --store-dir --version --help who ls import runtime list roots live dead report
         text-path source-path add-text add-source info cat-nar why root unroot profile temp gc delete help'
       ;;
     help)

@@ -1,367 +1,246 @@
 """A binary cache of Nix over a store's server, on Debian's python3-aiohttp."""
-import argparse
 import asyncio
-import contextlib
 import logging
-import os
-import re
+import sqlite3
 import sys
 import tomllib
-import urllib.parse
 
-from aiohttp import web
+from aiohttp import HttpVersion10, HttpVersion11, web
 from aiohttp.http_exceptions import HttpProcessingError
 
-from . import cache_records, cache_waiting, overview, overview_source, paths
+from . import blobs, blobs_command, cache_child, cache_health, cache_limit, cache_listening, cache_metrics
+from . import cache_options, cache_origin, cache_signing, overview_source, paths
+from .cache_archives import Archives
+from .cache_ending import FINISH, Ending
+from .cache_blobs import Blobs
+from .cache_http import BODY, Answered, Sending, passed, reply
+from .cache_large import Large
 from .cache_names import Names
+from .cache_overview import Overviews
+from .cache_passing import Passing
+from .cache_pointers import Pointers
 from .cache_records import Bad
-from .cache_server import Caller, Server, Unreachable
+from .cache_server import Caller, Port, Server, Unreachable
+from .cache_sessions import Sessions
+from .cache_shares import Shares
 from .cache_stored import Stored
+from .cache_sweep import Sweep
+from .cache_uploads import Uploads
 from .cache_waiting import Full, Waiting
+from .cache_watched import Watched
+from .cache_who import Who
+from .notify import notify
 
-try:
-    from . import overview_page
-except ModuleNotFoundError:
-    overview_page = None
-
-# Targets are matched as they are, as the server does it: a name may have `?` and `=` in it.
-RECORD = re.compile(r"/([0-9abcdfghijklmnpqrsvwxyz]{32})\.narinfo")
-FILE = re.compile(r"/nar/([0-9a-z]{52}\.nar[.0-9a-z]*)")
-NAR = re.compile(r"/nar/([0-9abcdfghijklmnpqrsvwxyz]{32}-[0-9A-Za-z+._?=-]+)")
-# An archive's bytes are those of its hash, which its record says; so a client or a cache in between may keep them.
-FOREVER = "public, max-age=31536000, immutable"
-# A record is kept for a while only, since its object may be deleted.
-MINUTE = "public, max-age=60"
-# The limits of the server, and of an uploaded record: as many references as an object may have, each of a long name.
-BODY, INFO = 20_971_520, 1_200_000
-# The larger bodies and replies that are in memory at once, and the bytes from which on one counts as large.
-LARGE, MANY = 65_536, 8
-# The bytes of an archive that are sent at once.
-PIECE = 1 << 20
+# The bytes of large replies that are in memory while clients take them.
+ROOM = 256 << 20
 
 
-def reply(status, text, kind="text/plain", keep="no-store"):
-    data = text.encode() if isinstance(text, str) else text
-    return web.Response(status=status, body=data, headers={"content-type": kind, "cache-control": keep})
+def caller(request, fixed):
+    """Who asks, or None where that isn't said by one field and at most one group, as the server demands it."""
+    if fixed:
+        return fixed
+    users, groups = request.headers.getall("store-user", []), request.headers.getall("store-group", [])
+    if len(users) != 1 or len(groups) > 1 or not all(map(paths.is_plain_name, [*users, *groups])):
+        return None
+    return Caller(users[0], groups[0] if groups else None)
 
 
-def passed(answer, kind=None, keep="no-store"):
-    """A reply of the server's. Only what was done may be kept."""
-    if answer.status != 200:
-        return reply(answer.status, answer.text)
-    return reply(200, answer.text, kind or answer.kind, keep)
+def failures(idle):
+    """What fails is an answer, and a line where the server or the disk failed."""
 
-
-class Cache:
-    """The answers of the cache. `fixed` is the caller that all clients are, or None where a proxy says who each is.
-    `settings` are those of the store: its directory, and whether it keeps outputs and derivers."""
-
-    def __init__(self, server, waiting, fixed, settings, idle, every):
-        self.server, self.waiting, self.fixed, self.idle = server, waiting, fixed, idle
-        self.stored = Stored(f"{waiting.folder}/stored")
-        for name in filter(self.stored.base, [*waiting.files]):
-            waiting.use(name)
-        self.store, *self.keeps = settings
-        self.names, self.large = Names(server, every), asyncio.Semaphore(MANY)
-        self.pages, self.records = asyncio.Lock(), overview_source.Records(server, self.keeps[0])
-
-    def caller(self, request):
-        """Who asks, or None where that isn't said by one field and at most one group, as the server demands it."""
-        if self.fixed:
-            return self.fixed
-        users, groups = request.headers.getall("store-user", []), request.headers.getall("store-group", [])
-        if len(users) != 1 or len(groups) > 1 or not all(map(paths.is_plain_name, [*users, *groups])):
-            return None
-        return Caller(users[0], groups[0] if groups else None)
-
-    async def answer(self, request):
+    @web.middleware
+    async def answered(request, handler):
         try:
-            return await self.allowed(request)
+            return await handler(request)
         except Bad as bad:
             return reply(400, f"{bad}\n")
+        except Answered as answered:
+            return answered.reply
+        except overview_source.Denied as denied:
+            return passed(denied.reply)
+        except cache_limit.Full as full:
+            return reply(507, f"{full}")
         except Full:
             return reply(503, "no room for one more archive that waits for its record: try again later\n")
         except TimeoutError:
-            return reply(408, f"nothing came for {self.idle:.0f} seconds\n")
-        except (Unreachable, OSError) as error:
+            return reply(408, f"nothing came for {idle:.0f} seconds\n")
+        except (Unreachable, cache_child.Refused, OSError, blobs.Failed, sqlite3.Error) as error:
             print(f"nixkeep-cache: {request.method} {request.raw_path[:300]!r}: {error}", file=sys.stderr, flush=True)
-            return reply(502 if isinstance(error, Unreachable) else 503, f"{error}\n")
+            return reply(503 if isinstance(error, (OSError, blobs.Failed, sqlite3.Error)) else 502, f"{error}\n")
 
-    async def allowed(self, request):
-        """Nothing is answered, read or kept for a caller that may not connect to the store."""
-        caller = self.caller(request)
-        if not caller:
+    return answered
+
+
+@web.middleware
+async def framed(request, handler):
+    """A body has a length, as for the server: what comes after a request is never taken for another one."""
+    is_known, is_coded = request.version in (HttpVersion10, HttpVersion11), "transfer-encoding" in request.headers
+    if is_known and not is_coded:
+        return await handler(request)
+    answer = reply(400, "refused: 37 bad-length\n" if is_known else "refused: 36 bad-head\n")
+    answer.force_close()
+    return answer
+
+
+def admission(server, fixed, is_local, monitor):
+    """Nothing is answered, read or kept for a caller that may not connect to the store, nor for a foreign web page.
+    Anybody may ask whether it is well, and `monitor` for its figures."""
+
+    @web.middleware
+    async def admitted(request, handler):
+        if cache_health.is_asked(request):
+            return await handler(request)
+        if is_local and cache_origin.is_rebound(request) or cache_origin.is_of_other_site(request):
+            return reply(403, "denied: other-site\n")
+        found = caller(request, fixed)
+        if not found:
             return reply(400, "refused: 20 bad-caller\n")
-        denial = await self.server.denial(caller)
-        if denial:
-            return passed(denial)
-        target = request.raw_path
-        if request.method in ("GET", "HEAD"):
-            return await self.get(request, caller, target)
-        if request.method == "PUT":
-            return await self.put(request, caller, target)
-        return await self.other(request, caller, target)
+        request["caller"] = found
+        is_monitor = monitor == found.user and cache_metrics.is_asked(request)
+        denial = None if is_monitor else await server.denial(found)
+        return reply(denial.status, denial.text) if denial else await handler(request)
 
-    # ---- what is asked for
-
-    async def get(self, request, caller, target):
-        record, archive, file = RECORD.fullmatch(target), NAR.fullmatch(target), FILE.fullmatch(target)
-        if target == "/nix-cache-info":
-            return reply(200, f"StoreDir: {self.store}\nWantMassQuery: 1\nPriority: 40\n", "text/x-nix-cache-info",
-                         MINUTE)
-        if record:
-            base, failed = await self.names.base(caller, record[1])
-            if failed:
-                return passed(failed)
-            return await self.record(caller, base) if base else reply(404, "no such path\n")
-        if archive and request.method == "HEAD":
-            return await self.archive_head(caller, archive[1])
-        if archive:
-            return await self.archive(request, caller, archive[1])
-        if file:
-            return await self.file(request, caller, file[1])
-        if target.partition("?")[0] == "/overview":
-            return await self.page(caller, target)
-        return await self.other(request, caller, target)
-
-    async def page(self, caller, target):
-        """A page of who keeps how much, or of why one path is kept; as this caller sees the store's roots."""
-        if not overview_page:
-            return reply(404, "the overview needs the Debian package python3-jinja2\n")
-        why = urllib.parse.parse_qs(target.partition("?")[2]).get("why", [""])[0].strip().removeprefix(f"{self.store}/")
-        async with self.pages:
-            try:
-                store, live = await self.records.store(caller)
-            except overview_source.Denied as denied:
-                return passed(denied.reply)
-
-            def text():
-                return overview_page.page(overview.Overview(store, *self.keeps, live), "/overview", why)
-
-            made = await asyncio.get_running_loop().run_in_executor(None, text)
-        answer = reply(200, made, "text/html; charset=utf-8")
-        answer.headers["content-security-policy"] = overview_page.POLICY
-        return answer
-
-    async def record(self, caller, base):
-        return passed(await self.server.ask(caller, "GET", f"/info/{base}"), "text/x-nix-narinfo", MINUTE)
-
-    async def archive_head(self, caller, base):
-        """The head of an archive, whose length its record says."""
-        answer = await self.server.ask(caller, "GET", f"/info/{base}")
-        if answer.status != 200:
-            return passed(answer)
-        size = re.search(rb"^NarSize: (\d+)$", answer.text, re.M)[1].decode()
-        head = {"content-type": "application/octet-stream", "cache-control": FOREVER, "content-length": size}
-        return web.Response(status=200, headers=head)
-
-    async def file(self, request, caller, name):
-        """An uploaded file. By HEAD a client asks whether it has to send it. By GET one asks that has kept the record
-        of its own upload, and gets the archive of the object that the file became."""
-        base = self.stored.base(name)
-        if request.method == "HEAD":
-            return reply(200 if name in self.waiting.files else 404, b"", "application/octet-stream")
-        if not base:
-            return reply(404, b"", "application/octet-stream")
-        return await self.archive(request, caller, base, name)
-
-    async def archive(self, request, caller, base, name=""):
-        """An archive, compressed as a file of that name. It is read whole from the server first, so that a slow client
-        keeps no other waiting."""
-        async with self.large:
-            answer = await self.server.ask(caller, "GET", f"/nar/{base}")
-            if answer.status == 404:
-                self.stored.forget(name)
-            if answer.status != 200:
-                return passed(answer)
-            text = answer.text
-            if name:
-                text = await asyncio.get_running_loop().run_in_executor(None, cache_records.packed, name, text)
-            head = {
-                "content-type": "application/octet-stream",
-                "cache-control": FOREVER,
-                "content-length": str(len(text)),
-            }
-            response, text = web.StreamResponse(headers=head), memoryview(text)
-            try:
-                await response.prepare(request)
-                for at in range(0, len(text), PIECE):
-                    async with asyncio.timeout(self.idle):
-                        await response.write(text[at : at + PIECE])
-            except (ConnectionError, TimeoutError):
-                # (the client has closed, or takes nothing: no reply can reach it)
-                if request.transport:
-                    request.transport.abort()
-            return response
-
-    # ---- what comes
-
-    async def pieces(self, request):
-        """The body, piece by piece. A client that is silent is given up."""
-        while True:
-            async with asyncio.timeout(self.idle):
-                piece = await request.content.readany()
-            if not piece:
-                return
-            yield piece
-
-    async def body(self, request, most):
-        """The body whole, or None where it is longer."""
-        found = bytearray()
-        if (request.content_length or 0) > most:
-            return None
-        async for piece in self.pieces(request):
-            found += piece
-            if len(found) > most:
-                return None
-        return bytes(found)
-
-    async def put(self, request, caller, target):
-        record = RECORD.fullmatch(target)
-        if target.startswith("/nar/"):
-            size = cache_waiting.LONGEST if request.content_length is None else request.content_length
-            await self.waiting.take(caller.user, target[5:], size, self.pieces(request))
-            return reply(201, "")
-        if record:
-            text = await self.body(request, INFO)
-            if text is None:
-                raise Bad(f"a record has at most {INFO} bytes")
-            return await self.put_record(caller, record[1], text)
-        raise Bad(f"PUT {target[:300]}: only records and archives are kept")
-
-    async def put_record(self, caller, digits, text):
-        """The archive that waits for this record is imported with what it says."""
-        record = cache_records.fields(text)
-        name, head = cache_records.file_of(record), cache_records.import_head(record, digits, self.store)
-        async with self.large:
-            data = self.waiting.read(name)
-            archive = await asyncio.get_running_loop().run_in_executor(None, cache_records.unpacked, name, data)
-            answer = await self.server.ask(caller, "POST", "/import", head + archive)
-        if answer.status == 200:
-            self.waiting.use(name)
-            self.stored.add(name, answer.text.decode().strip().rpartition("/")[2])
-            self.names.added(answer.text)
-        return passed(answer)
-
-    # ---- the store's own requests
-
-    async def other(self, request, caller, target):
-        """Any other request is the store's own, and its reply too."""
-        if not re.fullmatch(r"/[!-~]*", target) or not re.fullmatch(r"[A-Z]{1,16}", request.method):
-            return reply(404, "refused: 39 no-route\n")
-        size = request.content_length
-        async with self.large if size is None or size > LARGE else contextlib.nullcontext():
-            body = await self.body(request, BODY)
-            if body is None:
-                return reply(400, "refused: 38 too-large\n")
-            method = "GET" if request.method == "HEAD" else request.method
-            answer = await self.server.ask(caller, method, target, body)
-        if answer.status == 200 and method == "POST":
-            self.follow(target, answer.text)
-        return passed(answer)
-
-    def follow(self, target, text):
-        if target in ("/text", "/source", "/import"):
-            self.names.added(text)
-        elif target in ("/collect", "/delete"):
-            self.names.deleted(text)
-            self.records.forget(text)
+    return admitted
 
 
-async def application(cache):
-    """All targets are the cache's own: routes of aiohttp's would undo percent signs in them."""
-    found = web.Application(client_max_size=BODY)
-    found.router.add_route("*", "/{target:.*}", cache.answer)
+def dispatched(parts):
+    """The handler of all targets. Routes of aiohttp's would undo percent signs in them."""
+    routes = [it for part in parts for it in part.routes()]
 
-    async def expire(_):
-        async def now_and_then():
-            while True:
-                await asyncio.sleep(60)
-                cache.waiting.expire()
+    async def answer(request):
+        for methods, form, handler in routes:
+            found = form.fullmatch(request.raw_path)
+            if found and (not methods or request.method in methods):
+                return await handler(request, *found.groups())
+        raise AssertionError("the last route has all targets")
 
-        task = asyncio.create_task(now_and_then())
-        yield
-        task.cancel()
-        cache.server.close()
+    return answer
 
-    found.cleanup_ctx.append(expire)
+
+def large_of(said, server, folder, sending, store):
+    """The part that has large archives, and the one that sweeps them. None without blobs."""
+    if not said.blobs:
+        return []
+    place = blobs.place_of(said.blobs, f"{folder}/incoming", said.blobs_endpoint)
+    try:
+        place.begin()
+    except blobs.Failed as failed:
+        if not said.blobs.startswith("s3:"):
+            raise
+        # (a bucket may come back, and what is small is served meanwhile)
+        print(f"nixkeep-cache: {failed}", file=sys.stderr, flush=True)
+    kept = Blobs(place, said.blobs_level, sending)
+    large = Large(kept, Pointers(server), said.large_from, Stored(f"{folder}/arrived"), store)
+    return [large, Sweep(kept, large.pointers, said.grace, said.idle)]
+
+
+def parts_of(said, server, waiting, settings, signing):
+    """The parts that answer, each with its routes, the sessions, and what is watched. The first route that fits has a
+    request."""
+    store, *keeps = settings
+    shares = Shares(f"{waiting.folder}/shares.db", said.most_bytes_each)
+    stored, names = Stored(f"{waiting.folder}/stored"), Names(server, said.list_every, [shares.listed, signing.listed])
+    for name in filter(stored.base, [*waiting.files]):
+        waiting.use(name)
+    sending, sessions = Sending(ROOM, said.idle), Sessions(server, f"{waiting.folder}/sessions", said.session_seconds)
+    limit = cache_limit.Limit(said.db, said.most_bytes)
+    overviews = Overviews(server, store, keeps, sending, overview_source.name_of(said.config, said.db))
+    watched = Watched(said, server, waiting, limit, store)
+    followers = [names.deleted, overviews.records.forget, shares.deleted, signing.deleted]
+    own = large_of(said, server, waiting.folder, sending, store)
+    large = own[0] if own else None
+    uploads = Uploads(server, names, stored, waiting, sessions, signing, limit, shares, store, said.idle, large)
+    passing = Passing(server, names, sessions, limit, shares, sending, followers, said.idle)
+    if large:
+        large.uploads, large.passing = uploads, passing
+    archives = Archives(server, names, stored, waiting, sessions, signing, sending, store, large)
+    return [*own, archives, uploads, overviews, Who(server), *watched.parts(), passing], sessions, watched
+
+
+async def application(said, server, waiting, settings, signing, is_local):
+    fixed = Caller(said.user, said.group) if said.user else None
+    parts, sessions, watched = parts_of(said, server, waiting, settings, signing)
+    ending, admitted = Ending(), admission(server, fixed, is_local, said.monitor)
+    middlewares = [ending.counted, watched.watching.observed, framed, failures(said.idle), admitted]
+    found = web.Application(client_max_size=BODY, middlewares=middlewares)
+    found.router.add_route("*", "/{target:.*}", dispatched(parts))
+    found.cleanup_ctx.extend([begun(server), expiring(waiting, sessions, watched.day)])
+    found.on_shutdown.append(ending.begin)
     return found
 
 
-def place(text):
-    host, colon, port = text.rpartition(":")
-    if not (host and port.isdigit()):
-        raise argparse.ArgumentTypeError(f"{text}: HOST:PORT is meant")
-    return host, int(port)
+def begun(server):
+    """Starts the server ahead of the first request, and says when it answers. Ends it at the end."""
+
+    async def first_answer():
+        while True:
+            try:
+                await server.ask(Caller("nixkeep-cache", None), "GET", "/")
+                return notify("READY=1")
+            except Unreachable:
+                continue
+            except cache_child.Refused as refused:
+                print(f"nixkeep-cache: {refused}", file=sys.stderr, flush=True)
+                raise web.GracefulExit() from None
+
+    async def running(_):
+        task = asyncio.create_task(first_answer())
+        yield
+        task.cancel()
+        await server.end()
+
+    return running
 
 
-def listening(text):
-    return text if text.startswith("/") else place(text)
+def expiring(waiting, sessions, day):
+    """Deletes now and then what has waited for too long, ends sessions, and writes the figures of the day."""
 
+    async def now_and_then():
+        while True:
+            waiting.expire()
+            await sessions.expire()
+            day.save()
+            await asyncio.sleep(60)
 
-def name(text):
-    if not paths.is_plain_name(text):
-        raise argparse.ArgumentTypeError(f"{text}: no user's or group's name")
-    return text
+    async def running(_):
+        task = asyncio.create_task(now_and_then())
+        yield
+        task.cancel()
+        day.save()
 
-
-def parser():
-    asked = argparse.ArgumentParser(
-        prog="nixkeep-cache",
-        description="A binary cache of Nix over `nixkeep serve`: real Nix fetches "
-        "from it and uploads to it, and the store's own requests pass through.",
-    )
-    who = asked.add_mutually_exclusive_group(required=True)
-    who.add_argument("--user", type=name, help="the caller that all clients are")
-    who.add_argument("--proxied", action="store_true",
-                     help="a proxy says who each client is, by the fields store-user and store-group")
-    asked.add_argument("--group", type=name, help="the primary group of --user")
-    asked.add_argument("--store", type=place, default=("127.0.0.1", 8080), metavar="HOST:PORT",
-                       help="where the server listens [127.0.0.1:8080]")
-    asked.add_argument("--listen", type=listening, default=("127.0.0.1", 8081), metavar="HOST:PORT|/SOCKET",
-                       help="where clients are accepted, a port or a Unix socket [127.0.0.1:8081]")
-    asked.add_argument("--config", metavar="FILE",
-                       help="the configuration of the store: its directory, and what it keeps")
-    asked.add_argument("--waiting", default="/var/cache/nixkeep-cache", metavar="FOLDER",
-                       help="where archives wait for their records [/var/cache/nixkeep-cache]")
-    asked.add_argument("--waiting-count", type=int, default=1000, metavar="N", help="how many may wait [1000]")
-    asked.add_argument("--waiting-bytes", type=int, default=1 << 30, metavar="N",
-                       help="how many bytes they may have [1073741824]")
-    asked.add_argument("--waiting-seconds", type=float, default=3600, metavar="N", help="how long one may wait [3600]")
-    asked.add_argument("--idle", type=float, default=60, metavar="SECONDS", help="how long a client may be silent [60]")
-    asked.add_argument("--patience", type=float, default=30, metavar="SECONDS",
-                       help="how long a server that can't be reached is waited for, as while it starts again [30]")
-    asked.add_argument("--list-every", type=float, default=30, metavar="SECONDS",
-                       help="how often, at most, a path that isn't known is looked for in a new listing [30]")
-    return asked
+    return running
 
 
 def main(words=None):
-    asked = parser()
-    said = asked.parse_args(words)
-    if said.group and not said.user:
-        asked.error("--group needs --user")
+    words = sys.argv[1:] if words is None else words
+    if words[:1] in (["sweep"], ["verify"]):
+        return blobs_command.main(words)
+    said = cache_options.read(words)
     try:
         settings = overview_source.settings(said.config)
         waiting = Waiting(said.waiting, said.waiting_count, said.waiting_bytes, said.waiting_seconds)
-    except (OSError, tomllib.TOMLDecodeError) as error:
+        signing = cache_signing.made(said, settings[0])
+    except (OSError, sqlite3.Error, tomllib.TOMLDecodeError, cache_signing.BadKey) as error:
         sys.exit(f"nixkeep-cache: {error}")
-    fixed = Caller(said.user, said.group) if said.user else None
     # A client's malformed head is answered; it is no line for the journal.
     logging.getLogger("aiohttp.server").addFilter(
         lambda it: not (it.exc_info and isinstance(it.exc_info[1], HttpProcessingError))
     )
+    where = cache_listening.where(said.listen)
+    if said.db:
+        program = said.nixkeep or cache_child.program_near(sys.argv[0])
+        server = Server(place := cache_child.Child(program, said.db, said.config), said.patience)
+    else:
+        server = Server(place := Port(*(said.store or ("127.0.0.1", 8080))), said.patience)
 
     async def start():
-        server = Server(*said.store, said.patience)
-        return await application(Cache(server, waiting, fixed, settings, said.idle, said.list_every))
+        is_local = bool(said.user) and cache_listening.is_loopback(where)
+        return await application(said, server, waiting, settings, signing, is_local)
 
-    where = {"path": said.listen} if isinstance(said.listen, str) else {"host": said.listen[0], "port": said.listen[1]}
     try:
-        web.run_app(start(), **where, print=None, access_log=None, shutdown_timeout=5)
-    except OSError as error:
+        web.run_app(start(), **where, print=None, access_log=None, shutdown_timeout=FINISH)
+    except (OSError, blobs.Failed) as error:
         sys.exit(f"nixkeep-cache: {error}")
     finally:
-        if isinstance(said.listen, str):
-            with contextlib.suppress(FileNotFoundError):
-                os.unlink(said.listen)
+        cache_listening.removed(where)
+    sys.exit(place.refused or 0)

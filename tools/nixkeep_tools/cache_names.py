@@ -7,11 +7,12 @@ class Names:
 
     They are listed once for each connection to the server. After that each add and each deletion that passes is
     followed. So a path with unknown digits isn't there, and nobody has to be asked. A change that doesn't pass here
-    is seen at the next listing; an unknown path causes one, at most once in `every` seconds.
+    is seen at the next listing; an unknown path causes one, at most once in `every` seconds. `followers` are called
+    with the base names of each listing.
     """
 
-    def __init__(self, server, every):
-        self.server, self.every = server, every
+    def __init__(self, server, every, followers=()):
+        self.server, self.every, self.followers = server, every, followers
         self.found, self.twins, self.connection, self.listed = {}, set(), None, 0
 
     async def base(self, caller, digits):
@@ -25,6 +26,8 @@ class Names:
             self.found.clear()
             self.twins.clear()
             self.added(reply.text)
+            for it in self.followers:
+                it([line.rpartition("/")[2] for line in reply.text.decode().splitlines()])
             self.connection, self.listed = self.server.connections, time.monotonic()
         return self.found.get(digits), None
 

@@ -1,18 +1,24 @@
 """The one connection of nixkeep-cache to the store's server.
 
-The server answers one connection at a time, and one request of it at a time. So all clients share this connection:
-each request waits for its turn, is sent whole, and its reply is read whole. Targets pass unchanged, byte for byte,
-and many GETs can be sent before the first reply. aiohttp's own client does neither.
+The server answers one request at a time. So all clients share this connection: each request waits for its turn, is sent
+whole, and its reply is read whole. Users take turns. Targets pass unchanged, byte for byte, and many requests can be
+sent before the first reply. aiohttp's own client does neither.
 """
 import asyncio
 import collections
+import contextlib
+import math
+import re
+
+from .cache_turns import Turns
 
 # `user` and `group` are plain names; `group` may be None.
 Caller = collections.namedtuple("Caller", "user group")
+Request = collections.namedtuple("Request", "caller method target body", defaults=(b"",))
 Reply = collections.namedtuple("Reply", "status kind text")
 
 # Requests that may be sent once more: they change nothing, or nothing further the second time.
-ADDS = ("/text", "/source", "/import")
+REPEATED = re.compile(r"GET .*|POST /(text|source|import|temp/[^/]+/[0-9]+)")
 # The bytes of a reply that are read ahead. A head is much shorter.
 AHEAD = 1 << 20
 # What a connection that ends, or isn't the server's, raises.
@@ -25,7 +31,8 @@ class Unreachable(Exception):
     """The server couldn't be reached, or the connection ended before its reply."""
 
 
-def message(caller, method, target, body):
+def message(request):
+    caller, method, target, body = request
     fields = ["host: store", f"store-user: {caller.user}", f"content-length: {len(body)}"]
     fields += [f"store-group: {caller.group}"] if caller.group else []
     return "\r\n".join([f"{method} {target} HTTP/1.1", *fields, "", ""]).encode("ascii") + body
@@ -39,32 +46,74 @@ async def read_reply(reader):
     return Reply(int(head[0].split(" ")[1]), fields["content-type"], text), fields.get("connection") == "close"
 
 
-class Server:
-    """The server at a host and port. All times are in seconds: `patience` is how long it may be away, `longest` how
-    long an answer may take, and `idle` how long the connection stays open without a request."""
+class Port:
+    """A server that listens on a port. It closes an idle connection after a minute, so that is closed before."""
 
-    def __init__(self, host, port, patience, longest=300, idle=30):
-        self.host, self.port, self.patience, self.longest, self.idle = host, port, patience, longest, idle
-        self.turn, self.reader, self.writer, self.closing = asyncio.Lock(), None, None, None
+    idle, refused = 30, 0
+
+    def __init__(self, host, port):
+        self.host, self.port, self.why = host, port, "no answer"
+
+    async def open(self):
+        """The streams of a new connection. A server that starts again is waited for."""
+        while True:
+            try:
+                return await asyncio.open_connection(self.host, self.port, limit=AHEAD)
+            except OSError as error:
+                self.why = error
+                await asyncio.sleep(0.1)
+
+    def close(self, writer):
+        """Says that a connection was closed."""
+
+    async def end(self):
+        """Says that there will be no other connection."""
+
+
+class Server:
+    """The server at a place, which is a Port or a Child. All times are in seconds: `patience` is how long it may be
+    away, and `longest` how long an answer may take."""
+
+    def __init__(self, place, patience, longest=300):
+        self.place, self.patience, self.longest = place, patience, longest
+        self.turns, self.reader, self.writer, self.closing = Turns(), None, None, None
+        # When the last connection was closed.
+        self.lost = -math.inf
         # Each connection may reach another server, over another file: what was learnt by an earlier one is void.
         self.connections, self.denials = 0, {}
 
+    def is_open(self):
+        return bool(self.writer) and not self.reader.at_eof()
+
     async def ask(self, caller, method, target, body=b""):
-        """The reply to a request. Raises Unreachable. What may be sent again is, until a server has answered it."""
-        now = asyncio.get_running_loop().time
-        until = now() + self.patience
-        async with self.turn:
+        """The reply to a request. Raises Unreachable."""
+        return (await self.asks([Request(caller, method, target, body)]))[0]
+
+    async def asks(self, requests, first=lambda: ()):
+        """The replies to requests that go out together, so that no other comes between, after those that `first` gives
+        once their turn has come. Raises Unreachable. If the connection ends before the replies, they are sent once
+        more, where that does no harm."""
+        # (a client that closes its connection ends its handler, but not an exchange in the middle)
+        return await asyncio.shield(asyncio.ensure_future(self.exchange(requests, first)))
+
+    async def exchange(self, requests, first):
+        came = asyncio.get_running_loop().time()
+        tries = 2 if all(REPEATED.fullmatch(f"{it.method} {it.target}") for it in requests) else 1
+        async with self.turns.turn(requests[0].caller.user):
             while True:
-                await self.connect()
+                await self.connect(came)
+                messages = [message(it) for it in (*first(), *requests)]
                 try:
                     async with asyncio.timeout(self.longest):
-                        return (await self.exchange([message(caller, method, target, body)]))[0]
+                        return await self.sent(messages)
                 except BROKEN as error:
                     self.close()
-                    if method != "GET" and target not in ADDS or now() > until:
+                    tries -= 1
+                    if not tries:
                         raise Unreachable(f"the server ended the connection before its reply ({error!r})") from error
-                    await asyncio.sleep(0.1)
-                except asyncio.CancelledError:
+                    # (a process that was killed may still accept a connection)
+                    await asyncio.sleep(0.2)
+                except BaseException:
                     self.close()
                     raise
 
@@ -72,20 +121,10 @@ class Server:
         """The replies to many GETs. Other clients get their turns in between."""
         found = []
         for at in range(0, len(targets), TOGETHER):
-            async with self.turn:
-                await self.connect()
-                try:
-                    asked = [message(caller, "GET", it, b"") for it in targets[at : at + TOGETHER]]
-                    async with asyncio.timeout(self.longest):
-                        found += await self.exchange(asked)
-                except BaseException as error:
-                    self.close()
-                    if isinstance(error, Exception):
-                        raise Unreachable(f"the server ended the connection before its reply ({error!r})") from error
-                    raise
+            found += await self.asks([Request(caller, "GET", it) for it in targets[at : at + TOGETHER]])
         return found
 
-    async def exchange(self, messages):
+    async def sent(self, messages):
         self.writer.writelines(messages)
         await self.writer.drain()
         found, ends = [], False
@@ -94,32 +133,44 @@ class Server:
             found.append(reply)
         if ends:
             self.close()
-        else:
-            self.closing = asyncio.get_running_loop().call_later(self.idle, self.close)
+        elif self.place.idle:
+            self.closing = asyncio.get_running_loop().call_later(self.place.idle, self.close)
         return found
 
-    async def connect(self):
-        """Opens the connection where it isn't open. A server that starts again is waited for."""
+    async def connect(self, came):
+        """Opens the connection where it isn't open, for a request that came then. The time that it waited for its turn,
+        or for a reply that was lost, takes nothing of the patience."""
         if self.closing:
             self.closing.cancel()
         # (the end of an idle connection is seen before anything is sent on it)
         if self.writer and (self.reader.at_eof() or self.writer.is_closing()):
             self.close()
-        until = asyncio.get_running_loop().time() + self.patience
-        while not self.writer:
+        if not self.writer:
+            left = max(came, self.lost) + self.patience - asyncio.get_running_loop().time()
             try:
-                self.reader, self.writer = await asyncio.open_connection(self.host, self.port, limit=AHEAD)
-                self.connections += 1
-                self.denials.clear()
-            except OSError as error:
-                if asyncio.get_running_loop().time() > until:
-                    raise Unreachable(f"the server can't be reached ({error})") from error
-                await asyncio.sleep(0.1)
+                async with asyncio.timeout(max(left, 0.1)):
+                    self.reader, self.writer = await self.place.open()
+            except TimeoutError:
+                raise Unreachable(f"the server can't be reached ({self.place.why})") from None
+            self.connections += 1
+            self.denials.clear()
 
     def close(self):
         if self.writer:
             self.writer.close()
+            self.place.close(self.writer)
+            self.lost = asyncio.get_running_loop().time()
         self.reader = self.writer = None
+
+    async def end(self):
+        """Ends the connection after the exchange that is under way, which may take as long as any. No other follows."""
+        with contextlib.suppress(TimeoutError):
+            async with asyncio.timeout(self.longest):
+                await self.turns.take(None)
+        if self.closing:
+            self.closing.cancel()
+        await self.place.end()
+        self.close()
 
     async def denial(self, caller):
         """The reply that denies this caller to connect, or None. A server reads its configuration once, so one answer

@@ -11,7 +11,8 @@ from . import cache_records, nar, paths
 LONGEST = nar.LIMIT + (1 << 20)
 
 # `bytes` is its length, `since` when it came, `owner` the user who sent it. One that `is_used` is in the store. It
-# stays while there is room, since a client sends an archive that two of its paths share only once.
+# stays while there is room, since a client sends an archive that two of its paths share only once. On the disk it has
+# the name `FILE@OWNER`.
 File = collections.namedtuple("File", "bytes since owner is_used")
 
 
@@ -27,12 +28,14 @@ class Waiting:
         self.folder, self.count, self.size, self.seconds = folder, count, size, seconds
         self.files, self.coming = {}, 0
         os.makedirs(folder, mode=0o700, exist_ok=True)
-        for name in os.listdir(folder):
-            if cache_records.FILE.fullmatch(name):
-                found = os.stat(f"{folder}/{name}")
-                self.files[name] = File(found.st_size, found.st_mtime, None, False)
-            elif name.endswith(".part"):
-                os.unlink(f"{folder}/{name}")
+        for entry in os.listdir(folder):
+            name, _, owner = entry.partition("@")
+            is_file = cache_records.FILE.fullmatch(name)
+            if is_file and paths.is_plain_name(owner) and name not in self.files:
+                found = os.stat(f"{folder}/{entry}")
+                self.files[name] = File(found.st_size, found.st_mtime, owner, False)
+            elif is_file or entry.endswith(".part"):
+                os.unlink(f"{folder}/{entry}")
         self.expire()
 
     def expire(self):
@@ -41,10 +44,14 @@ class Waiting:
             if time.time() - file.since > self.seconds:
                 self.delete(name)
 
+    def file(self, name):
+        """The file on the disk; one that still comes has a number."""
+        return f"{self.folder}/{name}" if name.endswith(".part") else f"{self.folder}/{name}@{self.files[name].owner}"
+
     def delete(self, name):
-        del self.files[name]
         with contextlib.suppress(FileNotFoundError):
-            os.unlink(f"{self.folder}/{name}")
+            os.unlink(self.file(name))
+        del self.files[name]
 
     def make_room(self, share, found):
         """Deletes used files among these, the oldest first, until they have that share of the room. Returns whether
@@ -77,7 +84,7 @@ class Waiting:
         key, digest, size = f"{self.coming}.part", hashlib.sha256(), 0
         self.reserve(key, File(length, time.time(), owner, False))
         try:
-            with open(f"{self.folder}/{key}", "wb") as out:
+            with open(self.file(key), "xb", opener=lambda file, flags: os.open(file, flags, 0o600)) as out:
                 async for piece in pieces:
                     size += len(piece)
                     if size > length:
@@ -86,8 +93,10 @@ class Waiting:
                     out.write(piece)
             if paths.base32(digest.digest()) != digits:
                 raise cache_records.Bad(f"nar/{name} has another SHA-256: sha256:{paths.base32(digest.digest())}")
-            os.rename(f"{self.folder}/{key}", f"{self.folder}/{name}")
+            if name in self.files:
+                self.delete(name)
             self.files[name] = self.files[key]._replace(bytes=size)
+            os.rename(self.file(key), self.file(name))
         finally:
             self.delete(key)
 
@@ -97,7 +106,7 @@ class Waiting:
             raise cache_records.Bad(
                 f"nar/{name} isn't here: an archive comes first, and its record within {self.seconds:.0f} seconds"
             )
-        with open(f"{self.folder}/{name}", "rb") as file:
+        with open(self.file(name), "rb") as file:
             return file.read()
 
     def use(self, name):

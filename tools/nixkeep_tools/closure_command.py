@@ -3,14 +3,14 @@ import argparse
 import os
 import sys
 
-from . import credentials, objects, paths, streams
+from . import credentials, objects, paths, streams, version
 from .closures import Transfer, session_of, summary
 from .failures import FAILED, REFUSED, Stop
 from .http_client import Place, Server
 from .real_nix import Nix
 
 DESCRIPTION = """\
-Brings closures of real Nix into a nixkeep store (push), from there to real Nix (pull), or to another nixkeep store
+Brings closures of Nix into a nixkeep store (push), from there to Nix (pull), or to another nixkeep store
 (copy). Objects go references first, and those that are there are left out. A session of temporary roots keeps what is
 under way, so a collection can't take it. A command that was stopped goes on when it is given again."""
 EPILOG = """\
@@ -31,8 +31,8 @@ ROOTS = {
 }
 DONE = {"push": "pushed", "pull": "pulled", "copy": "copied"}
 WAYS = {
-    "push": "from real Nix into the nixkeep store",
-    "pull": "from the nixkeep store to real Nix",
+    "push": "from Nix into the nixkeep store",
+    "pull": "from the nixkeep store to Nix",
     "copy": "from the nixkeep store to another one",
 }
 
@@ -41,6 +41,7 @@ def parser():
     form = argparse.RawDescriptionHelpFormatter
     top = argparse.ArgumentParser(prog="nixkeep-closure", description=DESCRIPTION, epilog=EPILOG, allow_abbrev=False,
                                   formatter_class=form)
+    version.add_to(top)
     place, add = top.add_mutually_exclusive_group(), top.add_argument
     place.add_argument("--server", metavar="URL", help="the nixkeep store of this server")
     place.add_argument("--db", metavar="FILE", help="the nixkeep store in this file, which no server has open")
@@ -50,7 +51,7 @@ def parser():
     add("--me", metavar="USER", help="the name by which a proxy knows you")
     add("--credentials", metavar="FILE", help="a line USER:PASSWORD or Bearer TOKEN, in a file of your own")
     add("--ca", metavar="FILE", help="certificates to trust, in place of the system's")
-    add("--nix-store", metavar="URL", help="the store of real Nix, as nix-store takes it after --store")
+    add("--nix-store", metavar="URL", help="the store of Nix, as nix-store takes it after --store")
     add("--session", type=int, metavar="N", help="the session, 1 to 4,194,304 [default: by the paths]")
     add("--dry-run", action="store_true", help="print the objects that would be sent, and send none")
     actions = top.add_subparsers(dest="action", metavar="ACTION", required=True)

@@ -2,13 +2,14 @@
 
 A source has `closure(tops)` and `archive(record)`. A target has `valid(bases)`, `keep(base)`, `put(record, archive)`
 and `set_root(kind, name, base)`. Both have `folder`, `full(base)`, `check_folder()` and `end_session()`. A nixkeep
-store and real Nix can each be both. Paths are base names.
+store and Nix can each be both. Paths are base names.
 """
 import collections
 import hashlib
 
-from . import nar, objects, paths, streams
-from .failures import DENIED, REFUSED, Stop
+from . import nar, objects, paths, pointers, streams
+from .count_of import count_of
+from .failures import DENIED, FAILED, REFUSED, Stop
 from .progress import Progress
 
 MOST_REFERENCES = 4_096
@@ -53,6 +54,10 @@ def reached(records, base):
     return found
 
 
+def is_large(record):
+    return record.nar_size > nar.LIMIT
+
+
 class Transfer:
     """A transfer of the closure of the paths `tops`. `what` is its name in the line of progress."""
 
@@ -74,17 +79,30 @@ class Transfer:
         found = self.source.closure(self.tops)
         self.records = {base: objects.with_address(it, self.target.folder) for base, it in found.items()}
         self.refuse_large()
+        self.refuse_pointers()
         there = self.held(self.target.valid(self.records))
         self.missing = [base for base in references_first(self.records) if base not in there]
         self.refuse_untrusted()
 
     def refuse_large(self):
-        large = [it for it in self.records.values() if it.nar_size > nar.LIMIT]
+        large = [it for it in self.records.values() if is_large(it)]
+        large = [] if large and self.target.takes_large() else large
         many = [it for it in self.records.values() if len(it.refs) > MOST_REFERENCES]
         lines = [f"refused: 8 too-large {self.source.full(it.base)} {it.nar_size} bytes" for it in large]
         lines += [f"refused: 33 too-many-references {self.source.full(it.base)}" for it in many]
         if lines:
             raise Refused("\n".join(lines), REFUSED)
+
+    def refuse_pointers(self):
+        """Raises Refused for what stands for a large archive in a store, and isn't one: nixkeep-cache has that."""
+        lines = []
+        for it in self.records.values():
+            if pointers.may_be(it.nar_size, it.ca):
+                found = pointers.read(self.archive(it), self.source.full(it.base))
+                lines += [f"failed: pointer {found.path}: its archive of {found.nar_size} bytes is in the blobs of "
+                          f"this store's nixkeep-cache: transfer it from there"] if found else []
+        if lines:
+            raise Refused("\n".join(lines), FAILED)
 
     def held(self, there, is_careful=False):
         """Keeps the paths that are there, and returns them, without those that a collection has deleted meanwhile.
@@ -99,11 +117,11 @@ class Transfer:
 
     def refuse_untrusted(self):
         """Raises Refused if an object without a content address is missing, and the caller isn't trusted."""
-        left = [self.records[it] for it in self.missing if not self.records[it].ca]
+        left = [self.records[it] for it in self.missing if not self.records[it].ca or is_large(self.records[it])]
         if not left or not isinstance(self.target, objects.Store) or self.target.is_trusted():
             return
         folder = self.target.folder
-        found = [it for it in left if not objects.text_address(it, self.archive(it), folder)]
+        found = [it for it in left if is_large(it) or not objects.text_address(it, self.archive(it), folder)]
         if found:
             raise Refused("\n".join(f"denied: trusted-import {self.target.full(it.base)}" for it in found), DENIED)
 
@@ -111,10 +129,25 @@ class Transfer:
         """The archive of an object, tested by its record."""
         found = self.source.archive(record)
         if len(found) != record.nar_size or paths.sha256([found]) != record.nar_hash:
-            raise Stop(
-                f"failed: archive: {self.source.full(record.base)} in {self.source} has another hash than its record"
-            )
+            raise self.other_hash(record)
         return found
+
+    def other_hash(self, record):
+        return Stop(f"failed: archive: {self.source.full(record.base)} in {self.source} has another hash than its "
+                    "record")
+
+    def pieces(self, record):
+        """Yields a large archive. It is tested by its record ahead of its last piece."""
+        digest, size, held = hashlib.sha256(), 0, b""
+        for piece in self.source.pieces(record):
+            digest.update(piece)
+            size += len(piece)
+            if held:
+                yield held
+            held = piece
+        if size != record.nar_size or digest.digest() != record.nar_hash:
+            raise self.other_hash(record)
+        yield held
 
     def send(self):
         """Sends what is missing, and returns what was done."""
@@ -131,12 +164,15 @@ class Transfer:
         return Done(self.done, total, there)
 
     def put(self, record):
-        archive = self.archive(record)
         for _ in range(3):
-            if self.target.put(record, archive):
+            if self.target.put(record, *self.given(record)):
                 return
             self.restore(record)
         raise Stop(f"refused: 24 missing-reference {self.target.full(record.base)}", REFUSED)
+
+    def given(self, record):
+        """The archive of an object, as a target takes it."""
+        return (b"", lambda: self.pieces(record)) if is_large(record) else (self.archive(record),)
 
     def restore(self, record):
         """Sends what is missing of the references of an object.
@@ -148,7 +184,7 @@ class Transfer:
         there = self.held(self.target.valid(needed), is_careful=True)
         for base in references_first(self.records):
             if base in needed and base not in there:
-                self.target.put(self.records[base], self.archive(self.records[base]))
+                self.target.put(self.records[base], *self.given(self.records[base]))
 
     def finish(self, root):
         """Sets the root, a kind and a name, unless it is None, and ends the sessions."""
@@ -175,4 +211,5 @@ class Transfer:
 
 
 def summary(what, done):
-    return f"{what} {done.sent} objects, {done.bytes} bytes; {done.there} were there\n"
+    there = f"{done.there} {'was' if done.there == 1 else 'were'} there"
+    return f"{what} {count_of(done.sent, 'object')}, {count_of(done.bytes, 'byte')}; {there}\n"

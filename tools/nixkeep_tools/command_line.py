@@ -1,28 +1,39 @@
-"""Command lines in the grammar of `nixkeep`, with the texts of its usage faults and of its help.
+"""Command lines in the grammar of `nixkeep`, with the texts of its usage errors and of its help.
 
 argparse has another grammar: it abbreviates options, lets them be repeated, and drops `--` from the values. Here an
 option is given once. Its value is the next word, or follows `=`. Options belong to the command before them. After `--`
 every word is a value. One thing of `nixkeep` is missing: no similar words are suggested for a faulty one.
 """
-import collections
-
-# `kind` is flag, option, required, optional, any (any number of values) or some (one value at least). `value` is the
-# word for the value in a usage line.
-Argument = collections.namedtuple("Argument", "name kind value help")
-# `options` holds the values of the options before the subcommand, `name` is that of the subcommand, `values` holds
-# the values of its arguments, by their names.
-Line = collections.namedtuple("Line", "options name values")
 POSITIONAL = ("required", "optional", "any", "some")
 HELP = "Print this message or the help of the given subcommand(s)"
 MORE = "For more information, try '--help'."
 
 
 class Told(Exception):
-    """A usage fault or a request for help: the text that is printed, and the exit status."""
+    """A usage error or a request for help: the text that is printed, and the exit status."""
 
     def __init__(self, text, status=2):
         super().__init__(text)
         self.text, self.status = text, status
+
+
+class Argument:
+    """An argument of a command.
+
+    `kind` is flag, option, required, optional, any (any number of values) or some (one value at least). `value` is the
+    word for the value in a usage line.
+    """
+
+    def __init__(self, name, kind, value, about):
+        self.name, self.kind, self.value, self.about = name, kind, value, about
+
+
+class Line:
+    """A command line that was read: the values of the options before the subcommand, the name of that, and the values
+    of its arguments by their names."""
+
+    def __init__(self, options, name, values):
+        self.options, self.name, self.values = options, name, values
 
 
 class Command:
@@ -84,13 +95,13 @@ def columns(rows):
 
 
 def help_text(command, title):
-    options = [(f"    {shown(it)}", it.help) for it in command.options.values()]
+    options = [(f"    {shown(it)}", it.about) for it in command.options.values()]
     parts = [f"{command.about}\n\n{usage(command, title)}\n"]
     if command.commands:
         rows = [(it.name, it.about) for it in command.commands.values()]
         parts.append(f"Commands:\n{columns([*rows, ('help', HELP)])}")
     if command.positional:
-        parts.append(f"Arguments:\n{columns([(shown(it), it.help) for it in command.positional])}")
+        parts.append(f"Arguments:\n{columns([(shown(it), it.about) for it in command.positional])}")
     parts.append(f"Options:\n{columns([*options, ('-h, --help', 'Print help')])}")
     return Told("\n".join(parts), 0)
 
@@ -112,14 +123,14 @@ def help_of(top, title, words):
 
 
 class Reader:
-    """A reader of the words of one command, up to its subcommand if it has any.
+    """A reader of the words of one command, an iterator, up to its subcommand if it has any.
 
     `values` holds what was read, by names, `given` the values without an option. `waiting` is an option whose value
     comes next.
     """
 
     def __init__(self, command, title, words):
-        self.command, self.title, self.words = command, title, collections.deque(words)
+        self.command, self.title, self.words = command, title, words
         self.values, self.waiting, self.is_escaped, self.given = {}, None, False, []
 
     def unexpected(self, word, used, tip=None):
@@ -197,8 +208,7 @@ class Reader:
 
     def read(self):
         """Reads words up to the subcommand, and returns its name; None if there is no subcommand."""
-        while self.words:
-            word = self.words.popleft()
+        for word in self.words:
             if self.is_escaped or word == "-" or not word.startswith("-"):
                 if self.value(word):
                     return word
@@ -214,13 +224,13 @@ class Reader:
 
     def place(self):
         """Gives the values without an option to their arguments."""
-        given, missing = collections.deque(self.given), []
+        given, missing = [*self.given], []
         for it in self.command.positional:
             if it.kind in ("any", "some"):
                 self.values[it.name] = [*given]
                 missing += [it] * (it.kind == "some" and not given)
             elif given:
-                self.values[it.name] = given.popleft()
+                self.values[it.name] = given.pop(0)
             else:
                 missing += [it] * (it.kind == "required")
         if missing:
@@ -236,7 +246,7 @@ def read(top, title, words):
             word.encode()
     except UnicodeEncodeError:
         raise Told("error: a word of the command line isn't UTF-8\n") from None
-    reader = Reader(top, title, words)
+    reader = Reader(top, title, iter(words))
     name = reader.read()
     if name is None:
         raise misuse("no subcommand is named", title)
@@ -247,5 +257,5 @@ def read(top, title, words):
 
 
 def misuse(text, title):
-    """The usage fault of words that don't go together."""
+    """The usage error of words that don't go together."""
     return fault(text, f"Usage: {title} [OPTIONS] [COMMAND]")

@@ -3,21 +3,27 @@
 A file and the variable NIXKEEP_CREDENTIALS hold one line: `USER:PASSWORD` for Basic authentication, or `Bearer TOKEN`.
 Credentials are sent over https, to this machine and over a Unix socket. They never cross a network in the clear.
 """
-import collections
 import os
 import stat
 
 from .failures import Stop, reason
 
-VARIABLE = "NIXKEEP_CREDENTIALS"
-# `field` is the value of the header field `authorization`, `user` a name or None, `source` the file or the variable.
-Credentials = collections.namedtuple("Credentials", "field user source")
+VARIABLE, NETRC = "NIXKEEP_CREDENTIALS", "~/.netrc"
+
+
+class Credentials:
+    """Credentials for a proxy: the value of the header field `authorization`, the name of the user or None, and the
+    file or the variable that they come from."""
+
+    def __init__(self, field, user, source):
+        self.field, self.user, self.source = field, user, source
 
 
 def basic(user, password, source):
-    import base64
+    import binascii
 
-    return Credentials("Basic " + base64.b64encode(f"{user}:{password}".encode()).decode(), user, source)
+    encoded = binascii.b2a_base64(f"{user}:{password}".encode(), newline=False)
+    return Credentials(f"Basic {encoded.decode()}", user, source)
 
 
 def read_line(text, source):
@@ -49,9 +55,7 @@ def of_netrc(host):
     """The credentials that ~/.netrc has for a host, or None."""
     import netrc
 
-    path = os.path.expanduser("~/.netrc")
-    if not host or not os.path.exists(path):
-        return None
+    path = os.path.expanduser(NETRC)
     try:
         # netrc itself refuses a file that others may read, if it isn't told the file's name.
         found = netrc.netrc().authenticators(host)
@@ -60,23 +64,31 @@ def of_netrc(host):
     return basic(found[0], found[2], path) if found and found[0] and found[2] else None
 
 
+def login_name():
+    """The login name, or None. (As `getpass` finds it, which takes longer to load than a request.)"""
+    import pwd
+
+    named = (os.environ.get(it) for it in ("LOGNAME", "USER", "LNAME", "USERNAME"))
+    try:
+        return next(filter(None, named), None) or pwd.getpwuid(os.getuid()).pw_name
+    except KeyError:
+        return None
+
+
 def user_of(credentials):
     """The name of the user of some credentials, else the login name."""
-    import getpass
-
-    if credentials and credentials.user:
-        return credentials.user
-    try:
-        return getpass.getuser()
-    except (KeyError, OSError):
-        raise Stop("failed: user: nobody knows your name; --me USER or NIXKEEP_USER says it") from None
+    name = credentials and credentials.user or login_name()
+    if not name:
+        raise Stop("failed: user: nobody knows your name; --me USER or NIXKEEP_USER says it")
+    return name
 
 
 def found(place, path=None):
     """The credentials for a place, or None. `path` names a file of credentials."""
     variable = os.environ.get(VARIABLE)
     if not path and not variable:
-        return of_netrc(place.host) if place.is_private else None
+        is_there = place.host and os.path.exists(os.path.expanduser(NETRC))
+        return of_netrc(place.host) if is_there and place.is_private else None
     if not place.is_private:
         raise Stop(f"failed: credentials: {place.url}: they would be sent in the clear; use https")
     return of_file(path) if path else read_line(variable, VARIABLE)

@@ -5,7 +5,8 @@ import os
 import sys
 import tomllib
 
-from . import explain_file, explain_rescue, explain_usage, paths, store_file
+from . import explain_file, explain_log, explain_rescue, explain_usage, paths, store_file, version
+from .count_of import count_of
 from .explain_schema import DAMAGED, shown
 from .explain_verdict import BAD_SCHEMA, Examined
 
@@ -16,7 +17,7 @@ HELP = """exit statuses:
   0  nixkeep opens the file: a sound store, or a database to which it adds its tables
   1  failed: there is no such file, or the folder of --rescue can't be written
   2  the command line is wrong
-  3  nixkeep refuses the file; the first line has its answer
+  3  nixkeep refuses the file; the first line has its answer. With --log: commits of the log may be lost
 """
 
 # What a configuration says that decides on a file and on what is live.
@@ -53,19 +54,28 @@ def settings(path):
 # ---- what is printed
 
 
+def printable(text):
+    """A text with each character that isn't printable as an escape: names in a file may come from anybody."""
+    return "".join(it if it.isprintable() else ascii(it)[1:-1] for it in text)
+
+
+def say(line, file=None):
+    print(printable(line), file=file)
+
+
 def print_verdict(file, examined, config):
     """Prints what nixkeep answers and each fault; returns the status."""
     refusal = examined.refusal(config.store_dir)
-    print(f"{file}: refused: {refusal}" if refusal else f"{file}: {examined.description()}")
+    say(f"{file}: refused: {refusal}" if refusal else f"{file}: {examined.description()}")
     for it in examined.faults:
-        print(f"  {shown(it.table, it.row)}: {it.rule}")
+        say(f"  {shown(it.table, it.row)}: {it.rule}")
     if examined.names and not examined.are_rows_tested:
-        print("  no row is tested, since the tables are not those of one schema")
-    if count := store_file.passed_over(file):
-        print(f"  its log: the last {count} frames don't count: a commit was stopped there, or the log is damaged")
+        say("  no row is tested, since the tables are not those of one schema")
+    if log := explain_log.line(file)[0]:
+        say(f"  {log}")
     if not refusal and examined.foreign:
         names = ", ".join(examined.foreign)
-        print(f"  of other programs: {names}; nixkeep refuses the file if its own SQLite can't read them")
+        say(f"  of other programs: {names}; nixkeep refuses the file if its own SQLite can't read them")
     return REFUSED if refusal else SOUND
 
 
@@ -77,18 +87,19 @@ def print_rescue(folder, file, examined):
     if not examined.names or not examined.objects.objects:
         raise nothing_to_rescue(file)
     found = explain_rescue.rescue(folder, file, examined)
-    print(f"{folder}: {found.objects} objects, {found.roots} roots; sh {folder}/restore NEW.db makes a store of them")
+    what = f"{count_of(found.objects, 'object')}, {count_of(found.roots, 'root')}"
+    say(f"{folder}: {what}; sh {folder}/restore NEW.db makes a store of them")
     for what, why in found.left_out:
-        print(f"  left out: {what}: {why}")
+        say(f"  left out: {what}: {why}")
 
 
 def print_usage(file, conn, examined, config):
     if not examined.names or examined.faults:
-        print(f"{file}: no usage: not a sound store")
+        say(f"{file}: no usage: not a sound store")
         return
-    print()
+    say("")
     for line in explain_usage.lines(store_file.read(conn), config.keep_outputs, config.keep_derivers):
-        print(line)
+        say(line)
 
 
 # ---- the command
@@ -97,7 +108,9 @@ def print_usage(file, conn, examined, config):
 def parser():
     asked = argparse.ArgumentParser(prog="nixkeep-explain", description=__doc__, epilog=HELP, allow_abbrev=False,
                                     formatter_class=argparse.RawDescriptionHelpFormatter)
+    version.add_to(asked)
     asked.add_argument("--config", metavar="FILE", help="the configuration that nixkeep is called with")
+    asked.add_argument("--log", action="store_true", help="print a line if some of the log doesn't count, and no more")
     asked.add_argument("--usage", action="store_true", help="print who keeps how much, and what generations would free")
     asked.add_argument("--rescue", metavar="FOLDER", help="write all sound objects and their roots to a new folder")
     asked.add_argument("file", metavar="FILE", help="the store: the file that nixkeep --db names")
@@ -116,12 +129,24 @@ def explain_tables(words, config):
     return status
 
 
+def explain_the_log(file):
+    """Prints a line if a part of the log doesn't count, and returns the status."""
+    if not os.path.exists(file):
+        raise Stopped(f"{file}: there is no such file; nixkeep would make a store there", FAILED)
+    line, is_lost = explain_log.line(file)
+    if line:
+        say(f"{file}: {line}")
+    return REFUSED if is_lost else SOUND
+
+
 def explain(words):
     """Prints the explanation, and returns the status."""
+    if words.log:
+        return explain_the_log(words.file)
     config = settings(words.config)
     reasons = explain_file.of_path(words.file)
     for it in reasons:
-        print(f"{words.file}: refused: {BAD_SCHEMA}: {it.text}")
+        say(f"{words.file}: refused: {BAD_SCHEMA}: {it.text}")
     if not all(it.is_readable for it in reasons):
         return REFUSED
     if not os.path.exists(words.file):
@@ -130,30 +155,31 @@ def explain(words):
     try:
         status = explain_tables(words, config)
     except DAMAGED as error:
-        print(f"{words.file}: refused: {BAD_SCHEMA}: {explain_file.unreadable(words.file, error)}")
+        say(f"{words.file}: refused: {BAD_SCHEMA}: {explain_file.unreadable(words.file, error)}")
         if words.rescue:
             raise nothing_to_rescue(words.file) from None
         return REFUSED
     if store_file.stamps(words.file) != before:
-        print(f"{words.file}: written while it was read, so this may be out of date: run it again")
+        say(f"{words.file}: written while it was read, so this may be out of date: run it again")
     return REFUSED if reasons else status
 
 
 def main(arguments):
     words = parser().parse_args(arguments)
-    if hasattr(sys.stdout, "reconfigure"):
-        # (a damaged name may be no UTF-8)
-        sys.stdout.reconfigure(errors="backslashreplace")
+    for it in (sys.stdout, sys.stderr):
+        if hasattr(it, "reconfigure"):
+            # (the terminal's encoding may not have a character)
+            it.reconfigure(errors="backslashreplace")
     try:
         status = explain(words)
         sys.stdout.flush()
         return status
     except Stopped as stopped:
-        print(stopped.line, file=sys.stderr)
+        say(stopped.line, sys.stderr)
         return stopped.status
     except OSError as error:
         if not isinstance(error, BrokenPipeError):
-            print(f"failed: {error.strerror}: {error.filename or 'standard output'}", file=sys.stderr)
+            say(f"failed: {error.strerror}: {error.filename or 'standard output'}", sys.stderr)
         # (what standard output has not taken is not tried again at the end)
         sys.stdout = None
         return FAILED

@@ -1,6 +1,5 @@
 """Writes what is sound in a file to a folder: each object as a body for `nixkeep import`, and the roots as commands."""
 import collections
-import errno
 import heapq
 import os
 import shlex
@@ -18,6 +17,7 @@ SCRIPT = """#!/bin/sh
 # usage: sh restore NEW.db
 # The program is $NIXKEEP, or nixkeep on the path. What is in NEW.db already stays.
 set -eu
+umask 077
 here=$(dirname "$0")
 store=${{1:?usage: sh restore NEW.db}}
 nixkeep() {{ command "${{NIXKEEP:-nixkeep}}" --db "$store" --config "$here/store.toml" "$@"; }}
@@ -171,13 +171,11 @@ def kept_roots(rows, faults, kept):
 
 
 def rescue(folder, file, examined):
-    """Writes what is sound to a folder, which must be new or empty, and returns what was Rescued.
+    """Writes what is sound to a new folder, which its owner alone may read, and returns what was Rescued.
 
-    Raises OSError if the folder can't be written.
+    Raises OSError if something is there, such as a folder or a link, or the folder can't be written.
     """
-    os.makedirs(folder, exist_ok=True)
-    if os.listdir(folder):
-        raise FileExistsError(errno.EEXIST, "the folder isn't empty", folder)
+    os.mkdir(folder, 0o700)
     rows, objects, faults, store = examined.rows, examined.objects, examined.row_faults, examined.store_dir
     bodies, left_out = in_order(objects, bad_objects(objects, faults, rows.partial))
     roots, left_roots = kept_roots(rows, faults, set(bodies))
@@ -188,7 +186,7 @@ def rescue(folder, file, examined):
         # (no file name ends the comment that it is in)
         out.write(SCRIPT.format(file=ascii(file), count=len(bodies)))
         out.writelines(it + "\n" for it in ["", "# The roots, each set by its owner.", *root_commands(roots, store)])
-    os.chmod(os.path.join(folder, "restore"), 0o755)
+    os.chmod(os.path.join(folder, "restore"), 0o700)
     count = sum(len(found) for table, found in roots.items() if table != "profile")
     lost = [(shown("object", (it,)), why) for it, why in sorted(left_out.items())]
     return Rescued(len(bodies), count, [*lost, *left_roots])

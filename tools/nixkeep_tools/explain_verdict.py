@@ -1,5 +1,6 @@
 """What the tables of a file are, every rule that they break, and what nixkeep answers of them."""
 from . import explain_pages, explain_rows, explain_schema, paths
+from .count_of import count_of
 from .explain_schema import Fault
 from .store_file import FORMS, LACKS
 
@@ -93,4 +94,5 @@ class Examined:
             return f"no store yet: {what}, to which nixkeep adds its tables"
         count, size = len(self.objects.checked), sum(it.size for it in self.objects.checked.values())
         later = "" if self.schema == LAST else f", which the next command brings to schema {LAST}"
-        return f"sound: {count} objects of {size} bytes in {self.store_dir}, schema {self.schema}{later}"
+        what = f"{count_of(count, 'object')} of {count_of(size, 'byte')} in {self.store_dir}"
+        return f"sound: {what}, schema {self.schema}{later}"

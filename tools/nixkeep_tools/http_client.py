@@ -7,117 +7,73 @@
 A Reply is the server's own, whether the request was done or not. A proxy's own answer and a failed connection raise
 Stop with one line. A request is sent with its length, because the server takes no transfer coding. A reply is a stream.
 """
-import ipaddress
-import re
-import socket
 import sys
-import urllib.parse
 
 from .failures import DENIED, DONE, FAILED, REFUSED, Stop, reason
-
-# http.client loads ssl where it finds it, and that takes longer than a request. Only an https place needs it.
-if is_without_tls := "ssl" not in sys.modules:
-    sys.modules["ssl"] = None
-import http.client
-
-if is_without_tls:
-    del sys.modules["ssl"]
+from .http_connection import SECONDS, Cut, NotHttp, SocketConnection
+from .http_place import Place
 
 CHUNK = 65_536
-SECONDS = 600
 MOST_OF_BODY = 20_971_520
-# The texts of the server's replies to what isn't done, with the exit status, by HTTP status.
-_REFUSAL = (re.compile(rb"refused: [0-9]+ [a-z-]+\n"), REFUSED)
-_TEXTS = {
-    400: _REFUSAL,
-    404: _REFUSAL,
-    405: _REFUSAL,
-    403: (re.compile(rb"denied: [a-z-]+(?: [^\n]*)?\n"), DENIED),
-    503: (re.compile(rb"failed: (?:memory|size|disk)\n"), FAILED),
+_TYPES = ("text/plain", "application/octet-stream", "text/x-nix-cache-info")
+_NAME = frozenset("abcdefghijklmnopqrstuvwxyz-")
+
+
+# ---- the lines by which the server says why a request isn't done
+
+
+def _is_refusal(line):
+    number, _, name = line.removeprefix("refused: ").partition(" ")
+    return line.startswith("refused: ") and number.isascii() and number.isdigit() and _is_name(name)
+
+
+def _is_denial(line):
+    rule, _, about = line.removeprefix("denied: ").partition(" ")
+    return line.startswith("denied: ") and _is_name(rule) and "\n" not in about
+
+
+def _is_failure(line):
+    return line in ("failed: memory", "failed: size", "failed: disk")
+
+
+def _is_blob(line):
+    return line.startswith(("failed: blob-missing ", "failed: blob-damaged ")) and "\n" not in line
+
+
+def _is_full(line):
+    return line.startswith("failed: full ") and "\n" not in line
+
+
+def _is_name(text):
+    return text != "" and _NAME.issuperset(text)
+
+
+# By HTTP status: what tests the line, and the exit status.
+_LINES = {
+    400: (_is_refusal, REFUSED),
+    404: (_is_refusal, REFUSED),
+    405: (_is_refusal, REFUSED),
+    403: (_is_denial, DENIED),
+    503: (_is_failure, FAILED),
+    # (nixkeep-cache's own: a large archive is gone or damaged, and the file may not become larger)
+    502: (_is_blob, FAILED),
+    507: (_is_full, FAILED),
 }
-_TYPES = ("text/plain", "application/octet-stream")
 
 
-class Place:
-    """The place of a server: `http://HOST[:PORT]`, `https://HOST[:PORT]` or `unix:/PATH`.
+class _Closing:
+    """Closes a connection at any exception, or an answer that is late would be taken for the next one. (contextlib
+    takes a millisecond to load.)"""
 
-    A path after the host is the prefix of each target.
-    """
+    def __init__(self, connection):
+        self.connection = connection
 
-    def __init__(self, url):
-        self.url, self.socket, self.host, self.port, self.prefix = url, None, None, None, ""
-        self.scheme, _, rest = url.partition(":")
-        if self.scheme == "unix" and rest.startswith("/"):
-            self.socket = rest
-            return
-        try:
-            parts = urllib.parse.urlsplit(url)
-            self.host, self.port, self.prefix = parts.hostname, parts.port, parts.path.rstrip("/")
-        except ValueError:
-            parts = urllib.parse.SplitResult("", "", "", "", "")
-        if self.scheme not in ("http", "https") or not self.host or parts.query or parts.fragment or parts.username:
-            raise Stop(f"failed: server: {url}: http://HOST:PORT, https://HOST or unix:/PATH is meant")
+    def __enter__(self):
+        return self
 
-    @property
-    def is_private(self):
-        """Whether nobody on the way can read what is sent there."""
-        return self.scheme in ("https", "unix") or self.host == "localhost" or _is_loopback(self.host)
-
-    def connection(self, ca=None):
-        if self.socket:
-            return UnixConnection(self.socket)
-        if self.scheme == "https":
-            return TlsConnection(self.host, self.port, ca)
-        return http.client.HTTPConnection(self.host, self.port, timeout=SECONDS)
-
-
-def _is_loopback(host):
-    try:
-        return ipaddress.ip_address(host).is_loopback
-    except ValueError:
-        return False
-
-
-class TlsConnection(http.client.HTTPConnection):
-    """A connection over TLS. `ca` is a file of certificates, or None for those of the system."""
-
-    default_port = http.client.HTTPS_PORT
-
-    def __init__(self, host, port, ca):
-        import ssl
-
-        super().__init__(host, port, timeout=SECONDS)
-        try:
-            self.context = ssl.create_default_context(cafile=ca)
-        except OSError as error:
-            raise Stop(f"failed: certificate: {ca}: {reason(error)}") from None
-
-    def connect(self):
-        super().connect()
-        self.sock = self.context.wrap_socket(self.sock, server_hostname=self.host)
-
-
-class UnixConnection(http.client.HTTPConnection):
-    """A connection to the Unix socket of a path."""
-
-    def __init__(self, path):
-        super().__init__("localhost", timeout=SECONDS)
-        self.path = path
-
-    def connect(self):
-        self.sock = socket.socket(socket.AF_UNIX, socket.SOCK_STREAM)
-        self.sock.settimeout(self.timeout)
-        self.sock.connect(self.path)
-
-
-class SocketConnection(http.client.HTTPConnection):
-    """A connection over a socket that is connected already, such as one to a child process."""
-
-    auto_open = 0
-
-    def __init__(self, sock):
-        super().__init__("localhost", timeout=SECONDS)
-        self.sock = sock
+    def __exit__(self, kind, *_):
+        if kind:
+            self.connection.close()
 
 
 class Reply:
@@ -134,11 +90,12 @@ class Reply:
             yield self._text
             return
         left = self.length
-        while part := self.server.guard(self.response.read, CHUNK):
-            left = left and left - len(part)
-            yield part
-        if left:
-            raise self.server.gone(f"the connection ended {left} bytes before the end of the answer")
+        with self.server.closing_at_faults():
+            while part := self.server.guard(self.response.read, CHUNK):
+                left = left and left - len(part)
+                yield part
+            if left:
+                raise self.server.gone(f"the connection ended {left} bytes before the end of the answer")
 
     def text(self):
         """The text whole."""
@@ -146,8 +103,7 @@ class Reply:
 
     def refusal(self):
         """The number of the refusal, or None."""
-        found = re.match(rb"refused: ([0-9]+) ", self._text or b"")
-        return int(found[1]) if found else None
+        return int(self._text.split(b" ")[1]) if self.status == REFUSED else None
 
 
 class Server:
@@ -182,27 +138,38 @@ class Server:
 
     def sent(self, method, target, body, length):
         fields = {**self.fields, "content-length": str(length)} if length or method == "POST" else self.fields
-        self.guard(self.send, method, self.place.prefix + target, body, fields)
-        response = self.guard(self.connection.getresponse)
-        return self.reply(response, length)
+        with self.closing_at_faults():
+            self.guard(self.send, method, self.place.prefix + target, body, fields)
+            return self.reply(self.guard(self.connection.response), length)
+
+    def takes_large(self):
+        """Whether this is a nixkeep-cache that takes archives of any size."""
+        try:
+            reply = self.ask("GET", "/nix-cache-info", is_repeated=True)
+            return "\nLargeFrom: " in reply.text() and reply.status == DONE
+        except Foreign:
+            return False
+
+    def closing_at_faults(self):
+        return _Closing(self.connection)
 
     def send(self, method, target, body, fields):
         """Sends a request, or the part of it that is taken before the other side answers and closes."""
-        if self.connection.sock is None and self.connection.auto_open:
-            self.connection.connect()
+        self.connection.open()
         try:
-            self.connection.request(method, target, body or None, fields)
+            self.connection.send(method, target, [body] if isinstance(body, bytes) else body, fields)
         except (BrokenPipeError, ConnectionResetError):
             pass
 
     def reply(self, response, length):
-        media = response.headers.get("content-type", "none").partition(";")[0]
+        media = response.fields.get("content-type", "none").partition(";")[0]
         if response.status == 200 and media in _TYPES:
             return Reply(self, response, DONE)
-        text = self.guard(response.read, CHUNK) if response.status in _TEXTS else b""
-        form, status = _TEXTS.get(response.status, (None, None))
-        if form and form.fullmatch(text):
-            return Reply(self, response, status, text)
+        if response.status in _LINES:
+            text = self.guard(response.read, CHUNK)
+            is_line, status = _LINES[response.status]
+            if text.endswith(b"\n") and is_line(text[:-1].decode("latin-1")):
+                return Reply(self, response, status, text)
         self.connection.close()
         raise self.foreign(response, media, length)
 
@@ -210,11 +177,11 @@ class Server:
         """The result of `work(*words)`, a part of a request; Stop if the connection fails in it."""
         try:
             return work(*words)
-        except (http.client.RemoteDisconnected, http.client.NotConnected, ConnectionResetError, BrokenPipeError):
+        except (ConnectionResetError, BrokenPipeError):
             raise self.gone("the connection ended before the answer; the request may be done") from None
-        except http.client.IncompleteRead as error:
-            raise self.gone(f"the connection ended {error.expected or 0} bytes before the end of the answer") from None
-        except http.client.HTTPException:
+        except Cut as cut:
+            raise self.gone(f"the connection ended {cut.left or 0} bytes before the end of the answer") from None
+        except NotHttp:
             raise Stop(f"failed: proxy: {self.place.url}: the answer isn't HTTP") from None
         except TimeoutError:
             raise Stop(f"failed: unreachable: {self.place.url}: no answer within {SECONDS} seconds") from None
@@ -245,7 +212,7 @@ class Server:
         elif response.status in (502, 503, 504):
             why = "; the server behind it doesn't answer"
         elif 300 <= response.status < 400:
-            why = f"; it points to {response.headers.get('location', 'nowhere')}"
+            why = f"; it points to {response.fields.get('location', 'nowhere')}"
         elif response.status == 200:
             why = f"; a reply of type {media} isn't nixkeep's"
         return Foreign(f"failed: proxy: {self.place.url}: {status}{why}")
@@ -257,3 +224,6 @@ class Foreign(Stop):
 
 class Lost(Stop):
     """The connection was lost before the end of an answer."""
+
+
+__all__ = ["MOST_OF_BODY", "Foreign", "Lost", "Place", "Server", "SocketConnection"]

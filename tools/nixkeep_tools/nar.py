@@ -3,8 +3,6 @@
 `walk` yields the nodes of an archive, `check` returns its first fault, and `listing` yields the lines of `nixkeep ls`.
 Each takes the archive as an iterable of pieces of any length, and keeps one string or one piece in memory at a time.
 """
-import collections
-
 # An archive has at most this many bytes, and at most this many nodes inside one another.
 LIMIT = 16_777_216
 DEPTH = 256
@@ -30,9 +28,15 @@ class Fault(ValueError):
         self.number, self.name, self.offset = FAULTS[name], name, offset
 
 
-# A node. `kind` is its letter in a listing: `d`, `r`, `x` (executable) or `l`. `path` is bytes: `.` for the top and
-# `./a/b` below. `size` is the length of a file's contents, `target` the bytes of a link; both are None elsewhere.
-Node = collections.namedtuple("Node", "kind path size target")
+class Node:
+    """A node of an archive.
+
+    `kind` is its letter in a listing: `d`, `r`, `x` (executable) or `l`. `path` is bytes: `.` for the top and `./a/b`
+    below. `size` is the length of a file's contents, `target` the bytes of a link; both are None elsewhere.
+    """
+
+    def __init__(self, kind, path, size=None, target=None):
+        self.kind, self.path, self.size, self.target = kind, path, size, target
 
 
 class _Input:
@@ -115,7 +119,7 @@ def _file(given, path, contents):
         given.word(b"")
         given.word(b"contents")
     size = given.contents((lambda part: contents(path, part)) if contents else len)
-    return Node("x" if is_executable else "r", path, size, None)
+    return Node("x" if is_executable else "r", path, size)
 
 
 def _node(given, path, contents):
@@ -124,12 +128,12 @@ def _node(given, path, contents):
     given.word(b"type")
     kind = given.word(b"regular", b"symlink", b"directory")
     if kind == b"directory":
-        return Node("d", path, None, None)
+        return Node("d", path)
     if kind == b"regular":
         found = _file(given, path, contents)
     else:
         given.word(b"target")
-        found = Node("l", path, None, given.string())
+        found = Node("l", path, target=given.string())
     given.word(b")")
     return found
 
@@ -173,7 +177,8 @@ def walk(pieces, contents=None):
 def check(pieces):
     """The first Fault of the input, or None where it is an archive."""
     try:
-        collections.deque(walk(pieces), 0)
+        for _ in walk(pieces):
+            pass
     except Fault as fault:
         return fault
     return None

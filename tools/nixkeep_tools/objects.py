@@ -3,6 +3,7 @@
 Paths are base names. A request that isn't done raises Stop with the line of `nixkeep`, the path, and the exit status.
 """
 import collections
+import itertools
 import os
 import re
 import socket
@@ -121,13 +122,14 @@ class Store:
     def __str__(self):
         return self.server.place.url
 
-    def ask(self, method, target, body=b"", about=None, allowed=()):
+    def ask(self, method, target, body=b"", about=None, allowed=(), length=None):
         """The number of the refusal, None if the request is done, and the bytes of the reply.
 
         Raises Stop for a request that isn't done, except refusals whose numbers are `allowed`. `about` is a full path.
+        A body that isn't bytes yields them, and has a `length`.
         """
         try:
-            reply = self.server.ask(method, target, body, is_repeated=True)
+            reply = self.server.ask(method, target, body, length, is_repeated=length is None)
             text = b"".join(reply.parts())
         except Lost:
             # A child that ended has printed why.
@@ -192,6 +194,17 @@ class Store:
     def archive(self, record):
         return self.ask("GET", f"/nar/{record.base}", about=self.full(record.base))[1]
 
+    def pieces(self, record):
+        """Yields a large archive."""
+        reply = self.server.ask("GET", f"/nar/{record.base}")
+        if reply.status != DONE:
+            raise Stop(f"{reply.text().rstrip()} {self.full(record.base)}", reply.status)
+        yield from reply.parts()
+
+    def takes_large(self):
+        """Whether archives of any size may be put here."""
+        return self.server.takes_large()
+
     # ---- what is put there
 
     def keep(self, base):
@@ -200,15 +213,18 @@ class Store:
         number, _ = self.ask("POST", target, lines(("path", base)), self.full(base), (NOT_VALID,))
         return number is None
 
-    def put(self, record, archive):
-        """Imports an object and keeps it. Returns False if a reference of it isn't valid."""
+    def put(self, record, archive, of_large=None):
+        """Imports an object and keeps it. Returns False if a reference of it isn't valid. `of_large` returns an
+        iterable of the bytes of a large archive, which isn't given whole."""
         pairs = [("path", record.base), ("nar-hash", paths.nar_hash(record.nar_hash))]
         pairs += [("reference", it) for it in record.refs]
-        address = record.ca or text_address(record, archive, self.folder)
+        address = None if of_large else record.ca or text_address(record, archive, self.folder)
         pairs += [(key, value) for key, value in (("deriver", record.deriver), ("ca", address)) if value]
-        body, about = lines(*pairs) + archive, self.full(record.base)
+        head, about = lines(*pairs), self.full(record.base)
+        length = len(head) + record.nar_size if of_large else None
         for _ in range(TRIES):
-            number, _ = self.ask("POST", "/import", body, about, (MISSING_REFERENCE,))
+            body = itertools.chain([head], of_large()) if of_large else head + archive
+            number, _ = self.ask("POST", "/import", body, about, (MISSING_REFERENCE,), length)
             if number is not None:
                 return False
             # A collection may have deleted it before it is kept.

@@ -1,6 +1,5 @@
 """Who keeps how much of a store, what a collection would free, and why a path is kept."""
 import collections
-import shutil
 import subprocess
 
 from . import store_file
@@ -18,24 +17,45 @@ Step = collections.namedtuple("Step", "base by")
 Why = collections.namedtuple("Why", "base root steps")
 
 
-def usage(sizes, roots):
-    """The Usage of the roots whose bits are set. `sizes` are bytes by the bits of the roots that reach them."""
-    reached = sum(size for bits, size in sizes.items() if bits & roots)
-    return Usage(reached, sum(size for bits, size in sizes.items() if bits and not bits & ~roots))
+def sums(weights, count):
+    """For each of `count` bits the sum of the weights of the numbers that have it. `weights` are by numbers.
+
+    The sums are kept as their binary digits: the number at N has digit N of all sums. So a weight is added to all sums
+    at once, however many bits its number has.
+    """
+    planes = []
+    for number, weight in weights.items():
+        for digit in range(weight.bit_length()):
+            carry = number if weight >> digit & 1 else 0
+            while carry:
+                planes += [0] * (digit + 1 - len(planes))
+                planes[digit], carry, digit = planes[digit] ^ carry, planes[digit] & carry, digit + 1
+    digits = [f"{it:0{count}b}"[::-1] for it in planes[::-1]]
+    return [int("".join(column), 2) for column in zip(*digits)] if digits else [0] * count
+
+
+def usages(sizes, count):
+    """The Usage of each root. `sizes` are bytes by the numbers whose bits are the roots that reach them."""
+    alone = collections.Counter({bits: size for bits, size in sizes.items() if not bits & bits - 1})
+    return [Usage(*it) for it in zip(sums(sizes, count), sums(alone, count))]
 
 
 class Overview:
     """The figures of a store. `live` is the set of live paths by the server's own word, or None without a server."""
 
     def __init__(self, store, keeps_outputs=False, keeps_derivers=True, live=None):
-        self.store, self.keeps = store, (keeps_outputs, keeps_derivers)
+        self.store, self.keeps, self.is_served = store, (keeps_outputs, keeps_derivers), live is not None
         self.kept = store_file.edges(store, *self.keeps)
         self.bits = store_file.keepers(store, self.kept)
-        self.sizes = collections.Counter()
-        for base, bits in self.bits.items():
-            self.sizes[bits] += store.objects[base].size
+        self.used = usages(self.sizes(self.bits), len(store.roots))
         # (other settings of the server's, or a change between two questions)
         self.differs = 0 if live is None else len(live ^ {base for base, bits in self.bits.items() if bits})
+
+    def sizes(self, bits):
+        found = collections.Counter()
+        for base, it in bits.items():
+            found[it] += self.store.objects[base].size
+        return found
 
     def total(self, is_counted):
         """The number and the bytes of the objects whose roots are such."""
@@ -44,17 +64,17 @@ class Overview:
 
     def lines(self):
         """The roots by owner and kind, those that keep most first."""
-        groups, counts = collections.Counter(), collections.Counter()
-        for at, root in enumerate(self.store.roots):
-            key = root.owner or "", root.kind
-            groups[key] += 1 << at
-            counts[key] += 1
-        found = [Line(*key, counts[key], usage(self.sizes, bits)) for key, bits in groups.items()]
+        counts = collections.Counter((root.owner or "", root.kind) for root in self.store.roots)
+        groups = {key: at for at, key in enumerate(counts)}
+        together = store_file.keepers(self.store, self.kept,
+                                      lambda _, root: groups[root.owner or "", root.kind])
+        used = usages(self.sizes(together), len(groups))
+        found = [Line(*key, counts[key], used[at]) for key, at in groups.items()]
         return sorted(found, key=lambda it: (-it.usage.all, -it.usage.alone, it.owner, it.kind))
 
     def roots(self):
         """Each root with its Usage, largest first."""
-        found = [(root, usage(self.sizes, 1 << at)) for at, root in enumerate(self.store.roots)]
+        found = zip(self.store.roots, self.used)
         return sorted(found, key=lambda it: (-it[1].all, -it[1].alone, it[0].label, it[0].target))
 
     def profiles(self, roots):
@@ -125,8 +145,9 @@ def graph(why):
 
 
 def drawing(why):
-    """The chain as an SVG element, or None if graphviz isn't installed."""
-    if not shutil.which("dot"):
+    """The chain as an SVG element, or None if graphviz isn't installed or can't draw it in time."""
+    try:
+        ran = subprocess.run(["dot", "-Tsvg"], input=graph(why), capture_output=True, text=True, timeout=20, check=True)
+    except (OSError, subprocess.SubprocessError):
         return None
-    ran = subprocess.run(["dot", "-Tsvg"], input=graph(why), capture_output=True, text=True, timeout=20, check=True)
     return "<svg" + ran.stdout.partition("<svg")[2]

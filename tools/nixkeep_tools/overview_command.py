@@ -5,7 +5,7 @@ import sqlite3
 import sys
 import tomllib
 
-from . import cache_server, overview_page, overview_source, paths, store_file
+from . import cache_server, overview_page, overview_source, paths, store_file, version
 from .overview import Overview
 
 
@@ -19,6 +19,7 @@ def place(text):
 def parser():
     asked = argparse.ArgumentParser(prog="nixkeep-overview",
                                     description="Writes a page of who keeps how much of a store: HTML, by itself.")
+    version.add_to(asked)
     where = asked.add_mutually_exclusive_group(required=True)
     where.add_argument("--db", metavar="FILE", help="the file of a store that no server has open")
     where.add_argument("--store", type=place, metavar="HOST:PORT", help="the server of a store")
@@ -26,17 +27,19 @@ def parser():
     asked.add_argument("--group", help="the primary group of the caller")
     asked.add_argument("--config", metavar="FILE",
                        help="the configuration of the store, for keep-outputs and keep-derivations")
+    asked.add_argument("--name",
+                       help="what the page calls the store [that of the configuration or of the file's folder]")
     asked.add_argument("--why", metavar="PATH", help="write why this path is kept in place of the figures")
     asked.add_argument("--output", metavar="FILE", help="the page [standard output]")
     return asked
 
 
 async def of_server(where, caller, keeps):
-    server = cache_server.Server(*where, patience=10)
+    server = cache_server.Server(cache_server.Port(*where), patience=10)
     try:
         store, live = await overview_source.Records(server, keeps[0]).store(caller)
     finally:
-        server.close()
+        await server.end()
     return Overview(store, *keeps, live)
 
 
@@ -54,7 +57,8 @@ def main(words=None):
         asked.error("--store needs --user")
     try:
         found = made(said)
-        text = overview_page.page(found, why=said.why and paths.base_name(said.why, found.store.store_dir))
+        name = said.name or overview_source.name_of(said.config, said.db)
+        text = overview_page.page(found, name, why=said.why and paths.base_name(said.why, found.store.store_dir))
         if said.output:
             with open(said.output, "w", encoding="utf-8") as out:
                 out.write(text)

@@ -1,79 +1,20 @@
 """The page of an overview: HTML with its style and its drawing inside, and no script."""
-import datetime
-
-import jinja2
 import markupsafe
 
 from . import overview
+from .overview_style import rendered
 
-# The page loads nothing, whatever a name in the store may look like.
-POLICY = (
-    "default-src 'none'; style-src 'unsafe-inline'; img-src data:; "
-    "form-action 'self'; base-uri 'none'; frame-ancestors 'none'"
-)
-
-TEMPLATE = """<!DOCTYPE html>
-<html lang="en">
-<head>
-<meta charset="utf-8">
-<meta name="viewport" content="width=device-width, initial-scale=1">
-<meta name="color-scheme" content="light dark">
-<title>{% if why %}Why {{ why.base[33:] }} is kept{% else %}Who keeps what{% endif %} - nixkeep</title>
-<link rel="icon" href="data:,">
-<style>
-:root { --text: #1b1b1f; --back: #fff; --quiet: #54545c; --line: #d5d5dc;
-  --link: #0b4fbf; --bar: #4a7fd6; --alone: #b35c00; }
-@media (prefers-color-scheme: dark) {
-  :root { --text: #e9e9ee; --back: #131316; --quiet: #b5b5bf; --line: #3a3a42;
-    --link: #9cc1ff; --bar: #6f9fe8; --alone: #f0a850; }
-}
-* { box-sizing: border-box; }
-body { margin: 0 auto; max-width: 70rem; padding: 0 1rem 3rem; font: 1rem/1.5 system-ui, sans-serif;
-  color: var(--text); background: var(--back); }
-h1 { font-size: 1.6rem; margin: 1.2rem 0 0; } h2 { font-size: 1.2rem; margin: 2.2rem 0 .5rem; }
-p { margin: .5rem 0; } .quiet { color: var(--quiet); }
-a { color: var(--link); }
-a:focus-visible, input:focus-visible, button:focus-visible, .wide:focus-visible
-  { outline: 3px solid var(--link); outline-offset: 2px; }
-.skip { position: absolute; left: -99rem; } .skip:focus { left: 1rem; background: var(--back); padding: .5rem; }
-dl.sums { display: grid; grid-template-columns: repeat(auto-fit, minmax(9rem, 1fr)); gap: .8rem; margin: 1rem 0; }
-dl.sums div { border: 1px solid var(--line); border-radius: .5rem; padding: .6rem .8rem; }
-dl.sums dt { color: var(--quiet); } dl.sums dd { margin: 0; } dl.sums .size { font-size: 1.3rem; font-weight: 600; }
-.wide { overflow-x: auto; } table { border-collapse: collapse; width: 100%; }
-th, td { text-align: left; padding: .3rem .8rem .3rem 0; border-bottom: 1px solid var(--line);
-  vertical-align: top; font-weight: inherit; }
-thead th { font-weight: 600; }
-td.n, th.n { text-align: right; white-space: nowrap; font-variant-numeric: tabular-nums; }
-.path { overflow-wrap: anywhere; min-width: 11rem; }
-.path small { color: var(--quiet); font-size: .8rem; display: block; }
-.bar { height: .35rem; background: var(--bar); min-width: 1px; }
-.bar.alone { background: var(--alone); margin-top: 2px; }
-form { display: flex; flex-wrap: wrap; gap: .5rem; align-items: end; } label { flex-basis: 100%; }
-input { flex: 1 1 14rem; } input, button { font: inherit; padding: .4rem .6rem; color: inherit; background: var(--back);
-  border: 1px solid var(--quiet); border-radius: .3rem; }
-.drawing svg { max-width: 100%; height: auto; } .drawing text { fill: var(--text); }
-.drawing path, .drawing polygon { stroke: var(--quiet); } .drawing .edge polygon { fill: var(--quiet); }
-.notice { border-left: .3rem solid var(--alone); padding: .2rem .8rem; }
-ol { padding-left: 1.5rem; }
-input::placeholder { color: var(--quiet); opacity: 1; }
-@media (max-width: 40rem) {
-  .full, .wide .path small { display: none; } table { font-size: .9rem; }
-  th, td { padding-right: .4rem; } .wide .path { min-width: 5rem; }
-}
-</style>
-</head>
-<body>
-<a class="skip" href="#main">To the figures</a>
-{% macro size(bytes) %}<abbr title="{{ '{:,}'.format(bytes) }} bytes">{{ bytes|human }}</abbr>{% endmacro %}
-{% macro path(base) %}
+TEMPLATE = """{% macro path(base) %}
 {% if link %}<a href="{{ link }}?why={{ base|urlencode }}">{{ base[33:] }}</a>{% else %}{{ base[33:] }}{% endif -%}
   <small>{{ base[:32] }}</small>{% endmacro %}
 {% macro more(shown, all) %}
 {% if all > shown %}<p class="quiet">And {{ '{:,}'.format(all - shown) }} more.</p>{% endif %}{% endmacro %}
 <header>
-<h1>{% if why %}Why is {{ why.base[33:] }} kept?{% else %}Who keeps what{% endif %}</h1>
-<p class="quiet">{{ it.store.store_dir }}, {{ time }}
-{%- if why and link %}. <a href="{{ link }}">All of the store</a>{% endif %}</p>
+<h1>{% if why %}Why is {{ why.base[33:] }} kept?{% else %}Who keeps what
+  {%- if name %} in {{ name }}{% endif %}{% endif %}</h1>
+<p class="quiet">{% if why and name %}The store {{ name }}, {% endif %}{{ it.store.store_dir }}, {{ time }}
+{%- if why and link %}. <a href="{{ link }}">All of the store</a>{% endif %}
+{%- if link %}. <a href="{{ link }}/day">The last day</a>{% endif %}</p>
 </header>
 <main id="main">
 {% if missing %}<p class="notice" role="alert">There is no path {{ missing }} in this store.</p>{% endif %}
@@ -84,7 +25,8 @@ input::placeholder { color: var(--quiet); opacity: 1; }
 <ol>{% for step in why.steps %}<li class="path">{{ words[step.by] }} {{ path(step.base) }}</li>{% endfor %}</ol>
 {% if drawing %}<figure class="drawing" role="img"
   aria-label="The chain above as a drawing, from the root to the path">{{ drawing }}</figure>
-{% else %}<p class="quiet">The Debian package graphviz draws it.</p>{% endif %}
+{% else %}<p class="quiet">There is no drawing: the Debian package graphviz isn't installed, or it failed.</p>
+{% endif %}
 {% else %}<p>No root reaches it. The next collection deletes it.</p>{% endif %}
 {% else %}
 {% if it.differs %}<p class="notice"
@@ -105,24 +47,25 @@ input::placeholder { color: var(--quiet); opacity: 1; }
 <thead><tr><th scope="col">Owner</th><th scope="col">Kind</th><th scope="col" class="n">Roots</th>
   <th scope="col" class="n">In all</th>
   <th scope="col" class="n">Alone</th><th scope="col" class="full" style="width: 30%">Share</th></tr></thead>
-<tbody>{% for line in lines %}<tr><th scope="row">{{ line.owner or '-' }}</th><td>{{ line.kind }}</td>
+<tbody>{% for line in lines[:most] %}<tr><th scope="row">{{ line.owner or '-' }}</th>
+  <td>{{ kinds.get(line.kind, line.kind) }}</td>
   <td class="n">{{ '{:,}'.format(line.count) }}</td><td class="n">{{ size(line.usage.all) }}</td>
   <td class="n">{{ size(line.usage.alone) }}</td>
   <td class="full"><div class="bar" style="width: {{ line.usage.all|share }}%"></div>
   <div class="bar alone" style="width: {{ line.usage.alone|share }}%"></div></td></tr>{% endfor %}</tbody>
-</table></div>{% else %}<p>There is no root.</p>{% endif %}
+</table></div>{{ more(most, lines|length) }}{% else %}<p>There is no root.</p>{% endif %}
 
 <h2 id="profiles">Profiles</h2>
-{% if profiles %}<p class="quiet">A generation is deleted by its owner: nixkeep profile delete NAME N. Alone: what that
-  would free at the next collection.</p>
+{% if profiles %}<p class="quiet">A generation is deleted by its owner: {{ program }} profile delete NAME N.
+  Alone: what that would free at the next collection.</p>
 <div class="wide" tabindex="0" role="region" aria-labelledby="profiles"><table aria-labelledby="profiles">
 <thead><tr><th scope="col">Generation</th><th scope="col">Path</th><th scope="col" class="n">In all</th>
   <th scope="col" class="n">Alone</th></tr></thead>
-<tbody>{% for (owner, name), generations in profiles %}{% for root, used, is_current in generations %}<tr>
+<tbody>{% for owner, name, root, used, is_current in profiles[:most] %}<tr>
   <th scope="row" class="path">{{ owner }}/{{ name }} {{ root.number }}{% if is_current %} (current){% endif %}</th>
   <td class="path">{{ path(root.target) }}</td><td class="n">{{ size(used.all) }}</td>
   <td class="n">{{ size(used.alone) }}</td></tr>
-{% endfor %}{% endfor %}</tbody></table></div>{% else %}<p>There is no profile.</p>{% endif %}
+{% endfor %}</tbody></table></div>{{ more(most, profiles|length) }}{% else %}<p>There is no profile.</p>{% endif %}
 
 <h2 id="roots">Roots</h2>
 {% if roots %}<p class="quiet">Those that keep most first.</p>
@@ -154,29 +97,28 @@ WORDS = {
     "output": "its output",
     "deriver": "its deriver",
 }
+# What the page calls a kind of root, where that isn't its name.
+KINDS = {"hidden": "runtime or session, hidden"}
 
 
-def human(count):
-    """A number of bytes in the unit that leaves at most four digits."""
-    for unit in ("B", "KiB", "MiB", "GiB"):
-        if count < 1024:
-            return f"{count} {unit}" if unit == "B" else f"{count:.1f} {unit}"
-        count /= 1024
-    return f"{count:.1f} TiB"
-
-
-def page(it, link=None, why=None):
-    """The page of an Overview. `link` is where it is served, or None for a page by itself; `why` a path to explain."""
+def page(it, name=None, link=None, why=None):
+    """The page of an Overview. `name` is that of the store, or None; `link` is where the page is served, or None for
+    one by itself; `why` a path to explain."""
     sums = [("live", it.total(bool)), ("dead", it.total(lambda bits: not bits)), ("in all", it.total(lambda _: True))]
     found = it.why(why) if why else None
     drawing = overview.drawing(found) if found and found.root else None
-    made = jinja2.Environment(autoescape=True, trim_blocks=True)
-    made.filters["human"] = human
-    made.filters["share"] = lambda size: f"{100 * size / (sums[2][1][1] or 1):.1f}"
     roots = it.roots()
-    return made.from_string(TEMPLATE).render(
+    share = lambda size: f"{100 * size / (sums[2][1][1] or 1):.1f}"
+    title = f"Why {found.base[33:]} is kept" if found else "Who keeps what"
+    return rendered(
+        TEMPLATE,
+        {"share": share},
+        title=f"{title} in {name}" if name else title,
         it=it,
+        name=name,
         link=link,
+        kinds=KINDS,
+        program="nixkeep-remote" if it.is_served else "nixkeep",
         words=WORDS,
         why=found,
         missing=None if found else why,
@@ -184,9 +126,8 @@ def page(it, link=None, why=None):
         sums=sums,
         lines=it.lines(),
         roots=roots,
-        profiles=it.profiles(roots),
+        profiles=[(*key, *line) for key, lines in it.profiles(roots) for line in lines],
         dead=it.dead(),
         most=overview.MOST,
         most_dead=overview.DEAD,
-        time=datetime.datetime.now(datetime.timezone.utc).strftime("%-d %B %Y, %H:%M UTC"),
     )

@@ -1,8 +1,9 @@
 """What a store holds, for an overview: read from its file, or asked of its server."""
+import os
 import re
 import tomllib
 
-from . import drv, nar, paths, store_file
+from . import drv, nar, paths, pointers, store_file
 from .cache_server import Unreachable
 
 _LABELS = [
@@ -11,6 +12,7 @@ _LABELS = [
     ("profile", re.compile(r"profiles/per-user/(?P<owner>[^/]+)/(?P<name>.+)-(?P<number>[0-9]+)-link")),
     ("temporary", re.compile(r"\{temp:(?P<number>[0-9]+)\}")),
 ]
+CENSORED = "{censored}"
 
 
 class Denied(Exception):
@@ -31,17 +33,45 @@ def settings(file):
     return found.get("store-dir", paths.STORE), found.get("keep-outputs", False), found.get("keep-derivations", True)
 
 
+def name_of(config, file):
+    """What people call a store: the name of its configuration, or else that of its file's folder; None where neither
+    says anything."""
+    for it in (config and os.path.basename(config), file and os.path.basename(os.path.dirname(os.path.abspath(file)))):
+        name = (it or "").removesuffix(".toml")
+        if name not in ("", "store", "nixkeep"):
+            return name
+    return None
+
+
 def of_file(file):
     """The Store in a file that no other process has open."""
     with store_file.open_store(file) as conn:
-        return store_file.read(conn)
+        found = store_file.read(conn)
+        for base in may_be_pointers(found.objects):
+            found.objects[base] = sized(found.objects[base], b"".join(store_file.archive(conn, base)),
+                                        paths.full(base, found.store_dir))
+        return found
+
+
+def may_be_pointers(objects):
+    """The base names of the objects that may be pointers."""
+    return [base for base, it in objects.items() if pointers.may_be(it.size, it.address)]
+
+
+def sized(item, archive, path):
+    """An object with the size of the archive that it names, if it is a pointer, else as it is."""
+    found = pointers.read(archive, path)
+    return item._replace(size=found.nar_size) if found else item
 
 
 # ---- from a server
 
 
 def root(label, target):
-    """A root of a line in the listing of roots. A runtime root's label may be any text, or hidden."""
+    """A root of a line in the listing of roots. A runtime root's label may be any text. One that is hidden from this
+    caller is a runtime root's or a session's, which may be their own."""
+    if label == CENSORED:
+        return store_file.Root("hidden", target, label, None, None, None)
     for kind, form in _LABELS:
         if found := form.fullmatch(label):
             more = {"owner": None, "name": None, "number": None, **found.groupdict()}
@@ -101,7 +131,12 @@ class Records:
     async def read(self, bases, caller, store_dir):
         replies = await self.server.gets(caller, [f"/info/{it}" for it in bases])
         # (an object that has been deleted meanwhile is left out)
-        self.found |= {base: item(it.text) for base, it in zip(bases, replies) if it.status == 200}
+        fresh = {base: item(it.text) for base, it in zip(bases, replies) if it.status == 200}
+        unsure = may_be_pointers(fresh)
+        for base, it in zip(unsure, await self.server.gets(caller, [f"/nar/{it}" for it in unsure])):
+            if it.status == 200:
+                fresh[base] = sized(fresh[base], it.text, paths.full(base, store_dir))
+        self.found |= fresh
         if self.keeps_outputs:
             derivations = [it for it in bases if it.endswith(".drv") and it in self.found]
             replies = await self.server.gets(caller, [f"/nar/{it}" for it in derivations])

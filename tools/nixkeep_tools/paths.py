@@ -3,17 +3,13 @@
 A function that rejects a text raises Malformed, with the number and the name of the refusal that nixkeep answers.
 A path is kept as its base name, such as `xv2iccirbrvklck36f1g7vldn5v58vck-myfile`; `full` adds the store directory.
 """
-import re
-
 DIGITS = "0123456789abcdfghijklmnpqrsvwxyz"
 STORE = "/nix/store"
 _VALUES = {digit: value for value, digit in enumerate(DIGITS)}
-_PLAIN = re.compile(r"[A-Za-z0-9_.][A-Za-z0-9_.-]{0,63}")
-_STORE_NAME = r"(?!\.{1,2}(?:-|\Z))[A-Za-z0-9+._?=-]{1,211}"
-_NAME = re.compile(_STORE_NAME)
-_BASE = re.compile(f"[{DIGITS}]{{32}}-{_STORE_NAME}")
-_FOLDERS = re.compile(r"(?:/(?!\.{1,2}(?:/|\Z))[A-Za-z0-9+._?=-]+)+")
-_LABEL = re.compile(r"[!-~]{1,256}")
+# The characters of a text of each kind. (Sets, as loading `re` takes longer than a request.)
+_LETTERS = "ABCDEFGHIJKLMNOPQRSTUVWXYZabcdefghijklmnopqrstuvwxyz0123456789"
+_OF_PLAIN, _OF_NAME, _OF_DIGITS = frozenset(f"{_LETTERS}_.-"), frozenset(f"{_LETTERS}+._?=-"), frozenset(DIGITS)
+_DOTS = (".", "..")
 
 
 class Malformed(ValueError):
@@ -51,28 +47,32 @@ def unbase32(text, count):
 
 
 def is_plain_name(text):
-    """Whether the text may name a user, a group, a root or a profile."""
-    return _PLAIN.fullmatch(text) is not None
+    """Whether the text may name a user, a group, a root or a profile: 1 to 64 letters, digits, `_`, `.` and `-`, and no
+    `-` first."""
+    return 1 <= len(text) <= 64 and text[0] != "-" and _OF_PLAIN.issuperset(text)
 
 
 def is_store_name(text):
-    """Whether the text may follow the digits and the dash of a base name."""
-    return _NAME.fullmatch(text) is not None
+    """Whether the text may follow the digits and the dash of a base name: 1 to 211 letters, digits, `+`, `.`, `_`, `?`,
+    `=` and `-`, and before the first `-` neither `.` nor `..` alone."""
+    return 1 <= len(text) <= 211 and _OF_NAME.issuperset(text) and text.partition("-")[0] not in _DOTS
 
 
 def is_store_dir(text):
     """Whether the text may be a store directory: an absolute path of at most 200 bytes."""
-    return len(text) <= 200 and _FOLDERS.fullmatch(text) is not None
+    start, *folders = text.split("/")
+    is_path = start == "" and folders and all(it and _OF_NAME.issuperset(it) and it not in _DOTS for it in folders)
+    return len(text) <= 200 and bool(is_path)
 
 
 def is_base_name(text):
     """Whether the text is a base name: 32 digits, a dash and a store name."""
-    return _BASE.fullmatch(text) is not None
+    return text[32:33] == "-" and _OF_DIGITS.issuperset(text[:32]) and is_store_name(text[33:])
 
 
 def is_label(text):
     """Whether the text may be the label of a runtime root: 1 to 256 printable ASCII characters without blanks."""
-    return _LABEL.fullmatch(text) is not None
+    return 1 <= len(text) <= 256 and text.isascii() and text.isprintable() and " " not in text
 
 
 def store_name(text):

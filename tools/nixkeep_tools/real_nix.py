@@ -1,4 +1,4 @@
-"""The objects of a store of real Nix, by `nix-store --serve --write`, which Nix itself runs for a store over ssh.
+"""The objects of a store of Nix, by `nix-store --serve --write`, which Nix itself runs for a store over ssh.
 
 One process answers for a whole transfer, and holds temporary roots in Nix for the paths that it was asked about. Paths
 are base names.
@@ -13,6 +13,8 @@ from .objects import Record
 
 MAGIC, ANSWER, VERSION = 0x390C9DEB, 0x5452EECB, 0x205
 VALID_PATHS, PATH_INFOS, DUMP, CLOSURE, ADD = 1, 2, 3, 7, 9
+
+CHUNK = 1 << 20
 
 
 def number(value):
@@ -35,7 +37,7 @@ def read_hash(text):
 
 
 class Nix:
-    """A store of real Nix. `store` is a URL such as `local?root=/FOLDER`, or None for Nix's own default."""
+    """A store of Nix. `store` is a URL such as `local?root=/FOLDER`, or None for Nix's own default."""
 
     def __init__(self, store, folder):
         self.folder, self.store = folder, store
@@ -52,7 +54,7 @@ class Nix:
         self.number()
 
     def __str__(self):
-        return f"real Nix {self.store or ''}".rstrip()
+        return f"Nix {self.store or ''}".rstrip()
 
     # ---- the protocol
 
@@ -122,21 +124,39 @@ class Nix:
         return Record(self.base(path), digest, size, refs, deriver, ca)
 
     def archive(self, record):
+        return b"".join(self.pieces(record))
+
+    def pieces(self, record):
+        """Yields an archive. All of it is read, also where the rest isn't wanted."""
         self.send(number(DUMP), string(self.full(record.base)))
-        return self.read(record.nar_size)
+        left = record.nar_size
+        try:
+            while left:
+                piece = self.read(min(left, CHUNK))
+                left -= len(piece)
+                yield piece
+        finally:
+            while left:
+                left -= len(self.read(min(left, CHUNK)))
+
+    def takes_large(self):
+        """Whether archives of any size may be put here."""
+        return True
 
     # ---- what is put there
 
     def keep(self, base):
         return base in self.valid([base])
 
-    def put(self, record, archive):
-        """Adds an object, which Nix keeps until the process ends. Returns True."""
+    def put(self, record, archive, of_large=None):
+        """Adds an object, which Nix keeps until the process ends. Returns True. `of_large` returns an iterable of the
+        bytes of a large archive, which isn't given whole."""
         deriver = self.full(record.deriver) if record.deriver else ""
         self.send(number(ADD), string(self.full(record.base)), string(deriver), string(record.nar_hash.hex()))
         self.send(strings([*map(self.full, record.refs)]))
         # The time of registration, the size, whether it was built here, and signatures.
-        self.send(number(0), number(record.nar_size), number(0), strings([]), string(record.ca or ""), archive)
+        self.send(number(0), number(record.nar_size), number(0), strings([]), string(record.ca or ""))
+        self.send(*(of_large() if of_large else [archive]))
         self.number()
         self.valid([record.base])
         return True

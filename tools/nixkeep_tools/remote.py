@@ -1,10 +1,10 @@
 """The subcommands of `nixkeep` over HTTP: the request of each, and what is printed of the reply.
 
 The words are tested in the order of `nixkeep`. What only the server can test, it tests, and its reply is printed as it
-comes. No route returns the class of a caller, or whether a full path is in the store directory. Both are found out by
-requests that are always denied or refused, so they change nothing.
+comes. No route of a server returns the class of a caller, or whether a full path is in the store directory. Where
+nixkeep-cache doesn't answer that, both are found out by requests that are always denied or refused, so they change
+nothing.
 """
-import collections
 import os
 
 from . import credentials, nar, paths, streams, subcommands
@@ -28,7 +28,15 @@ CLASSES = {
     "denied: trusted-permanent-root\n": "allowed",
     "refused: 34 bad-root-name\n": "trusted",
 }
-Request = collections.namedtuple("Request", "method target head input", defaults=(b"", None))
+# What nixkeep-cache answers to those who may connect.
+ANSWERS = [f"class: {it}\n{CONNECTS}" for it in ("allowed", "trusted")]
+
+
+class Request:
+    """A request: its method, its target, and its body, which is bytes and then an input if there is one."""
+
+    def __init__(self, method, target, head=b"", given=None):
+        self.method, self.target, self.head, self.given = method, target, head, given
 
 
 # ---- values
@@ -157,8 +165,11 @@ class Asked:
         return self.added("/source", MOST_OF_ARCHIVE)
 
     def ask_import(self):
-        # The archive of a longer body is above its limit.
-        return Request("POST", "/import", b"", streams.Input(MOST_OF_BODY))
+        # The archive of a longer body is above the limit of a store, but not of a nixkeep-cache with blobs.
+        given = streams.Input(MOST_OF_BODY)
+        if given.length == MOST_OF_BODY and self.server().takes_large():
+            given.extend()
+        return Request("POST", "/import", b"", given)
 
     def ask_runtime(self):
         return Request("POST", "/runtime", b"", streams.Input(MOST_OF_BODY + 1))
@@ -206,7 +217,7 @@ class Asked:
 
 def _sent(asked, request):
     """The reply to a request. Its input is sent as it is read."""
-    given = request.input
+    given = request.given
     if not given:
         return asked.server().ask(request.method, request.target, request.head)
     progress = Progress("sent", given.length)
@@ -239,9 +250,16 @@ def store_command(asked):
 
 
 def who(asked):
-    """Prints the class of the caller, which the reply to a bad name of a permanent root shows."""
-    reply = asked.server().ask("DELETE", f"/root/permanent/{NOT_PLAIN}")
+    """Prints the class of the caller, which nixkeep-cache answers. A server alone has no route for it; there the reply
+    to a bad name of a permanent root shows it."""
+    reply = asked.server().ask("GET", "/who")
     text = reply.text()
+    if reply.status == DONE and text in ANSWERS:
+        streams.write([text.encode()])
+        return DONE
+    if reply.refusal() == 39:
+        reply = asked.server().ask("DELETE", f"/root/permanent/{NOT_PLAIN}")
+        text = reply.text()
     if text not in CLASSES:
         raise Stop(text.rstrip("\n"), reply.status)
     is_stranger = CLASSES[text] == "stranger"
@@ -309,6 +327,11 @@ def run(words, title):
     """Runs a command line, and returns the exit status."""
     is_who = False
     try:
+        if words == ["--version"]:
+            from . import version
+
+            streams.write([f"{version.line('nixkeep-remote')}\n".encode()])
+            return DONE
         line = subcommands.read(words, title)
         is_who = line.name == "who"
         return OWN.get(line.name, store_command)(Asked(line, os.environ))

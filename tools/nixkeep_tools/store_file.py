@@ -34,6 +34,8 @@ FORMS = {
 LACKS = {1: ["piece", "temp_root"], 2: ["temp_root"], 3: []}
 # The bytes of an archive in its object's row, and in each piece but the last.
 PART = 65_536
+# How a log begins, by the order of bytes in its sums.
+LOG_ORDERS = {b"\x37\x7f\x06\x82": "<", b"\x37\x7f\x06\x83": ">"}
 # The bytes that SQLite and nixkeep lock.
 LOCKED = (1 << 30, 512)
 
@@ -102,6 +104,12 @@ def checksum(data):
     return struct.pack("<2I", *_sum(data, "<", 0, 0))
 
 
+def is_log_head(head):
+    """Whether these are the 32 bytes with which a log begins."""
+    order = LOG_ORDERS.get(head[:4])
+    return order is not None and len(head) == 32 and _sum(head[:24], order, 0, 0) == struct.unpack(">2I", head[24:])
+
+
 def commits(path):
     """Yields the commits that SQLite takes from the log of a file.
 
@@ -114,12 +122,10 @@ def commits(path):
         return
     with log:
         head, first = log.read(32), None
-        order = {b"\x37\x7f\x06\x82": "<", b"\x37\x7f\x06\x83": ">"}.get(head[:4])
-        if order is None or len(head) < 32:
+        if not is_log_head(head):
             return
-        size, found = struct.unpack(">I", head[8:12])[0], _sum(head[:24], order, 0, 0)
-        if found != struct.unpack(">2I", head[24:]):
-            return
+        order, size = LOG_ORDERS[head[:4]], struct.unpack(">I", head[8:12])[0]
+        found = struct.unpack(">2I", head[24:])
         count = 0
         while len(frame := log.read(24 + size)) == 24 + size:
             number, pages, *sums = struct.unpack(">2I8x2I", frame[:24])
@@ -131,23 +137,9 @@ def commits(path):
                 yield first, pages, count
 
 
-def passed_over(path):
-    """How many frames of the log SQLite passes over though they were written after the last commit that it takes.
-
-    Such a frame is damaged, follows a damaged one, or belongs to a commit that was stopped. Frames from before the log
-    was begun anew have another salt, and aren't counted.
-    """
-    used = max((count for _, _, count in commits(path)), default=0)
-    try:
-        log = open(log_of(path), "rb")
-    except OSError:
-        return 0
-    with log:
-        head, count = log.read(32), 0
-        size = int.from_bytes(head[8:12], "big")
-        while len(head) == 32 and len(frame := log.read(24 + size)) == 24 + size and frame[8:16] == head[16:24]:
-            count += 1
-    return count - used
+def quoted(path):
+    """A path as it is written after `file:` in a URI of SQLite."""
+    return urllib.parse.quote(os.path.abspath(path))
 
 
 def connect(path):
@@ -155,7 +147,7 @@ def connect(path):
 
     A text that isn't UTF-8 is returned with surrogates for its bad bytes.
     """
-    where = urllib.parse.quote(os.path.abspath(path))
+    where = quoted(path)
     # SQLite deletes a log without a commit, or next to an empty file, so it must not look for such a log.
     # It makes no file of shared memory next to a log if it has the file for itself.
     is_in_log = os.path.getsize(path) and next(commits(path), None)
@@ -284,12 +276,13 @@ def _order(kept):
     return found[::-1]
 
 
-def keepers(store, kept):
-    """A number for each path: bit N is set if `store.roots[N]` reaches it. The number of a dead path is 0."""
+def keepers(store, kept, bit=lambda at, root: at):
+    """A number for each path: bit N is set if `store.roots[N]` reaches it. The number of a dead path is 0. Other bits
+    than these are given by `bit`, of a root and its place."""
     bits, order, is_changed = dict.fromkeys(kept, 0), _order(kept), True
     for at, root in enumerate(store.roots):
         if root.target in bits:
-            bits[root.target] |= 1 << at
+            bits[root.target] |= 1 << bit(at, root)
     while is_changed:
         is_changed = False
         for at in order:

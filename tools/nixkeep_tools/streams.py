@@ -1,4 +1,5 @@
 """Standard input and output. A stream that can't be read or written raises Stop with the line that `nixkeep` prints."""
+import io
 import os
 import stat
 
@@ -76,13 +77,33 @@ class Input:
             # A file that can't be read is found out before a request is sent.
             self.first = read(min(CHUNK, self.length)) if self.length else b""
             return
-        import tempfile
-
-        self.file = tempfile.SpooledTemporaryFile(IN_MEMORY)
+        self.length, self.file = 0, io.BytesIO()
         for part in received(most):
+            self.length += len(part)
+            if self.length > IN_MEMORY:
+                self.keep_in_file()
             self.file.write(part)
-        self.length = self.file.tell()
         self.file.seek(0)
+
+    def extend(self):
+        """Takes the rest of standard input, too."""
+        if self.is_file:
+            self.length = len(self.first) + (_left_in_file() or 0)
+            return
+        self.keep_in_file()
+        self.file.seek(0, io.SEEK_END)
+        for part in received():
+            self.length += len(part)
+            self.file.write(part)
+        self.file.seek(0)
+
+    def keep_in_file(self):
+        if isinstance(self.file, io.BytesIO):
+            import tempfile
+
+            found = self.file.getbuffer()
+            self.file = tempfile.TemporaryFile()
+            self.file.write(found)
 
     def parts(self):
         """Yields exactly `length` bytes."""

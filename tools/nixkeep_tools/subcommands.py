@@ -1,6 +1,4 @@
 """The command line of `nixkeep-remote`: the subcommands of `nixkeep`, and the options before them."""
-import re
-
 from . import command_line
 from .command_line import Argument, Command, flag, option, optional, required
 
@@ -112,7 +110,9 @@ def misuse_of(line):
 
 
 def is_decimal(text, most):
-    return re.fullmatch(r"0|[1-9][0-9]{0,19}", text, re.ASCII) is not None and int(text) <= most
+    """Whether the text is a number from 0 to `most`, which has at most 20 digits, without a zero before it."""
+    is_number = text.isascii() and text.isdigit() and len(text) <= 20
+    return is_number and (text == "0" or text[0] != "0") and int(text) <= most
 
 
 def read(words, title):

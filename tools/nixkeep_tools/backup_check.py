@@ -1,0 +1,92 @@
+"""What is tested before a server is stopped, for a copy or an upgrade: that it runs, and could start again."""
+import json
+import os
+import subprocess
+
+from . import backup_file, store_file
+from .failures import Stop, reason
+from .http_client import Place, Server
+
+# The part of a unit's memory that an opened store may need for its archives; opening takes more than their bytes.
+OPENS = 0.75
+
+
+def report_of(url, config):
+    """The report that a server prints for the first caller of its configuration."""
+    user, group = backup_file.caller(backup_file.settings(config))
+    fields = {"store-user": user, **({"store-group": group} if group else {})}
+    server = Server(Place(url), fields)
+    try:
+        reply = server.ask("GET", "/report")
+        text = reply.text()
+    finally:
+        server.connection.close()
+    if reply.status:
+        raise Stop(text.rstrip("\n"), reply.status)
+    return text
+
+
+def memory_of(unit):
+    """The bytes of memory that a unit may use, or None without a limit."""
+    text = backup_file.ran(["systemctl", "show", "--property", "MemoryMax", "--value", unit], "unit").strip()
+    return int(text) if text.isdigit() else None
+
+
+def refuse_large(text, unit):
+    """Raises Stop if a server with the archives of this report may not fit into the memory of its unit."""
+    size, limit = int(backup_file.TOTAL.search(text)[2]), memory_of(unit)
+    if limit is not None and size > limit * OPENS:
+        raise Stop(f"failed: memory: {unit} has MemoryMax={limit}, in which a store of {size} bytes may not open: "
+                   "the server isn't stopped")
+
+
+def check(words):
+    """Asks the server for its report, and notes it with what the files look like. Raises Stop if the server may not
+    start again: then it has to go on as it is."""
+    if words.unit and not is_active(words.unit):
+        raise Stop(f"failed: unit: {words.unit} doesn't run, so nothing is copied")
+    backup_file.ran(backup_file.words_of(backup_file.program_of(words), words.config, "who"), "configuration")
+    before = store_file.stamps(words.db)
+    text = report_of(words.server, words.config)
+    if not backup_file.TOTAL.search(text):
+        raise Stop("failed: report: the server's report has no total")
+    if words.unit:
+        refuse_large(text, words.unit)
+    if words.note:
+        write_note(words.note, {"stamps": before, "report": text})
+
+
+def is_active(unit):
+    words = ["systemctl", "is-active", "--quiet", unit]
+    try:
+        return subprocess.run(words, stdin=subprocess.DEVNULL).returncode == 0
+    except OSError as error:
+        raise Stop(f"failed: unit: systemctl: {reason(error)}") from None
+
+
+def write_note(path, found):
+    """Writes the note anew; a link at its place isn't followed."""
+    fresh = f"{path}.new"
+    try:
+        if os.path.lexists(fresh):
+            os.unlink(fresh)
+        with open(os.open(fresh, os.O_WRONLY | os.O_CREAT | os.O_EXCL, 0o644), "w", encoding="utf-8") as file:
+            json.dump(found, file)
+            # (the account of the store reads it)
+            os.fchmod(file.fileno(), 0o644)
+        os.rename(fresh, path)
+    except OSError as error:
+        raise Stop(f"failed: note: {path}: {reason(error)}") from None
+
+
+def wanted(path, database):
+    """The report that a copy has to have by a note, or None if the store was changed since, or there is no note."""
+    if not path:
+        return None
+    try:
+        with open(path, encoding="utf-8") as file:
+            note = json.load(file)
+    except (OSError, ValueError) as error:
+        raise Stop(f"failed: note: {path}: {reason(error)}") from None
+    is_same = [[*it] for it in store_file.stamps(database)] == note["stamps"]
+    return note["report"] if is_same else None

@@ -1,0 +1,127 @@
+"""A folder of dated copies: a new one gets its name once it is tested, and then old ones are deleted."""
+import contextlib
+import datetime
+import fcntl
+import json
+import os
+import re
+import stat
+import time
+
+from .failures import Stop, reason
+
+FORM = "%Y-%m-%dT%H-%M-%SZ.db"
+NAME = re.compile(r"\d{4}-\d\d-\d\dT\d\d-\d\d-\d\dZ\.db")
+# The copy that is being made, and what SQLite and nixkeep put next to it.
+NEW = "new.db"
+ALL_NEW = [NEW, *(f"{NEW}-{it}" for it in ("wal", "shm", "journal"))]
+# What is kept: the newest copies, and the newest one of each of the latest days and weeks that have one.
+COPIES, DAYS, WEEKS = 7, 7, 13
+
+
+def time_of(name):
+    """The time in the name of a copy, or None for any other name."""
+    try:
+        return datetime.datetime.strptime(name, FORM) if NAME.fullmatch(name) else None
+    except ValueError:
+        return None
+
+
+def newest_of_each(names, period, most):
+    """The newest name of each of the latest periods. The names are in falling order."""
+    found = {}
+    for it in names:
+        found.setdefault(period(time_of(it)), it)
+    return [*found.values()][:most]
+
+
+def kept(names):
+    """The names of the copies that are kept, as a set. It depends on copies alone, so time by itself deletes none."""
+    found = sorted(filter(time_of, names), reverse=True)
+    days = newest_of_each(found, lambda it: it.date(), DAYS)
+    weeks = newest_of_each(found, lambda it: it.isocalendar()[:2], WEEKS)
+    return {*found[:COPIES], *days, *weeks}
+
+
+def sync(path):
+    """Waits until a file or the names in a folder are on the disk."""
+    opened = os.open(path, os.O_RDONLY)
+    try:
+        os.fsync(opened)
+    finally:
+        os.close(opened)
+
+
+@contextlib.contextmanager
+def locked(folder):
+    """One copy at a time is made in a folder."""
+    try:
+        opened = os.open(folder, os.O_RDONLY | os.O_DIRECTORY)
+    except OSError as error:
+        raise Stop(f"failed: folder: {folder}: {reason(error)}") from None
+    try:
+        fcntl.flock(opened, fcntl.LOCK_EX | fcntl.LOCK_NB)
+        yield
+    except BlockingIOError:
+        raise Stop(f"failed: folder: {folder}: another copy is being made there") from None
+    finally:
+        os.close(opened)
+
+
+def delete_new(folder):
+    """Deletes what a copy that was stopped has left."""
+    for name in ALL_NEW:
+        path = f"{folder}/{name}"
+        try:
+            if stat.S_ISDIR(os.lstat(path).st_mode):
+                raise Stop(f"failed: folder: {path} is a folder, and in the way")
+            os.unlink(path)
+        except FileNotFoundError:
+            pass
+
+
+def give_name(folder):
+    """Gives the copy its name, which no other has, and returns that."""
+    while os.path.lexists(f"{folder}/{(name := time.strftime(FORM, time.gmtime()))}"):
+        time.sleep(0.1)
+    sync(f"{folder}/{NEW}")
+    os.rename(f"{folder}/{NEW}", f"{folder}/{name}")
+    sync(folder)
+    return name
+
+
+def add(folder, make):
+    """Makes a copy by `make(path)`, which also tests it, and returns its name, and the names of those deleted."""
+    with locked(folder):
+        delete_new(folder)
+        try:
+            make(f"{folder}/{NEW}")
+            name = give_name(folder)
+        finally:
+            delete_new(folder)
+        names = os.listdir(folder)
+        deleted = sorted({it for it in names if time_of(it)} - kept(names))
+        for it in deleted:
+            os.unlink(f"{folder}/{it}")
+        return name, deleted
+
+
+# ---- the state
+
+
+def read_state(path):
+    with contextlib.suppress(OSError, ValueError), open(path, encoding="utf-8") as file:
+        found = json.load(file)
+        return found if isinstance(found, dict) else {}
+    return {}
+
+
+def write_state(path, **more):
+    """Puts what a run did into the file that others watch, whole or not at all; what it doesn't name stays."""
+    text = json.dumps({**read_state(path), **more}, indent=2)
+    fresh = f"{path}.new"
+    with contextlib.suppress(FileNotFoundError):
+        os.unlink(fresh)
+    with open(os.open(fresh, os.O_WRONLY | os.O_CREAT | os.O_EXCL, 0o644), "w", encoding="utf-8") as file:
+        file.write(f"{text}\n")
+    os.rename(fresh, path)

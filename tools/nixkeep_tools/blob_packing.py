@@ -1,0 +1,181 @@
+"""Archives of any size on their way into a blob: unpacked, verified and compressed as they come."""
+import collections
+import hashlib
+import lzma
+import queue
+from concurrent.futures import ThreadPoolExecutor
+
+from .cache_records import ROOM, Bad, zstandard
+
+PIECE = 1 << 20
+# What each archive begins with.
+BEGIN = (13).to_bytes(8, "little") + b"nix-archive-1"
+# The memory that a file compressed by zstd may ask for, also of those who read it.
+WINDOW = 32 << 20
+# The bytes that are unpacked at once: the least of them may unpack to 32,768 times as many.
+SLICE = 4_096
+
+# `sent` is the SHA-256 of what came; the others are of the archive, and of its file in the blobs.
+Packed = collections.namedtuple("Packed", "sent nar_hash nar_size file_hash file_size")
+
+
+class Digest:
+    """The SHA-256 and the number of the bytes that pass, made in a thread of its own."""
+
+    def __init__(self, pool):
+        self.pool, self.made, self.size, self.last = pool, hashlib.sha256(), 0, None
+
+    def add(self, data):
+        self.wait()
+        self.size += len(data)
+        self.last = self.pool.submit(self.made.update, data)
+
+    def wait(self):
+        if self.last:
+            self.last.result()
+
+    def end(self):
+        self.wait()
+        return self.made.digest()
+
+
+class Read:
+    """A source whose bytes are counted, and are written to a file where there is one."""
+
+    def __init__(self, source, digest, out=None):
+        self.source, self.digest, self.out, self.left, self.at = source, digest, out, b"", 0
+
+    def read(self, count=PIECE):
+        if self.at == len(self.left):
+            self.left, self.at = self.source.read(PIECE), 0
+            self.digest.add(self.left)
+            if self.out:
+                self.out.write(self.left)
+        self.at += count
+        found = self.left[self.at - count : self.at]
+        self.at = min(self.at, len(self.left))
+        return found
+
+
+def of_xz(source):
+    """The archive in a source that is compressed by xz. Raises Bad."""
+    made, data = lzma.LZMADecompressor(lzma.FORMAT_XZ, memlimit=ROOM), b""
+    try:
+        while not made.eof:
+            if made.needs_input and not (data := source.read(PIECE)):
+                raise Bad("it can't be unpacked: it ends too early")
+            yield made.decompress(data if made.needs_input else b"", PIECE)
+    except lzma.LZMAError as error:
+        raise Bad(f"it can't be unpacked: {error}") from None
+    if made.unused_data or source.read(1):
+        raise Bad("it can't be unpacked: something follows its end")
+
+
+def of_zstd(source):
+    """The archive in a source that is compressed by zstd. Raises Bad."""
+    room, made, found, size = zstandard.ZstdDecompressor(max_window_size=WINDOW), None, [], 0
+    try:
+        while data := source.read(SLICE):
+            while data:
+                made = made or room.decompressobj()
+                found.append(made.decompress(data))
+                size += len(found[-1])
+                data = made.unused_data if made.eof else b""
+                made = None if made.eof else made
+            if size >= PIECE:
+                yield b"".join(found)
+                found, size = [], 0
+    except zstandard.ZstdError as error:
+        raise Bad(f"it can't be unpacked: {error}") from None
+    if made:
+        raise Bad("it can't be unpacked: it ends too early")
+    yield b"".join(found)
+
+
+def plain(source):
+    while data := source.read(PIECE):
+        yield data
+
+
+UNPACKED = {"none": plain, "xz": of_xz, "zstd": of_zstd}
+
+
+def packed(source, compression, out, level):
+    """Reads an archive, compressed so, and writes its blob to a file. Raises Bad. One that comes by zstd stays as it
+    is."""
+    with ThreadPoolExecutor(2) as pool:
+        nar, file, sent = Digest(pool), Digest(pool), Digest(pool)
+        is_kept = compression == "zstd"
+        given = Read(source, file if is_kept else sent, out if is_kept else None)
+        archive = UNPACKED[compression](given if compression != "none" else source)
+        (measure if is_kept else compress)(archive, nar, file, out, level)
+        made = nar.end(), nar.size, file.end(), file.size
+        of_sent = {"none": made[0], "zstd": made[2]}.get(compression)
+        return Packed(of_sent or sent.end(), *made)
+
+
+def begun(archive):
+    """The pieces of an archive. Raises Bad for what is none."""
+    first = b""
+    for data in archive:
+        if len(first) < len(BEGIN):
+            first += data[: len(BEGIN)]
+            if not BEGIN.startswith(first[: len(BEGIN)]):
+                break
+        yield data
+    if first[: len(BEGIN)] != BEGIN:
+        raise Bad("it is no archive (NAR)")
+
+
+def measure(archive, nar, *_):
+    for data in begun(archive):
+        nar.add(data)
+
+
+def compress(archive, nar, file, out, level):
+    made = zstandard.ZstdCompressor(level=level, write_checksum=True, threads=2).compressobj()
+    for data in begun(archive):
+        nar.add(data)
+        put(made.compress(data), file, out)
+    put(made.flush(), file, out)
+
+
+def put(data, file, out):
+    if data:
+        file.add(data)
+        out.write(data)
+
+
+class Feed:
+    """Pieces that come to an event loop, for a thread that reads them. Few bytes wait."""
+
+    MOST = 4 << 20
+
+    def __init__(self, loop, freed):
+        self.loop, self.freed, self.pieces, self.left, self.waiting = loop, freed, queue.SimpleQueue(), b"", 0
+
+    def give(self, piece):
+        """A piece; b"" is the end, and an exception is what the reader gets."""
+        self.waiting += len(piece) if isinstance(piece, bytes) else 0
+        self.pieces.put(piece)
+
+    def taken(self, count):
+        self.waiting -= count
+        self.freed.set()
+
+    def read(self, count):
+        found, size = [self.left], len(self.left)
+        while size < count:
+            piece = self.pieces.get()
+            if not piece or isinstance(piece, BaseException):
+                # (the end is there for the next read, too)
+                self.pieces.put(piece)
+                if piece:
+                    raise piece
+                break
+            self.loop.call_soon_threadsafe(self.taken, len(piece))
+            found.append(piece)
+            size += len(piece)
+        data = b"".join(found)
+        self.left = data[count:]
+        return data[:count]

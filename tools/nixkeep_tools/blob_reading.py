@@ -1,0 +1,114 @@
+"""Archives in blobs on their way out: verified as they are read, so that a damaged one is never sent whole."""
+import contextlib
+import hashlib
+import lzma
+from concurrent.futures import ThreadPoolExecutor
+
+from . import paths
+from .blob_packing import Digest, Read, of_zstd
+from .cache_records import Bad, zstandard
+
+PIECE = 1 << 20
+# The ways in which an archive is sent: as its file in the blobs, or unpacked.
+FORMS = ("zstd", "none")
+
+
+class Gone(Exception):
+    """A pointer whose blob isn't there."""
+
+
+class Damaged(Exception):
+    """A blob that isn't the one that its pointer names."""
+
+
+def size_of(pointer, form):
+    return pointer.file_size if form == "zstd" else pointer.nar_size
+
+
+def hash_of(pointer, form):
+    return pointer.file_hash if form == "zstd" else pointer.nar_hash
+
+
+def opened(place, name, pointer):
+    """A stream of a blob. Raises Gone, or Damaged for one of another size."""
+    size = place.size(name)
+    if size is None:
+        raise Gone(f"blob-missing {pointer.path}: {name} isn't in {place.where}")
+    if size != pointer.file_size:
+        raise Damaged(f"blob-damaged {pointer.path}: {name} in {place.where} has {size} bytes, not {pointer.file_size}")
+    return place.open(name)
+
+
+def pieces(place, name, pointer, form, start=0, end=None):
+    """Yields the bytes of an archive from `start` to `end`, or to its end. Then Damaged is raised ahead of the last
+    piece where the size or the digest of all of it differs. Raises Gone, or Damaged, before the first."""
+    is_part = end is not None and end < size_of(pointer, form)
+    stream = opened(place, name, pointer)
+    if is_part and form == "zstd":
+        stream.close()
+        stream, start, end = place.open(name, start), 0, end - start
+    try:
+        given = stream
+        if form == "none":
+            made = zstandard.ZstdDecompressor(max_window_size=1 << 31)
+            given = made.stream_reader(stream, PIECE, read_across_frames=True, closefd=False)
+        if is_part:
+            yield from part(given, place, name, pointer, start, end)
+        else:
+            yield from verified(given, place, name, pointer, form, start)
+    except zstandard.ZstdError as error:
+        raise Damaged(f"blob-damaged {pointer.path}: {name} in {place.where} can't be unpacked: {error}") from None
+    finally:
+        stream.close()
+
+
+def verified(given, place, name, pointer, form, start):
+    digest, at, held = hashlib.sha256(), 0, b""
+    while data := given.read(PIECE):
+        digest.update(data)
+        if held:
+            yield held
+        held = data[max(0, start - at) :]
+        at += len(data)
+    if at != size_of(pointer, form) or digest.digest() != hash_of(pointer, form):
+        raise Damaged(f"blob-damaged {pointer.path}: {name} in {place.where} has another SHA-256 than its pointer")
+    if held:
+        yield held
+
+
+def part(given, place, name, pointer, start, end):
+    """Yields the bytes of a part, whose digest nothing says: those who ask for parts verify the whole."""
+    at = 0
+    while at < end:
+        data = given.read(PIECE)
+        if not data:
+            raise Damaged(f"blob-damaged {pointer.path}: {name} in {place.where} ends too early")
+        found = data[max(0, start - at) : end - at]
+        at += len(data)
+        if found:
+            yield found
+
+
+def as_xz(given):
+    """Yields an archive compressed by xz."""
+    made = lzma.LZMACompressor(preset=0)
+    for data in given:
+        if found := made.compress(data):
+            yield found
+    yield made.flush()
+
+
+def measured(place, name):
+    """The SHA-256 and the size of the archive in a blob, and of its file. Raises Damaged for one that isn't whole, or
+    has another archive than its name says."""
+    try:
+        with contextlib.closing(place.open(name)) as stream, ThreadPoolExecutor(2) as pool:
+            nar, file = Digest(pool), Digest(pool)
+            for data in of_zstd(Read(stream, file)):
+                nar.add(data)
+            found = nar.end(), nar.size, file.end(), file.size
+    except Bad as bad:
+        raise Damaged(f"blob-damaged {name} in {place.where}: {bad}") from None
+    if paths.base32(found[0]) != name:
+        raise Damaged(f"blob-damaged {name} in {place.where}: its archive has another SHA-256")
+    return found

@@ -1,0 +1,68 @@
+"""The blobs of a store: archives of any size, each a file compressed by zstd, named by the SHA-256 of the archive.
+
+Blobs are in a folder or in a bucket. Both have these calls, which may take long, so they are made in threads:
+
+  part()           the name of a new file, in which a blob is made
+  put(part, name)  makes that file the blob, unless it is there, and returns whether it did
+  size(name)       the bytes of a blob, or None
+  open(name, at)   a stream of the bytes of a blob from `at` on: read(count) and close()
+  list()           each Blob
+  delete(name)     deletes a blob
+  begin()          deletes what an earlier process left, and keeps other processes away
+
+A name is the SHA-256 in base 32. What a failing disk or bucket raises is an OSError or Failed.
+"""
+import collections
+import os
+import re
+
+NAME = re.compile(r"[0123456789abcdfghijklmnpqrsvwxyz]{52}")
+SUFFIX = ".nar.zst"
+# `since` is the time of a blob's last change, in seconds.
+Blob = collections.namedtuple("Blob", "name size since")
+
+
+class Failed(Exception):
+    """A bucket that fails or refuses, or blobs that can't be used."""
+
+
+class Parts:
+    """A folder in which blobs are made, one file each. Each process has files of its own names."""
+
+    def __init__(self, folder):
+        self.folder, self.count = folder, 0
+
+    def begin(self):
+        os.makedirs(self.folder, mode=0o700, exist_ok=True)
+        for it in os.listdir(self.folder):
+            os.unlink(f"{self.folder}/{it}")
+
+    def part(self):
+        self.count += 1
+        return f"{self.folder}/{self.count}.part"
+
+
+def named(key):
+    """The name of the blob in a file or under a key, or None for another one."""
+    name = key.rpartition("/")[2].removesuffix(SUFFIX)
+    is_blob = key.endswith(SUFFIX) and NAME.fullmatch(name) and key.endswith(f"{name[:2]}/{name}{SUFFIX}")
+    return name if is_blob else None
+
+
+def key_of(name):
+    return f"{name[:2]}/{name}{SUFFIX}"
+
+
+def place_of(where, parts, endpoint=None):
+    """The blobs in a folder, or in a bucket by s3://BUCKET[/PREFIX]. `parts` is a folder where blobs for a bucket are
+    made. Raises Failed."""
+    if not where.startswith("s3://"):
+        from .blobs_folder import Folder
+
+        return Folder(where)
+    try:
+        from .blobs_bucket import Bucket
+    except ModuleNotFoundError as missing:
+        raise Failed(f"{missing}: install the Debian package python3-boto3") from None
+    bucket, _, prefix = where.removeprefix("s3://").partition("/")
+    return Bucket(bucket, prefix, parts, endpoint)

@@ -1,0 +1,95 @@
+"""Blobs in a bucket of S3, on Debian's python3-boto3, which finds credentials where AWS's own tools do."""
+import contextlib
+
+import boto3
+import botocore.config
+import botocore.exceptions
+from boto3.s3.transfer import TransferConfig
+
+from . import blobs
+
+# The bytes of a part of a large upload: a bucket takes 10,000 parts. Two are in memory at a time.
+PART = 16 << 20
+# A request is tried this often, and each try may take this many seconds without a byte.
+TRIES, SECONDS = 4, 30
+
+
+@contextlib.contextmanager
+def answered(about):
+    """Raises Failed for what a bucket refuses, and for one that fails or can't be reached."""
+    try:
+        yield
+    except (botocore.exceptions.BotoCoreError, botocore.exceptions.ClientError, boto3.exceptions.Boto3Error) as error:
+        raise blobs.Failed(f"{about}: {str(error) or type(error).__name__}".replace("\n", " ")) from error
+
+
+class Opened:
+    """The bytes of an object, which `size` says how many there are."""
+
+    def __init__(self, where, body):
+        self.where, self.body = where, body
+
+    def read(self, count):
+        try:
+            with answered(self.where):
+                return self.body.read(count)
+        except OSError as error:
+            # (what botocore doesn't wrap is urllib3's)
+            raise blobs.Failed(f"{self.where}: {error}") from error
+
+    def close(self):
+        self.body.close()
+
+
+class Bucket:
+    def __init__(self, bucket, prefix, parts, endpoint=None):
+        self.bucket, self.prefix, self.where = bucket, f"{prefix.strip('/')}/".lstrip("/"), f"s3://{bucket}/{prefix}"
+        self.parts = blobs.Parts(parts)
+        self.part = self.parts.part
+        config = botocore.config.Config(retries={"max_attempts": TRIES, "mode": "standard"}, connect_timeout=SECONDS,
+                                        read_timeout=SECONDS, s3={"addressing_style": "path"})
+        with answered(self.where):
+            self.client = boto3.client("s3", endpoint_url=endpoint, config=config)
+        self.transfer = TransferConfig(multipart_threshold=PART, multipart_chunksize=PART, max_concurrency=2)
+
+    def key(self, name):
+        return {"Bucket": self.bucket, "Key": f"{self.prefix}{blobs.key_of(name)}"}
+
+    def begin(self):
+        self.parts.begin()
+        with answered(self.where):
+            self.client.head_bucket(Bucket=self.bucket)
+
+    def put(self, part, name):
+        """A bucket shows an object once it is whole."""
+        if self.size(name) is not None:
+            return False
+        with answered(self.where):
+            self.client.upload_file(part, *self.key(name).values(), Config=self.transfer)
+        return True
+
+    def size(self, name):
+        try:
+            with answered(self.where):
+                return self.client.head_object(**self.key(name))["ContentLength"]
+        except blobs.Failed as failed:
+            cause = failed.__cause__
+            if getattr(cause, "response", {}).get("Error", {}).get("Code") in ("404", "NoSuchKey", "NotFound"):
+                return None
+            raise
+
+    def open(self, name, at=0):
+        more = {"Range": f"bytes={at}-"} if at else {}
+        with answered(self.where):
+            return Opened(self.where, self.client.get_object(**self.key(name), **more)["Body"])
+
+    def list(self):
+        with answered(self.where):
+            for page in self.client.get_paginator("list_objects_v2").paginate(Bucket=self.bucket, Prefix=self.prefix):
+                for it in page.get("Contents", []):
+                    if name := blobs.named(it["Key"].removeprefix(self.prefix)):
+                        yield blobs.Blob(name, it["Size"], it["LastModified"].timestamp())
+
+    def delete(self, name):
+        with answered(self.where):
+            self.client.delete_object(**self.key(name))

@@ -1,0 +1,77 @@
+"""Blobs in a folder, which may be on a file system that other machines share."""
+import contextlib
+import fcntl
+import os
+
+from . import blobs
+
+
+def synced(folder):
+    """Brings the names in a folder to the disk."""
+    number = os.open(folder, os.O_RDONLY | os.O_DIRECTORY)
+    try:
+        os.fsync(number)
+    finally:
+        os.close(number)
+
+
+class Folder:
+    def __init__(self, folder):
+        self.where, self.folder, self.lock = folder, folder.rstrip("/") or "/", None
+        self.parts = blobs.Parts(f"{self.folder}/incoming")
+        self.part = self.parts.part
+
+    def file(self, name):
+        return f"{self.folder}/{blobs.key_of(name)}"
+
+    def begin(self):
+        os.makedirs(self.folder, mode=0o700, exist_ok=True)
+        self.lock = open(f"{self.folder}/lock", "w", opener=lambda name, flags: os.open(name, flags, 0o600))
+        try:
+            fcntl.flock(self.lock, fcntl.LOCK_EX | fcntl.LOCK_NB)
+        except BlockingIOError:
+            raise blobs.Failed(f"{self.folder}: another nixkeep-cache has these blobs") from None
+        self.parts.begin()
+
+    def put(self, part, name):
+        """The file is on the disk before it has the name of a blob, and the name is before this returns."""
+        file = self.file(name)
+        folder = os.path.dirname(file)
+        with open(part, "rb") as made:
+            os.fsync(made.fileno())
+        if not os.path.isdir(folder):
+            os.makedirs(folder, mode=0o700, exist_ok=True)
+            synced(self.folder)
+        try:
+            # (a rename would replace what is there)
+            os.link(part, file)
+        except FileExistsError:
+            return False
+        finally:
+            synced(folder)
+        return True
+
+    def size(self, name):
+        with contextlib.suppress(FileNotFoundError):
+            return os.stat(self.file(name)).st_size
+
+    def open(self, name, at=0):
+        opened = open(self.file(name), "rb", buffering=0)
+        opened.seek(at)
+        return opened
+
+    def list(self):
+        for entry in sorted(os.scandir(self.folder), key=lambda it: it.name):
+            if len(entry.name) == 2 and entry.is_dir():
+                yield from self.listed(entry)
+
+    def listed(self, folder):
+        for entry in sorted(os.scandir(folder), key=lambda it: it.name):
+            if name := blobs.named(f"{folder.name}/{entry.name}"):
+                with contextlib.suppress(FileNotFoundError):
+                    found = entry.stat()
+                    yield blobs.Blob(name, found.st_size, found.st_mtime)
+
+    def delete(self, name):
+        with contextlib.suppress(FileNotFoundError):
+            os.unlink(self.file(name))

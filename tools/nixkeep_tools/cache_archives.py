@@ -1,0 +1,119 @@
+"""What Nix fetches from nixkeep-cache: records, archives, and the files of its own uploads."""
+import asyncio
+import re
+
+from aiohttp import web
+
+from . import cache_encoding, cache_records, pointers
+from .cache_http import READ, Route, passed, reply
+from .cache_server import Request
+
+DIGITS = "[0-9abcdfghijklmnpqrsvwxyz]"
+INFO = re.compile(r"/nix-cache-info")
+RECORD = re.compile(rf"/({DIGITS}{{32}})\.narinfo")
+FILE = re.compile(r"/nar/([0-9a-z]{52}\.nar[.0-9a-z]*)")
+# An archive has its hash in its address, so an address never has other bytes.
+ARCHIVE = re.compile(rf"/nar/({DIGITS}{{52}})/({DIGITS}{{32}}-[0-9A-Za-z+._?=-]+)")
+# Records and archives are kept for a minute, since an object may be deleted. Then a cache asks whether it is there.
+MINUTE = "public, max-age=60"
+BYTES = "application/octet-stream"
+# The archives that are read at once.
+MANY = 8
+
+
+def hash_of(record):
+    return re.search(rb"^NarHash: sha256:([0-9a-z]+)$", record, re.M)[1].decode()
+
+
+def archived(digest, kept, record, archive=None):
+    """The reply with an archive of this hash, by the server's replies: with its head alone where there is no archive,
+    and without even that where the client has it, by the tag `kept`."""
+    head = {"cache-control": MINUTE, "etag": f'"{kept or digest}"', **cache_encoding.VARY}
+    if record.status != 200:
+        return passed(record)
+    if hash_of(record.text) != digest:
+        return reply(404, "the path has other contents\n")
+    if kept:
+        return web.Response(status=304, body=b"", headers=head)
+    head |= {"content-type": BYTES}
+    if not archive:
+        size = re.search(rb"^NarSize: (\d+)$", record.text, re.M)[1].decode()
+        return web.Response(body=b"", headers=head | {"content-length": size})
+    return web.Response(body=archive.text, headers=head) if archive.status == 200 else passed(archive)
+
+
+class Archives:
+    """`stored` are the uploaded files whose archives are in the store, `waiting` those that wait for their records,
+    `sessions` keep the paths for which an uploading client has asked, `signing` signs records."""
+
+    def __init__(self, server, names, stored, waiting, sessions, signing, sending, store, large=None):
+        self.server, self.names, self.stored, self.waiting = server, names, stored, waiting
+        self.sessions, self.signing, self.sending, self.store = sessions, signing, sending, store
+        self.reading, self.large = asyncio.Semaphore(MANY), large
+
+    def routes(self):
+        handlers = [(INFO, self.info), (RECORD, self.record), (FILE, self.file), (ARCHIVE, self.archive)]
+        return [Route(READ, form, handler) for form, handler in handlers]
+
+    async def info(self, _):
+        text = f"StoreDir: {self.store}\nWantMassQuery: 1\nPriority: 40\n"
+        text += f"LargeFrom: {self.large.least}\n" if self.large else ""
+        return reply(200, text, "text/x-nix-cache-info", MINUTE)
+
+    async def record(self, request, digits):
+        """A record, whose archive is at an address with its hash."""
+        caller = request["caller"]
+        base, failed = await self.names.base(caller, digits)
+        if failed:
+            return passed(failed)
+        if request.method == "HEAD":
+            self.sessions.asked(caller, base)
+        if not base:
+            return reply(404, "no such path\n")
+        answer = await self.server.ask(caller, "GET", f"/info/{base}")
+        if answer.status != 200:
+            return passed(answer)
+        text, failed = await self.large.record(request, base, answer.text) if self.large else (None, None)
+        if failed is not None:
+            return failed
+        if text:
+            return reply(200, self.signing.signed(text), "text/x-nix-narinfo", MINUTE, vary="user-agent")
+        url = f"URL: nar/{hash_of(answer.text)}/{base}".encode()
+        text = re.sub(rb"^URL: .*$", lambda _: url, answer.text, count=1, flags=re.M)
+        return reply(200, self.signing.signed(text), "text/x-nix-narinfo", MINUTE)
+
+    async def archive(self, request, digest, base):
+        """An archive, if the object has this hash now. A cache that has it asks by `if-none-match`."""
+        caller = request["caller"]
+        kept = cache_encoding.tag_kept(request, digest)
+        asked = [Request(caller, "GET", f"/info/{base}")]
+        asked += [] if kept or request.method == "HEAD" else [Request(caller, "GET", f"/nar/{base}")]
+        async with self.reading:
+            record, *archive = await self.server.asks(asked)
+            answer = await cache_encoding.encoded(request, archived(digest, kept, record, *archive), digest)
+            await self.sending.room(answer)
+        return await self.sending.send(request, answer)
+
+    async def file(self, request, name):
+        """An uploaded file. By HEAD a client asks whether it has to send it. By GET one asks that has kept the record
+        of its own upload, and gets the archive of the object that the file became, compressed in the same way."""
+        if request.method == "HEAD":
+            is_there = name in self.waiting.files or self.large and await self.large.is_arrived(name)
+            return reply(200 if is_there else 404, b"", BYTES)
+        base = self.stored.base(name)
+        if not base:
+            return reply(404, b"", BYTES)
+        async with self.reading:
+            answer = await self.server.ask(request["caller"], "GET", f"/nar/{base}")
+            if answer.status == 404:
+                self.stored.forget(name)
+            if answer.status != 200:
+                return passed(answer)
+            if self.large and len(answer.text) == pointers.SIZE:
+                sent = await self.large.uploaded(request, name, base)
+                if sent is not None:
+                    return sent
+            packed = await asyncio.get_running_loop().run_in_executor(None, cache_records.packed, name, answer.text)
+            answer = reply(200, packed, BYTES)
+            await self.sending.room(answer)
+        return await self.sending.send(request, answer)

@@ -1,0 +1,117 @@
+"""The store's server as a child process: `nixkeep serve` on its standard streams, so that no port is open for it."""
+import asyncio
+import contextlib
+import os
+import shutil
+import signal
+import sys
+
+from .cache_server import AHEAD, BROKEN, Caller, Request, message, read_reply
+
+# A server that has run for WELL seconds is started again at once. Else the delay in seconds is LEAST, and each time
+# twice as many, up to MOST.
+LEAST, MOST, WELL = 0.5, 60, 60
+# The seconds in which a server has to end by itself.
+END = 10
+# Statuses of a command line or a store that is refused. Another start wouldn't help.
+REFUSED = (2, 3)
+
+
+def program_near(file):
+    """The program `nixkeep`: next to a tool, or on the path. A checkout has its own, as installations have."""
+    here = os.path.dirname(os.path.realpath(file))
+    near = [f"{here}/nixkeep", f"{here}/../../bin/nixkeep", f"{here}/../bin/nixkeep"]
+    return next((it for it in near if os.access(it, os.X_OK)), shutil.which("nixkeep") or "nixkeep")
+
+
+class Refused(Exception):
+    """The server ended before it ever answered, with the status of a refusal."""
+
+    def __init__(self, status):
+        super().__init__(f"the server ended with status {status} before its first answer")
+        self.status = status
+
+
+class Child:
+    """A server over a file. It is started ahead of requests, and again whenever it has ended."""
+
+    idle = None
+
+    def __init__(self, program, file, config):
+        self.words = [program, *(["--config", config] if config else []), "--db", file, "serve"]
+        self.process, self.handle, self.running, self.why, self.refused = None, None, None, "it starts", 0
+        # The process that answers, as soon as there is one.
+        self.ready = None
+
+    async def open(self):
+        """The streams of a server that has opened its file. Raises Refused."""
+        if not self.running:
+            self.ready = asyncio.get_running_loop().create_future()
+            self.running = asyncio.create_task(self.run())
+        # (a process that has ended isn't taken, also where its end wasn't seen yet)
+        while (process := await asyncio.shield(self.ready)).returncode is not None or process.stdout.at_eof():
+            await asyncio.sleep(0.01)
+        return process.stdout, process.stdin
+
+    async def run(self):
+        """Starts a server again and again."""
+        now, delay, has_answered = asyncio.get_running_loop().time, 0, False
+        while True:
+            began = now()
+            status, answers = await self.serve()
+            has_answered |= answers
+            if status in REFUSED and not has_answered:
+                self.refused = status
+                return self.ready.set_exception(Refused(status))
+            delay = 0 if now() - began > WELL else min(MOST, max(LEAST, 2 * delay))
+            self.why = f"it ended with status {status}"
+            print(f"nixkeep-cache: the server ended with status {status}; the next start is in {delay:g} s",
+                  file=sys.stderr, flush=True)
+            await asyncio.sleep(delay)
+
+    async def serve(self):
+        """Starts a server, and waits for its end. Returns its status, and whether it has answered."""
+        pipe, answers = asyncio.subprocess.PIPE, False
+        try:
+            self.process = await asyncio.create_subprocess_exec(*self.words, stdin=pipe, stdout=pipe, limit=AHEAD)
+            with contextlib.suppress(ProcessLookupError):
+                self.handle = os.pidfd_open(self.process.pid)
+        except OSError as error:
+            sys.exit(f"nixkeep-cache: {self.words[0]}: {error}")
+        with contextlib.suppress(*BROKEN):
+            # (it answers once the file is open, which takes long for a large one)
+            self.process.stdin.write(message(Request(Caller("nixkeep-cache", None), "GET", "/")))
+            answers = bool(await read_reply(self.process.stdout))
+            self.ready.set_result(self.process)
+        status = await self.process.wait()
+        if self.handle is not None:
+            os.close(self.handle)
+            self.handle = None
+        if self.ready.done():
+            self.ready = asyncio.get_running_loop().create_future()
+        return status, answers
+
+    def close(self, writer):
+        """Ends the server of a connection that was given up: what it still does would answer another request."""
+        if self.process and self.process.stdin is writer:
+            self.signal(signal.SIGTERM)
+
+    def signal(self, number):
+        # (asyncio's own way would reap a process that has ended, and asyncio wouldn't learn its status)
+        if self.handle is not None:
+            with contextlib.suppress(ProcessLookupError):
+                signal.pidfd_send_signal(self.handle, number)
+
+    async def end(self):
+        """Ends the server after its request: it sees the end of its input."""
+        if not self.running:
+            return
+        self.running.cancel()
+        if self.process and self.process.returncode is None:
+            self.process.stdin.close()
+            try:
+                async with asyncio.timeout(END):
+                    await self.process.wait()
+            except TimeoutError:
+                self.signal(signal.SIGKILL)
+                await self.process.wait()

@@ -1,0 +1,91 @@
+"""The figures of the last day, by half hours."""
+import collections
+import contextlib
+import json
+import os
+import time
+
+from .cache_http import READ
+
+# The seconds of a part of the day, the parts of a day, and the users of a part that are counted by name.
+SPAN, PARTS, USERS = 1800, 48, 200
+# What is summed: of a part, of a route, of a user.
+SUMS = ("requests", "changes", "failures", "received", "sent", "seconds", "found", "missing")
+OTHERS = "(others)"
+# What watches a store is no use of it.
+UNCOUNTED = ("health", "metrics")
+
+
+def empty(since):
+    return {"since": since, "sums": dict.fromkeys(SUMS, 0), "slowest": 0, "routes": {}, "users": {}}
+
+
+def is_part(it):
+    """Whether a part that was read is one: this file is no store, and may have been cut off."""
+    sums = [it.get("sums"), *it.get("routes", {}).values(), *it.get("users", {}).values()]
+    is_number = lambda value: isinstance(value, (int, float))
+    is_all = all(set(found) == set(SUMS) and all(map(is_number, found.values())) for found in sums)
+    return isinstance(it.get("since"), int) and is_number(it.get("slowest")) and is_all
+
+
+class Day:
+    """The parts of the last day, the oldest first. They are in a file, so that a restart loses a minute of them."""
+
+    def __init__(self, file):
+        self.file, self.parts = file, []
+        with contextlib.suppress(OSError, ValueError, AttributeError, TypeError):
+            with open(file, encoding="ascii") as text:
+                self.parts = [it for it in json.load(text) if is_part(it)]
+
+    def now(self):
+        """The part of now. Those that are older than a day are dropped."""
+        since = int(time.time()) // SPAN * SPAN
+        if not self.parts or self.parts[-1]["since"] < since:
+            self.parts.append(empty(since))
+        while self.parts[0]["since"] <= since - SPAN * PARTS:
+            del self.parts[0]
+        return self.parts[-1]
+
+    def observe(self, seen):
+        if seen.route in UNCOUNTED:
+            return
+        part, caller, is_read = self.now(), seen.request.get("caller"), seen.request.method in READ
+        is_lookup = seen.route == "record" and is_read
+        values = (1, int(not is_read), int(seen.status >= 500), seen.received, seen.sent, seen.seconds,
+                  int(is_lookup and seen.status == 200), int(is_lookup and seen.status == 404))
+        user = caller.user if caller else "-"
+        user = user if user in part["users"] or len(part["users"]) < USERS else OTHERS
+        for sums in (part["sums"], part["routes"].setdefault(seen.route, dict.fromkeys(SUMS, 0)),
+                     part["users"].setdefault(user, dict.fromkeys(SUMS, 0))):
+            for key, value in zip(SUMS, values):
+                sums[key] += value
+        part["slowest"] = max(part["slowest"], seen.seconds)
+
+    def save(self):
+        """Writes the file, whole or not at all. What can't be written is lost at a restart."""
+        with contextlib.suppress(OSError):
+            with open(f"{self.file}.new", "w", encoding="ascii",
+                      opener=lambda name, flags: os.open(name, flags, 0o600)) as out:
+                json.dump(self.parts, out)
+            os.rename(f"{self.file}.new", self.file)
+
+    def spans(self):
+        """The parts of the whole day, also those without a request, the oldest first."""
+        last = self.now()["since"]
+        found = {it["since"]: it for it in self.parts}
+        times = [last - SPAN * at for at in reversed(range(PARTS))]
+        return [found.get(it) or empty(it) for it in times]
+
+    def together(self, key):
+        """The sums of the day by route or by user, those with most requests first."""
+        found = collections.defaultdict(lambda: dict.fromkeys(SUMS, 0))
+        for part in self.parts:
+            for name, sums in part[key].items():
+                for word in SUMS:
+                    found[name][word] += sums[word]
+        return sorted(found.items(), key=lambda it: (-it[1]["requests"], it[0]))
+
+    def sums(self):
+        parts = self.spans()
+        found = {word: sum(it["sums"][word] for it in parts) for word in SUMS}
+        return found | {"slowest": max(it["slowest"] for it in parts)}

@@ -1,0 +1,256 @@
+"""Objects with large archives, as nixkeep-cache takes and serves them: a pointer in the store, and a blob."""
+import re
+import time
+
+from aiohttp import web
+
+from . import blob_reading, cache_changes, cache_records, paths, pointers
+from .blob_packing import Packed
+from .cache_archives import BYTES, DIGITS
+from .cache_blobs import missing
+from .cache_http import BODY, READ, Answered, Route, passed, pieces, reply
+from .cache_records import Bad
+from .cache_who import class_of
+
+# Archives in blobs have addresses of their own, since a proxy needn't keep them.
+ARCHIVE = re.compile(rf"/large/({DIGITS}{{52}})/(none|zstd)/({DIGITS}{{32}}-[0-9A-Za-z+._?=-]+)")
+OWN = re.compile(rf"/(info|nar)/({DIGITS}{{32}}-[0-9A-Za-z+._?=-]+)")
+OLD = re.compile(r"\bNix/(1|2\.[0-3])\b")
+IMPORT, LISTING = re.compile(r"/import"), re.compile(r"/pointers")
+# The longest head of an import: as many references as an object may have, each of a long name.
+HEAD = 1_200_000
+MISMATCH, POINTER = "refused: 25 nar-hash-mismatch\n", "denied: pointer\n"
+
+
+def word_of(made):
+    """A Packed as one word, which is noted for an archive that waits for its record."""
+    return f"{paths.base32(made.nar_hash)}.{made.nar_size}.{paths.base32(made.file_hash)}.{made.file_size}"
+
+
+def read_word(word):
+    nar_hash, nar_size, file_hash, file_size = word.split(".")
+    return Packed(None, paths.unbase32(nar_hash, 32), int(nar_size), paths.unbase32(file_hash, 32), int(file_size))
+
+
+def with_hash(head, archive):
+    """The head of an import, for a pointer in the place of its archive, and without a content address."""
+    lines = [it for it in head.decode().split("\n") if not it.startswith("ca: ")]
+    hashed = f"nar-hash: {paths.nar_hash(paths.sha256([archive]))}"
+    return "\n".join(hashed if it.startswith("nar-hash: ") else it for it in lines).encode()
+
+
+def said(head, key):
+    """What a line of an import's head says, or ''."""
+    found = re.search(rf"^{key}: (.*)$", head.decode("latin-1"), re.M)
+    return found[1] if found else ""
+
+
+def form_for(request):
+    """The form of archives that a client can read: Nix reads zstd from 2.4 on."""
+    return "none" if OLD.search(request.headers.get("user-agent", "")) else "zstd"
+
+
+class Large:
+    """`least` is the largest archive that the store itself keeps. `arrived` has the uploaded files whose blobs wait for
+    their records. `uploads` imports, and `passing` has the store's own requests."""
+
+    def __init__(self, blobs, found, least, arrived, store):
+        self.blobs, self.pointers, self.least, self.arrived, self.store = blobs, found, least, arrived, store
+        self.server, self.uploads, self.passing = found.server, None, None
+
+    def routes(self):
+        return [
+            Route(READ, ARCHIVE, self.archive),
+            Route(READ, OWN, self.own),
+            Route(READ, LISTING, self.listing),
+            Route(("POST",), IMPORT, self.import_),
+        ]
+
+    # ---- what comes
+
+    async def demand_trust(self, caller):
+        """Raises Answered for a caller who may not add objects without a content address."""
+        if (await class_of(self.server, caller))[0] != "trusted":
+            raise Answered(reply(403, "denied: trusted-import\n"))
+
+    async def is_arrived(self, name):
+        """Whether an uploaded file is a blob."""
+        word = self.arrived.base(name)
+        if not word:
+            return False
+        digest = word.partition(".")[0]
+        self.blobs.relied[digest] = time.time()
+        return await self.blobs.size(digest) is not None
+
+    async def take(self, caller, name, given):
+        """Makes an archive that comes in pieces a blob, which waits for its record. Raises Bad."""
+        digits = cache_records.file_named(name)
+        await self.demand_trust(caller)
+        compression = next(key for key, it in cache_records.SUFFIXES.items() if name.endswith(f".nar{it}"))
+        async with self.blobs.taken(compression, given) as (part, made):
+            if paths.base32(made.sent) != digits:
+                raise Bad(f"nar/{name} has another SHA-256: {paths.nar_hash(made.sent)}")
+            self.arrived.add(name, word_of(await self.blobs.keep(part, made)))
+
+    async def is_large(self, caller, name, record, waiting):
+        """Whether the archive of a record is a blob. One that waits as a file becomes one, if it unpacks to more than
+        the store itself keeps."""
+        if await self.is_arrived(name):
+            return True
+        size = record.get("NarSize", "0")
+        if not (size.isascii() and size.isdigit() and len(size) < 20):
+            raise Bad(f"NarSize: {size[:100]}: a number is meant")
+        if name not in waiting.files or int(size) <= self.least:
+            return False
+        await self.take(caller, name, again(waiting.read(name)))
+        return True
+
+    async def recorded(self, caller, name, record, head):
+        """The reply to the record of an archive that is a blob. Raises Bad."""
+        made, base = read_word(self.arrived.base(name)), record["StorePath"].rpartition("/")[2]
+        if record["NarHash"] != paths.nar_hash(made.nar_hash) or record.get("NarSize", str(made.nar_size)) != str(
+                made.nar_size):
+            raise Answered(reply(400, MISMATCH))
+        return await self.imported(caller, base, head, made)
+
+    async def imported(self, caller, base, head, made):
+        """The reply to an import of a pointer to a blob. The blob is there when the pointer comes, and no sweep deletes
+        it meanwhile. Raises Bad."""
+        pointer = pointers.Pointer(paths.full(base, self.store), *made[1:])
+        name, archive = paths.base32(made.nar_hash), pointers.archive(pointer)
+        async with self.blobs.lock(name):
+            self.blobs.relied[name] = time.time()
+            if await self.blobs.size(name) != made.file_size:
+                raise Bad(f"the archive of {base} isn't here any more: upload it again")
+            given = with_hash(head, archive) + archive
+            answer = await self.uploads.imported(caller, base, given, made.nar_size)
+        return passed(answer) if answer.status != 200 else await self.checked(caller, base, pointer, answer)
+
+    async def checked(self, caller, base, pointer, answer):
+        """The reply to an import that was done. An object that was there before stays as it is, also where it is a
+        pointer to another file of the same archive."""
+        _, there = await self.pointers.at(caller, base)
+        if there and there != pointer and there.nar_hash == pointer.nar_hash:
+            return reply(409, f"failed: blob-differs {pointer.path}: the path names another file of this archive: "
+                              "delete the path, and upload it again\n")
+        return passed(answer)
+
+    async def import_(self, request):
+        """The store's own import. A large archive becomes a blob."""
+        if (request.content_length or 0) <= BODY:
+            return await self.passing.request(request, self.import_whole)
+        given = pieces(request, self.passing.idle)
+        head, first = await head_of(given)
+        if head is None:
+            return reply(400, "refused: 38 too-large\n")
+        cache_changes.note(request, head)
+        return await self.import_pieces(request["caller"], head, again(first, given))
+
+    async def import_whole(self, caller, given):
+        """The reply to an import with a large archive, or None for another one, which the store does. Raises
+        Answered."""
+        head, end, archive = given.partition(b"\n\n")
+        if len(archive) > self.least:
+            return await self.import_pieces(caller, head + end, again(archive))
+        self.refuse_pointer(said(head, "ca"), said(head, "path"), archive)
+        return None
+
+    def refuse_pointer(self, address, path, archive):
+        """Raises Answered for an archive that would be a pointer: what is read at a path is what was added there."""
+        if not address and pointers.read(archive, paths.full(path.rpartition("/")[2], self.store)):
+            raise Answered(reply(403, POINTER))
+
+    async def import_pieces(self, caller, head, given):
+        try:
+            base = paths.base_name(said(head, "path"), self.store)
+        except paths.Malformed as malformed:
+            return reply(400, f"{malformed}\n")
+        await self.demand_trust(caller)
+        async with self.blobs.taken("none", given) as (part, made):
+            if said(head, "nar-hash") != paths.nar_hash(made.nar_hash):
+                return reply(400, MISMATCH)
+            made = await self.blobs.keep(part, made)
+        return await self.imported(caller, base, head, made)
+
+    # ---- what is served
+
+    async def record(self, request, base, text):
+        """The text of a record as clients get it, and None or the reply where its blob is gone. A record of a pointer
+        has the hash and the size of the archive."""
+        text, pointer = await self.pointers.of(request["caller"], base, text)
+        if not pointer:
+            return None, None
+        name = paths.base32(pointer.nar_hash)
+        if not await self.blobs.is_there(name):
+            answer = missing(f"blob-missing {pointer.path}: {name} isn't in {self.blobs.place.where}")
+            return None, reply(404, answer.body)
+        return real(text, pointer, base, form_for(request)), None
+
+    async def archive(self, request, digest, form, base):
+        _, pointer = await self.pointers.at(request["caller"], base)
+        if not pointer or paths.base32(pointer.nar_hash) != digest:
+            return reply(404, "the path has other contents\n")
+        return await self.blobs.send(request, pointer, form)
+
+    async def own(self, request, kind, base):
+        """The store's own record and archive of a pointer are those of what it names."""
+        answer = await self.passing.request(request)
+        if kind == "nar" and len(getattr(answer, "body", None) or b"") != pointers.SIZE or answer.status != 200:
+            return answer
+        text, pointer = await self.pointers.at(request["caller"], base)
+        if not pointer:
+            return answer
+        return await self.blobs.send(request, pointer, "none") if kind == "nar" else reply(200, real(text, pointer))
+
+    async def uploaded(self, request, name, base):
+        """The reply with the archive of a pointer as a client has uploaded it, or None for another object."""
+        _, pointer = await self.pointers.at(request["caller"], base)
+        if not pointer:
+            return None
+        if not name.endswith(".xz"):
+            return await self.blobs.send(request, pointer, "zstd" if name.endswith(".zst") else "none")
+        given = blob_reading.pieces(self.blobs.place, paths.base32(pointer.nar_hash), pointer, "none")
+        answer = web.StreamResponse(headers={"content-type": BYTES})
+        return await self.blobs.streamed(request, blob_reading.as_xz(given), answer)
+
+    async def listing(self, request):
+        """All pointers, a line each: the path, and the hashes and sizes of the archive and of its file."""
+        caller = request["caller"]
+        found = await self.pointers.among(caller, await self.pointers.listed(caller))
+        lines = [f"{it.path} {paths.nar_hash(it.nar_hash)} {it.nar_size} {paths.nar_hash(it.file_hash)} {it.file_size}"
+                 for _, it in sorted(found.items())]
+        return reply(200, "".join(f"{it}\n" for it in lines))
+
+
+def real(text, pointer, base=None, form="none"):
+    """The record of a pointer, with what it names; as a binary cache gives it where `base` is given."""
+    fields = {"NarHash": paths.nar_hash(pointer.nar_hash), "NarSize": pointer.nar_size, "Compression": form,
+              "FileHash": paths.nar_hash(blob_reading.hash_of(pointer, form)),
+              "FileSize": blob_reading.size_of(pointer, form)}
+    fields |= {"URL": f"large/{paths.base32(pointer.nar_hash)}/{form}/{base}"} if base else {}
+    put = lambda found: f"{found[1]}: {fields.get(found[1], found[2])}"
+    return re.sub(r"^(\w+): (.*)$", put, text.decode(), flags=re.M).encode()
+
+
+async def again(first, given=None):
+    """Yields what was read ahead, and the rest."""
+    if first:
+        yield first
+    if given:
+        async for piece in given:
+            yield piece
+
+
+async def head_of(given):
+    """The head of an import with its empty line, and what was read of the archive; None for a head that is too long."""
+    found = bytearray()
+    async for piece in given:
+        found += piece
+        head, end, rest = bytes(found).partition(b"\n\n")
+        if end:
+            return head + end, rest
+        if len(found) > HEAD:
+            break
+    return None, b""
+
+

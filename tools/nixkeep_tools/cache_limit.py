@@ -1,0 +1,67 @@
+"""A limit for the file of a store: what a running server accepts, it has to open at its next start."""
+import sys
+import time
+
+from . import store_size
+
+# The part of the memory's limit that is accepted, and the part of this limit from which on a line warns.
+ACCEPTED, WARNED = 0.6, 0.8
+# The part of the limit by which roots may go beyond it: they are needed before a collection.
+ROOTS = 0.05
+# The seconds between two looks at the file, and between two warnings.
+LOOK, AGAIN = 1, 3600
+
+
+class Full(Exception):
+    """An add that isn't accepted, with the text of the reply."""
+
+
+def usual():
+    """The limit where none is asked for: a part of what this service's memory opens, or None without a limit of it."""
+    limit = store_size.memory()
+    return None if limit is None else int(ACCEPTED * store_size.opened_with(limit))
+
+
+class Limit:
+    """A limit of `most` bytes for a file. None is no limit."""
+
+    def __init__(self, file, most):
+        self.file, self.most, self.used, self.coming, self.looked, self.warned = file, most, 0, 0, -LOOK, -AGAIN
+
+    def check(self, size, is_add=True):
+        """Counts `size` bytes that come. Raises Full where there is no room for them."""
+        if self.most is None:
+            return
+        if time.monotonic() - self.looked > LOOK:
+            self.look()
+        allowed = self.most if is_add else (1 + ROOTS) * self.most
+        if self.coming and self.used + self.coming + size > allowed:
+            # (what came may not have made the file larger)
+            self.look()
+        if self.used + self.coming + size > allowed:
+            raise Full(f"failed: full {self.used} of {self.most} bytes are used: drop roots, and collect\n")
+        self.coming += size
+
+    def is_near(self):
+        """Whether the file is nearly as large as it may be."""
+        return self.most is not None and self.used > WARNED * self.most
+
+    def figures(self):
+        """The bytes of the file, and its limit; each None where it isn't known."""
+        if not self.file:
+            return None, None
+        if time.monotonic() - self.looked > LOOK:
+            self.look()
+        return self.used, self.most
+
+    def look(self):
+        """Looks at the file, and warns where it is nearly as large as it may be."""
+        self.looked, self.coming = time.monotonic(), 0
+        try:
+            self.used = store_size.used(self.file)
+        except FileNotFoundError:
+            self.used = 0
+        if self.is_near() and self.looked - self.warned > AGAIN:
+            self.warned = self.looked
+            line = f"nixkeep-cache: warning: the store has {self.used} of {self.most} bytes"
+            print(line, file=sys.stderr, flush=True)

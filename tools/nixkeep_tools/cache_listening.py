@@ -1,0 +1,53 @@
+"""Where nixkeep-cache accepts clients."""
+import argparse
+import contextlib
+import os
+import socket
+
+DEFAULT = ("127.0.0.1", 8081)
+# The first of the sockets that systemd passes: sd_listen_fds(3).
+FIRST = 3
+
+
+def place(text):
+    """HOST:PORT as a pair."""
+    host, colon, port = text.rpartition(":")
+    if not (host and port.isdigit()):
+        raise argparse.ArgumentTypeError(f"{text}: HOST:PORT is meant")
+    return host, int(port)
+
+
+def listening(text):
+    return text if text.startswith("/") else place(text)
+
+
+def passed():
+    """The sockets that the service manager has opened and passed to this process."""
+    count, pid = os.environ.pop("LISTEN_FDS", ""), os.environ.pop("LISTEN_PID", "")
+    os.environ.pop("LISTEN_FDNAMES", None)
+    if pid != str(os.getpid()) or not count.isdigit():
+        return []
+    found = [socket.socket(fileno=FIRST + at) for at in range(int(count))]
+    for it in found:
+        it.set_inheritable(False)
+    return found
+
+
+def where(asked):
+    """What aiohttp is to listen on: the place that was asked for, else the sockets passed, else the usual port."""
+    given = passed()
+    if asked is None and given:
+        return {"sock": given}
+    asked = asked or DEFAULT
+    return {"path": asked} if isinstance(asked, str) else {"host": asked[0], "port": asked[1]}
+
+
+def removed(where):
+    """Deletes a Unix socket that was made here. One that was passed stays, with the clients that wait at it."""
+    if "path" in where:
+        with contextlib.suppress(FileNotFoundError):
+            os.unlink(where["path"])
+
+
+def is_loopback(where):
+    return where.get("host") in ("127.0.0.1", "::1", "localhost")

@@ -1,0 +1,59 @@
+"""Lists that nixkeep-cache keeps next to a store, each as a small database in a file of its own."""
+import contextlib
+import os
+import sqlite3
+import sys
+
+
+def warn(text):
+    print(f"nixkeep-cache: warning: {text}", file=sys.stderr, flush=True)
+
+
+def opened(file, table):
+    """A connection to the list in a file, whose table is made where it isn't there. The store doesn't depend on a list:
+    one that is damaged is set aside and begun anew, and one that can't be used is in memory until the next start."""
+    create(file)
+    try:
+        return connected(file, table)
+    except sqlite3.OperationalError as error:
+        warn(f"{file}: {error}; what is in it isn't used until the next start")
+        return connected(":memory:", table)
+    except sqlite3.DatabaseError as error:
+        warn(f"{file}: {error}; it is begun anew, and {file}.damaged has what it was")
+        os.rename(file, f"{file}.damaged")
+        for it in ("-wal", "-shm"):
+            with contextlib.suppress(FileNotFoundError):
+                os.unlink(file + it)
+        create(file)
+        return connected(file, table)
+
+
+def create(file):
+    os.close(os.open(file, os.O_CREAT, 0o600))
+
+
+def connected(file, table):
+    conn = sqlite3.connect(file, isolation_level=None, timeout=1)
+    try:
+        # (so no other file is shared, and a power cut costs the last rows at most, and damages none)
+        conn.execute("PRAGMA locking_mode = EXCLUSIVE")
+        conn.execute("PRAGMA journal_mode = WAL")
+        conn.execute("PRAGMA synchronous = NORMAL")
+        conn.execute(f"CREATE TABLE IF NOT EXISTS {table}")
+        return conn
+    except sqlite3.Error:
+        conn.close()
+        raise
+
+
+def delete(conn, statement, rows):
+    """Deletes rows in one transaction. What can't be deleted stays, and a line says so: it is tried at the next
+    listing."""
+    try:
+        conn.execute("BEGIN")
+        conn.executemany(statement, rows)
+        conn.execute("COMMIT")
+    except sqlite3.Error as error:
+        warn(f"rows of a list stay: {error}")
+        if conn.in_transaction:
+            conn.execute("ROLLBACK")

@@ -1,0 +1,111 @@
+"""Figures for Prometheus: /metrics."""
+import os
+import re
+import time
+
+from . import backup_folder
+from .cache_http import READ, Route, reply
+from .cache_watching import method_of
+
+try:
+    # (else each figure has another one, of the time of its first use)
+    os.environ.setdefault("PROMETHEUS_DISABLE_CREATED_SERIES", "True")
+    import prometheus_client
+    from prometheus_client import core
+except ImportError:
+    prometheus_client = None
+
+TARGET = re.compile(r"/metrics")
+# The bounds of the histogram, in seconds.
+BOUNDS = (0.005, 0.02, 0.1, 0.5, 2, 10, 60, 300)
+
+
+def is_asked(request):
+    return request.method in READ and TARGET.fullmatch(request.raw_path)
+
+
+class Metrics:
+    """`sources` are functions that return triples: the name of a figure, what it is, and its value now, which is None
+    where there is none. Other parts add theirs."""
+
+    def __init__(self):
+        self.sources = []
+        if not prometheus_client:
+            return
+        self.registry = registry = prometheus_client.CollectorRegistry()
+        made = lambda kind, name, about, labels, **more: kind(f"nixkeep_{name}", about, labels, registry=registry,
+                                                              **more)
+        counter, by_route = prometheus_client.Counter, ["method", "route"]
+        self.requests = made(counter, "requests", "Requests by method, route and status.", [*by_route, "status"])
+        self.seconds = made(prometheus_client.Histogram, "request_seconds", "How long requests took, with the time in "
+                            "which they waited for others.", by_route, buckets=BOUNDS)
+        self.received = made(counter, "received_bytes", "Bytes of the bodies of requests.", by_route)
+        self.sent = made(counter, "sent_bytes", "Bytes of the bodies of replies.", by_route)
+        self.lookups = made(counter, "lookups", "Records that were asked for, by whether they were found.", ["found"])
+        registry.register(self)
+
+    def routes(self):
+        return [Route(READ, TARGET, self.page)]
+
+    def observe(self, seen):
+        if not prometheus_client:
+            return
+        labels = method_of(seen.request), seen.route
+        self.requests.labels(*labels, seen.status).inc()
+        self.seconds.labels(*labels).observe(seen.seconds)
+        self.received.labels(*labels).inc(seen.received)
+        self.sent.labels(*labels).inc(seen.sent)
+        if seen.route == "record" and seen.request.method in READ and seen.status in (200, 404):
+            self.lookups.labels("yes" if seen.status == 200 else "no").inc()
+
+    def collect(self):
+        """What Prometheus's own library asks for: the figures of the sources."""
+        for source in self.sources:
+            for name, about, value in source():
+                if value is not None:
+                    yield core.GaugeMetricFamily(f"nixkeep_{name}", about, value)
+
+    def describe(self):
+        return []
+
+    async def page(self, _):
+        if not prometheus_client:
+            return reply(404, "the metrics need the Debian package python3-prometheus-client\n")
+        return reply(200, prometheus_client.generate_latest(self.registry), prometheus_client.CONTENT_TYPE_LATEST)
+
+
+def of_backup(file):
+    """A source: the times of the last copy that succeeded and the last that failed, by the state in a file."""
+
+    def figures():
+        state = backup_folder.read_state(file) if file else {}
+        succeeded, failed = (it if isinstance(it, (int, float)) else None
+                             for it in (state.get("succeeded"), state.get("failed")))
+        return [
+            ("backup_succeeded_timestamp_seconds", "When the last good copy of the store was made.", succeeded),
+            ("backup_age_seconds", "The age of the last good copy.", succeeded and time.time() - succeeded),
+            ("backup_failed_timestamp_seconds", "When a copy failed for the last time.", failed),
+        ]
+
+    return figures
+
+
+def of_cache(server, watching, limit, waiting):
+    """A source: what goes on now."""
+
+    def figures():
+        used, most = limit.figures()
+        return [
+            ("up", "Whether the server of the store is there.", int(server.is_open())),
+            ("connections", "The connections to the server since the start, so how often it was started.",
+             server.connections),
+            ("running_requests", "Requests that are being answered.", watching.running),
+            ("queue", "Exchanges that wait for their turn at the server.", server.turns.waiting()),
+            ("store_bytes", "The bytes that the file of the store uses.", used),
+            ("store_bytes_limit", "The bytes beyond which adds are refused.", most),
+            ("waiting_files", "Uploaded archives that wait for their records, or have not been deleted yet.",
+             len(waiting.files)),
+            ("waiting_bytes", "The bytes of these.", sum(it.bytes for it in waiting.files.values())),
+        ]
+
+    return figures

@@ -1,0 +1,74 @@
+"""The page of who keeps how much, as nixkeep-cache serves it."""
+import asyncio
+import re
+import urllib.parse
+
+from . import overview, overview_source
+from .cache_http import READ, Route, passed, reply
+
+try:
+    from . import overview_page, overview_style
+except ModuleNotFoundError:
+    overview_page = None
+
+PAGE = re.compile(r"/overview(\?.*)?")
+# The seconds for which figures are kept, and the users whose figures are. A page says of when it is.
+FRESH, USERS = 5, 8
+
+
+class Overviews:
+    """Figures are made once for all who ask meanwhile, and one at a time. A client waits for them for `longest`
+    seconds. `name` is what people call the store."""
+
+    def __init__(self, server, store, keeps, sending, name, longest=60):
+        self.store, self.keeps, self.sending, self.name, self.longest = store, keeps, sending, name, longest
+        self.records, self.turn, self.made = overview_source.Records(server, keeps[0]), asyncio.Lock(), {}
+
+    def routes(self):
+        return [Route(READ, PAGE, self.page)]
+
+    async def page(self, request, query):
+        """A page of who keeps how much, or of why one path is kept; as this caller sees the store's roots."""
+        if not overview_page:
+            return reply(404, "the overview needs the Debian package python3-jinja2\n")
+        why = urllib.parse.parse_qs((query or "")[1:]).get("why", [""])[0].strip().removeprefix(f"{self.store}/")
+        try:
+            async with asyncio.timeout(self.longest):
+                found = await asyncio.shield(self.figures(request["caller"]))
+                text = await self.apart(overview_page.page, found, self.name, "/overview", why)
+        except overview_source.Denied as denied:
+            return passed(denied.reply)
+        except TimeoutError:
+            return reply(503, f"the overview takes longer than {self.longest:.0f} seconds: try again later\n")
+        answer = reply(200, text, "text/html; charset=utf-8", **overview_style.FIELDS)
+        await self.sending.room(answer)
+        return await self.sending.send(request, answer)
+
+    def figures(self, caller):
+        """The Overview of a caller, as a task: the one that is under way or fresh, else a new one."""
+        now, kept = asyncio.get_running_loop().time(), self.made.get(caller)
+        if kept and (not kept[0].done() or kept[1] > now):
+            return kept[0]
+        self.made = {key: it for key, it in self.made.items() if not it[0].done() or it[1] > now}
+        while len(self.made) >= USERS:
+            del self.made[next(iter(self.made))]
+        made = asyncio.ensure_future(self.make(caller))
+        self.made[caller] = made, now + FRESH
+        made.add_done_callback(lambda it: self.finish(caller, it))
+        return made
+
+    def finish(self, caller, made):
+        """Figures are fresh from their end on. What failed is made again."""
+        if self.made.get(caller, (None,))[0] is made:
+            del self.made[caller]
+            if not made.cancelled() and not made.exception():
+                self.made[caller] = made, asyncio.get_running_loop().time() + FRESH
+
+    async def make(self, caller):
+        async with self.turn:
+            store, live = await self.records.store(caller)
+            return await self.apart(overview.Overview, store, *self.keeps, live)
+
+    async def apart(self, work, *words):
+        """What takes long is done in a thread, so that other clients are served meanwhile."""
+        return await asyncio.get_running_loop().run_in_executor(None, work, *words)

@@ -1,0 +1,102 @@
+"""Sessions of the store that keep what clients upload, so that no collection deletes the half of a closure."""
+import collections
+import contextlib
+import os
+import time
+
+from .cache_server import TOGETHER, Caller, Request, Unreachable
+
+# The number of the session of each user. It is the highest, since people begin with low ones.
+NUMBER = 4_194_304
+# The paths that are remembered at most; the oldest are forgotten first.
+MOST = 10_000
+
+
+def target(user):
+    return f"/temp/{user}/{NUMBER}"
+
+
+class Sessions:
+    """A user's session keeps what the user uploads, until nothing has come for `seconds`. A file with the user's name
+    in a folder is as old as the last upload, so a session is ended also after a restart.
+
+    A client asks by HEAD for all paths of a closure, and uploads those that aren't there. So if one isn't, the others
+    are remembered, and the session keeps them from the next collection on.
+    """
+
+    def __init__(self, server, folder, seconds):
+        self.server, self.folder, self.seconds = server, folder, seconds
+        self.told, self.uploading = collections.OrderedDict(), {}
+        os.makedirs(folder, mode=0o700, exist_ok=True)
+
+    def is_fresh(self, since):
+        return time.time() - since < self.seconds
+
+    def keeping(self, caller, base):
+        """The request that keeps an uploaded path. It goes to the server right after the import."""
+        self.touch(caller.user)
+        return Request(caller, "POST", target(caller.user), f"path: {base}\n\n".encode())
+
+    def file(self, user):
+        return f"{self.folder}/{user}.session"
+
+    def touch(self, user):
+        file = self.file(user)
+        with open(file, "w", opener=lambda name, flags: os.open(name, flags, 0o600)):
+            os.utime(file)
+
+    def asked(self, caller, base):
+        """Remembers that a client asked for a path by HEAD: `base` is its name, or None if it isn't there."""
+        if base is None:
+            self.uploading[caller] = time.time()
+        else:
+            self.told.pop((caller, base), None)
+            self.told[caller, base] = time.time()
+        if len(self.told) > MOST:
+            self.told.popitem(last=False)
+
+    def forget(self, caller):
+        """Says that a user has ended the session."""
+        for key in [it for it in self.told if it[0].user == caller.user]:
+            del self.told[key]
+
+    def remembered(self):
+        """What a deletion has to leave and no session keeps yet, each with its caller."""
+        self.uploading = {caller: since for caller, since in self.uploading.items() if self.is_fresh(since)}
+        return [key for key, since in self.told.items() if self.is_fresh(since) and key[0] in self.uploading]
+
+    def kept(self, keys):
+        for key in keys:
+            self.told.pop(key, None)
+
+    async def before(self, deletion):
+        """The reply to a deletion, before which sessions keep what is remembered. Others get their turns in between,
+        but for the last of it, which goes to the server with the deletion."""
+        for _ in range(MOST // TOGETHER):
+            keys = self.remembered()[:TOGETHER]
+            if len(keys) < TOGETHER:
+                break
+            await self.server.asks([self.keeping(*it) for it in keys])
+            self.kept(keys)
+        last = []
+
+        def first():
+            last[:] = self.remembered()
+            return [self.keeping(*it) for it in last]
+
+        answer = (await self.server.asks([deletion], first))[-1]
+        self.kept(last)
+        return answer
+
+    async def expire(self):
+        """Ends the sessions of users from whom nothing has come for a while."""
+        for user in [it.removesuffix(".session") for it in os.listdir(self.folder) if it.endswith(".session")]:
+            if self.is_fresh(os.stat(self.file(user)).st_mtime):
+                continue
+            with contextlib.suppress(Unreachable):
+                ended = await self.server.ask(Caller(user, None), "DELETE", target(user))
+                # (a user that has left may not connect; that is tried again)
+                if ended.status == 200:
+                    os.unlink(self.file(user))
+                else:
+                    self.touch(user)

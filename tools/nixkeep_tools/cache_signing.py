@@ -1,0 +1,181 @@
+"""Signatures of records (narinfo), as Nix makes and tests them: ed25519 over a path, the hash and size of its archive,
+and its references."""
+import base64
+import binascii
+import os
+import re
+
+from . import cache_lists, cache_records, paths
+
+try:
+    from nacl import exceptions, signing
+except ImportError:
+    signing = None
+
+# A key or a signature: the name of the key, and bytes in base 64.
+FORM = re.compile(r"([!-9;-~]+):([A-Za-z0-9+/]+={0,2})")
+SIGNATURE = re.compile(r"^Sig: *(\S+) *$", re.M)
+# The bytes of a public key, and of a secret one, whose second half is the public one.
+PUBLIC, SECRET = 32, 64
+# The signatures of one key that are tested for one record.
+TESTED = 4
+
+
+class BadKey(Exception):
+    """A key that can't be used, with the line that says so."""
+
+
+def read_form(text):
+    """The name and the bytes of a key or a signature, or None."""
+    found = FORM.fullmatch(text)
+    try:
+        return found and (found[1], base64.b64decode(found[2], validate=True))
+    except binascii.Error:
+        return None
+
+
+def written(name, data):
+    return f"{name}:{base64.b64encode(data).decode()}"
+
+
+def needs_library():
+    if not signing:
+        raise BadKey("signatures need the Debian package python3-nacl")
+
+
+class Key:
+    """A secret key, in the form that `nix-store --generate-binary-cache-key` writes."""
+
+    def __init__(self, text):
+        needs_library()
+        found = read_form(text.strip())
+        if not found:
+            raise BadKey("it isn't a key that nix-store --generate-binary-cache-key makes: NAME:BASE64 is meant")
+        self.name, data = found
+        if len(data) == PUBLIC:
+            raise BadKey("it is a public key; the secret one is meant")
+        if len(data) != SECRET:
+            raise BadKey(f"it is a key of another kind: it has {len(data)} bytes, and one of ed25519 has {SECRET}")
+        self.key = signing.SigningKey(data[:PUBLIC])
+        if self.public() != data[PUBLIC:]:
+            raise BadKey("it is damaged: its two halves are of different keys")
+
+    def public(self):
+        return self.key.verify_key.encode()
+
+    def sign(self, message):
+        """The signature of a message, as a record has it."""
+        return written(self.name, self.key.sign(message).signature)
+
+
+def read_key(file):
+    """The key in a file. Raises BadKey, or OSError."""
+    try:
+        with open(file, encoding="ascii") as text:
+            return Key(text.read(10_000))
+    except UnicodeDecodeError:
+        raise BadKey(f"{file}: it isn't a key that nix-store --generate-binary-cache-key makes") from None
+    except BadKey as bad:
+        raise BadKey(f"{file}: {bad}") from None
+
+
+def trusted_keys(text):
+    """The public keys in a text, by their names; blanks separate them, as in Nix's own setting. Raises BadKey."""
+    found = {}
+    for word in text.split():
+        needs_library()
+        key = read_form(word)
+        if not key or len(key[1]) != PUBLIC:
+            raise BadKey(f"{word[:200]}: it isn't a public key: NAME:BASE64 of {PUBLIC} bytes is meant")
+        found[key[0]] = signing.VerifyKey(key[1])
+    return found
+
+
+def credential(name):
+    """The file of a credential that systemd passes to this service, or None: systemd.exec(5)."""
+    file = f"{os.environ.get('CREDENTIALS_DIRECTORY', '')}/{name}"
+    return file if os.environ.get("CREDENTIALS_DIRECTORY") and os.path.exists(file) else None
+
+
+def trusted_text(said):
+    """The public keys of the command line, or those of a credential."""
+    file = credential("trusted-public-keys")
+    if said is not None or not file:
+        return said or ""
+    with open(file, encoding="ascii", errors="replace") as text:
+        return text.read(100_000)
+
+
+def fingerprint(record, store):
+    """What is signed of a record, whose references may be base names."""
+    references = sorted(paths.full(it.rpartition("/")[2], store) for it in record.get("References", "").split())
+    parts = "1", record["StorePath"], record["NarHash"], record.get("NarSize", ""), ",".join(references)
+    return ";".join(parts).encode()
+
+
+class Signing:
+    """Signs records by `key`, or doesn't where that is None. Signatures of the `trusted` keys, which came with uploads,
+    are kept in a list in `file`."""
+
+    def __init__(self, key, trusted, file, store):
+        self.key, self.trusted, self.store, self.conn = key, trusted, store, None
+        if trusted:
+            table = "signature (base TEXT, digest BLOB, text TEXT, PRIMARY KEY (base, digest, text)) STRICT"
+            self.conn = cache_lists.opened(file, table)
+
+    def signed(self, text):
+        """A record with its signatures."""
+        if not (self.key or self.conn):
+            return text
+        record = cache_records.fields(text)
+        message = fingerprint(record, self.store)
+        kept = [self.key.sign(message)] if self.key else []
+        if self.conn:
+            base, digest = record["StorePath"].rpartition("/")[2], paths.sha256([message])
+            rows = self.conn.execute("SELECT text FROM signature WHERE base = ? AND digest = ?", (base, digest))
+            kept += [it for (it,) in rows if it not in kept and it.partition(":")[0] in self.trusted]
+        return text + "".join(f"Sig: {it}\n" for it in kept).encode()
+
+    def uploaded(self, text):
+        """Follows an upload: keeps the signatures of its record that are of trusted keys. Its archive has been tested
+        against its hash by then."""
+        if not self.conn:
+            return
+        record = cache_records.fields(text)
+        message, by_name = fingerprint(record, self.store), {}
+        for it in SIGNATURE.findall(text.decode("ascii")):
+            by_name.setdefault(it.partition(":")[0], []).append(it)
+        row = record["StorePath"].rpartition("/")[2], paths.sha256([message])
+        for name in self.trusted.keys() & by_name.keys():
+            for it in by_name[name][:TESTED]:
+                if self.is_good(name, message, it):
+                    self.conn.execute("INSERT OR IGNORE INTO signature VALUES (?, ?, ?)", (*row, it))
+
+    def is_good(self, name, message, text):
+        found = read_form(text)
+        try:
+            return bool(found) and bool(self.trusted[name].verify(message, found[1]))
+        except (exceptions.BadSignatureError, ValueError):
+            return False
+
+    def deleted(self, text):
+        """Follows a reply that names the paths which have been deleted, one a line."""
+        if self.conn:
+            self.drop(line.rpartition("/")[2] for line in text.decode().splitlines())
+
+    def listed(self, bases):
+        """Follows a listing of all paths: what was deleted elsewhere has no signature."""
+        if self.conn:
+            there = {*bases}
+            self.drop([it for (it,) in self.conn.execute("SELECT DISTINCT base FROM signature") if it not in there])
+
+    def drop(self, bases):
+        cache_lists.delete(self.conn, "DELETE FROM signature WHERE base = ?", [(it,) for it in bases])
+
+
+
+def made(said, store):
+    """The Signing of the words of a command line. Raises BadKey, OSError, or sqlite3.Error."""
+    file = f"{said.db}.signatures" if said.db else f"{said.waiting}/signatures"
+    key = read_key(said.sign_with) if said.sign_with else None
+    return Signing(key, trusted_keys(trusted_text(said.trusted_public_keys)), file, store)

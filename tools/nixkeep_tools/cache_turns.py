@@ -1,0 +1,53 @@
+"""Turns at something that one can have at a time."""
+import asyncio
+import collections
+import contextlib
+
+
+class Turns:
+    """A lock. Those that wait are in groups by a key, and each group gets its turn before one gets a second. So a user
+    with a thousand requests delays another one by one request."""
+
+    def __init__(self):
+        self.groups, self.is_taken = collections.OrderedDict(), False
+
+    def waiting(self):
+        """The number of those that wait."""
+        return sum(not it.done() for waiters in self.groups.values() for it in waiters)
+
+    @contextlib.asynccontextmanager
+    async def turn(self, key):
+        await self.take(key)
+        try:
+            yield
+        finally:
+            self.end()
+
+    async def take(self, key):
+        if not self.is_taken:
+            self.is_taken = True
+            return
+        waiter = asyncio.get_running_loop().create_future()
+        self.groups.setdefault(key, collections.deque()).append(waiter)
+        try:
+            await waiter
+        except asyncio.CancelledError:
+            if not waiter.cancelled():
+                # (its turn had come)
+                self.end()
+            raise
+
+    def end(self):
+        """Ends a turn: the first that waits in the next group has it. Those that gave up are left out."""
+        while self.groups:
+            key, waiters = self.groups.popitem(last=False)
+            while waiters and waiters[0].done():
+                waiters.popleft()
+            if not waiters:
+                continue
+            waiter = waiters.popleft()
+            if waiters:
+                self.groups[key] = waiters
+            waiter.set_result(None)
+            return
+        self.is_taken = False

@@ -1,0 +1,66 @@
+"""All by which whoever runs a store watches it: figures for Prometheus, the last day as a page, its health, and the
+record of changes."""
+import os
+import re
+import time
+
+from . import backup_folder, cache_changes
+from .cache_day import Day
+from .cache_health import Health
+from .cache_http import READ, Route, reply
+from .cache_metrics import Metrics, of_backup, of_cache
+from .cache_watching import Watching
+
+try:
+    from . import overview_day, overview_style
+except ModuleNotFoundError:
+    overview_day = None
+
+PAGE = re.compile(r"/overview/day")
+# The age of a copy in seconds from which on the page says so.
+OLD = 2 * 86_400
+
+
+def state_of_backup(said):
+    """The file with the state of the copies, or None."""
+    near = said.db and os.path.join(os.path.dirname(os.path.abspath(said.db)), "backup.json")
+    return said.backup_state or near
+
+
+class Watched:
+    """`metrics.sources` and `health.checks` are where other parts of nixkeep-cache add what they know."""
+
+    def __init__(self, said, server, waiting, limit, store):
+        self.store, self.limit, self.state, self.server = store, limit, state_of_backup(said), server
+        self.watching, self.health, self.metrics = Watching(), Health(server), Metrics()
+        self.day = Day(f"{waiting.folder}/day.json")
+        self.metrics.sources += [of_cache(server, self.watching, limit, waiting), of_backup(self.state)]
+        self.watching.observers += [self.metrics.observe, self.day.observe, cache_changes.observe]
+
+    def parts(self):
+        return [self.health, self.metrics, self]
+
+    def routes(self):
+        return [Route(READ, PAGE, self.page)]
+
+    async def page(self, _):
+        if not overview_day:
+            return reply(404, "the overview needs the Debian package python3-jinja2\n")
+        text = overview_day.page(self.day, self.store, "/overview", *self.now())
+        return reply(200, text, "text/html; charset=utf-8", **overview_style.FIELDS)
+
+    def now(self):
+        """What the page says of now: pairs of a word and a value, and lines of what needs somebody."""
+        used, most = self.limit.figures()
+        succeeded = backup_folder.read_state(self.state).get("succeeded") if self.state else None
+        age = time.time() - succeeded if isinstance(succeeded, (int, float)) else None
+        tiles = [("waiting now", f"{self.server.turns.waiting():,}")]
+        tiles += [("file", overview_style.human(used))] if used is not None else []
+        tiles += [("of its limit", f"{100 * used / most:.0f} %")] if most else []
+        tiles += [("last copy", f"{age / 3600:.1f} h ago")] if age is not None else []
+        notices = []
+        if self.limit.is_near():
+            notices.append("The file is nearly as large as it may be: drop roots, and collect.")
+        if self.state and (age is None or age > OLD):
+            notices.append("There is no copy of the last two days.")
+        return tiles, notices

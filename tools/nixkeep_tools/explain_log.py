@@ -1,0 +1,61 @@
+"""What of a log SQLite, and so nixkeep, doesn't take: the frames after the last commit whose sums are right."""
+import collections
+import os
+
+from . import store_file
+from .count_of import count_of
+
+HEAD, BEFORE_PAGE = 32, 24
+# The frames at the end of a log that don't count, and how many of them end a commit.
+Ignored = collections.namedtuple("Ignored", "frames commits")
+
+
+def frames(log):
+    """The salt of a log, and for each whole frame its salt and whether it ends a commit."""
+    head = log.read(HEAD)
+    size, found = int.from_bytes(head[8:12], "big"), []
+    while len(frame := log.read(BEFORE_PAGE + size)) == BEFORE_PAGE + size:
+        found.append((frame[8:16], frame[4:8] != bytes(4)))
+    return head[16:24], found
+
+
+def ignored(path):
+    """What of the log of a file doesn't count, though it was written after the last commit that does.
+
+    Frames from before the log was begun anew have another salt, and so has one that nixkeep has passed over: such ones
+    count only if a frame of the log's own salt follows.
+    """
+    used = max((count for _, _, count in store_file.commits(path)), default=0)
+    try:
+        with open(store_file.log_of(path), "rb") as log:
+            salt, found = frames(log)
+    except OSError:
+        return Ignored(0, 0)
+    last = max((at for at, (it, _) in enumerate(found, 1) if it == salt), default=0)
+    left = found[used:last]
+    return Ignored(len(left), sum(is_commit for _, is_commit in left))
+
+
+def has_bad_head(path):
+    """Whether a log that isn't empty begins with something else than the head of a log."""
+    try:
+        with open(store_file.log_of(path), "rb") as log:
+            head = log.read(HEAD)
+    except OSError:
+        return False
+    return len(head) == HEAD and any(head) and not store_file.is_log_head(head)
+
+
+def line(path):
+    """The line on the log of a file, or None if all of it counts; and whether commits of it may be lost."""
+    if has_bad_head(path):
+        size = os.path.getsize(store_file.log_of(path))
+        return f"its log: none of its {size} bytes count: its head is damaged", True
+    found = ignored(path)
+    if not found.frames:
+        return None, False
+    why = ["a change was stopped there", "a change was stopped there, or the log is damaged"][found.commits > 0]
+    if found.commits > 1:
+        why = "the log is damaged"
+    frames_are = "1 frame at its end doesn't" if found.frames == 1 else f"{found.frames} frames at its end don't"
+    return f"its log: {frames_are} count, with {count_of(found.commits, 'commit')}: {why}", found.commits > 0

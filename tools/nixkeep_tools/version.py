@@ -1,0 +1,20 @@
+"""The version of the tools, which is that of nixkeep: they are installed with it, next to the file VERSION."""
+import os
+
+HERE = os.path.dirname(os.path.realpath(__file__))
+# In an installation, and in a checkout.
+PLACES = (f"{HERE}/../VERSION", f"{HERE}/../../VERSION")
+
+
+def line(tool):
+    """What `TOOL --version` prints."""
+    for place in PLACES:
+        if os.path.isfile(place):
+            with open(place, encoding="ascii") as file:
+                return f"{tool} {file.read().strip()}"
+    return f"{tool}, of an unknown version"
+
+
+def add_to(asked):
+    """Adds the option to a command line."""
+    asked.add_argument("--version", action="version", version=line(asked.prog), help="print the version, and end")
