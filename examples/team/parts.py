@@ -1,5 +1,6 @@
-"""The parts of a team's deployment on this machine's loopback: the server, nixkeep-cache, and real Nix over a store
-of its own. Also how a script here reports: a line for each check, and `N passed, M failed` at the end."""
+"""The parts of a team's deployment on this machine's loopback: the server, nixkeep-cache, and Nix over a store
+of its own. Also how a script here reports: a line for each check, and `N passed, M failed` at the end, with
+`, K skipped` where something was."""
 import argparse
 import contextlib
 import hashlib
@@ -29,8 +30,7 @@ from nixkeep_tools import nar, paths, store_file
 # The Debian package of a tool that has another name.
 PACKAGES = {"nginx": "nginx-light", "nix": "nix-bin", "nix-store": "nix-bin", "htpasswd": "apache2-utils",
             "dot": "graphviz"}
-counts = {"passed": 0, "failed": 0}
-skips = []
+counts = {"passed": 0, "failed": 0, "skipped": 0}
 # A script that is ended ends its parts, too.
 signal.signal(signal.SIGTERM, lambda *_: sys.exit(1))
 
@@ -47,10 +47,9 @@ def same(what, came, wanted):
 
 
 def end():
-    """Ends a script, and prints again what was skipped."""
-    for it in skips:
-        print(f"SKIPPED: {it}")
-    print(f"{counts['passed']} passed, {counts['failed']} failed")
+    """Ends a script."""
+    skips = f", {counts['skipped']} skipped" if counts["skipped"] else ""
+    print(f"{counts['passed']} passed, {counts['failed']} failed{skips}")
     sys.exit(1 if counts["failed"] else 0)
 
 
@@ -61,6 +60,8 @@ def script(doc, what, run, *tools, more=lambda asked: None):
     more(asked)
     words = asked.parse_args()
     words.program = os.path.abspath(words.program)
+    if subprocess.run([words.program, "--help"], stdout=subprocess.DEVNULL).returncode:
+        sys.exit(f"{words.program} can't be run")
     with tempfile.TemporaryDirectory() as words.folder:
         if not skipped(what, *tools):
             run(words)
@@ -68,8 +69,9 @@ def script(doc, what, run, *tools, more=lambda asked: None):
 
 
 def skip(why):
-    skips.append(why)
-    print(f"SKIPPED: {why}", flush=True)
+    """Counts what is skipped, and says why."""
+    counts["skipped"] += 1
+    print(f"skipped: {why}", flush=True)
 
 
 def skipped(what, *tools):
@@ -128,6 +130,14 @@ class Part:
             self.running.wait()
             self.running = None
 
+    def lines(self):
+        """The lines of its log, without the records of who changed what."""
+        return [it for it in Path(self.log).read_text().splitlines() if not it.startswith("{")]
+
+    def records(self):
+        """The records of who changed what in its log."""
+        return [json.loads(it) for it in Path(self.log).read_text().splitlines() if it.startswith("{")]
+
     __enter__ = start
 
     def __exit__(self, *_):
@@ -148,6 +158,52 @@ def cache(folder, port, place=None, *more):
     words = [f"{TOOLS}/nixkeep-cache", "--store", f"127.0.0.1:{port}", "--listen", listen]
     words += ["--waiting", f"{folder}/waiting", "--patience", "300"]
     return Part("nixkeep-cache", [*words, *(more or ["--proxied"])], place, f"{folder}/cache.log")
+
+
+# Passes an open socket to a program as systemd does: as number 3, with its own process number.
+ACTIVATE = """import os, sys
+os.dup2(int(sys.argv[1]), 3)
+os.execve(sys.argv[2], sys.argv[2:], {**os.environ, "LISTEN_FDS": "1", "LISTEN_PID": str(os.getpid())})"""
+
+
+class Unit(Part):
+    """A store as the package's units run it: nixkeep-cache at a socket that outlives it, with the server as its child.
+    It is ready once it says so."""
+
+    def __init__(self, program, folder, config, database, place, *more):
+        words = [f"{TOOLS}/nixkeep-cache", "--nixkeep", program, "--config", config, "--db", database]
+        words += ["--waiting", f"{folder}/waiting", "--patience", "300", *(more or ["--proxied"])]
+        super().__init__("nixkeep-cache", words, place, f"{folder}/cache.log")
+        self.listener, self.ready = socket.socket(socket.AF_UNIX), f"{folder}/ready"
+        self.listener.bind(place)
+        self.listener.listen(4096)
+
+    def start(self):
+        with contextlib.suppress(FileNotFoundError):
+            os.unlink(self.ready)
+        number = self.listener.fileno()
+        with socket.socket(socket.AF_UNIX, socket.SOCK_DGRAM) as manager, open(self.log, "ab") as log:
+            manager.bind(self.ready)
+            manager.settimeout(300)
+            words, env = [sys.executable, "-c", ACTIVATE, str(number), *self.words], {"NOTIFY_SOCKET": self.ready}
+            self.running = subprocess.Popen(words, pass_fds=[number], stdin=subprocess.DEVNULL, stdout=log, stderr=log,
+                                            env={**os.environ, **env})
+            said = manager.recv(100)
+        if said != b"READY=1":
+            sys.exit(f"{self.name} said {said}")
+        return self
+
+    __enter__ = start
+
+    def server(self):
+        """The process number of the server, which is the only child, or None while it starts."""
+        with open(f"/proc/{self.running.pid}/task/{self.running.pid}/children") as file:
+            return next((int(it) for it in file.read().split()), None)
+
+    def kill_server(self):
+        """Kills the server as a machine does that is out of memory."""
+        until("a server runs", lambda: self.server())
+        os.kill(self.server(), signal.SIGKILL)
 
 
 def some_path(rng, name):
@@ -202,7 +258,7 @@ def put_objects(conn, count, rng):
 
 
 class Nix:
-    """Real Nix over a store of its own in a folder, with the usual directory in its paths."""
+    """Nix over a store of its own in a folder, with the usual directory in its paths."""
 
     def __init__(self, folder, settings=""):
         self.root = f"{folder}/root"
