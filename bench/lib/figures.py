@@ -128,7 +128,7 @@ class Runs:
 
 def command(words, given=None, env=None):
     """Seconds and KiB of a run from the start of the process to its end, which has to be with 0; its input is a
-    file. So is what it says on standard error, of any length: real Nix has a line for each object that it deletes."""
+    file. So is what it says on standard error, of any length: Nix has a line for each object that it deletes."""
     with open(given or os.devnull, "rb") as source, tempfile.TemporaryFile() as said:
         start = time.perf_counter()
         ran = subprocess.Popen(words, env=env, stdin=source, stdout=subprocess.DEVNULL, stderr=said)

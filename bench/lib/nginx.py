@@ -5,7 +5,7 @@ from pathlib import Path
 
 from bench.lib.load import on
 from bench.lib.serving import Serving
-from tests.lib import report
+from tests.lib import packages
 from tests.lib.http import free_port
 
 CONFIG = """
@@ -27,5 +27,5 @@ def nginx(folder, location, http="", workers=1, processor=None):
     port, room, user = free_port(), tempfile.mkdtemp(dir=folder), "user root;" if os.geteuid() == 0 else ""
     text = CONFIG.format(workers=workers, user=user, http=http, port=port, location=location)
     Path(f"{room}/nginx.conf").write_text(text)
-    words = [report.found("nginx"), "-p", room, "-e", "errors", "-c", "nginx.conf"]
+    words = [packages.found("nginx"), "-p", room, "-e", "errors", "-c", "nginx.conf"]
     return Serving(port, *(words if processor is None else on(processor, *words)))
