@@ -1,4 +1,4 @@
-# shellcheck shell=bash disable=SC2034 # (the cases use the variables)
+# shellcheck shell=bash disable=SC2034,SC2154 # (the cases use the variables, and their runner sets some)
 # What more than one case uses. The case runner reads it before the steps of each; a case may define a name anew.
 
 # `as USER WORD..`: a command over the file store.db of the case, with its configuration.
@@ -39,7 +39,7 @@ put() { python3 -c 'import sqlite3, sys; sqlite3.connect(sys.argv[1]).executescr
 top=${PRELUDE%/tests/cases/prelude.sh}
 
 # `without WHAT..`: says what of these isn't here, and ends with 1 if all are. A port has to be free, if there is no
-# `alone`.
+# `alone`. The step counts as skipped then.
 without() {
   for what; do
     case $what in
@@ -48,7 +48,7 @@ without() {
     port:*) alone true || ! (exec 3<>"/dev/tcp/127.0.0.1/${what#*:}") ;;
     python3-*) /usr/bin/python3 -c "import ${what#python3-}" ;;
     *) command -v "$what" >/dev/null ;;
-    esac 2>/dev/null || { printf 'skipped without %s: ' "$what" && return; }
+    esac 2>/dev/null || { printf 'skipped without %s: ' "$what" && echo "$what" >>"$step.skipped" && return; }
   done
   false
 }

@@ -1,6 +1,7 @@
 /* Ends the process as it is about to make the call STOP_AT that changes a file whose path begins with STOP_IN; half of a
    write is made if STOP_TORN is set. If STOP_FAILS is set, reads count too, and in place of an end that call and
-   all after it fail. What a file has when it is synced is copied to a file next to it; the file LOST isn't synced. */
+   all after it fail. What a file has when it is synced is copied to a file next to it; the file LOST isn't synced. Where
+   a folder is synced, each file in it that counts gets an empty file next to it: its name stays. */
 #include "preload.h"
 #include <errno.h>
 #include <stdio.h>
@@ -19,8 +20,8 @@ static int path_of(int fd, char *path) {
   char link[64];
   snprintf(link, sizeof link, "/proc/self/fd/%d", fd);
   ssize_t size = readlink(link, path, MOST - 1);
+  path[size < 0 ? 0 : size] = 0;
   if (size < 0) return 0;
-  path[size] = 0;
   return is_within(path);
 }
 
@@ -105,6 +106,20 @@ static void keep(int fd) {
   close(out);
 }
 
+/* Notes that the names stay of the file STOP_IN and of its log, where this is their folder. */
+static void keep_names(int fd) {
+  char path[MOST], name[MOST + 8], noted[MOST + 16];
+  const char *in = getenv("STOP_IN"), *ends[] = {"", "-wal"};
+  path_of(fd, path);
+  size_t size = strlen(path);
+  if (!in || strncmp(path, in, size) || in[size] != '/' || strchr(in + size + 1, '/')) return;
+  for (int at = 0; at < 2; at++) {
+    snprintf(name, sizeof name, "%s%s", in, ends[at]);
+    snprintf(noted, sizeof noted, "%s.named", name);
+    if (!access(name, F_OK)) close(open(noted, O_CREAT | O_WRONLY, 0600));
+  }
+}
+
 static int synced(int fd, int (*next)(int)) {
   char path[MOST];
   const char *lost = getenv("LOST");
@@ -112,6 +127,7 @@ static int synced(int fd, int (*next)(int)) {
   if (lost && path_of(fd, path) && !strcmp(path, lost)) return 0;
   int done = next(fd);
   keep(fd);
+  keep_names(fd);
   return done;
 }
 

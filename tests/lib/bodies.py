@@ -1,17 +1,43 @@
-"""Wrong bodies: which of them the gate tries, and what a check's refusal of one is worth."""
+"""Wrong bodies and definitions: which the gate tries, and what a check's refusal of one is worth."""
 import collections
 import glob
+import os
 import re
 from pathlib import Path
 
-from tests.lib import program, report
+from tests.lib import functions, program, report
 
 SELECTION = "tests/gate/bodies.txt"
+# Edits that change nothing: they have to survive. Those that a check refuses nevertheless, each with the reason.
+EQUAL, EXCUSED = "further/equal", "tests/gate/equal.txt"
 # An error for a name that an edit took away, or for what fell with it: it says nothing of what the body does.
 OF_NAMES = "has no field", "has no goal", "that depend", "that can be named from here"
 # A goal in which nothing is left to prove, which a proof of another shape doesn't fit.
 OF_NOTHING = re.compile(r"(?:expected type|checked against) `(?:\w+\.)*Unit(?: \{\d+\})?`")
 ERROR = re.compile(r"^\./proofs/(\S+)/\w+\.antt:\d+:\d+: error: (.*(?:\n(?:  |\t).*)*)", re.M)
+
+
+class Edit:
+    """A wrong body or definition: what it replaces, in which file, and the functions whose bodies it changes."""
+
+    def __init__(self, path, texts):
+        self.name, self.path, self.pairs = os.path.basename(path).removesuffix(".edit"), path, changes(path)
+        self.functions = [functions.function_at(file, texts, old) for file, old, _ in self.pairs]
+
+    def is_of_bodies(self):
+        return None not in self.functions
+
+
+def sources(crate):
+    """The texts of a crate's sources by their path in it."""
+    top = Path(f"{program.HERE}/crates/{crate}")
+    return {str(it.relative_to(top)): it.read_text(encoding="utf-8") for it in top.glob("src/**/*") if it.is_file()}
+
+
+def further(crate, folder="further"):
+    """The further edits of a crate, in the order of their names."""
+    texts = sources(crate)
+    return [Edit(it, texts) for it in sorted(glob.glob(f"{program.HERE}/crates/{crate}/{folder}/*.edit"))]
 
 
 def selected():
@@ -26,6 +52,12 @@ def having(names=()):
     if unknown := [it for it in names if it not in found]:
         report.fail(f"no further edits in crates/: {' '.join(unknown)}")
     return found
+
+
+def excused():
+    """The edits that change nothing and that a check refuses nevertheless: pairs of a crate and a name."""
+    lines = Path(f"{program.HERE}/{EXCUSED}").read_text().splitlines()
+    return [tuple(it.partition(":")[0].split()) for it in lines if it and not it.startswith("#")]
 
 
 def changes(path):
@@ -94,6 +126,11 @@ class Check:
         if "did not prove" in said or any(is_of_meaning(it) for it in errors):
             return True
         return None if self.others(function) else False
+
+    def is_by_search_alone(self, function):
+        """Whether a function is refused for a search alone that found no proof, as it may of a goal that is true."""
+        errors = [it for it in self.errors_of(function) if is_of_meaning(it)]
+        return "did not prove" in self.said.get(function, "") and not errors
 
     def why_not(self, function):
         """What was said of a function that isn't refused for what its body does."""

@@ -23,11 +23,33 @@ done
 """
 
 
+# What compares something in a step of which nothing is wanted.
+COMPARES = re.compile(r"\b(cmp|diff|test|grep|comm)\b|\[\[? |\|\| *echo")
+
+
+class Ran:
+    """A case that ran: the number of its steps, those that came out otherwise, each with what differs, those that were
+    skipped, each with what isn't here, and how many of the others only prepare something: these aren't counted."""
+
+    def __init__(self, count, wrong, skipped, prepared=0):
+        self.count, self.wrong, self.skipped, self.prepared = count, wrong, skipped, prepared
+
+    def passed(self):
+        return self.count - len(self.wrong) - len(self.skipped) - self.prepared
+
+    def told(self):
+        return f"{self.passed() + self.prepared} of {self.count} steps as written; {self.prepared} only prepare"
+
+
 class Step:
     """A command, the number of its line, and the lines after it: what has to come."""
 
     def __init__(self, line, command):
         self.line, self.command, self.wanted = line, command, []
+
+    def only_prepares(self):
+        """Whether nothing is wanted of it but that it says nothing, and it compares nothing."""
+        return not self.wanted and not COMPARES.search(self.command)
 
     def parts(self):
         """The lines of standard output, those of standard error, and the status."""
@@ -84,6 +106,12 @@ def are_lines(wanted, lines):
     return len(wanted) == len(lines)
 
 
+def missing(path):
+    """What a step was skipped without; None where it was done."""
+    file = Path(f"{path}.skipped")
+    return file.read_text().split("\n")[0] if file.exists() else None
+
+
 def difference(step, path):
     """What came of a step in place of what was wanted, or None."""
     if not os.path.exists(f"{path}.status"):
@@ -129,12 +157,13 @@ def run_steps(steps, room, programs, seconds):
 
 
 def run_case(case, programs, seconds=SECONDS):
-    """Runs a case with these programs by name, which come before the tools. Returns the number of steps, and those that
-    came out otherwise, each with what differs."""
+    """Runs a case with these programs by name, which come before the tools."""
     steps = steps_of(Path(case).read_text())
     if not steps:
         raise ValueError("it has no step")
     with tempfile.TemporaryDirectory(prefix="case-") as room:
         paths = run_steps(steps, room, programs, seconds)
-        found = [(step, difference(step, path)) for step, path in zip(steps, paths)]
-    return len(steps), [(step, why) for step, why in found if why]
+        found = [(step, difference(step, path), missing(path)) for step, path in zip(steps, paths)]
+    wrong = [(step, why) for step, why, _ in found if why]
+    prepared = sum(step.only_prepares() for step, why, what in found if not why and not what)
+    return Ran(len(steps), wrong, [(step, what) for step, why, what in found if what and not why], prepared)

@@ -1,10 +1,12 @@
 """The program of crates/bench, which has work of the libraries for comparisons and benchmarks."""
 import os
+import shutil
 import subprocess
 
-from tests.lib import program
+from tests.lib import program, report
 
 FOLDER = f"{program.HERE}/crates/bench"
+BUILT = f"{FOLDER}/out/bench"
 
 
 def option(asked):
@@ -12,13 +14,23 @@ def option(asked):
     asked.add_argument("--libraries", metavar="FILE", help="the program of crates/bench; else it is proved and built")
 
 
+def build():
+    """Proves and builds the program."""
+    if not shutil.which("rt"):
+        report.fail("the program of crates/bench isn't built: the command rt of the Rattle toolchain isn't on the path")
+    how = {"stdin": subprocess.DEVNULL, "stdout": subprocess.PIPE, "stderr": subprocess.STDOUT, "text": True}
+    ran = subprocess.run(["rt", "run"], cwd=FOLDER, errors="replace", **how)
+    if ran.returncode:
+        report.fail(f"the program of crates/bench could not be proved or built:\n{ran.stdout[-2000:]}")
+
+
 class Libraries:
     """What is named, or built for the present sources, or, if that is enough, what was built before."""
 
     def __init__(self, file=None, is_old_enough=False):
-        if not file and not (is_old_enough and os.path.exists(f"{FOLDER}/out/bench")):
-            subprocess.run(["rt", "run"], cwd=FOLDER, check=True, stdin=subprocess.DEVNULL, capture_output=True)
-        self.file = os.path.abspath(file or f"{FOLDER}/out/bench")
+        if not file and not (is_old_enough and os.path.exists(BUILT)):
+            build()
+        self.file = os.path.abspath(file or BUILT)
 
     def __call__(self, *words, given=b"", path=None):
         """What it prints for this input, or for a file's."""

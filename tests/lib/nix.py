@@ -1,4 +1,4 @@
-"""Real Nix over a throw-away store in a folder, with the usual directory in its paths."""
+"""Nix over a throw-away store in a folder, with the usual directory in its paths."""
 import hashlib
 import json
 import os

@@ -16,7 +16,7 @@ struct counts {
 };
 
 /* The counts of this run, in the file that COUNTS names, so that they stay when the process ends at once. */
-static struct counts *counts(void) {
+static inline struct counts *counts(void) {
   static struct counts *found, none;
   if (found) return found;
   const char *path = getenv("COUNTS");
@@ -27,7 +27,7 @@ static struct counts *counts(void) {
 }
 
 /* The number that a variable of the environment has, 0 where it has none. */
-static unsigned long number(const char *name) {
+static inline unsigned long number(const char *name) {
   const char *text = getenv(name);
   return text ? strtoul(text, 0, 10) : 0;
 }

@@ -12,12 +12,17 @@ import json
 import os
 import re
 import shutil
+import subprocess
 import sys
 import tarfile
 from pathlib import Path
 
 HERE = os.path.dirname(os.path.dirname(os.path.dirname(os.path.realpath(__file__))))
 NAME = "nixkeep"
+# The toolchain that proves the sources, as `rt version` prints it.
+TOOLCHAIN = "rattle-kit-13f logic dac8208d650f15bf"
+# The machine that the program is for, as `uname -m` prints it.
+MACHINE = "x86_64"
 FILE = f"{HERE}/crates/{NAME}/out/{NAME}"
 KEPT = f"{HERE}/out/proved"
 TIMES = f"{HERE}/out/times.json"
@@ -47,7 +52,27 @@ def with_below(crate, named):
 def toolchain():
     """The folder of the toolchain whose command rt is on the path, or None where none is."""
     rt = shutil.which("rt")
-    return rt and os.path.dirname(os.path.dirname(os.path.realpath(rt)))
+    folder = rt and os.path.dirname(os.path.dirname(os.path.realpath(rt)))
+    return folder if folder and os.path.isfile(f"{folder}/bin/rattle") else None
+
+
+def toolchain_version():
+    """What `rt version` prints of the toolchain on the path; None where it prints nothing."""
+    try:
+        ran = subprocess.run(["rt", "version"], stdin=subprocess.DEVNULL, capture_output=True, text=True)
+    except OSError:
+        return None
+    return ran.stdout.strip().split("\n")[0] or None
+
+
+def fault_of_toolchain():
+    """Why the sources can't be proved with what is on the path; None where they can."""
+    if not shutil.which("rt"):
+        return f"the command rt of the Rattle toolchain ({TOOLCHAIN}) isn't on the path"
+    version = toolchain_version()
+    if not toolchain() or version != TOOLCHAIN:
+        return f"rt on the path is {version or 'no Rattle toolchain'}, and {TOOLCHAIN} is needed"
+    return None
 
 
 def toolchain_line():
@@ -55,7 +80,7 @@ def toolchain_line():
     folder = toolchain()
     if not folder:
         return ""
-    seen = os.stat(f"{folder}/bin/rt")
+    seen = os.stat(f"{folder}/bin/rattle")
     return f"{folder} {seen.st_size} {int(seen.st_mtime)}"
 
 
@@ -88,9 +113,16 @@ def sources(named, tops=(NAME,)):
     for crate in dict.fromkeys(it for top in tops for it in with_below(top, named)):
         read = hashlib.sha256(repr((handles, named[crate], [found.get(it) for it in named[crate]])).encode())
         for path in files_of(crate):
-            read.update(repr((path, Path(f"{HERE}/{path}").read_bytes())).encode())
+            data = Path(f"{HERE}/{path}").read_bytes()
+            read.update(f"{path} {len(data)}\n".encode())
+            read.update(data)
         found[crate] = read.hexdigest()
     return found
+
+
+def source():
+    """The sum of all sources of the program."""
+    return sources(listed())[NAME]
 
 
 def made_by(crate):
@@ -174,28 +206,29 @@ def alone():
         yield
 
 
-def prove(tops):
+def prove(tops, why=None):
     """Proves these crates and those below them, and builds what they make, where that isn't done for the
-    present sources. Returns whether there was anything to do."""
+    present sources: it prints that it does and, if that is given, why. Returns whether there was anything to do."""
     named, by = listed(), toolchain_line()
     found = sources(named, tops)
     if all(is_kept(it, found[it], by) for it in tops):
         return False
-    if not by:
-        sys.exit("nixkeep: the command rt of the Rattle toolchain isn't on the path")
-    import proving
+    fault = fault_of_toolchain()
+    if fault:
+        sys.exit(f"{NAME}: {why}, and can't be proved here: {fault}" if why else f"{NAME}: {fault}")
+    from tests.lib import proving
     with alone():
         left = [it for it in found if not is_kept(it, found[it], by)]
         if left:
-            say(f"proving {len(left)} of {len(found)} crates; README.md says how long that takes, once")
+            reason = f" ({why})" if why else ""
+            say(f"proving {len(left)} of {len(found)} crates{reason}; CONTRIBUTING.md says how long that takes")
             proving.prove_all(left, found, named, by)
     return True
 
 
-def build():
-    """Proves and builds the program where that isn't done for the present sources, and prints that it does."""
-    if prove([NAME]):
-        say("built")
+def is_built():
+    """Whether the program that was proved and built here is that of the present sources."""
+    return is_kept(NAME, source(), toolchain_line())
 
 
 def keep_built():
@@ -206,5 +239,5 @@ def keep_built():
         if crate == NAME:
             keep(NAME, source, by)
         elif os.path.isdir(f"{made}/{crate}.rlib") and not os.path.exists(f"{made}/stamp"):
-            # (rt ci puts no stamp next to what it proved from nothing)
+            # (rt ci puts no stamp next to what it proved from scratch)
             keep_library(crate, f"{made}/{crate}.rlib", source, by)

@@ -1,7 +1,7 @@
 """Proves crates side by side: each once those below it are, and first those with the longest chain of others above
 them.
 
-Each crate is one run of the toolchain's `rattle build`, which proves it from nothing and writes its library with
+Each crate is one run of the toolchain's `rattle build`, which proves it from scratch and writes its library with
 its statements alone (--statements), so a crate far up loads no proof of those below. The libraries lie in a folder
 of this run, where no other command waits for them. How long a crate takes, and how much memory, is known from
 earlier runs, or guessed from its lines.
@@ -19,9 +19,9 @@ import time
 from concurrent.futures import FIRST_COMPLETED, ThreadPoolExecutor, wait
 from pathlib import Path
 
-import program
+from tests.lib import program
 
-TARGET = "x86_64-unknown-linux-gnu"
+TARGET = f"{program.MACHINE}-unknown-linux-gnu"
 # The most jobs that a crate gets: more than four seldom help.
 MOST = 4
 # Where the libraries of a run lie, which are several GB: a folder for temporary files that isn't in memory.

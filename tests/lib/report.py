@@ -1,22 +1,25 @@
 """How a script of these folders is called and how it reports. Each check that passes is counted. The first that fails
-ends the script, unless `goes_wrong` reports it. The last line is `N passed, M failed`."""
+ends the script, unless `goes_wrong` reports it. What a machine doesn't have is skipped: a line says so, and is counted.
+The last line is `N passed, M failed`, and where something was skipped `N passed, M failed, K skipped`."""
 import argparse
 import functools
 import os
 import random
 import shutil
-import subprocess
 import sys
 import tempfile
 import time
 from pathlib import Path
 
-from tests.lib import program
+from tests.lib import packages, release
 
-# The Debian package of a tool that scripts need.
-PACKAGES = {"cc": "gcc", "nix": "nix-bin", "nix-store": "nix-bin", "nix-instantiate": "nix-bin", "nix-hash": "nix-bin",
-            "nginx": "nginx-light"}
+# The system's folder for files in memory.
+MEMORY = "/dev/shm"
 passed = 0
+skipped = 0
+# How many places were tried where something can go wrong, and how many there are.
+tried = 0
+places = 0
 wrong = []
 
 
@@ -70,17 +73,10 @@ def tell(text):
     print(text, flush=True)
 
 
-def found(tool):
-    """Where a tool is, if it is installed; or whether a module of Debian's Python is, by the name of its package."""
-    if tool.startswith("python3-"):
-        return subprocess.run(["/usr/bin/python3", "-c", f"import {tool[8:]}"], capture_output=True).returncode == 0
-    return shutil.which(tool) or shutil.which(tool, path="/usr/sbin")
-
-
 def missing(tools):
     """What to print of the tools that aren't installed; None where all are."""
-    lacking = [it for it in tools if not found(it)]
-    return f"needs {', '.join(f'{it} (Debian: {PACKAGES.get(it, it)})' for it in lacking)}" if lacking else None
+    lacking = [it for it in tools if not packages.found(it)]
+    return f"needs {', '.join(f'{it} (Debian: {packages.package_of(it)})' for it in lacking)}" if lacking else None
 
 
 def needs(*tools):
@@ -89,11 +85,23 @@ def needs(*tools):
         fail(why)
 
 
-def skips(*tools):
+def skip(what, count=1):
+    """Prints that something is skipped, and why, and counts it."""
+    global skipped
+    skipped += count
+    tell(f"skipped: {what}")
+
+
+def skips(*tools, what=None):
     """Whether a tool isn't installed, and then it prints that this is skipped."""
     if why := missing(tools):
-        tell(f"skipped: {why}")
+        skip(f"{what}: {why}" if what else why)
     return why is not None
+
+
+def ending(passed, failed, skipped):
+    """The last line of a script."""
+    return f"{passed} passed, {failed} failed{f', {skipped} skipped' if skipped else ''}"
 
 
 def today():
@@ -109,7 +117,7 @@ def parser(doc):
 def options(doc, more=lambda asked: None, parts=()):
     """The words of the command line: which program is tried, more, and the parts to run, or all: functions."""
     asked, named = parser(doc), {it.__name__.removeprefix("try_"): it for it in parts}
-    asked.add_argument("--program", metavar="FILE", help="the program; else the one that bin/nixkeep proves and builds")
+    asked.add_argument("--program", metavar="FILE", help="the program; else the one that bin/nixkeep runs")
     more(asked)
     if parts:
         asked.add_argument("parts", nargs="*", metavar="PART", help=f"{', '.join(named)}; else all")
@@ -122,10 +130,8 @@ def options(doc, more=lambda asked: None, parts=()):
 
 
 def program_file(words):
-    """The file of the program, which is built where none is named."""
-    if not words.program:
-        program.build()
-    file = os.path.abspath(words.program or program.FILE)
+    """The file of the program: the one that is named, or that of bin/nixkeep."""
+    file = os.path.abspath(words.program or release.ready())
     if not os.access(file, os.X_OK):
         fail(f"there is no program {file}")
     return file
@@ -133,10 +139,14 @@ def program_file(words):
 
 def some(words, total, *of_what):
     """The numbers from 1 to the total: all of them or, where a count is given, that many, by the seed and what they are
-    of. Where there is none the script fails: nothing tried shows nothing."""
+    of. Where there is none the script fails: nothing tried shows nothing. The last lines say how many of all these were
+    tried."""
+    global tried, places
     if not total:
         fail(f"{', '.join(map(str, of_what))}: nothing is counted that could go wrong")
-    if words.count is None or words.count >= total:
+    count = total if words.count is None else min(words.count, total)
+    tried, places = tried + count, places + total
+    if count == total:
         return range(1, total + 1)
     return sorted(random.Random(f"{words.seed} {of_what}").sample(range(1, total + 1), words.count))
 
@@ -150,13 +160,15 @@ def main(run):
         failed = 1
     for line in wrong:
         tell(f"failed: {line.strip().rstrip(':')}")
-    tell(f"{passed} passed, {failed} failed")
+    if places:
+        tell(f"{tried:,} of {places:,} places tried")
+    tell(ending(passed, failed, skipped))
     sys.exit(1 if failed else 0)
 
 
-def script(doc, run, count=None, more=lambda asked: None, parts=(), need=(), skip=()):
-    """Runs a script with its words, and among these a folder of its own and what chance gives. It fails where a tool
-    that it needs isn't installed, and is skipped without one of the others."""
+def script(doc, run, count=None, more=lambda asked: None, parts=(), need=(), skip=(), is_in_memory=False):
+    """Runs a script with its words, and among these a folder of its own, in memory where that is enough, and what
+    chance gives. It fails where a tool that it needs isn't installed, and is skipped without one of the others."""
 
     def also(asked):
         number = functools.partial(asked.add_argument, metavar="N", type=int)
@@ -170,7 +182,8 @@ def script(doc, run, count=None, more=lambda asked: None, parts=(), need=(), ski
         if skips(*skip):
             return 0
         words.rng = random.Random(words.seed)
-        with tempfile.TemporaryDirectory() as words.folder:
+        within = MEMORY if is_in_memory and os.access(MEMORY, os.W_OK) else None
+        with tempfile.TemporaryDirectory(dir=within) as words.folder:
             return run(words)
 
     main(tried)

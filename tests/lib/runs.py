@@ -6,9 +6,11 @@ import subprocess
 import threading
 import time
 
-from tests.lib import program, report
+from tests.lib import processes, program, report, skips
 
 TESTS = f"{program.HERE}/tests"
+# The minutes after which a script hangs, if no others are given.
+LIMIT = 60
 # How many of the last lines of a run that failed are shown again.
 LAST = 30
 
@@ -34,21 +36,26 @@ def options_of(file, given):
 
 
 class Ran:
-    """A run of a script: its status, how much passed and failed, what it printed, its minutes and those of
+    """A run of a script: its status, how much passed, failed and was skipped, what it printed, its minutes and those of
     processors."""
 
     def __init__(self, words, status, counts, output, seconds, used):
         file = words[0].removeprefix(f"{program.HERE}/").removeprefix("tests/")
         self.name, self.status, self.output = file if "/" in words[0] else " ".join(words), status, output
-        self.passed, self.failed = counts
+        self.passed, self.failed, self.skipped = counts
         self.minutes, self.work = seconds / 60, (used.ru_utime + used.ru_stime) / 60
 
     def is_good(self):
         return self.status == 0
 
+    def skips(self):
+        """What it said that it skipped, each once."""
+        return [*dict.fromkeys(re.findall(r"^\s*skipped: (.*)$", self.output, re.M | re.I))]
 
-def run(words, is_shown=True, each_second=lambda pid: None):
-    """Runs a script, in the folder above tests/. What it prints is shown line by line, or kept."""
+
+def run(words, is_shown=True, each_second=lambda pid: None, limit=LIMIT):
+    """Runs a script, in the folder above tests/. What it prints is shown line by line, or kept. One that goes on after
+    `limit` minutes is ended, and has failed."""
     since, kept, counts, ended = time.monotonic(), [], None, threading.Event()
     how = {"cwd": program.HERE, "stdin": subprocess.DEVNULL, "stdout": subprocess.PIPE}
     ran = subprocess.Popen(words, stderr=None if is_shown else subprocess.STDOUT, text=True, errors="replace", **how)
@@ -56,12 +63,16 @@ def run(words, is_shown=True, each_second=lambda pid: None):
     def watch():
         while not ended.is_set():
             each_second(ran.pid)
+            if time.monotonic() - since > 60 * limit:
+                kept.append(f"it hangs: it was ended after {limit} minutes\n")
+                return processes.end(ran.pid)
             ended.wait(1)
+        return None
 
     threading.Thread(target=watch, daemon=True).start()
     for line in ran.stdout:
-        counted = re.fullmatch(r"(\d+) passed, (\d+) failed\n", line)
-        counts = tuple(map(int, counted.groups())) if counted else counts
+        counted = re.fullmatch(r"(\d+) passed, (\d+) failed(?:, (\d+) skipped)?\n", line)
+        counts = tuple(int(it or 0) for it in counted.groups()) if counted else counts
         kept.append(line)
         if is_shown:
             print(line, end="", flush=True)
@@ -69,9 +80,10 @@ def run(words, is_shown=True, each_second=lambda pid: None):
     ended.set()
     ran.returncode = status = os.waitstatus_to_exitcode(status)
     # (one that says nothing of what passed, or ends badly, has failed once at least)
-    passed, failed = counts or (0, 0)
+    passed, failed, skipped = counts or (0, 0, 0)
     failed = max(failed, 1) if status or counts is None else failed
-    return Ran(words, status or counts is None, (passed, failed), "".join(kept), time.monotonic() - since, used)
+    counts, seconds = (passed, failed, skipped), time.monotonic() - since
+    return Ran(words, status or counts is None, counts, "".join(kept), seconds, used)
 
 
 def told(ran):
@@ -81,18 +93,40 @@ def told(ran):
 
 def show_parts(found):
     """A table of the runs, those first that took most of the processors, and the ends of those that failed."""
-    report.tell(f"\n{'minutes of parts':30}{'processor':>10}{'clock':>8}{'passed':>8}{'failed':>8}")
+    columns = "".join(f"{it:>8}" for it in ("clock", "passed", "failed", "skipped"))
+    report.tell(f"\n{'minutes of parts':30}{'processor':>10}{columns}")
     for it in sorted(found, key=lambda it: -it.work):
-        report.tell(f"{it.name:30}{it.work:10.1f}{it.minutes:8.1f}{it.passed:8}{it.failed:8}")
+        numbers = f"{it.minutes:8.1f}{it.passed:8}{it.failed:8}{it.skipped:8}"
+        report.tell(f"{it.name:30}{it.work:10.1f}{numbers}")
     for it in found:
         if it.failed:
             report.tell(f"\n{it.name} failed, and ended so:\n" + "\n".join(it.output.splitlines()[-LAST:]))
 
 
-def together(found, more_failed=0):
-    """Prints what each run took where there are several, and how much passed and failed in all; returns the status."""
+def show_skips(found, left_out):
+    """What was skipped, and why, a line each."""
+    lines = [f"  {it.name}: {what}" for it in found for what in it.skips()] + [f"  {it}" for it in left_out]
+    if lines:
+        report.tell("\nskipped:\n" + "\n".join(lines))
+
+
+def not_allowed(found):
+    """Prints what was skipped that the list of skips doesn't name, where a skip is a failure; how many there are."""
+    lines = [line for it in found for line in skips.faults(it, skips.allowed())]
+    if lines:
+        report.tell(f"\nskipped, and {skips.NAME} doesn't name it:\n" + "\n".join(f"  {it}" for it in lines))
+    return len(lines)
+
+
+def together(found, more_failed=0, left_out=(), say=lambda: None, may_skip=True):
+    """Prints what each run took where there are several, what was skipped (`left_out` are whole parts), what is to be
+    said besides, and how much passed, failed and was skipped in all; returns the status. Where nothing may be skipped,
+    what the list of skips doesn't name has failed."""
     if len(found) > 1:
         show_parts(found)
+    show_skips(found, left_out)
+    more_failed += 0 if may_skip else not_allowed(found)
+    say()
     passed, failed = sum(it.passed for it in found), sum(it.failed for it in found) + more_failed
-    report.tell(f"{passed} passed, {failed} failed")
+    report.tell(report.ending(passed, failed, sum(it.skipped for it in found) + len(left_out)))
     return 1 if failed else 0

@@ -1,5 +1,6 @@
 """The files that git tracks here, as texts."""
 import os
+import shutil
 import subprocess
 from pathlib import Path
 
@@ -17,5 +18,13 @@ def tracked(*patterns):
     return [it for it in git("ls-files", "--", *patterns) if os.path.exists(f"{HERE}/{it}")]
 
 
-def text_of(path):
-    return Path(f"{HERE}/{path}").read_text(encoding="utf-8")
+def text_of(path, errors="strict"):
+    return Path(f"{HERE}/{path}").read_text("utf-8", errors)
+
+
+def copy_to(folder, but=()):
+    """Copies each file that git tracks, or would, as it is in the checkout; those below some folders are left out."""
+    for name in git("ls-files", "-co", "--exclude-standard"):
+        if os.path.isfile(f"{HERE}/{name}") and not name.startswith(tuple(but)):
+            os.makedirs(os.path.dirname(f"{folder}/{name}"), exist_ok=True)
+            shutil.copy2(f"{HERE}/{name}", f"{folder}/{name}")

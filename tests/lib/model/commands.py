@@ -75,7 +75,7 @@ def command_of(words):
 
 
 def check_own(word, given, values):
-    """Raises a usage fault for what the number of words alone doesn't decide."""
+    """Raises a usage error for what the number of words alone doesn't decide."""
     if word == "profile":
         require(values[0] in ("set", "rollback", "switch", "delete"))
         require(len(values) == (2 if values[0] == "rollback" else 3))

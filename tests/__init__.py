@@ -1,0 +1,1 @@
+"""The tests of nixkeep, and what they share."""

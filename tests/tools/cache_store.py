@@ -1,0 +1,405 @@
+"""Tests of nixkeep-cache and its server: a server as a child, servers that die, the limit of the file, sessions."""
+import contextlib
+import os
+import random
+import signal
+import socket
+import sqlite3
+import subprocess
+import threading
+import time
+from pathlib import Path
+
+import parts
+from parts import body, check, curl, nar, paths, same, some_path
+
+CONFIG = 'allowed-users = ["ann", "bob"]\ntrusted-users = ["build"]\n'
+
+
+def ask(place, user, method, target, given=None, *more):
+    sent = ["--data-binary", "@-"] if given is not None else []
+    return curl("--unix-socket", place, "-H", f"store-user: {user}", *sent, *more, "-X", method, f"http://red{target}",
+                given=given)
+
+
+def text(name, contents=b"x"):
+    return body(("name", name), payload=contents)
+
+
+def unit(words, name, *more):
+    """A store in a folder of its own, as its units run it."""
+    os.makedirs(folder := f"{words.folder}/{name}")
+    Path(f"{folder}/store.toml").write_text(CONFIG)
+    more = more and ("--proxied", *more)
+    return parts.Unit(words.program, folder, f"{folder}/store.toml", f"{folder}/store.db", f"{folder}/socket", *more)
+
+
+def child(words):
+    """The server is a child: it serves, it is started again, and it ends with the cache."""
+    with unit(words, "child") as store:
+        add = lambda name: ask(store.place, "ann", "POST", "/text", text(name))[0]
+        same("an add to a server that is a child", add("one"), 200)
+        listening = Path("/proc/net/tcp").read_text()
+        pid = store.server()
+        inodes = {os.readlink(f"/proc/{pid}/fd/{it}") for it in os.listdir(f"/proc/{pid}/fd")}
+        check("the server has no socket", not any(it.startswith("socket:") for it in inodes), (inodes, listening[:0]))
+        for count in range(3):
+            store.kill_server()
+            same(f"killed {count + 1} times, it is started again", add(f"more{count}"), 200)
+        lines = store.lines()
+        same("each later start waits for longer", [it.rpartition("in ")[2] for it in lines], ["0.5 s", "1 s", "2 s"])
+        pid = store.server()
+        store.end()
+        check("it ends with the cache", not os.path.exists(f"/proc/{pid}"))
+        same("and no line is a fault", len(store.lines()), 3)
+        late = subprocess.Popen(["curl", "-s", "--max-time", "300", "--unix-socket", store.place,
+                                 "-H", "store-user: ann", "http://red/paths"], stdout=subprocess.PIPE)
+        time.sleep(1)
+        store.start()
+        same("who connects between two starts is answered", len(late.communicate()[0].splitlines()), 4)
+
+
+def refused(words):
+    """A store that is refused ends the cache, with the status of the server; a program that isn't there, too."""
+    folder = f"{words.folder}/refused"
+    os.makedirs(folder)
+    Path(f"{folder}/store.toml").write_text("allowed-users = 1\n")
+    Path(f"{folder}/store.db").write_text("no store")
+    command = [f"{parts.TOOLS}/nixkeep-cache", "--user", "ann", "--db", f"{folder}/store.db", "--waiting",
+               f"{folder}/waiting", "--listen", f"{folder}/socket"]
+    run = lambda *more: subprocess.run([*command, *more], capture_output=True, text=True, timeout=300)
+    ran = run("--nixkeep", words.program)
+    check("a file that is no store ends the cache", ran.returncode == 3 and "refused: 21" in ran.stderr, ran.stderr)
+    ran = run("--nixkeep", words.program, "--config", f"{folder}/store.toml")
+    check("so does a wrong configuration", ran.returncode == 3 and "refused: 19" in ran.stderr, ran.stderr)
+    ran = run("--nixkeep", f"{folder}/none")
+    check("and a program that isn't there", ran.returncode == 1 and "No such file" in ran.stderr, ran.stderr)
+
+
+NOTHING = b"HTTP/1.1 404 Not Found\r\ncontent-type: text/plain\r\ncontent-length: 0\r\n\r\n"
+
+
+@contextlib.contextmanager
+def deadly(deaths):
+    """A server that ends the connection at each request whose target has `deadly`. The targets go to a list."""
+    with socket.create_server(("127.0.0.1", 0)) as listener:
+
+        def serve():
+            while True:
+                with contextlib.suppress(OSError):
+                    connected = listener.accept()[0]
+                    with connected, connected.makefile("rwb") as stream:
+                        while line := stream.readline():
+                            length = 0
+                            while (field := stream.readline()) != b"\r\n":
+                                length = int(field[16:]) if field.lower().startswith(b"content-length: ") else length
+                            stream.read(length)
+                            if b"deadly" in line:
+                                deaths.append(line)
+                                break
+                            stream.write(NOTHING)
+                            stream.flush()
+                if listener.fileno() < 0:
+                    return
+
+        threading.Thread(target=serve, daemon=True).start()
+        yield listener.getsockname()[1]
+
+
+def lost(words):
+    """A request that makes the server die is sent once more, where that does no harm, and then it is a 502."""
+    deaths = []
+    os.makedirs(folder := f"{words.folder}/lost")
+    with deadly(deaths) as port, parts.cache(folder, port) as cache:
+        url = f"http://127.0.0.1:{cache.place}"
+        asked = ("GET", "/deadly", 2), ("POST", "/rollback/ann/deadly", 1), ("DELETE", "/deadly", 1)
+        for method, target, times in asked:
+            deaths.clear()
+            seen = curl("-H", "store-user: ann", "-X", method, url + target)[0], len(deaths)
+            same(f"{method} {target}: it is sent {times} times, and then it is a 502", seen, (502, times))
+        same("other requests are answered", curl("-H", "store-user: ann", f"{url}/paths")[0], 404)
+    lines = cache.lines()
+    check("each has one line", len(lines) == 3 and all("before its reply" in it for it in lines), lines)
+
+
+def turns():
+    """One user's thousand requests delay those of another user by one."""
+    import asyncio
+
+    from nixkeep_tools.cache_turns import Turns
+
+    async def run():
+        made, order = Turns(), []
+
+        async def work(key):
+            async with made.turn(key):
+                await asyncio.sleep(0)
+                order.append(key)
+
+        tasks = [asyncio.create_task(work("ann")) for _ in range(1000)]
+        await asyncio.sleep(0)
+        given_up = [asyncio.create_task(work("bob")) for _ in range(3)]
+        await asyncio.sleep(0)
+        for it in given_up[:2]:
+            it.cancel()
+        await asyncio.gather(*tasks, *given_up, return_exceptions=True)
+        async with made.turn("carol"):
+            return order
+
+    order = asyncio.run(run())
+    check("a user's thousand requests delay another by one or two", order.index("bob") <= 3, order[:10])
+    same("those that are given up are left out, and the others are done", len(order), 1001)
+
+
+def limited(words):
+    """A file that is nearly as large as it may be takes no adds, until something is collected."""
+    contents = random.Random(9).randbytes(100_000)
+    with unit(words, "limited", "--most-bytes", "1000000") as store:
+        ann = lambda *asked: ask(store.place, "ann", *asked)
+        added = []
+        while len(added) < 20 and (reply := ann("POST", "/text", text(f"t{len(added)}", contents)))[0] == 200:
+            added.append(reply[1].decode().strip())
+        check("the file grows up to its limit", 5 < len(added) < 10, len(added))
+        check("then an add is refused, and the reply says why",
+              reply[0] == 507 and reply[1].startswith(b"failed: full ") and reply[1].endswith(b"collect\n"), reply)
+        same("so is an upload", ann("PUT", f"/nar/{'0' * 52}.nar", contents)[0], 507)
+        same("a root is set, so that a collection can follow",
+             ann("POST", "/root/user/ann/kept", body(("path", added[0])))[0], 200)
+        check("a line has warned", "warning: the store has" in Path(store.log).read_text(), Path(store.log).read_text())
+        remote = subprocess.run([f"{parts.TOOLS}/nixkeep-remote", "--server", f"unix:{store.place}", "--as", "ann",
+                                 "add-text", "more"], input=contents, capture_output=True)
+        check("nixkeep-remote has the line too", remote.returncode == 1 and remote.stderr.startswith(b"failed: full "),
+              remote)
+        same("a collection", ann("POST", "/collect")[0], 200)
+        time.sleep(1.1)
+        same("makes room at once", ann("POST", "/text", text("again", contents))[0], 200)
+
+
+def shared(words):
+    """A user who has added a share takes no more, until something of it is collected. Other users aren't concerned."""
+    contents = bytes(10_000)
+    with unit(words, "shared", "--most-bytes-each", "25000") as store:
+        add = lambda user, name: ask(store.place, user, "POST", "/text", text(name, contents))
+        same("two adds of a user are within the share, and a third isn't",
+             [add("ann", it)[0] for it in ("a", "b", "c")], [200, 200, 507])
+        said = add("ann", "c")[1]
+        check("the reply says so", said.endswith(b"of 25000 bytes are used by ann: drop roots, and collect\n"), said)
+        same("another user has a share, too", add("bob", "c")[0], 200)
+        same("what another has added counts for that one", add("bob", "b")[0], 200)
+        store.end()
+        store.start()
+        same("the share is known after a restart", [add(it, "d")[0] for it in ("ann", "bob")], [507, 200])
+        ask(store.place, "bob", "POST", "/collect")
+        same("what is collected counts no more", add("ann", "c")[0], 200)
+        store.end()
+        file = f"{words.folder}/shared/waiting/shares.db"
+        Path(file).write_bytes(b"no list" * 1000)
+        store.start()
+        same("a damaged list of shares is begun anew", [add("bob", it)[0] for it in ("e", "f")], [200, 200])
+        check("it is set aside, and a line says so", Path(f"{file}.damaged").exists()
+              and Path(store.log).read_text().count("begun anew") == 1, Path(store.log).read_text())
+        store.end()
+        Path(f"{file}.damaged").unlink()
+        with contextlib.closing(sqlite3.connect(file, isolation_level=None)) as other:
+            other.execute("BEGIN EXCLUSIVE")
+            store.start()
+            same("one that can't be used costs no request", add("bob", "g")[0], 200)
+            store.end()
+        store.start()
+        same("and is whole afterwards", (add("bob", "h")[0], Path(f"{file}.damaged").exists()), (507, False))
+
+
+def memory_limit(folder):
+    """The usual limit follows from the memory of the service."""
+    from nixkeep_tools import cache_limit, store_size
+
+    os.makedirs(f"{folder}/cgroup/system.slice/store.service")
+    Path(f"{folder}/own").write_text("0::/system.slice/store.service\n")
+    Path(f"{folder}/cgroup/system.slice/memory.max").write_text("max\n")
+    store_size.CGROUPS, store_size.OWN = f"{folder}/cgroup", f"{folder}/own"
+    same("no limit of memory is no limit of the file", cache_limit.usual(), None)
+    Path(f"{folder}/cgroup/system.slice/store.service/memory.max").write_text(f"{2 << 30}\n")
+    # (docs/OPERATING.md, Growth: with 2 GiB no file of more than about 1.5 GiB is opened)
+    part = cache_limit.usual() / (1.5 * (1 << 30))
+    check("MemoryMax=2G opens about 1.5 GiB, of which 0.6 are accepted", 0.55 < part < 0.65, part)
+
+
+def sessions(words):
+    """What is uploaded is kept until nothing has come for a while, also when the cache is restarted meanwhile."""
+    rng = random.Random(10)
+    with unit(words, "sessions") as store:
+        as_of = lambda user: lambda *asked: ask(store.place, user, *asked)
+        path, archive = some_path(rng, "uploaded"), nar.regular_file(b"uploaded")
+        digest = paths.base32(paths.sha256([archive]))
+        build = as_of("build")
+        build("PUT", f"/nar/{digest}.nar", archive)
+        record = f"StorePath: {path}\nURL: nar/{digest}.nar\nCompression: none\nNarHash: sha256:{digest}\n"
+        same("an upload", build("PUT", f"/{path[11:43]}.narinfo", record.encode())[0], 200)
+        same("is kept by a session of its user", build("GET", "/roots")[1].decode(), f"{{temp:4194304}} {path}\n")
+        store.end()
+        store.start()
+        same("also after a restart", as_of("bob")("POST", "/collect")[1], b"freed 0 paths 0 bytes\n")
+        store.end()
+        os.utime(f"{words.folder}/sessions/waiting/sessions/build.session", (time.time() - 3601,) * 2)
+        store.start()
+        parts.until("the session ends", lambda: not build("GET", "/roots")[1])
+        check("once it is over it is collected", path in as_of("bob")("POST", "/collect")[1].decode())
+
+
+def kept_in_turns(words):
+    """What clients asked for is kept before a collection, a part at a time, so that others get their turns."""
+    import asyncio
+
+    from nixkeep_tools import cache_sessions
+
+    exchanges = []
+
+    class Server:
+        async def asks(self, requests, first=lambda: ()):
+            if len(exchanges) == 2:
+                made.asked(ann, "late")
+            exchanges.append([it.target for it in (*first(), *requests)])
+            return exchanges[-1]
+
+    made, ann = cache_sessions.Sessions(Server(), f"{words.folder}/kept", 3600), cache_sessions.Caller("ann", None)
+    for at in range(250):
+        made.asked(ann, f"path{at}")
+    collect = cache_sessions.Request(cache_sessions.Caller("bob", None), "POST", "/collect")
+    made.asked(ann, None)
+    same("the reply is that to the collection", asyncio.run(made.before(collect)), "/collect")
+    same("250 paths are kept a hundred at a time, and the last with one that is asked for meanwhile",
+         [len(it) for it in exchanges], [100, 100, 52])
+    asyncio.run(made.before(collect))
+    same("and once", exchanges[3], ["/collect"])
+
+
+def unread(words):
+    """Clients that take nothing of a large reply hold up nobody, and a bounded number of replies is in memory."""
+    import asyncio
+
+    from aiohttp import web
+    from nixkeep_tools import cache_http
+
+    size, most, held, heads = 4 << 20, 16 << 20, [], []
+
+    async def run():
+        sending = cache_http.Sending(most, 60)
+
+        async def answer(request):
+            reply = cache_http.reply(200, bytes(size))
+            await sending.room(reply)
+            held.append(sending.bytes)
+            return await sending.send(request, reply)
+
+        app = web.Application()
+        app.router.add_get("/", answer)
+        runner = web.AppRunner(app)
+        await runner.setup()
+        await web.UnixSite(runner, place := f"{words.folder}/unread").start()
+        silent = [await asyncio.open_unix_connection(place, limit=1000) for _ in range(6)]
+        for _, writer in silent:
+            writer.write(b"GET / HTTP/1.1\r\nhost: a\r\n\r\n")
+            await writer.drain()
+        reader, writer = await asyncio.open_unix_connection(place)
+        writer.write(b"GET / HTTP/1.1\r\nhost: a\r\nconnection: close\r\n\r\n")
+        text = await reader.read(-1)
+        head, asks = await asyncio.open_unix_connection(place)
+        asks.write(b"HEAD / HTTP/1.1\r\nhost: a\r\nconnection: close\r\n\r\n")
+        heads.append(await head.read(-1))
+        asks.close()
+        for _, it in [*silent, (reader, writer)]:
+            it.close()
+        await runner.cleanup()
+        return text.partition(b"\r\n\r\n")[2]
+
+    same("six clients take nothing, and another gets its reply of 4 MiB", asyncio.run(run()) == bytes(size), True)
+    check("HEAD of it has its length and no body",
+          heads[0].endswith(b"\r\n\r\n") and b"Content-Length: %d\r\n" % size in heads[0], heads)
+    check("never were there more bytes than there is room", max(held) <= most, held)
+
+
+def stopped(words):
+    """A request that is under way when the cache has to end is answered."""
+    with unit(words, "stopped") as store:
+        ask(store.place, "ann", "POST", "/text", text("first"))
+        process = subprocess.Popen(["curl", "-s", "--unix-socket", store.place, "-H", "store-user: ann", "-X", "POST",
+                                    "--data-binary", "@-", "http://red/source"], stdin=subprocess.PIPE,
+                                   stdout=subprocess.PIPE)
+        os.kill(store.server(), signal.SIGSTOP)
+        process.stdin.write(body(("name", "late"), payload=nar.regular_file(b"late")))
+        process.stdin.close()
+        time.sleep(1)
+        pid = store.server()
+        store.running.send_signal(signal.SIGTERM)
+        time.sleep(0.5)
+        os.kill(pid, signal.SIGCONT)
+        check("a request in the middle is answered", process.stdout.read().endswith(b"-late\n"))
+        same("and the cache ends well", store.running.wait(), 0)
+        store.running = None
+
+
+def half_sent(words):
+    """A request whose body comes while the cache ends is answered, and its connection is closed."""
+    with unit(words, "half-sent") as store, socket.socket(socket.AF_UNIX) as client:
+        given = text("half-sent")
+        client.connect(store.place)
+        head = f"POST /text HTTP/1.1\r\nhost: red\r\nstore-user: ann\r\ncontent-length: {len(given)}\r\n\r\n"
+        client.sendall(head.encode() + given[:5])
+        parts.until("the head is read", lambda: ask(store.place, "ann", "GET", "/paths")[0] == 200)
+        store.running.send_signal(signal.SIGTERM)
+        time.sleep(1)
+        client.settimeout(300)
+        reply = b""
+        with contextlib.suppress(ConnectionError):
+            client.sendall(given[5:])
+            reply = b"".join(iter(lambda: client.recv(1000), b""))
+        is_done = reply.startswith(b"HTTP/1.1 200") and reply.endswith(b"-half-sent\n")
+        check("a body that comes at the end is an add", is_done, reply)
+        same("and the cache ends well", store.running.wait(), 0)
+        store.running = None
+
+
+def patient():
+    """A server that doesn't answer is given up and started again. A request waits for that as long as for any start,
+    also where it waited for its turn or its first reply before."""
+    import asyncio
+
+    from nixkeep_tools import cache_server
+
+    class Place:
+        idle, why, opened = None, "it starts", 0
+
+        async def open(self):
+            self.opened += 1
+            await asyncio.sleep(0.3)
+            reader, text = asyncio.StreamReader(), NOTHING if self.opened > 1 else b""
+            reader.feed_data(2 * text)
+            return reader, self
+
+        def writelines(self, messages):
+            pass
+
+        async def drain(self):
+            pass
+
+        def is_closing(self):
+            return False
+
+        def close(self, *_):
+            pass
+
+    async def run():
+        server = cache_server.Server(Place(), 4, 4)
+        asked = [server.ask(cache_server.Caller(it, None), "POST", "/import") for it in ("ann", "bob")]
+        return [it if isinstance(it, Exception) else it.status for it in
+                await asyncio.gather(*asked, return_exceptions=True)]
+
+    same("a server that hung is started again, and both requests are answered", asyncio.run(run()), [404, 404])
+
+
+def all_of(words):
+    for it in (child, refused, lost, limited, shared, sessions, kept_in_turns, unread, stopped, half_sent):
+        it(words)
+    turns()
+    patient()
+    memory_limit(words.folder)

@@ -1,0 +1,104 @@
+"""A repository of a few crates, with the launcher of this one, and a toolchain that proves nothing and only waits."""
+import os
+import shutil
+import subprocess
+
+from tests.lib import program
+from tests.tools.checks import HERE, Checks
+
+CRATES = {"low": [], "left": ["low"], "right": ["low"], "join": ["low", "left", "right"], "nixkeep": ["join"]}
+# One that the program doesn't need.
+ASIDE = {"aside": ["low"]}
+# A rattle that logs what it is asked, and when; it fails for a crate that the folder of the log names.
+RATTLE = '''#!/usr/bin/env python3
+import os, sys, time
+words, top = sys.argv, os.environ["STAND_IN"]
+crate, made = words[words.index("--crate-name") + 1], words[words.index("-o") + 1]
+log = lambda what: open(f"{top}/log", "a").write(f"{what} {crate} {time.monotonic()}\\n")
+log("starts")
+open(f"{top}/words-{crate}", "w").write(" ".join(words[1:]))
+externs = [word.partition("=")[2] for at, word in enumerate(words) if words[at - 1] == "--extern"]
+lacking = [it for it in externs if "/rlibs/" not in it and not os.path.isfile(f"{it}/format")]
+time.sleep(float(os.environ.get("STAND_IN_SECONDS", "0.2")))
+if lacking or os.path.exists(f"{top}/fails-{crate}"):
+    print(f"error: {crate} isn't proved", *lacking)
+    sys.exit(1)
+if "--statements" in words:
+    os.makedirs(made)
+    made += "/format"
+open(made, "w").write(crate)
+log("ends")
+'''
+RT = f"""#!/bin/sh
+echo '{program.TOOLCHAIN}'
+"""
+LINK = r'''#!/usr/bin/env python3
+import os, sys
+made = sys.argv[sys.argv.index("-o") + 1]
+open(made, "w").write("#!/bin/sh\necho it runs \"$@\"\n")
+os.chmod(made, 0o755)
+'''
+
+
+# A path without a toolchain: git and python3 alone.
+SYSTEM = "/usr/bin:/bin"
+
+
+def put_program(path, text):
+    with open(path, "w") as file:
+        file.write(text)
+    os.chmod(path, 0o755)
+
+
+class Repository(Checks):
+    """A repository of a few crates, and the stand-in for the toolchain."""
+
+    def __init__(self, room):
+        super().__init__()
+        self.top, self.kit, self.room = f"{room}/repository", f"{room}/kit", room
+        crates = {**CRATES, **ASIDE}
+        for crate in crates:
+            self.write(f"crates/{crate}/src/{'main' if crate == 'nixkeep' else 'lib'}.rt", f"// {crate}\n")
+        self.write("crates.txt", "".join(f"{crate}: {' '.join(below)}\n" for crate, below in crates.items()))
+        self.write("HANDLES", "Handles allowed: none.\n")
+        self.write("VERSION", "1.2.3\n")
+        for folder in ("bin", "tests/lib"):
+            shutil.copytree(f"{HERE}/{folder}", f"{self.top}/{folder}", ignore=shutil.ignore_patterns("__pycache__"))
+        shutil.copy(f"{HERE}/tests/__init__.py", f"{self.top}/tests")
+        for folder in (f"{self.kit}/bin", f"{room}/rooms"):
+            os.makedirs(folder)
+        for name, text in (("rt", RT), ("rattle", RATTLE), ("rattle-link", LINK)):
+            put_program(f"{self.kit}/bin/{name}", text)
+
+    def write(self, path, text):
+        os.makedirs(os.path.dirname(f"{self.top}/{path}"), exist_ok=True)
+        with open(f"{self.top}/{path}", "w") as file:
+            file.write(text)
+
+    def start(self, *words, top=None, path=None, seconds="0.2"):
+        """Starts a command of bin/, or the launcher with two arguments. Its path has the toolchain before the system's
+        folders, or is the one given."""
+        environment = {**os.environ, "PATH": path or f"{self.kit}/bin:{SYSTEM}", "STAND_IN": self.room}
+        environment |= {"STAND_IN_SECONDS": seconds, "TMPDIR": f"{self.room}/rooms"}
+        how = {"env": environment, "stdout": subprocess.PIPE, "stderr": subprocess.PIPE, "text": True}
+        name, *given = words or ("nixkeep", "a", "b c")
+        return subprocess.Popen([f"{top or self.top}/bin/{name}", *given], **how)
+
+    def run(self, *words, **how):
+        """The status of a command, what it printed, and the lines of the log that it made."""
+        if os.path.exists(f"{self.room}/log"):
+            os.remove(f"{self.room}/log")
+        ran = self.start(*words, **how)
+        out, said = ran.communicate()
+        return ran.returncode, out, said, self.log()
+
+    def log(self):
+        try:
+            with open(f"{self.room}/log") as file:
+                return [line.split() for line in file]
+        except OSError:
+            return []
+
+
+def started(log):
+    return sorted(crate for what, crate, _ in log if what == "starts")

@@ -1,0 +1,85 @@
+"""OpenStack Swift on one machine, in a folder of its own, with the requests of S3 (s3api): Debian's packages
+swift-proxy, swift-account, swift-container and swift-object."""
+import contextlib
+import getpass
+import os
+import subprocess
+from concurrent.futures import ThreadPoolExecutor
+from pathlib import Path
+
+import parts
+
+ACCESS, SECRET, BUCKET = "test:tester", "testing", "archives"
+TOOLS = [f"swift-{it}-server" for it in ("proxy", "account", "container", "object")]
+FILTERS = ("catch_errors gatekeeper healthcheck memcache listing_formats bulk s3api tempauth copy slo dlo symlink "
+           "versioned_writes")
+RINGS = """
+import sys
+from swift.common.ring import RingBuilder
+for kind, port in (it.split("=") for it in sys.argv[2:]):
+    made, port = RingBuilder(4, 1, 0), int(port)
+    made.add_dev({"id": 0, "region": 1, "zone": 1, "weight": 1, "device": "one", "meta": "", "ip": "127.0.0.1",
+                  "port": port, "replication_ip": "127.0.0.1", "replication_port": port})
+    made.rebalance()
+    made.get_ring().save(f"{sys.argv[1]}/{kind}.ring.gz")
+"""
+ENVIRONMENT = {"AWS_ACCESS_KEY_ID": ACCESS, "AWS_SECRET_ACCESS_KEY": SECRET, "AWS_DEFAULT_REGION": "us-east-1"}
+
+
+def settings(folder, port, workers=0):
+    return (f"[DEFAULT]\nbind_ip = 127.0.0.1\nbind_port = {port}\nuser = {getpass.getuser()}\nworkers = {workers}\n"
+            f"swift_dir = {folder}\ndevices = {folder}/devices\nmount_check = false\nlog_level = ERROR\n"
+            f"log_udp_host =\n")
+
+
+class Swift:
+    """The four servers. `url` is where a client of S3 asks."""
+
+    def __init__(self, folder):
+        self.folder, self.ports = folder, {it: parts.free_port() for it in TOOLS}
+        os.makedirs(f"{folder}/devices/one")
+        Path(f"{folder}/swift.conf").write_text(
+            "[swift-hash]\nswift_hash_path_suffix = a\nswift_hash_path_prefix = b\n"
+            "[storage-policy:0]\nname = one\ndefault = yes\n")
+        for it in ("account", "container", "object"):
+            Path(f"{folder}/{it}.conf").write_text(
+                f"{settings(folder, self.ports[f'swift-{it}-server'])}[pipeline:main]\npipeline = {it}-server\n"
+                f"[app:{it}-server]\nuse = egg:swift#{it}\n")
+        self.rings()
+        Path(f"{folder}/proxy.conf").write_text(self.proxy())
+        self.url = f"http://127.0.0.1:{self.ports['swift-proxy-server']}"
+        words = {it: [parts.found(it), f"{folder}/{it.split('-')[1]}.conf", "-v"] for it in TOOLS}
+        self.running = [parts.Part(it, words[it], self.ports[it], f"{folder}/{it}.log") for it in TOOLS]
+
+    def rings(self):
+        """A ring for each kind of server: one device. (swift-ring-builder waits for names of hosts.)"""
+        words = [f"{kind}={self.ports[f'swift-{kind}-server']}" for kind in ("account", "container", "object")]
+        subprocess.run(["/usr/bin/python3", "-c", RINGS, self.folder, *words], check=True)
+
+    def proxy(self):
+        filters = "".join(f"[filter:{it}]\nuse = egg:swift#{it}\n{self.more(it)}" for it in FILTERS.split())
+        port = self.ports["swift-proxy-server"]
+        return (f"{settings(self.folder, port)}[pipeline:main]\npipeline = {FILTERS} proxy-server\n"
+                f"[app:proxy-server]\nuse = egg:swift#proxy\naccount_autocreate = true\n{filters}")
+
+    def more(self, name):
+        # (tempauth wants a client of memcached, which needs no server)
+        return {"tempauth": f"user_test_tester = {SECRET} .admin\n", "s3api": "s3_acl = false\n",
+                "memcache": f"memcache_servers = 127.0.0.1:{parts.free_port()}\n"}.get(name, "")
+
+    def client(self):
+        import boto3
+        import botocore.config
+
+        config = botocore.config.Config(s3={"addressing_style": "path"})
+        return boto3.client("s3", endpoint_url=self.url, config=config)
+
+    @contextlib.contextmanager
+    def started(self):
+        """All servers, with a bucket."""
+        os.environ |= ENVIRONMENT
+        with contextlib.ExitStack() as running:
+            with ThreadPoolExecutor(4) as pool:
+                [*pool.map(lambda it: running.enter_context(it), self.running)]
+            self.client().create_bucket(Bucket=BUCKET)
+            yield self
