@@ -25,6 +25,9 @@ TEAM = "../examples/team/try"
 MORE = {"compare/model": ["--count", "20000"]}
 # What is tried of a script that takes minutes, where five minutes are to be taken for all.
 SHORT = {
+    "tools/test_remote": ["--count", "20"],
+    "compare/nix_store": ["--count", "3"],
+    "compare/sqlite": ["--count", "3"],
     "tools/test_units": ["said"],
     BENCH: ["commands"],
     "compare/model": ["--count", "500"],
@@ -57,10 +60,10 @@ def needs_libraries(file):
 
 
 def of_program(given, is_whole=False):
-    """The scripts that try the program, each with its words: those that take longest first. Where it isn't whole, no
-    machine is booted for the units."""
+    """The scripts that try the program, each with its words: those that take longest first. Where it isn't whole, less
+    of some is tried, and no machine is booted for the units."""
     bounded, more = (BOUNDED, MORE) if is_whole else ({**BOUNDED, **SHORT}, {})
-    found = ["tools/test_remote", TEAM, "gate/cases"]
+    found = ["tools/test_remote", TEAM, "gate/cases", "tools/test_cache"]
     found += [f"faults/{it}" for it in scripts("faults")]
     found += [f"compare/{it}" for it in scripts("compare")]
     found += [f"tools/{it}" for it in scripts("tools", "test_") if f"tools/{it}" not in found]
@@ -71,7 +74,9 @@ def of_program(given, is_whole=False):
 def side_by_side(words, begun=()):
     """Runs scripts side by side, and prints what each printed when it has ended; returns the runs. `begun` are more
     calls, which begin first and are printed last."""
-    with ThreadPoolExecutor(1 + len(os.sched_getaffinity(0))) as pool:
+    processors = len(os.sched_getaffinity(0))
+    # (most of them wait now and then, but not the wrong bodies)
+    with ThreadPoolExecutor(1 + processors if begun else 2 * processors) as pool:
         first = [pool.submit(it) for it in begun]
         others = [pool.submit(run, it, False) for it in words]
         for it in [*others, *first]:

@@ -102,7 +102,8 @@ def files_of(crate):
     for part in ("src", "specs", "proofs"):
         for at, folders, names in os.walk(f"{HERE}/crates/{crate}/{part}"):
             folders.sort()
-            found += [f"{os.path.relpath(at, HERE)}/{it}" for it in sorted(names) if it.endswith((".rt", ".antt"))]
+            place = at.removeprefix(f"{HERE}/")
+            found += [f"{place}/{it}" for it in sorted(names) if it.endswith((".rt", ".antt"))]
     return found
 
 
@@ -113,9 +114,9 @@ def sources(named, tops=(NAME,)):
     for crate in dict.fromkeys(it for top in tops for it in with_below(top, named)):
         read = hashlib.sha256(repr((handles, named[crate], [found.get(it) for it in named[crate]])).encode())
         for path in files_of(crate):
-            data = Path(f"{HERE}/{path}").read_bytes()
-            read.update(f"{path} {len(data)}\n".encode())
-            read.update(data)
+            with open(f"{HERE}/{path}", "rb", buffering=0) as file:
+                data = file.read()
+            read.update(b"%b %d\n%b" % (path.encode(), len(data), data))
         found[crate] = read.hexdigest()
     return found
 

@@ -23,8 +23,8 @@ HERE = shim.HERE
 class Checks:
     """Comparisons, of which those that fail are printed and counted. A test goes on after one."""
 
-    def __init__(self):
-        self.failed = 0
+    def __init__(self, words=None):
+        self.failed, self.words = 0, words
 
     def same(self, what, came, wanted):
         self.true(what, came == wanted, f"{report.short(came)}\n  wanted {report.short(wanted)}")
@@ -38,10 +38,10 @@ class Checks:
 
 
 def script(doc, parts, skip=(), start=lambda program, folder: program):
-    """Runs the parts of a test. Each gets what `start` makes, once, and the checks."""
+    """Runs the parts of a test. Each gets what `start` makes, once, and the checks, with the words of the script."""
 
     def run(words):
-        check, first = Checks(), start(report.program_file(words), words.folder)
+        check, first = Checks(words), start(report.program_file(words), words.folder)
         for part in words.parts:
             part(first, check)
         return check.failed
