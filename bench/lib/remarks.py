@@ -9,10 +9,10 @@ Remark = collections.namedtuple("Remark", "pattern about text")
 REMARKS = [
     Remark(r"stores: `list` on 100 objects .*: time", "`list` of 100 objects of 1 MiB, its time",
            """`sqlite` tests a file when it opens it, and copies each row for these tests. `sha2` is scalar code, and
-           takes 1.7 times as long as C's for each byte. Each byte is hashed once, and no page is read twice."""),
+           slower than C's. Each byte is hashed once, and no page is read twice."""),
     Remark(r"stores: `list` on 100 objects .*: memory", "`list` of 100 objects of 1 MiB, its memory",
            """The opening of `sqlite` copies all rows of a table into one list. The rest are the pages of the file:
-           nixkeep keeps all pages of a file of up to 256 MiB, since an opening reads them more than once."""),
+           nixkeep keeps all pages of a file of up to 255 MiB, since an opening reads them more than once."""),
     Remark(r"stores: `list` on .*: (time|100,000 .*)|nix: .* by a command: .*", "actions by a command",
            """A command opens the file, and tests all of it before it answers. Nix opens its database and trusts it.
            Of 100 instructions, the opening of `sqlite` takes 56 and SHA-256 24. A server does this once."""),
@@ -33,7 +33,7 @@ REMARKS = [
            """A command reads and tests the file, and hashes the archive before it prints it. `cat` copies a file that
            the kernel has in memory."""),
     Remark(r"growth: .*", "growths",
-           """A file of more than 256 MiB is read with a place for 2,000 of its pages alone. So the opening of `sqlite`
+           """A file of more than 255 MiB is read with a place for 2,000 of its pages alone. So the opening of `sqlite`
            reads pages again for the entries of its indexes."""),
     Remark(r"libraries: .*in pieces of 100: what comes", "an archive in pieces of 100 bytes",
            """There is a call for each 100 bytes."""),
