@@ -6,7 +6,7 @@ after each step every pointer has to name a blob that is there. States that were
 import collections
 
 import parts
-from nixkeep_tools import blob_reading, blobs, cache_blobs, cache_large, cache_server, cache_sweep, paths
+from nixkeep_tools import blob_reading, blobs, cache_blobs, cache_counts, cache_large, cache_server, cache_sweep, paths
 from nixkeep_tools.blob_packing import Packed
 
 MADE = Packed(None, bytes(32), 5_000, bytes(32), 4_000)
@@ -52,9 +52,10 @@ class World:
         self.pointers, self.seen, self.lock, self.now = set(named), [], lock(), 1e9
         kept = cache_blobs.Blobs.__new__(cache_blobs.Blobs)
         kept.place, kept.relied, kept.seen, kept.apart, kept.lock = self, {}, {}, self.apart, lambda _: self.lock
+        kept.put = cache_counts.Count()
         self.kept, self.large = kept, cache_large.Large(kept, self, 0, None, "/nix/store")
         self.large.uploads, self.large.checked = self, self.checked
-        self.sweep = cache_sweep.Sweep(kept, self, 3600, 60)
+        self.sweep = cache_sweep.Sweep(kept, self, 3600, 60, "/dev/full/none")
 
     async def step(self, work):
         await Wait()

@@ -167,6 +167,7 @@ def full(words, rng):
 @contextlib.contextmanager
 def bucket(status, code):
     """A server of S3 that answers everything so."""
+    os.environ |= {"AWS_ACCESS_KEY_ID": "a", "AWS_SECRET_ACCESS_KEY": "b", "AWS_DEFAULT_REGION": "us-east-1"}
     asked = []
 
     class Handler(http.server.BaseHTTPRequestHandler):
@@ -194,7 +195,6 @@ def buckets(words, rng):
     """A bucket that refuses or fails: an error by name, and no pointer."""
     if parts.skipped("buckets", "python3-boto3"):
         return
-    os.environ |= {"AWS_ACCESS_KEY_ID": "a", "AWS_SECRET_ACCESS_KEY": "b", "AWS_DEFAULT_REGION": "us-east-1"}
     for status, code in ((403, "AccessDenied"), (503, "SlowDown")):
         archive, path = archive_of(rng), some_path(rng, code)
         with bucket(status, code) as (url, asked), large_parts.Team(words, code, "--blobs-endpoint", url,

@@ -9,6 +9,7 @@ Blobs are in a folder or in a bucket. Both have these calls, which may take long
   list()           each Blob
   delete(name)     deletes a blob
   begin()          deletes what an earlier process left, and keeps other processes away
+  answer()         does nothing, if blobs can be made and read now
 
 A name is the SHA-256 in base 32. What a failing disk or bucket raises is an OSError or Failed.
 """

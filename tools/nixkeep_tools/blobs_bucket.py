@@ -57,6 +57,9 @@ class Bucket:
 
     def begin(self):
         self.parts.begin()
+        self.answer()
+
+    def answer(self):
         with answered(self.where):
             self.client.head_bucket(Bucket=self.bucket)
 

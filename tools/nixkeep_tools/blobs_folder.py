@@ -33,6 +33,10 @@ class Folder:
             raise blobs.Failed(f"{self.folder}: another nixkeep-cache has these blobs") from None
         self.parts.begin()
 
+    def answer(self):
+        with open(f"{self.parts.folder}/answer", "wb") as made:
+            os.unlink(made.name)
+
     def put(self, part, name):
         """The file is on the disk before it has the name of a blob, and the name is before this returns."""
         file = self.file(name)

@@ -131,7 +131,7 @@ def large_of(said, server, folder, sending, store):
         print(f"nixkeep-cache: {failed}", file=sys.stderr, flush=True)
     kept = Blobs(place, said.blobs_level, sending)
     large = Large(kept, Pointers(server), said.large_from, Stored(f"{folder}/arrived"), store)
-    return [large, Sweep(kept, large.pointers, said.grace, said.idle)]
+    return [large, Sweep(kept, large.pointers, said.grace, said.idle, f"{folder}/swept.json")]
 
 
 def parts_of(said, server, waiting, settings, signing):
@@ -153,6 +153,7 @@ def parts_of(said, server, waiting, settings, signing):
     passing = Passing(server, names, sessions, limit, shares, sending, followers, said.idle)
     if large:
         large.uploads, large.passing = uploads, passing
+        watched.watch_blobs(large.blobs, own[1])
     archives = Archives(server, names, stored, waiting, sessions, signing, sending, store, large)
     return [*own, archives, uploads, overviews, Who(server), *watched.parts(), passing], sessions, watched
 

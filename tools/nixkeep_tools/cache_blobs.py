@@ -13,6 +13,7 @@ from aiohttp import web
 
 from . import blob_packing, blob_reading, blobs, cache_limit, paths
 from .blob_reading import Damaged, Gone
+from .cache_counts import Count
 from .cache_http import reply
 
 # The archives that come at once, and the threads that read blobs.
@@ -31,13 +32,13 @@ def say(line):
 
 class Blobs:
     """`place` is a folder or a bucket, `level` that of zstd. `relied` has when a blob was last relied on by a client
-    that uploads, so that a sweep leaves it alone."""
+    that uploads, so that a sweep leaves it alone. `put` and `sent` count archives that came and that were sent."""
 
     def __init__(self, place, level, sending):
         self.place, self.level, self.sending = place, level, sending
         self.coming, self.locks = asyncio.Semaphore(COMING), weakref.WeakValueDictionary()
         self.threads = ThreadPoolExecutor(COMING + READING, "blobs")
-        self.relied, self.seen = {}, {}
+        self.relied, self.seen, self.put, self.sent, self.asked = {}, {}, Count(), Count(), None
 
     async def apart(self, work, *words):
         return await asyncio.get_running_loop().run_in_executor(self.threads, work, *words)
@@ -45,6 +46,16 @@ class Blobs:
     def lock(self, name):
         """The lock of a blob: no two tasks make, name or delete the same one."""
         return self.locks.setdefault(name, asyncio.Lock())
+
+    async def answers(self):
+        """Whether blobs can be made and read. A place that hangs is asked once."""
+        if not self.asked or self.asked.done():
+            self.asked = asyncio.ensure_future(self.apart(self.place.answer))
+        try:
+            await asyncio.shield(self.asked)
+            return True
+        except (OSError, blobs.Failed):
+            return False
 
     async def size(self, name):
         return await self.apart(self.place.size, name)
@@ -69,12 +80,14 @@ class Blobs:
         part = self.place.part()
         async with self.coming:
             try:
-                with open(part, "xb", opener=lambda name, flags: os.open(name, flags, 0o600)) as out:
-                    made = await self.fed(pieces, blob_packing.packed, compression, out)
-                    await self.apart(out.flush)
-                yield part, made
-            except OSError as error:
-                if error.errno in FULL:
+                with self.put.timed():
+                    with open(part, "xb", opener=lambda name, flags: os.open(name, flags, 0o600)) as out:
+                        made = await self.fed(pieces, blob_packing.packed, compression, out)
+                        await self.apart(out.flush)
+                    yield part, made
+            except BaseException as error:
+                self.put.failed += 1
+                if isinstance(error, OSError) and error.errno in FULL:
                     raise cache_limit.Full(f"failed: full {self.place.where}: {error.strerror}\n") from error
                 raise
             finally:
@@ -109,15 +122,15 @@ class Blobs:
         name = paths.base32(made.nar_hash)
         async with self.lock(name):
             self.relied[name] = time.time()
-            if await self.apart(self.place.put, part, name):
-                return made
-            try:
-                return blob_packing.Packed(made.sent, *await self.apart(blob_reading.measured, self.place, name))
-            except (Damaged, FileNotFoundError) as damaged:
-                say(f"{damaged}: an upload replaces it")
-                await self.apart(self.place.delete, name)
-                await self.apart(self.place.put, part, name)
-                return made
+            if not await self.apart(self.place.put, part, name):
+                try:
+                    made = blob_packing.Packed(made.sent, *await self.apart(blob_reading.measured, self.place, name))
+                except (Damaged, FileNotFoundError) as damaged:
+                    say(f"{damaged}: an upload replaces it")
+                    await self.apart(self.place.delete, name)
+                    await self.apart(self.place.put, part, name)
+        self.put.number, self.put.bytes = self.put.number + 1, self.put.bytes + made.file_size
+        return made
 
     # ---- archives that are sent
 
@@ -145,37 +158,52 @@ class Blobs:
     async def streamed(self, request, given, answer):
         """Sends pieces. A reader is never left with a part that looks like the whole: what fails in the middle breaks
         the connection."""
+        transport = request.transport
         await self.sending.take(HELD)
-        transport, now = request.transport, asyncio.get_running_loop().time
+        try:
+            with self.sent.timed():
+                return await self.stream(request, given, answer, transport)
+        finally:
+            self.sending.since.pop(transport, None)
+            self.sending.give(HELD)
+            # (a generator that a thread still runs ends by itself)
+            with contextlib.suppress(ValueError):
+                await self.apart(given.close)
+
+    async def stream(self, request, given, answer, transport):
         try:
             piece = await self.apart(next, given, None)
         except (Gone, Damaged, blobs.Failed, OSError, EOFError) as error:
-            self.sending.give(HELD)
+            self.sent.failed += 1
             return missing(error)
         try:
-            self.sending.since[transport] = now()
+            self.sending.since[transport] = asyncio.get_running_loop().time()
             await answer.prepare(request)
-            while piece:
-                ahead = asyncio.ensure_future(self.apart(next, given, None))
-                try:
-                    async with asyncio.timeout(self.sending.idle):
-                        await answer.write(piece)
-                    if transport in self.sending.since:
-                        self.sending.since[transport] = now()
-                finally:
-                    piece = await ahead
+            await self.pieces(answer, piece, given, transport)
             await answer.write_eof()
+            self.sent.number += 1
         except (Gone, Damaged, blobs.Failed, EOFError) as error:
+            self.sent.failed += 1
             say(f"{request.method} {request.raw_path[:300]!r}: {error}")
             abort(transport)
         except (OSError, TimeoutError):
             # (the client has closed, or takes nothing: no reply can reach it)
             abort(transport)
-        finally:
-            self.sending.since.pop(transport, None)
-            self.sending.give(HELD)
-            await self.apart(given.close)
         return answer
+
+    async def pieces(self, answer, piece, given, transport):
+        """Writes pieces to a reply. While a client takes one, the next is read."""
+        now = asyncio.get_running_loop().time
+        while piece:
+            ahead = asyncio.ensure_future(self.apart(next, given, None))
+            try:
+                async with asyncio.timeout(self.sending.idle):
+                    await answer.write(piece)
+                self.sent.bytes += len(piece)
+                if transport in self.sending.since:
+                    self.sending.since[transport] = now()
+            finally:
+                piece = await ahead
 
 
 def abort(transport):

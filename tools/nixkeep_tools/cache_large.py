@@ -168,7 +168,7 @@ class Large:
         await self.demand_trust(caller)
         async with self.blobs.taken("none", given) as (part, made):
             if said(head, "nar-hash") != paths.nar_hash(made.nar_hash):
-                return reply(400, MISMATCH)
+                raise Answered(reply(400, MISMATCH))
             made = await self.blobs.keep(part, made)
         return await self.imported(caller, base, head, made)
 

@@ -26,7 +26,7 @@ def is_asked(request):
 
 class Metrics:
     """`sources` are functions that return triples: the name of a figure, what it is, and its value now, which is None
-    where there is none. Other parts add theirs."""
+    where there is none. A name ends with `_total` where the value only rises. Other parts add theirs."""
 
     def __init__(self):
         self.sources = []
@@ -62,8 +62,10 @@ class Metrics:
         """What Prometheus's own library asks for: the figures of the sources."""
         for source in self.sources:
             for name, about, value in source():
+                is_sum = name.endswith("_total")
                 if value is not None:
-                    yield core.GaugeMetricFamily(f"nixkeep_{name}", about, value)
+                    kind = core.CounterMetricFamily if is_sum else core.GaugeMetricFamily
+                    yield kind(f"nixkeep_{name.removesuffix('_total')}", about, value=value)
 
     def describe(self):
         return []

@@ -1,5 +1,8 @@
 """Sweeps: blobs that no object names any more are deleted."""
 import asyncio
+import contextlib
+import json
+import os
 import re
 import time
 
@@ -15,12 +18,14 @@ SWEEP = re.compile(r"/sweep")
 class Sweep:
     """A blob is deleted if it is older than `grace` seconds, no upload has relied on it for as long, and no pointer
     names it. Pointers are listed after blobs, and asked for again before each deletion. Meanwhile no pointer to that
-    blob is imported."""
+    blob is imported. A file has when the last sweep ended, and what it has left."""
 
-    def __init__(self, blobs, pointers, grace, idle):
+    def __init__(self, blobs, pointers, grace, idle, file):
         self.blobs, self.pointers, self.grace, self.idle, self.turn = blobs, pointers, grace, idle, asyncio.Lock()
-        # The number of blobs and of bytes that sweeps have deleted, and when the last one ended.
-        self.deleted, self.bytes, self.last = 0, 0, None
+        # The number of blobs and of bytes that sweeps have deleted, and when the last one ended, with the number and
+        # the bytes of the blobs that it has left.
+        self.deleted, self.bytes, self.file = 0, 0, file
+        self.last, self.left = read(file)
 
     def routes(self):
         return [Route(("POST",), SWEEP, self.request)]
@@ -55,8 +60,16 @@ class Sweep:
                 count, size = count + 1, size + blob.size
                 yield f"{'would delete' if is_dry else 'deleted'} {blob.name} {blob.size}"
         if not is_dry:
-            self.last = time.time()
+            self.ended(len(found) - count, sum(it.size for it in found) - size)
         yield f"swept {count} blobs {size} bytes, kept {len(found) - count}"
+
+    def ended(self, count, size):
+        """Remembers a sweep that has left so much. What can't be written is lost at a restart."""
+        self.last, self.left = time.time(), (count, size)
+        with contextlib.suppress(OSError):
+            with open(f"{self.file}.new", "w", opener=lambda name, flags: os.open(name, flags, 0o600)) as out:
+                json.dump([self.last, *self.left], out)
+            os.rename(f"{self.file}.new", self.file)
 
     async def delete(self, caller, blob, before, listed):
         """Deletes a blob unless something names it or relies on it by now. Returns whether it did."""
@@ -74,3 +87,12 @@ class Sweep:
         fresh = [it for it in await self.pointers.listed(caller) if it not in listed]
         found = await self.pointers.among(caller, fresh)
         return any(paths.base32(it.nar_hash) == name for it in found.values())
+
+
+def read(file):
+    """What `ended` has written: a time, and two numbers; None for each where it isn't there."""
+    with contextlib.suppress(OSError, ValueError, TypeError):
+        with open(file) as text:
+            last, count, size = json.load(text)
+        return float(last), (int(count), int(size))
+    return None, None

@@ -5,6 +5,7 @@ import re
 import time
 
 from . import backup_folder, cache_changes
+from .cache_counts import of_blobs, of_sweep
 from .cache_day import Day
 from .cache_health import Health
 from .cache_http import READ, Route, reply
@@ -36,6 +37,10 @@ class Watched:
         self.day = Day(f"{waiting.folder}/day.json")
         self.metrics.sources += [of_cache(server, self.watching, limit, waiting), of_backup(self.state)]
         self.watching.observers += [self.metrics.observe, self.day.observe, cache_changes.observe]
+
+    def watch_blobs(self, blobs, sweep):
+        self.metrics.sources += [of_blobs(blobs), of_sweep(sweep)]
+        self.health.checks["blobs"] = blobs.answers
 
     def parts(self):
         return [self.health, self.metrics, self]
