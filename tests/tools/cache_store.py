@@ -376,7 +376,7 @@ def patient():
             reader.feed_data(2 * text)
             return reader, self
 
-        def writelines(self, messages):
+        def write(self, data):
             pass
 
         async def drain(self):

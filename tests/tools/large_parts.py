@@ -1,5 +1,6 @@
 """Tests of large archives: the formats of pointers and blobs, what is served, sweeps, and uploads by Nix."""
 import contextlib
+import errno
 import hashlib
 import io
 import lzma
@@ -95,6 +96,34 @@ def packing(rng):
         except cache_records.Bad as bad:
             said = bad
         check(f"refused: {what}", word in str(said), said)
+
+
+def synced(folder):
+    """A blob goes to the disk while it is written, and a disk that fails then is seen."""
+    import zstandard
+
+    real, usual, calls = os.fdatasync, blob_packing.Synced.EACH, []
+    sent = zstandard.ZstdCompressor().compress(nar.regular_file(random.Random(9).randbytes(4_000_000)))
+
+    def failing(number):
+        calls.append(os.fstat(number).st_size)
+        raise OSError(errno.EIO, "no disk")
+
+    def written(fdatasync):
+        os.fdatasync = fdatasync
+        with open(f"{folder}/synced", "wb") as out:
+            return blob_packing.packed(io.BytesIO(sent), "zstd", out, 1)
+
+    blob_packing.Synced.EACH = 1 << 20
+    try:
+        same("a blob is synced while it is written, and whole", written(real).file_size, len(sent))
+        said = written(failing)
+    except OSError as error:
+        said = error.errno
+    finally:
+        blob_packing.Synced.EACH, os.fdatasync = usual, real
+    same("a disk that fails meanwhile is an error", said, errno.EIO)
+    check("(before the end)", calls and 0 < calls[0] < len(sent), calls)
 
 
 class Team(parts.Unit):

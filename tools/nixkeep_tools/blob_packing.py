@@ -2,6 +2,7 @@
 import collections
 import hashlib
 import lzma
+import os
 import queue
 from concurrent.futures import ThreadPoolExecutor
 
@@ -103,12 +104,13 @@ UNPACKED = {"none": plain, "xz": of_xz, "zstd": of_zstd}
 def packed(source, compression, out, level):
     """Reads an archive, compressed so, and writes its blob to a file. Raises Bad. One that comes by zstd stays as it
     is."""
-    with ThreadPoolExecutor(2) as pool:
-        nar, file, sent = Digest(pool), Digest(pool), Digest(pool)
+    with ThreadPoolExecutor(3) as pool:
+        nar, file, sent, synced = Digest(pool), Digest(pool), Digest(pool), Synced(out, pool)
         is_kept = compression == "zstd"
-        given = Read(source, file if is_kept else sent, out if is_kept else None)
+        given = Read(source, file if is_kept else sent, synced if is_kept else None)
         archive = UNPACKED[compression](given if compression != "none" else source)
-        (measure if is_kept else compress)(archive, nar, file, out, level)
+        (measure if is_kept else compress)(archive, nar, file, synced, level)
+        synced.end()
         made = nar.end(), nar.size, file.end(), file.size
         of_sent = {"none": made[0], "zstd": made[2]}.get(compression)
         return Packed(of_sent or sent.end(), *made)
@@ -146,6 +148,28 @@ def put(data, file, out):
         out.write(data)
 
 
+class Synced:
+    """A file that goes to the disk while it is written, so that little of it is left for the end."""
+
+    EACH = 32 << 20
+
+    def __init__(self, out, pool):
+        self.out, self.pool, self.left, self.last = out, pool, 0, None
+
+    def write(self, data):
+        self.out.write(data)
+        self.left += len(data)
+        if self.left >= self.EACH and (not self.last or self.last.done()):
+            self.left = 0
+            self.end()
+            self.last = self.pool.submit(os.fdatasync, self.out.fileno())
+
+    def end(self):
+        """Raises the OSError of a disk that has failed."""
+        if self.last:
+            self.last.result()
+
+
 class Feed:
     """Pieces that come to an event loop, for a thread that reads them. Few bytes wait."""
 
@@ -173,9 +197,10 @@ class Feed:
                 if piece:
                     raise piece
                 break
-            self.loop.call_soon_threadsafe(self.taken, len(piece))
             found.append(piece)
             size += len(piece)
+        if taken := size - len(self.left):
+            self.loop.call_soon_threadsafe(self.taken, taken)
         data = b"".join(found)
         self.left = data[count:]
         return data[:count]

@@ -80,7 +80,7 @@ class Child:
             sys.exit(f"nixkeep-cache: {self.words[0]}: {error}")
         with contextlib.suppress(*BROKEN):
             # (it answers once the file is open, which takes long for a large one)
-            self.process.stdin.write(message(Request(Caller("nixkeep-cache", None), "GET", "/")))
+            self.process.stdin.write(message(Request(Caller("nixkeep-cache", None), "GET", "/"))[0])
             answers = bool(await read_reply(self.process.stdout))
             self.ready.set_result(self.process)
         status = await self.process.wait()

@@ -23,8 +23,8 @@ REPEATED = re.compile(r"GET .*|POST /(text|source|import|temp/[^/]+/[0-9]+)")
 AHEAD = 1 << 20
 # What a connection that ends, or isn't the server's, raises.
 BROKEN = (OSError, EOFError, ValueError, KeyError, IndexError, asyncio.LimitOverrunError)
-# The requests that go out together where many are asked at once.
-TOGETHER = 100
+# The requests that go out together where many are asked at once, and the bytes of a large body that do.
+TOGETHER, PIECE = 100, 1 << 18
 
 
 class Unreachable(Exception):
@@ -32,10 +32,25 @@ class Unreachable(Exception):
 
 
 def message(request):
+    """The head of a request, and its body."""
     caller, method, target, body = request
     fields = ["host: store", f"store-user: {caller.user}", f"content-length: {len(body)}"]
     fields += [f"store-group: {caller.group}"] if caller.group else []
-    return "\r\n".join([f"{method} {target} HTTP/1.1", *fields, "", ""]).encode("ascii") + body
+    return "\r\n".join([f"{method} {target} HTTP/1.1", *fields, "", ""]).encode("ascii"), body
+
+
+def sendable(messages):
+    """Yields the bytes of messages: small ones together, and a large body in pieces, which aren't copied."""
+    small = bytearray()
+    for head, body in messages:
+        small += head
+        if len(body) <= PIECE:
+            small += body
+            continue
+        yield bytes(small)
+        small.clear()
+        yield from (memoryview(body)[at : at + PIECE] for at in range(0, len(body), PIECE))
+    yield bytes(small)
 
 
 async def read_reply(reader):
@@ -125,8 +140,9 @@ class Server:
         return found
 
     async def sent(self, messages):
-        self.writer.writelines(messages)
-        await self.writer.drain()
+        for data in sendable(messages):
+            self.writer.write(data)
+            await self.writer.drain()
         found, ends = [], False
         for _ in messages:
             reply, ends = await read_reply(self.reader)

@@ -61,7 +61,10 @@ class Uploads:
             archive = await asyncio.get_running_loop().run_in_executor(None, cache_records.unpacked, name, data)
             if self.large:
                 self.large.refuse_pointer(b"\nca: " in head, base, archive)
-            return await self.imported(caller, base, head + archive)
+            given = head + archive
+            # (so that one copy is in memory)
+            del data, archive
+            return await self.imported(caller, base, given)
 
     async def imported(self, caller, base, given, size=None):
         """The reply to an import. The session of the user keeps the object before anybody else is served. `size` is
