@@ -30,7 +30,8 @@ def tls(site):
 def watched(site):
     """Health without a login, and nothing else there; figures for the user `prometheus` alone, who has a password."""
     nobody, monitor, ann = site.user(None), site.user("prometheus"), site.user("ann")
-    same("health without a login", nobody("GET", "/health"), (200, b'{"store": "answers"}\n'))
+    well = b'{"store": "answers", "blobs": "answers"}\n'
+    same("health without a login", nobody("GET", "/health"), (200, well))
     for method, target, given in [("POST", "/health", b""), ("PUT", "/health", b"x"), ("GET", "/health", bytes(1000)),
                                   ("GET", "/health/", None), ("GET", "/health?x", None), ("GET", "/%68ealth/x", None)]:
         status = nobody(method, target, given)[0]

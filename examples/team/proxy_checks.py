@@ -85,6 +85,30 @@ def compressed(site):
     server.start()
 
 
+def large(site):
+    """Large archives pass nginx, also above its limit for other bodies, to a Nix that demands signatures."""
+    ann, build, server = site.user("ann"), site.user("build"), site.servers["red"]
+    host, desk = build.nix("large-host"), ann.nix("large-desk")
+    made = host.outputs(host.texts(1, "large"), [10, 300_000, 22_000_000], random.Random(9))
+    ran = host.run("nix", "copy", "--to", f"{build.url}?compression=none", made[-1])
+    check("nix copy uploads archives of 0.3 and 22 MB", ran.returncode == 0, ran.stderr.decode())
+    same("which are blobs", [ann.archive(it).split("/")[1] for it in made], ["nar", "large", "large"])
+    ran = desk.run("nix-store", "--realise", made[-1], "--option", "substituters", ann.url)
+    check("a substituter has them, with signatures", ran.returncode == 0, ran.stderr.decode())
+    same("as they were", [desk.archive(it) == host.archive(it) for it in made], [True] * 3)
+    name, part = ann.archive(made[-1]), ann("GET", ann.archive(made[-1]), None, "-H", "range: bytes=5-14")
+    same("a range of one", (part[0], part[1] == ann("GET", name)[1][5:15]), (206, True))
+    same("a stranger gets none", site.user("eve")("GET", name)[0], 403)
+    digits = paths.base32(paths.sha256([host.archive(made[-1])]))
+    same("who isn't trusted sends none", ann("PUT", f"/nar/{digits}.nar", host.archive(made[-1]))[1],
+         b"denied: trusted-import\n")
+    words = [f"{parts.TOOLS}/nixkeep-cache", "verify", "--blobs", f"{site.folder}/lib/red/blobs"]
+    words += ["--server", f"unix:{server.place}", "--config", f"{parts.HERE}/red.toml"]
+    ran = subprocess.run(words, capture_output=True, text=True)
+    is_whole = ran.returncode == 0 and ran.stdout.startswith("verified 2 blobs ")
+    check("all blobs are whole", is_whole and ": 0 missing, 0 damaged, 0 that" in ran.stdout, ran)
+
+
 def forgotten(site, name, head):
     """The file is deleted as one that has waited for too long."""
     server = site.servers["red"]
@@ -213,6 +237,6 @@ def uploaded(user, path, contents, *references):
 
 
 def all_of(site):
-    for it in (other_sites, entry_checks.tls, entry_checks.watched, dear, logged, compressed, restarted,
+    for it in (other_sites, entry_checks.tls, entry_checks.watched, dear, logged, compressed, large, restarted,
                collected_meanwhile, kept_for_a_minute):
         it(site)
