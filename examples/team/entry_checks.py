@@ -14,7 +14,7 @@ def tls(site):
 
     def asked(version, *more):
         words = ["openssl", "s_client", "-connect", place, "-servername", "red.localhost", f"-{version}", "-ign_eof"]
-        return subprocess.run([*words, *more], input=request, capture_output=True, timeout=60).stdout
+        return subprocess.run([*words, *more], input=request, capture_output=True, timeout=300).stdout
 
     certified = ["-cert", f"{folder}/carol.pem", "-key", f"{folder}/carol.key"]
     for version in ("tls1_2", "tls1_3"):
@@ -47,7 +47,7 @@ def watched(site):
     check("a browser takes nothing for a page that isn't one", b"x-content-type-options: nosniff" in head, head)
     changed = site.servers["red"].records()[-1]
     path = ann.add("recorded", b"x")
-    parts.until("a record", lambda: site.servers["red"].records()[-1] != changed, 30)
+    parts.until("a record", lambda: site.servers["red"].records()[-1] != changed)
     changed = site.servers["red"].records()[-1]
     same("a change has its user, by the certificate or the password", (changed["user"], changed["paths"]),
          ("ann", [path[11:]]))

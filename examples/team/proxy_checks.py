@@ -163,7 +163,7 @@ def logged(site):
     site.user("ann")("GET", forged)
     site.user("eve")("GET", f"/{'1' * 32}.narinfo")
     # (a line is written after its reply)
-    parts.until("six lines", lambda: Path(file).read_bytes()[size:].count(b"\n") >= 6, 30)
+    parts.until("six lines", lambda: Path(file).read_bytes()[size:].count(b"\n") >= 6)
     lines = [json.loads(it) for it in Path(file).read_bytes()[size:].decode().splitlines()]
     came = [(it["status"], it["login"], it["user"]) for it in lines]
     same("the log has the user that was used, and logins that failed", came,

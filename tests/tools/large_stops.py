@@ -8,6 +8,7 @@ import random
 import signal
 import socket
 import subprocess
+import sys
 import threading
 import time
 from pathlib import Path
@@ -83,6 +84,8 @@ def differs(team, rng):
     given = [("path", path), ("nar-hash", paths.nar_hash(hashlib.sha256(other).digest()))]
     same("an import with another hash", team("build", "POST", "/import", body(*given, payload=archive))[0], 400)
     same("none of them is there", team.fields(path)[0], 404)
+    same("each has a line with its status", [it["status"] for it in team.records()[-7:]],
+         [400, 201, 400, 201, 400, 400, 400])
     is_sound(team, "after uploads that differ")
 
 
@@ -112,10 +115,13 @@ def leaving(team, rng):
     name = paths.base32(hashlib.sha256(archive).digest())
     given = body(("path", path), ("nar-hash", paths.nar_hash(hashlib.sha256(archive).digest())), payload=archive)
     for method, target, data in (("PUT", f"/nar/{name}.nar", archive), ("POST", "/import", given * 5)):
-        client = send_half(team, method, target, data[:1_000_000], len(data))
-        parts.until("a part has come", team.incoming)
+        client = send_half(team, method, target, data[:1_000_000], 1 << 30)
+        parts.until("a part of 1 GiB has come", team.incoming)
         client.close()
         parts.until("nothing is left of it", lambda: not team.incoming())
+        parts.until("it has a line", lambda: team.records()[-1]["target"] == target)
+        same("that says what it was", (team.records()[-1]["user"], team.records()[-1]["status"] >= 400),
+             ("build", True))
     same("an upload", team.upload(path, archive)[0], 200)
     client = send_half(team, "GET", "/" + team.fields(path)["URL"], b"", 0)
     client.recv(1000)
@@ -153,6 +159,79 @@ def killed(team, rng):
         is_sound(team, f"killed {20 * at} ms after an upload began")
 
 
+# Runs nixkeep-cache, and kills it ahead of a step of an upload: of a file below a folder that is opened, linked, renamed
+# or deleted, a sync, and what is sent to the server or has come from it.
+KILLER = """import os, runpy, signal, sys
+left, folder, begun = int(sys.argv[1]), sys.argv[2], False
+sys.argv = sys.argv[3:]
+sys.path.insert(0, os.path.dirname(sys.argv[0]))
+from nixkeep_tools import cache_server
+
+def step():
+    global left
+    left -= begun
+    if left < 0:
+        os.kill(os.getpid(), signal.SIGKILL)
+
+def seen(event, words):
+    global begun
+    if event in ("open", "os.link", "os.mkdir", "os.remove", "os.rename", "os.symlink"):
+        begun |= event == "open" and str(words[0]).endswith(".part")
+        if folder in str(words):
+            step()
+
+def stepped(work):
+    return lambda *words: (step(), work(*words))[1]
+
+async def sent(self, messages, usual=cache_server.Server.sent):
+    step()
+    found = await usual(self, messages)
+    step()
+    return found
+
+os.fsync, os.fdatasync, cache_server.Server.sent = stepped(os.fsync), stepped(os.fdatasync), sent
+sys.addaudithook(seen)
+runpy.run_path(sys.argv[0], run_name="__main__")"""
+
+
+def each_step(words, rng):
+    """The cache is killed ahead of each step of an upload, until an upload has no more steps."""
+    with large_parts.Team(words, "steps", before=[sys.executable, "-c", KILLER, "0", "/steps/"]) as team:
+        made, at = [], 0
+        while True:
+            archive, path = archive_of(rng, 200_000), some_path(rng, f"step{at}")
+            with concurrent.futures.ThreadPoolExecutor(1) as pool:
+                sent = pool.submit(team.upload, path, archive)
+                parts.until("it ends", lambda: sent.done() or team.running.poll() is not None)
+                is_over = sent.done() and sent.result()[0] == 200
+                if not is_over:
+                    team.running.wait()
+                    at += 1
+                    team.words[3] = str(at)
+                    team.start()
+                reply = sent.result()
+            made.append((archive, path))
+            if is_over or at > 100:
+                break
+            status, lines = team.verify()
+            check(f"killed ahead of step {at}: every pointer has a whole blob", status == 0, lines)
+            same("no part is left, and what was answered is there", (team.incoming(), there(team, archive, path)),
+                 ([], True if reply[0] == 200 else there(team, archive, path)))
+        check(f"an upload has {at} steps, and is done without a kill", 8 < at < 100 and reply[0] == 200, (at, reply))
+        team.end()
+        team.words[3] = "1000000"
+        team.start()
+        again = [(team.upload(path, archive)[0], there(team, archive, path)) for archive, path in made]
+        same("all of them are uploaded again", again, [(200, True)] * len(made))
+        is_sound(team, "after a kill at each step")
+
+
+def there(team, archive, path):
+    """Whether a path is read, with this archive. One that isn't there is 404."""
+    came = team("ann", "GET", f"/nar/{path[11:]}")
+    return came == (200, archive) or came[0] != 404 and came
+
+
 def full(words, rng):
     """A disk that is full: no file may become larger than 1 MB."""
     if parts.skipped("a full disk", "prlimit"):
@@ -160,6 +239,7 @@ def full(words, rng):
     with large_parts.Team(words, "full", before=[parts.found("prlimit"), "--fsize=1000000"]) as team:
         came = team.upload(some_path(rng, "full"), archive_of(rng, 3_000_000))
         check("a full folder: its name", came[0] == 507 and came[1].startswith(b"failed: full "), came)
+        same("and a line", team.records()[-1]["status"], 507)
         is_sound(team, "on a full disk")
         same("what fits is uploaded", team.upload(some_path(rng, "fits"), archive_of(rng))[0], 200)
 
@@ -220,5 +300,6 @@ def all_of(words):
     with large_parts.Team(words, "stops") as team:
         for it in (damaged, differs, at_once, leaving, killed):
             it(team, rng)
+    each_step(words, rng)
     full(words, rng)
     buckets(words, rng)

@@ -29,7 +29,8 @@ ENVIRONMENT = {"AWS_ACCESS_KEY_ID": ACCESS, "AWS_SECRET_ACCESS_KEY": SECRET, "AW
 def settings(folder, port, workers=0):
     return (f"[DEFAULT]\nbind_ip = 127.0.0.1\nbind_port = {port}\nuser = {getpass.getuser()}\nworkers = {workers}\n"
             f"swift_dir = {folder}\ndevices = {folder}/devices\nmount_check = false\nlog_level = ERROR\n"
-            f"log_udp_host =\n")
+            # (a machine that does much else is no server that is away)
+            f"log_udp_host =\nconn_timeout = 30\nnode_timeout = 120\nclient_timeout = 300\n")
 
 
 class Swift:
