@@ -43,6 +43,8 @@ def formats():
     archive = spelled(b"nix-archive-1", b"(", b"type", b"regular", b"contents", padded, b")")
     made = pointers.Pointer(PATH, ABC, 314_572_800, NOTHING, 104_857_600)
     same("a pointer has these bytes", pointers.archive(made), archive)
+    page = Path(f"{parts.ROOT}/docs/POINTERS.md").read_text()
+    same("docs/POINTERS.md has them", page.split("```\n")[1], EXAMPLE.decode())
     same("and is read from them", pointers.read(archive, PATH), made)
     same("its archive has 1,136 bytes", (len(archive), pointers.SIZE), (1136, 1136))
     longest = made._replace(path=f"/{'s' * 199}/{'0' * 32}-{'n' * 211}", nar_size=2**63 - 1, file_size=2**63 - 1)
@@ -96,6 +98,42 @@ def packing(rng):
         except cache_records.Bad as bad:
             said = bad
         check(f"refused: {what}", word in str(said), said)
+
+
+def frames():
+    """Whether zstd's frames are whole is known at each byte, as zstandard itself says it of one frame."""
+    import zstandard
+
+    def is_whole(data, count):
+        source = blob_packing.Frames(io.BytesIO(data))
+        while source.read(count):
+            pass
+        return source.is_whole()
+
+    rng = random.Random(5)
+    texts = [b"", b"a", bytes(300), rng.randbytes(300), bytes(140_000), b"abc" * 90_000]
+    made = [zstandard.ZstdCompressor(level=level, write_checksum=checked, write_content_size=sized)
+            for level in (1, 19) for checked in (False, True) for sized in (False, True)]
+    for text in texts:
+        for compressor in made:
+            data, ends = compressor.compress(text), []
+            for end in range(1, len(data) + 1):
+                one = zstandard.ZstdDecompressor().decompressobj()
+                one.decompress(data[:end])
+                ends += [end] if one.eof else []
+            found = [end for end in range(1, len(data) + 1) if is_whole(data[:end], 7)]
+            if (found, ends) != ([len(data)], [len(data)]):
+                return check(f"the end of a frame of {len(text)} bytes", False, (found, ends, len(data)))
+    check(f"the ends of {len(texts) * len(made)} frames are known at each of their bytes", True)
+    skipped = b"\x5a\x2a\x4d\x18\x05\0\0\0hello"
+    data = skipped + b"".join(made[3].compress(it) for it in texts[:4]) + skipped
+    bounds = [0, len(skipped)]
+    for it in texts[:4]:
+        bounds.append(bounds[-1] + len(made[3].compress(it)))
+    same("frames one after another, and those to skip, end at their ends",
+         [end for end in range(len(data) + 1) if is_whole(data[:end], 11)], [*bounds, len(data)])
+    sizes = [len(it) for it in blob_packing.of_zstd(io.BytesIO(made[0].compress(bytes(64 << 20))))]
+    same("64 MiB in a small file come in pieces", (sum(sizes), max(sizes) <= 1 << 20), (64 << 20, True))
 
 
 def synced(folder):
@@ -343,6 +381,8 @@ def by_nix(words):
             sizes = [int(it) for it in there("nix", "path-info", "--size", *made).split()[1::2]]
             listed = there.run("nix", "path-info", "--store", f"{url}?trusted=true", "--size", *made).stdout.split()
             same("nix path-info has the sizes of archives", [int(it) for it in listed[1::2]], sizes)
+            listed = there("nix-store", "--store", url, "--query", "--references", made[-1]).split()
+            same("nix-store --query has references", sorted(listed), here.references(made[-1]))
         by_tools(folder, url, rng)
         store.end()
         pulled_alone(words, folder, config)

@@ -13,8 +13,6 @@ PIECE = 1 << 20
 BEGIN = (13).to_bytes(8, "little") + b"nix-archive-1"
 # The memory that a file compressed by zstd may ask for, also of those who read it.
 WINDOW = 32 << 20
-# The bytes that are unpacked at once: the least of them may unpack to 32,768 times as many.
-SLICE = 4_096
 
 # `sent` is the SHA-256 of what came; the others are of the archive, and of its file in the blobs.
 Packed = collections.namedtuple("Packed", "sent nar_hash nar_size file_hash file_size")
@@ -72,25 +70,64 @@ def of_xz(source):
         raise Bad("it can't be unpacked: something follows its end")
 
 
+class Frames:
+    """A source whose bytes are frames of zstd (RFC 8878), of which it knows whether the last one is whole: to the
+    reader of zstandard, a frame that is cut off is one that ends."""
+
+    def __init__(self, source):
+        self.source, self.left, self.skip, self.head, self.checksum = source, b"", 0, self.frame, 0
+
+    def read(self, count):
+        found = self.source.read(count)
+        data, at = self.left + found, 0
+        while True:
+            step = min(self.skip, len(data) - at)
+            at, self.skip = at + step, self.skip - step
+            size = 0 if self.skip else self.head(data[at : at + 8])
+            if not size:
+                break
+            at += size
+        self.left = data[at:]
+        return found
+
+    def frame(self, head):
+        """The bytes of a frame's head that are read here, or 0 if there are more to come."""
+        if head[1:4] == b"\x2a\x4d\x18" and len(head) == 8:
+            self.skip = int.from_bytes(head[4:], "little")
+            return 8
+        if head[1:4] == b"\x2a\x4d\x18":
+            return 0
+        if len(head) < 5:
+            return 0
+        is_single, self.checksum, self.head = head[4] >> 5 & 1, 4 * (head[4] >> 2 & 1), self.block
+        self.skip = 1 - is_single + (0, 1, 2, 4)[head[4] & 3] + (is_single, 2, 4, 8)[head[4] >> 6]
+        return 5
+
+    def block(self, head):
+        """The bytes of a block's head, or 0 if there are more to come."""
+        if len(head) < 3:
+            return 0
+        said = int.from_bytes(head[:3], "little")
+        is_last, is_one = said & 1, said >> 1 & 3 == 1
+        self.skip = (1 if is_one else said >> 3) + is_last * self.checksum
+        self.head = self.frame if is_last else self.block
+        return 3
+
+    def is_whole(self):
+        return not self.skip and not self.left and self.head == self.frame
+
+
 def of_zstd(source):
     """The archive in a source that is compressed by zstd. Raises Bad."""
-    room, made, found, size = zstandard.ZstdDecompressor(max_window_size=WINDOW), None, [], 0
+    frames, room = Frames(source), zstandard.ZstdDecompressor(max_window_size=WINDOW)
+    made = room.stream_reader(frames, PIECE, read_across_frames=True, closefd=False)
     try:
-        while data := source.read(SLICE):
-            while data:
-                made = made or room.decompressobj()
-                found.append(made.decompress(data))
-                size += len(found[-1])
-                data = made.unused_data if made.eof else b""
-                made = None if made.eof else made
-            if size >= PIECE:
-                yield b"".join(found)
-                found, size = [], 0
+        while data := made.read(PIECE):
+            yield data
     except zstandard.ZstdError as error:
         raise Bad(f"it can't be unpacked: {error}") from None
-    if made:
+    if not frames.is_whole():
         raise Bad("it can't be unpacked: it ends too early")
-    yield b"".join(found)
 
 
 def plain(source):
