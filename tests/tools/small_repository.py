@@ -19,7 +19,7 @@ log("starts")
 open(f"{top}/words-{crate}", "w").write(" ".join(words[1:]))
 externs = [word.partition("=")[2] for at, word in enumerate(words) if words[at - 1] == "--extern"]
 lacking = [it for it in externs if "/rlibs/" not in it and not os.path.isfile(f"{it}/format")]
-time.sleep(float(os.environ.get("STAND_IN_SECONDS", "0.2")))
+time.sleep(float(dict(it.split("=") for it in os.environ["STAND_IN_SECONDS"].split()).get(crate, "0.2")))
 if lacking or os.path.exists(f"{top}/fails-{crate}"):
     print(f"error: {crate} isn't proved", *lacking)
     sys.exit(1)
@@ -75,9 +75,9 @@ class Repository(Checks):
         with open(f"{self.top}/{path}", "w") as file:
             file.write(text)
 
-    def start(self, *words, top=None, path=None, seconds="0.2"):
+    def start(self, *words, top=None, path=None, seconds=""):
         """Starts a command of bin/, or the launcher with two arguments. Its path has the toolchain before the system's
-        folders, or is the one given."""
+        folders, or is the one given. `seconds` has crates that take longer than others: `left=2 right=2`."""
         environment = {**os.environ, "PATH": path or f"{self.kit}/bin:{SYSTEM}", "STAND_IN": self.room}
         environment |= {"STAND_IN_SECONDS": seconds, "TMPDIR": f"{self.room}/rooms"}
         how = {"env": environment, "stdout": subprocess.PIPE, "stderr": subprocess.PIPE, "text": True}
