@@ -154,13 +154,13 @@ def killed(team, rng):
             team.end(signal.SIGKILL)
             team.start()
             reply = sent.result()
-        if reply[0] == 200:
-            same("what was answered is there", team("ann", "GET", f"/nar/{given[1][11:]}")[1] == given[0], True)
+        is_there = team("ann", "GET", f"/nar/{given[1][11:]}")[1] == given[0]
+        check("what was answered is there", is_there or reply[0] != 200, reply)
         is_sound(team, f"killed {20 * at} ms after an upload began")
 
 
-# Runs nixkeep-cache, and kills it ahead of a step of an upload: of a file below a folder that is opened, linked, renamed
-# or deleted, a sync, and what is sent to the server or has come from it.
+# Runs nixkeep-cache, and kills it ahead of a step of an upload: of a file below a folder that is opened, linked,
+# renamed or deleted, a sync, and what is sent to the server or has come from it.
 KILLER = """import os, runpy, signal, sys
 left, folder, begun = int(sys.argv[1]), sys.argv[2], False
 sys.argv = sys.argv[3:]
