@@ -6,7 +6,7 @@ import subprocess
 
 LIST = os.path.join(os.path.dirname(os.path.dirname(os.path.realpath(__file__))), "packages.txt")
 # Other commands of these packages.
-ALSO = {"nix": "nix-bin", "nix-instantiate": "nix-bin", "nix-hash": "nix-bin"}
+ALSO = {"nix": "nix-bin", "nix-instantiate": "nix-bin", "nix-hash": "nix-bin", "ab": "apache2-utils"}
 
 
 @functools.cache
