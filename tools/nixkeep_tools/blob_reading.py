@@ -40,8 +40,9 @@ def opened(place, name, pointer):
 
 
 def pieces(place, name, pointer, form, start=0, end=None):
-    """Yields the bytes of an archive from `start` to `end`, or to its end. Then Damaged is raised ahead of the last
-    piece where the size or the digest of all of it differs. Raises Gone, or Damaged, before the first."""
+    """Yields the bytes of an archive from `start` to `end`, or to its end, and b"" for each piece that is read before
+    `start`. Damaged is raised ahead of the last piece where the size or the digest of all of it differs. Raises Gone,
+    or Damaged, before the first."""
     is_part = end is not None and end < size_of(pointer, form)
     stream = opened(place, name, pointer)
     if is_part and form == "zstd":
@@ -66,7 +67,7 @@ def verified(given, place, name, pointer, form, start):
     digest, at, held = hashlib.sha256(), 0, b""
     while data := given.read(PIECE):
         digest.update(data)
-        if held:
+        if at:
             yield held
         held = data[max(0, start - at) :]
         at += len(data)
@@ -85,16 +86,14 @@ def part(given, place, name, pointer, start, end):
             raise Damaged(f"blob-damaged {pointer.path}: {name} in {place.where} ends too early")
         found = data[max(0, start - at) : end - at]
         at += len(data)
-        if found:
-            yield found
+        yield found
 
 
 def as_xz(given):
-    """Yields an archive compressed by xz."""
+    """Yields an archive compressed by xz, and b"" where a piece of it adds nothing yet."""
     made = lzma.LZMACompressor(preset=0)
     for data in given:
-        if found := made.compress(data):
-            yield found
+        yield made.compress(data)
     yield made.flush()
 
 

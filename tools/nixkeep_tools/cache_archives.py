@@ -17,8 +17,6 @@ ARCHIVE = re.compile(rf"/nar/({DIGITS}{{52}})/({DIGITS}{{32}}-[0-9A-Za-z+._?=-]+
 # Records and archives are kept for a minute, since an object may be deleted. Then a cache asks whether it is there.
 MINUTE = "public, max-age=60"
 BYTES = "application/octet-stream"
-# The archives that are read at once.
-MANY = 8
 
 
 def hash_of(record):
@@ -49,7 +47,7 @@ class Archives:
     def __init__(self, server, names, stored, waiting, sessions, signing, sending, store, large=None):
         self.server, self.names, self.stored, self.waiting = server, names, stored, waiting
         self.sessions, self.signing, self.sending, self.store = sessions, signing, sending, store
-        self.reading, self.large = asyncio.Semaphore(MANY), large
+        self.large = large
 
     def routes(self):
         handlers = [(INFO, self.info), (RECORD, self.record), (FILE, self.file), (ARCHIVE, self.archive)]
@@ -88,11 +86,11 @@ class Archives:
         kept = cache_encoding.tag_kept(request, digest)
         asked = [Request(caller, "GET", f"/info/{base}")]
         asked += [] if kept or request.method == "HEAD" else [Request(caller, "GET", f"/nar/{base}")]
-        async with self.reading:
+        async with self.sending.reserved(request, len(asked) > 1):
             record, *archive = await self.server.asks(asked)
             answer = await cache_encoding.encoded(request, archived(digest, kept, record, *archive), digest)
-            await self.sending.room(answer)
-        return await self.sending.send(request, answer)
+            await self.sending.room(request, answer)
+            return await self.sending.send(request, answer)
 
     async def file(self, request, name):
         """An uploaded file. By HEAD a client asks whether it has to send it. By GET one asks that has kept the record
@@ -103,17 +101,18 @@ class Archives:
         base = self.stored.base(name)
         if not base:
             return reply(404, b"", BYTES)
-        async with self.reading:
+        async with self.sending.reserved(request):
             answer = await self.server.ask(request["caller"], "GET", f"/nar/{base}")
             if answer.status == 404:
                 self.stored.forget(name)
             if answer.status != 200:
                 return passed(answer)
             if self.large and len(answer.text) == pointers.SIZE:
+                self.sending.resize(request["room"], len(answer.text))
                 sent = await self.large.uploaded(request, name, base)
                 if sent is not None:
                     return sent
             packed = await asyncio.get_running_loop().run_in_executor(None, cache_records.packed, name, answer.text)
             answer = reply(200, packed, BYTES)
-            await self.sending.room(answer)
-        return await self.sending.send(request, answer)
+            await self.sending.room(request, answer)
+            return await self.sending.send(request, answer)

@@ -23,7 +23,7 @@ HELD = 3 * blob_reading.PIECE
 # The seconds for which a blob that was there is taken to be there, where a record is asked for.
 SEEN = 60
 FULL = (errno.ENOSPC, errno.EDQUOT, errno.EFBIG)
-RANGE = re.compile(r"bytes=(\d*)-(\d*)")
+RANGE = re.compile(r"bytes=([0-9]{0,18})-([0-9]{0,18})")
 
 
 def say(line):
@@ -158,52 +158,54 @@ class Blobs:
     async def streamed(self, request, given, answer):
         """Sends pieces. A reader is never left with a part that looks like the whole: what fails in the middle breaks
         the connection."""
-        transport = request.transport
-        await self.sending.take(HELD)
+        held = await self.sending.take(request, HELD)
         try:
             with self.sent.timed():
-                return await self.stream(request, given, answer, transport)
+                return await self.stream(request, given, answer, held)
         finally:
-            self.sending.since.pop(transport, None)
-            self.sending.give(HELD)
+            self.sending.give(held)
             # (a generator that a thread still runs ends by itself)
             with contextlib.suppress(ValueError):
                 await self.apart(given.close)
 
-    async def stream(self, request, given, answer, transport):
+    async def stream(self, request, given, answer, held):
         try:
-            piece = await self.apart(next, given, None)
-        except (Gone, Damaged, blobs.Failed, OSError, EOFError) as error:
-            self.sent.failed += 1
-            return missing(error)
-        try:
-            self.sending.since[transport] = asyncio.get_running_loop().time()
+            piece = await self.piece(given, held)
             await answer.prepare(request)
-            await self.pieces(answer, piece, given, transport)
+            await self.pieces(answer, piece, given, held)
             await answer.write_eof()
             self.sent.number += 1
-        except (Gone, Damaged, blobs.Failed, EOFError) as error:
-            self.sent.failed += 1
-            say(f"{request.method} {request.raw_path[:300]!r}: {error}")
-            abort(transport)
-        except (OSError, TimeoutError):
+        except (ConnectionError, TimeoutError):
             # (the client has closed, or takes nothing: no reply can reach it)
-            abort(transport)
+            abort(request.transport)
+        except (Gone, Damaged, blobs.Failed, OSError, EOFError) as error:
+            self.sent.failed += 1
+            if not answer.prepared:
+                return missing(error)
+            say(f"{request.method} {request.raw_path[:300]!r}: {error}")
+            abort(request.transport)
         return answer
 
-    async def pieces(self, answer, piece, given, transport):
+    async def pieces(self, answer, piece, given, held):
         """Writes pieces to a reply. While a client takes one, the next is read."""
-        now = asyncio.get_running_loop().time
         while piece:
-            ahead = asyncio.ensure_future(self.apart(next, given, None))
+            ahead = asyncio.ensure_future(self.piece(given, held))
             try:
                 async with asyncio.timeout(self.sending.idle):
                     await answer.write(piece)
                 self.sent.bytes += len(piece)
-                if transport in self.sending.since:
-                    self.sending.since[transport] = now()
+                held.moved()
             finally:
                 piece = await ahead
+
+    async def piece(self, given, held):
+        """The next piece that isn't empty, or None. Others get their turns after each piece that is read, and none is
+        read for a client that has closed its connection."""
+        while (piece := await self.apart(next, given, None)) == b"":
+            if not held.transport or held.transport.is_closing():
+                raise ConnectionResetError("the client has closed its connection")
+            held.moved()
+        return piece
 
 
 def abort(transport):

@@ -5,6 +5,9 @@ import contextlib
 
 from aiohttp import web
 
+from . import nar
+from .cache_room import Room
+
 # A row of a part's table: the methods, the form of the target, and the handler, which gets the request and the groups
 # of the form. Targets are matched as they are, as the server does it: a name may have `?` and `=` in it.
 Route = collections.namedtuple("Route", "methods form handler")
@@ -13,8 +16,8 @@ READ = ("GET", "HEAD")
 BODY = 20_971_520
 # The bytes from which on a body or a reply counts as large, and the bytes of a reply that are sent at once.
 LARGE, PIECE = 65_536, 1 << 18
-# The seconds without a piece after which a client can lose its archive to another client.
-GRACE = 5
+# The room that a reply has while the server makes it, which may be an archive.
+UNKNOWN = nar.LIMIT
 
 
 class Answered(Exception):
@@ -48,8 +51,8 @@ async def pieces(request, idle):
         yield piece
 
 
-async def body(request, most, idle):
-    """The body whole, or None if it is longer than `most` bytes."""
+async def body(request, most, idle, held=None):
+    """The body whole, or None if it is longer than `most` bytes. `held` is the room that it has, if it has any."""
     found = bytearray()
     if (request.content_length or 0) > most:
         return None
@@ -57,72 +60,58 @@ async def body(request, most, idle):
         found += piece
         if len(found) > most:
             return None
+        if held:
+            held.moved()
+    if held:
+        held.is_safe = True
     return bytes(found)
 
 
-class Sending:
-    """Large replies on their way: at most `most` bytes of them are in memory.
-
-    Where there is no room for one more, the client that has taken nothing for the longest loses its connection, once
-    that is GRACE seconds. So clients that don't read hold up nobody.
-    """
+class Sending(Room):
+    """Replies on their way, of which at most `most` bytes are in memory. A client may be silent for `idle` seconds."""
 
     def __init__(self, most, idle):
-        self.most, self.idle, self.bytes, self.freed = most, idle, 0, asyncio.Event()
-        # For each transport that takes a reply, when it last took a piece.
-        self.since = {}
+        super().__init__(most)
+        self.idle = idle
 
-    async def room(self, answer):
+    @contextlib.asynccontextmanager
+    async def reserved(self, request, is_much=True):
+        """Room for a reply that the server makes meanwhile, and that may be large. It is sent in this."""
+        async with self.taken(request, UNKNOWN if is_much else 0, True) as request["room"]:
+            yield
+
+    async def room(self, request, answer):
         """Waits until there is room for a reply, and takes it, for the `send` that follows."""
-        if len(answer.body) > LARGE:
-            await self.take(len(answer.body))
-
-    async def take(self, size):
-        """Takes room for bytes that are in memory until `give`."""
-        now = asyncio.get_running_loop().time
-        while self.bytes and self.bytes + size > self.most:
-            slowest = min(self.since, key=self.since.get, default=None)
-            left = GRACE if slowest is None else self.since[slowest] + GRACE - now()
-            if left <= 0:
-                del self.since[slowest]
-                slowest.abort()
-                continue
-            self.freed.clear()
-            with contextlib.suppress(TimeoutError):
-                async with asyncio.timeout(left):
-                    await self.freed.wait()
-        self.bytes += size
-
-    def give(self, size):
-        self.bytes -= size
-        self.freed.set()
+        size, held = len(answer.body) if len(answer.body) > LARGE else 0, request.get("room")
+        if held:
+            self.resize(held, size)
+        elif size:
+            request["room"] = await self.take(request, size)
 
     async def send(self, request, answer):
         """Sends a reply that has room. A large one goes in pieces, and its client may be silent for `idle` seconds at
         each."""
-        if len(answer.body) <= LARGE:
-            return answer
+        held = request.get("room")
         try:
-            return answer if request.method == "HEAD" else await self.stream(request, answer)
+            is_large = len(answer.body) > LARGE and request.method != "HEAD"
+            return await self.stream(request, answer, held) if is_large else answer
         finally:
-            self.give(len(answer.body))
+            if held:
+                self.give(held)
 
-    async def stream(self, request, answer):
-        now, text, transport = asyncio.get_running_loop().time, memoryview(answer.body), request.transport
+    async def stream(self, request, answer, held):
+        text, transport = memoryview(answer.body), request.transport
         sent = web.StreamResponse(status=answer.status, headers=answer.headers)
         sent.content_length = len(text)
-        self.since[transport] = now()
+        held.moved()
         try:
             await sent.prepare(request)
             for at in range(0, len(text), PIECE):
                 async with asyncio.timeout(self.idle):
                     await sent.write(text[at : at + PIECE])
-                if transport in self.since:
-                    self.since[transport] = now()
+                held.moved()
         except (ConnectionError, TimeoutError):
             # (the client has closed, or takes nothing: no reply can reach it)
             if transport:
                 transport.abort()
-        finally:
-            self.since.pop(transport, None)
         return sent

@@ -2,6 +2,7 @@
 import asyncio
 import re
 import urllib.parse
+from concurrent.futures import ThreadPoolExecutor
 
 from . import overview, overview_source
 from .cache_http import READ, Route, passed, reply
@@ -14,6 +15,8 @@ except ModuleNotFoundError:
 PAGE = re.compile(r"/overview(\?.*)?")
 # The seconds for which figures are kept, and the users whose figures are. A page says of when it is.
 FRESH, USERS = 5, 8
+# The threads that make figures and pages.
+THREADS = 2
 
 
 class Overviews:
@@ -23,6 +26,8 @@ class Overviews:
     def __init__(self, server, store, keeps, sending, name, longest=60):
         self.store, self.keeps, self.sending, self.name, self.longest = store, keeps, sending, name, longest
         self.records, self.turn, self.made = overview_source.Records(server, keeps[0]), asyncio.Lock(), {}
+        # (threads of its own, since archives need the others)
+        self.threads = ThreadPoolExecutor(THREADS, "overview")
 
     def routes(self):
         return [Route(READ, PAGE, self.page)]
@@ -41,7 +46,7 @@ class Overviews:
         except TimeoutError:
             return reply(503, f"the overview takes longer than {self.longest:.0f} seconds: try again later\n")
         answer = reply(200, text, "text/html; charset=utf-8", **overview_style.FIELDS)
-        await self.sending.room(answer)
+        await self.sending.room(request, answer)
         return await self.sending.send(request, answer)
 
     def figures(self, caller):
@@ -71,4 +76,4 @@ class Overviews:
 
     async def apart(self, work, *words):
         """What takes long is done in a thread, so that other clients are served meanwhile."""
-        return await asyncio.get_running_loop().run_in_executor(None, work, *words)
+        return await asyncio.get_running_loop().run_in_executor(self.threads, work, *words)

@@ -1,11 +1,9 @@
 """The store's own requests, which nixkeep-cache passes to the server as they are."""
-import asyncio
-import contextlib
 import re
 
 from . import cache_changes
-from .cache_archives import MANY
 from .cache_http import BODY, LARGE, Route, body, passed, reply
+from .cache_room import Room
 from .cache_server import Request
 from .cache_sessions import target as session_of
 
@@ -14,6 +12,8 @@ ADDS = ("/text", "/source", "/import")
 DELETES = ("/collect", "/delete")
 # What is answered with much: archives, and listings of all of the store.
 MUCH = re.compile(r"/(nar|ls)/.*|/(paths|live|dead|roots)")
+# The bytes of large bodies that are in memory.
+COMING = 8 * BODY
 # What makes the store larger in another way.
 GROWS = re.compile(r"/(root|profile|temp)/.*|/runtime")
 
@@ -24,7 +24,7 @@ class Passing:
     def __init__(self, server, names, sessions, limit, shares, sending, followers, idle):
         self.server, self.names, self.sessions, self.sending = server, names, sessions, sending
         self.limit, self.shares = limit, shares
-        self.followers, self.idle, self.large = followers, idle, asyncio.Semaphore(MANY)
+        self.followers, self.idle, self.coming = followers, idle, Room(COMING)
 
     def routes(self):
         return [Route(None, ANY, self.request)]
@@ -36,18 +36,22 @@ class Passing:
         method = "GET" if request.method == "HEAD" else request.method
         if not TARGET.fullmatch(target) or not METHOD.fullmatch(method):
             return reply(404, "refused: 39 no-route\n")
-        async with self.large if size > LARGE or MUCH.fullmatch(target) else contextlib.nullcontext():
-            given = await body(request, BODY, self.idle)
-            if given is None:
-                return reply(400, "refused: 38 too-large\n")
+        if size > BODY:
+            return reply(400, "refused: 38 too-large\n")
+        async with self.coming.taken(request, size if size > LARGE else 0) as held:
+            given = await body(request, BODY, self.idle, held)
             cache_changes.note(request, given)
             looked = await look(request["caller"], given) if look else None
             if looked is not None:
                 return looked
-            answer = passed(await self.asked(Request(request["caller"], method, target, given)))
-            cache_changes.note(request, given, answer.body)
-            await self.sending.room(answer)
-        return await self.sending.send(request, answer)
+            made = Request(request["caller"], method, target, given)
+            async with self.sending.reserved(request, bool(MUCH.fullmatch(target))):
+                answer = passed(await self.asked(made))
+                cache_changes.note(request, given, answer.body)
+                if held:
+                    self.coming.give(held)
+                await self.sending.room(request, answer)
+                return await self.sending.send(request, answer)
 
     async def asked(self, request):
         if request.method == "DELETE" and request.target == session_of(request.caller.user):

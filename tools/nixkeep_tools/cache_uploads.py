@@ -3,13 +3,16 @@ import asyncio
 import re
 
 from . import cache_changes, cache_records, cache_waiting
-from .cache_archives import MANY, RECORD
-from .cache_http import Route, body, passed, pieces, reply
+from .cache_archives import RECORD
+from .cache_http import UNKNOWN, Route, body, passed, pieces, reply
 from .cache_records import Bad
+from .cache_room import Room
 from .cache_server import Request
 
 # The longest record: as many references as an object may have, each of a long name.
 INFO = 1_200_000
+# The archives that are unpacked at once.
+MANY = 8
 ARCHIVE, OTHER = re.compile(r"/nar/(.*)"), re.compile(r".*")
 
 
@@ -18,7 +21,7 @@ class Uploads:
         self.server, self.names, self.stored, self.waiting = server, names, stored, waiting
         self.sessions, self.signing, self.limit, self.shares = sessions, signing, limit, shares
         self.store, self.idle = store, idle
-        self.unpacking, self.large = asyncio.Semaphore(MANY), large
+        self.unpacking, self.large = Room(MANY * UNKNOWN), large
 
     def routes(self):
         handlers = [(ARCHIVE, self.archive), (RECORD, self.record), (OTHER, self.other)]
@@ -47,7 +50,8 @@ class Uploads:
         if self.large and await self.large.is_large(caller, name, record, self.waiting):
             answer = await self.large.recorded(caller, name, record, head)
         else:
-            answer = passed(await self.small(caller, name, base, head))
+            async with self.unpacking.taken(request, UNKNOWN, True):
+                answer = passed(await self.small(caller, name, base, head))
         if answer.status == 200:
             self.signing.uploaded(text)
             self.waiting.use(name)
@@ -56,15 +60,14 @@ class Uploads:
 
     async def small(self, caller, name, base, head):
         """The reply to an import of an archive that waits and that the store itself keeps."""
-        async with self.unpacking:
-            data = self.waiting.read(name)
-            archive = await asyncio.get_running_loop().run_in_executor(None, cache_records.unpacked, name, data)
-            if self.large:
-                self.large.refuse_pointer(b"\nca: " in head, base, archive)
-            given = head + archive
-            # (so that one copy is in memory)
-            del data, archive
-            return await self.imported(caller, base, given)
+        data = self.waiting.read(name)
+        archive = await asyncio.get_running_loop().run_in_executor(None, cache_records.unpacked, name, data)
+        if self.large:
+            self.large.refuse_pointer(b"\nca: " in head, base, archive)
+        given = head + archive
+        # (so that one copy is in memory)
+        del data, archive
+        return await self.imported(caller, base, given)
 
     async def imported(self, caller, base, given, size=None):
         """The reply to an import. The session of the user keeps the object before anybody else is served. `size` is

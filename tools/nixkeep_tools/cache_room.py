@@ -1,0 +1,124 @@
+"""Room in memory for what clients take or send, which is shared among users."""
+import asyncio
+import collections
+import contextlib
+
+# The seconds after which a client can lose its room to another user's, and those between two looks at that.
+GRACE, LOOK = 5, 1
+
+
+class Held:
+    """What one client has: `began` and `since` are when it got that, and when it last moved something. It `is_safe`
+    while others than the client are at work for it."""
+
+    def __init__(self, request, size):
+        self.user, self.transport, self.size = getattr(request.get("caller"), "user", None), request.transport, size
+        self.began = self.since = asyncio.get_running_loop().time()
+        self.granted, self.is_lost, self.is_safe = asyncio.Event(), False, False
+
+    def moved(self):
+        """Says that the client has moved something, or that it is its turn to do so."""
+        self.since, self.is_safe = asyncio.get_running_loop().time(), False
+
+    def abort(self):
+        self.is_lost = True
+        if self.transport:
+            self.transport.abort()
+
+
+class Room:
+    """At most `most` bytes. Where there are none left, the user who has least gets the next that are given back. And a
+    client loses its connection: one that has moved nothing for GRACE seconds, or one of the user who has most, if that
+    is more than what the waiting one would have. So neither clients that don't move, nor the many slow ones of a user,
+    hold up other users."""
+
+    def __init__(self, most):
+        self.most, self.bytes, self.waiting, self.held = most, 0, [], []
+
+    async def take(self, request, size):
+        """Waits until there is room for bytes, which are in memory until `give`. Returns the Held."""
+        wanted = Held(request, size)
+        self.waiting.append(wanted)
+        self.grant()
+        try:
+            while wanted in self.waiting:
+                self.evict(wanted)
+                with contextlib.suppress(TimeoutError):
+                    async with asyncio.timeout(LOOK):
+                        await wanted.granted.wait()
+        except BaseException:
+            self.give(wanted)
+            raise
+        return wanted
+
+    @contextlib.asynccontextmanager
+    async def taken(self, request, size, is_safe=False):
+        """Room for some bytes; for none there is none to wait for."""
+        held = await self.take(request, size) if size else None
+        if held:
+            held.is_safe = is_safe
+        try:
+            yield held
+        finally:
+            if held:
+                self.give(held)
+
+    def give(self, held):
+        """Gives back what is held or waited for. It may have been given back before."""
+        if held in self.held:
+            self.held.remove(held)
+            self.bytes -= held.size
+        elif held in self.waiting:
+            self.waiting.remove(held)
+        self.grant()
+
+    def resize(self, held, size):
+        """Says how many bytes it is that are held. They may be more than there is room for."""
+        if held in self.held:
+            self.bytes += size - held.size
+            held.size = size
+            self.grant()
+
+    def used(self, held):
+        """The bytes of each user among these."""
+        found = collections.Counter()
+        for it in held:
+            found[it.user] += it.size
+        return found
+
+    def grant(self):
+        """Gives room to those that wait, as far as there is some."""
+        used = self.used(self.held)
+        while self.waiting:
+            first = min(self.waiting, key=lambda it: used[it.user])
+            if self.bytes and self.bytes + first.size > self.most:
+                return
+            self.waiting.remove(first)
+            self.held.append(first)
+            self.bytes += first.size
+            used[first.user] += first.size
+            first.began = first.since = asyncio.get_running_loop().time()
+            first.granted.set()
+
+    def evict(self, wanted):
+        """Ends connections until there will be room for what is wanted, where that is just."""
+        while True:
+            there = [it for it in self.held if not it.is_lost]
+            if not there or sum(it.size for it in there) + wanted.size <= self.most:
+                return
+            lost = self.victim(wanted, there)
+            if not lost:
+                return
+            lost.abort()
+
+    def victim(self, wanted, there):
+        """The one of these that loses its room to another, or None."""
+        late, used = asyncio.get_running_loop().time() - GRACE, self.used(there)
+        found = [it for it in there if it.began < late and not it.is_safe]
+        stuck = [it for it in found if it.since < late]
+        if stuck:
+            return min(stuck, key=lambda it: it.since)
+        user = max(used, key=used.get)
+        slow = [it for it in found if it.user == user]
+        is_just = used[user] > used[wanted.user] + wanted.size
+        return min(slow, key=lambda it: it.began) if slow and is_just else None
