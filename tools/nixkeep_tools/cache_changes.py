@@ -6,8 +6,10 @@ import re
 
 from .cache_http import READ
 
-# The paths that a line has at most, and the bytes of a body or a reply that are searched for them.
-MOST, SEARCHED = 100, 1 << 20
+# The paths that a line has at most, those where nothing was done, and the bytes of a body or a reply that are searched
+# for them. So nobody makes the journal forget what was done by requests that do nothing.
+MOST, FEW, SEARCHED = 100, 3, 1 << 20
+BASE = re.compile(r"[0-9a-z]{32}-[0-9A-Za-z+._?=-]{1,211}")
 NAMED = re.compile(rb"^(?:path: |root: \S+ )(\S+)$", re.M)
 PATH = re.compile(rb"^(/\S+)$", re.M)
 
@@ -24,7 +26,8 @@ def line(seen):
     """The line of a request, as a dictionary."""
     request, caller = seen.request, seen.request.get("caller")
     named = [it.decode("utf-8", "replace") for key in ("named", "changed") for it in request.get(key, ())]
-    paths = [*dict.fromkeys(it.rpartition("/")[2] for it in named)]
+    named = [it.rpartition("/")[2] for it in named]
+    paths, most = [*dict.fromkeys(filter(BASE.fullmatch, named))], MOST if seen.status < 400 else FEW
     found = {
         "time": datetime.datetime.now(datetime.timezone.utc).isoformat(timespec="milliseconds"),
         "user": caller and caller.user,
@@ -32,12 +35,12 @@ def line(seen):
         "method": request.method[:16],
         "route": seen.route,
         "target": request.raw_path[:1000],
-        "paths": [it[:300] for it in paths[:MOST]],
+        "paths": paths[:most],
         "status": seen.status,
         "bytes": seen.received,
         "seconds": round(seen.seconds, 3),
     }
-    return found | ({"more": len(paths) - MOST} if len(paths) > MOST else {})
+    return found | ({"more": len(paths) - most} if len(paths) > most else {})
 
 
 def observe(seen):
