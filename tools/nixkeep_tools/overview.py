@@ -8,6 +8,8 @@ from .store_file import Usage
 # The lines that a table has at most; a note says how many more there are.
 MOST = 200
 DEAD = 50
+# The steps of the longest chain that is drawn: a drawing of thousands takes seconds and much memory.
+DRAWN = 100
 
 # Some roots together: what they are, how many, and their Usage.
 Line = collections.namedtuple("Line", "owner kind count usage")

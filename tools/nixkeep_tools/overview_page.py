@@ -25,6 +25,7 @@ TEMPLATE = """{% macro path(base) %}
 <ol>{% for step in why.steps %}<li class="path">{{ words[step.by] }} {{ path(step.base) }}</li>{% endfor %}</ol>
 {% if drawing %}<figure class="drawing" role="img"
   aria-label="The chain above as a drawing, from the root to the path">{{ drawing }}</figure>
+{% elif why.steps|length > drawn %}<p class="quiet">There is no drawing of more than {{ drawn }} steps.</p>
 {% else %}<p class="quiet">There is no drawing: the Debian package graphviz isn't installed, or it failed.</p>
 {% endif %}
 {% else %}<p>No root reaches it. The next collection deletes it.</p>{% endif %}
@@ -106,7 +107,7 @@ def page(it, name=None, link=None, why=None):
     one by itself; `why` a path to explain."""
     sums = [("live", it.total(bool)), ("dead", it.total(lambda bits: not bits)), ("in all", it.total(lambda _: True))]
     found = it.why(why) if why else None
-    drawing = overview.drawing(found) if found and found.root else None
+    drawing = overview.drawing(found) if found and found.root and len(found.steps) <= overview.DRAWN else None
     roots = it.roots()
     share = lambda size: f"{100 * size / (sums[2][1][1] or 1):.1f}"
     title = f"Why {found.base[33:]} is kept" if found else "Who keeps what"
@@ -129,5 +130,6 @@ def page(it, name=None, link=None, why=None):
         profiles=[(*key, *line) for key, lines in it.profiles(roots) for line in lines],
         dead=it.dead(),
         most=overview.MOST,
+        drawn=overview.DRAWN,
         most_dead=overview.DEAD,
     )
