@@ -1,10 +1,14 @@
 """What `try` tests of a store's entry: TLS, health without a login, figures for who may have them, the record of
 changes."""
+import base64
 import os
+import re
+import socket
+import ssl
 import subprocess
 
 import parts
-from parts import check, same
+from parts import body, check, nar, paths, same
 
 
 def tls(site):
@@ -51,3 +55,52 @@ def watched(site):
     changed = site.servers["red"].records()[-1]
     same("a change has its user, by the certificate or the password", (changed["user"], changed["paths"]),
          ("ann", [path[11:]]))
+    lines = b"".join(b"path: %s\n" % (b"\xff" * 290) for _ in range(100)) + b"path: %s\n" % path.encode() * 2
+    same("a request that does nothing", ann("POST", "/text", lines + b"\n")[0], 400)
+    parts.until("its record", lambda: site.servers["red"].records()[-1]["status"] == 400, 30)
+    changed = site.servers["red"].records()[-1]
+    same("has a short record, with what is a path alone", changed["paths"], [path[11:]])
+
+
+def slow_imports(site):
+    """Imports whose bodies don't come hold up nobody else."""
+    trusted, ann = ssl.create_default_context(cafile=f"{site.etc}/tls/ca.pem"), site.user("ann")
+    login = base64.b64encode(b"bob:bob-secret").decode()
+    head = f"POST /import HTTP/1.1\r\nhost: red.localhost\r\nauthorization: Basic {login}\r\n"
+    held = []
+    for _ in range(20):
+        plain = socket.create_connection(("127.0.0.1", site.port))
+        held.append(trusted.wrap_socket(plain, server_hostname="red.localhost"))
+        held[-1].sendall(f"{head}content-length: 20971520\r\n\r\np".encode())
+    path = ann.add("meanwhile", bytes(100_000))
+    found = [ann("GET", it)[0] for it in ("/paths", f"/nar/{path[11:]}", "/roots")]
+    same("while the imports of another user don't come, all is answered", found, [200] * 3)
+    waiting = 0
+    for it in held:
+        it.setblocking(False)
+        try:
+            it.recv(1)
+        except ssl.SSLWantReadError:
+            waiting += 1
+        it.close()
+    check("and most of these still wait", waiting >= 7, waiting)
+
+
+def forms_of_large(site):
+    """A large archive: nginx keeps its record for old and new Nix apart, and odd ranges are answered whole."""
+    ann, build = site.user("ann"), site.user("build")
+    archive = nar.regular_file(bytes(17_000_000))
+    path, digest = f"/nix/store/{'7' * 32}-large", paths.nar_hash(paths.sha256([archive]))
+    given = body(("path", path), ("nar-hash", digest), payload=archive)
+    same("a trusted user imports a large archive", build("POST", "/import", given)[0], 200)
+    record = lambda agent: ann("GET", f"/{path[11:43]}.narinfo", None, "-H", f"user-agent: {agent}")[1].decode()
+    form = lambda agent: re.search("^Compression: (.*)$", record(agent), re.M)[1]
+    agents = "Nix/2.18.1", "Nix/2.3.16", "Nix/2.30.0", "Nix/1.11", "curl/8"
+    same("old Nix gets it as it is, and others by zstd", [form(it) for it in agents * 2],
+         ["zstd", "none", "zstd", "none", "zstd"] * 2)
+    target = "/" + re.search("^URL: (.*)$", record("Nix/2.3.16"), re.M)[1]
+    size = lambda field: (lambda it: (it[0], len(it[1])))(ann("GET", target, None, "-H", f"range: bytes={field}"))
+    same("a range", [size(it) for it in ("1-2", "-3", "17000000-")], [(206, 2), (206, 3), (206, len(archive) - 17_000_000)])
+    odd = "9" * 5000 + "-", "0-" + "9" * 5000, "-" + "9" * 5000, "5-3", "0-1,3-4"
+    same("a range that is none has the whole", [size(it) for it in odd], [(200, len(archive))] * 5)
+    same("and none is a fault", [it for it in site.servers["red"].lines() if "Traceback" in it], [])
