@@ -100,7 +100,8 @@ def forms_of_large(site):
          ["zstd", "none", "zstd", "none", "zstd"] * 2)
     target = "/" + re.search("^URL: (.*)$", record("Nix/2.3.16"), re.M)[1]
     size = lambda field: (lambda it: (it[0], len(it[1])))(ann("GET", target, None, "-H", f"range: bytes={field}"))
-    same("a range", [size(it) for it in ("1-2", "-3", "17000000-")], [(206, 2), (206, 3), (206, len(archive) - 17_000_000)])
+    same("a range", [size(it) for it in ("1-2", "-3", "17000000-")],
+         [(206, 2), (206, 3), (206, len(archive) - 17_000_000)])
     odd = "9" * 5000 + "-", "0-" + "9" * 5000, "-" + "9" * 5000, "5-3", "0-1,3-4"
     same("a range that is none has the whole", [size(it) for it in odd], [(200, len(archive))] * 5)
     same("and none is a fault", [it for it in site.servers["red"].lines() if "Traceback" in it], [])

@@ -318,55 +318,60 @@ def unread(words):
     check("never were there more bytes than there is room", max(held) <= most, held)
 
 
+@contextlib.asynccontextmanager
+async def serving(answer, place):
+    """Serves requests by a function at a socket."""
+    from aiohttp import web
+
+    app = web.Application()
+    app.router.add_get("/{target:.*}", answer)
+    runner = web.AppRunner(app)
+    await runner.setup()
+    await web.UnixSite(runner, place, shutdown_timeout=1).start()
+    try:
+        yield
+    finally:
+        await runner.cleanup()
+
+
 def crowded(words):
     """A user with many slow clients, which take a little now and then, doesn't hold up another one."""
     import asyncio
 
-    from aiohttp import web
     from nixkeep_tools import cache_http, cache_server
 
-    size, whole = 4 << 20, []
+    size, whole, place = 4 << 20, [], f"{words.folder}/crowded"
 
-    async def run():
-        sending = cache_http.Sending(16 * size, 60)
+    async def answer(request):
+        request["caller"] = cache_server.Caller(request.headers["store-user"], None)
+        async with sending.reserved(request, request.path == "/much"):
+            await sending.room(request, reply := cache_http.reply(200, bytes(size)))
+            return await sending.send(request, reply)
 
-        async def answer(request):
-            request["caller"] = cache_server.Caller(request.headers["store-user"], None)
-            async with sending.reserved(request, request.path == "/much"):
-                await sending.room(request, reply := cache_http.reply(200, bytes(size)))
-                return await sending.send(request, reply)
-
-        async def asks(user, target, piece=-1):
-            reader, writer = await asyncio.open_unix_connection(place, limit=1000)
-            writer.write(f"GET {target} HTTP/1.1\r\nhost: a\r\nstore-user: {user}\r\nconnection: close\r\n\r\n".encode())
-            count = 0
-            try:
-                while part := await reader.read(piece):
-                    count += len(part)
-                    await asyncio.sleep(0.5 if piece > 0 else 0)
-            except ConnectionError:
-                return
-            finally:
-                writer.transport.abort()
+    async def asks(user, target, piece=-1):
+        reader, writer = await asyncio.open_unix_connection(place, limit=1000)
+        writer.write(b"GET %s HTTP/1.1\r\nhost: a\r\nstore-user: %s\r\nconnection: close\r\n\r\n" % (target, user))
+        count = 0
+        with contextlib.suppress(ConnectionError), contextlib.closing(writer.transport):
+            while part := await reader.read(piece):
+                count += len(part)
+                await asyncio.sleep(0.5 if piece > 0 else 0)
             whole.extend([user] if count > size else [])
 
-        app = web.Application()
-        app.router.add_get("/{target:.*}", answer)
-        runner = web.AppRunner(app)
-        await runner.setup()
-        await web.UnixSite(runner, place := f"{words.folder}/crowded", shutdown_timeout=1).start()
-        slow = [asyncio.ensure_future(asks("bob", "/", 40_000)) for _ in range(24)]
-        await asyncio.sleep(1)
-        await asyncio.gather(asks("ann", "/"), asks("carol", "/much"))
-        found = sorted(whole)
-        for it in slow:
-            it.cancel()
-        await asyncio.gather(*slow, return_exceptions=True)
-        await runner.cleanup()
-        return found
+    async def run():
+        async with serving(answer, place):
+            slow = [asyncio.ensure_future(asks(b"bob", b"/", 40_000)) for _ in range(24)]
+            await asyncio.sleep(1)
+            await asyncio.gather(asks(b"ann", b"/"), asks(b"carol", b"/much"))
+            found = sorted(whole)
+            for it in slow:
+                it.cancel()
+            await asyncio.gather(*slow, return_exceptions=True)
+            return found
 
-    same("of a user's 24 slow clients some lose their connections, and others get their replies",
-         asyncio.run(run()), ["ann", "carol"])
+    sending = cache_http.Sending(16 * size, 60)
+    same("of a user's 24 slow clients some lose their connections, and others get their replies", asyncio.run(run()),
+         [b"ann", b"carol"])
 
 
 def left(words):
@@ -376,7 +381,7 @@ def left(words):
     from aiohttp import web
     from nixkeep_tools import cache_blobs, cache_http
 
-    ended = []
+    ended, place = [], f"{words.folder}/left"
 
     def pieces():
         try:
@@ -388,19 +393,14 @@ def left(words):
 
     async def run():
         blobs = cache_blobs.Blobs(None, 1, cache_http.Sending(1 << 30, 60))
-        app = web.Application()
-        app.router.add_get("/", lambda request: blobs.streamed(request, pieces(), web.StreamResponse()))
-        runner = web.AppRunner(app)
-        await runner.setup()
-        await web.UnixSite(runner, place := f"{words.folder}/left").start()
-        _, writer = await asyncio.open_unix_connection(place)
-        writer.write(b"GET / HTTP/1.1\r\nhost: a\r\n\r\n")
-        await asyncio.sleep(0.5)
-        is_reading = not ended
-        writer.close()
-        for _ in range(600):
-            await asyncio.sleep(0 if ended else 0.1)
-        await runner.cleanup()
+        async with serving(lambda request: blobs.streamed(request, pieces(), web.StreamResponse()), place):
+            _, writer = await asyncio.open_unix_connection(place)
+            writer.write(b"GET / HTTP/1.1\r\nhost: a\r\n\r\n")
+            await asyncio.sleep(0.5)
+            is_reading = not ended
+            writer.close()
+            for _ in range(600):
+                await asyncio.sleep(0 if ended else 0.1)
         return is_reading, ended, blobs.sending.bytes
 
     same("a client asks for the end of a large archive, and leaves: it isn't read further", asyncio.run(run()),
@@ -487,7 +487,8 @@ def patient():
 
 
 def all_of(words):
-    for it in (child, refused, lost, limited, shared, sessions, kept_in_turns, unread, crowded, left, stopped, half_sent):
+    for it in (child, refused, lost, limited, shared, sessions, kept_in_turns, unread, crowded, left, stopped,
+               half_sent):
         it(words)
     turns()
     patient()
