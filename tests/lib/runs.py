@@ -9,8 +9,12 @@ import time
 from tests.lib import processes, program, report, skips
 
 TESTS = f"{program.HERE}/tests"
-# The minutes after which a script hangs, if no others are given.
-LIMIT = 60
+# The minutes after which a script hangs, where all run together: many times what it takes on a machine that is busy.
+# The second number is for those that take minutes; one that is run alone may try each place there is, for hours.
+LIMIT, LONG, ALONE = 30, 60, 24 * 60
+LONG_ONES = ("examples/team/try", "gate/cases", "gate/started", "gate/sabotage", "package/clean_machine",
+             "compare/model", "compare/nix_store", "compare/sqlite", "faults/stop_writes", "tools/test_cache",
+             "tools/test_large", "tools/test_remote", "tools/test_units")
 # How many of the last lines of a run that failed are shown again.
 LAST = 30
 
@@ -35,13 +39,23 @@ def options_of(file, given):
     return [word for name in taken for word in (f"--{name}", str(given[name]))]
 
 
+def name_of(words):
+    """A script's path without that of tests/, or the whole of another command."""
+    file = words[0].removeprefix(f"{program.HERE}/").removeprefix("tests/")
+    return file if "/" in words[0] else " ".join(words)
+
+
+def limit_of(words):
+    """The minutes after which a script hangs, where all run together."""
+    return LONG if name_of(words) in LONG_ONES else LIMIT
+
+
 class Ran:
     """A run of a script: its status, how much passed, failed and was skipped, what it printed, its minutes and those of
     processors."""
 
     def __init__(self, words, status, counts, output, seconds, used):
-        file = words[0].removeprefix(f"{program.HERE}/").removeprefix("tests/")
-        self.name, self.status, self.output = file if "/" in words[0] else " ".join(words), status, output
+        self.name, self.status, self.output = name_of(words), status, output
         self.passed, self.failed, self.skipped = counts
         self.minutes, self.work = seconds / 60, (used.ru_utime + used.ru_stime) / 60
 
@@ -53,9 +67,10 @@ class Ran:
         return [*dict.fromkeys(re.findall(r"^\s*skipped: (.*)$", self.output, re.M | re.I))]
 
 
-def run(words, is_shown=True, each_second=lambda pid: None, limit=LIMIT):
+def run(words, is_shown=True, each_second=lambda pid: None, limit=None):
     """Runs a script, in the folder above tests/. What it prints is shown line by line, or kept. One that goes on after
-    `limit` minutes is ended, and has failed."""
+    `limit` minutes, or its own limit, is ended, and has failed."""
+    limit = limit or limit_of(words)
     since, kept, counts, ended = time.monotonic(), [], None, threading.Event()
     how = {"cwd": program.HERE, "stdin": subprocess.DEVNULL, "stdout": subprocess.PIPE}
     ran = subprocess.Popen(words, stderr=None if is_shown else subprocess.STDOUT, text=True, errors="replace", **how)
