@@ -60,7 +60,10 @@ def replaced(path, old, new, count=None):
     data, seen = Path(path).read_bytes(), Path(path).read_bytes().count(old)
     if not seen or count not in (None, seen):
         report.fail(f"{path} has {old.decode(errors='replace')!r} {seen} times")
-    Path(path).write_bytes(data.replace(old, new))
+    # (a new file, since this one may be linked elsewhere)
+    Path(f"{path}.new").write_bytes(data.replace(old, new))
+    shutil.copymode(path, f"{path}.new")
+    os.replace(f"{path}.new", path)
 
 
 def change_files(fault, top):
