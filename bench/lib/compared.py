@@ -1,0 +1,47 @@
+"""New figures next to the last ones that are kept: which of them have become worse, whatever the machine."""
+import statistics
+
+# How much worse a figure may be, as a multiple, before that is said.
+MOST = 1.2
+# Of these more is better.
+RATES = ("a second", "GB/s")
+
+
+def by_place(figures):
+    """The figures that can be compared, by their section and what they are of."""
+    return {(it["section"], it["what"], it["unit"]): it for it in figures if "value" in it and it["unit"] != "power"}
+
+
+def worse(new, old):
+    """How much worse a figure is, as a multiple: its ratio to a peer's where it has one, else its value."""
+    key = "ratio" if new.get("ratio") and old.get("ratio") else "value"
+    if not new[key] or not old[key]:
+        return 1
+    times = new[key] / old[key]
+    return 1 / times if new["unit"] in RATES or (new["limit"] or "").startswith("at least") else times
+
+
+def is_of_machine(figure):
+    """Whether a figure depends on how fast the machine is: a time or a rate without a peer's next to it."""
+    return figure["unit"] in ("s", *RATES) and not figure.get("ratio")
+
+
+def pairs(made, kept):
+    """Each new figure with the last one of its place: the benchmark, the new one, and how much worse it is."""
+    for name, of in made.items():
+        last = by_place(kept.get(name, {}).get("figures", []))
+        for place, it in by_place(of["figures"]).items():
+            if place in last:
+                yield name, it, worse(it, last[place])
+
+
+def warnings(made, kept):
+    """A line for each figure that is more than 20 % worse than the last one. Times without a peer's are compared with
+    the median of all, which says how much faster or slower this machine is."""
+    found = [*pairs(made, kept)]
+    pace = statistics.median([times for _, it, times in found if is_of_machine(it)] or [1])
+    for name, it, times in found:
+        times /= pace if is_of_machine(it) else 1
+        if times > MOST:
+            date = kept[name]["facts"]["Date"]
+            yield f"bench/{name}, {it['section']}: {it['what']}: {times:.2f} times worse than on {date}"
