@@ -11,7 +11,7 @@ from pathlib import Path
 
 CASES = os.path.join(os.path.dirname(os.path.dirname(os.path.realpath(__file__))), "cases")
 # What a case may take.
-SECONDS = 600
+SECONDS = 1200
 
 # Runs the steps in one shell, so that a later one sees the variables, the folder and the jobs of those before it.
 SHELL = """
