@@ -10,6 +10,8 @@ from tests.lib import functions, program, report
 SELECTION = "tests/gate/bodies.txt"
 # Edits that change nothing: they have to survive. Those that a check refuses nevertheless, each with the reason.
 EQUAL, EXCUSED = "further/equal", "tests/gate/equal.txt"
+# The days within which the gate tries each edit that it doesn't always try.
+DAYS = 8
 # An error for a name that an edit took away, or for what fell with it: it says nothing of what the body does.
 OF_NAMES = "has no field", "has no goal", "that depend", "that can be named from here"
 # A goal in which nothing is left to prove, which a proof of another shape doesn't fit.
@@ -44,6 +46,21 @@ def selected():
     """The edits that the gate tries: pairs of a crate and a name."""
     lines = Path(f"{program.HERE}/{SELECTION}").read_text().splitlines()
     return [tuple(it) for line in lines if (it := line.partition("#")[0].split())]
+
+
+def of_day(day):
+    """The other edits of bodies that the gate tries on a day: pairs of a crate and a name. Each has one of eight days,
+    and those of one function come on days one after another, since a check tries one edit of each function."""
+    always = {*selected()}
+    found = [(crate, it.functions, it.name) for crate in having() for it in further(crate)
+             if it.is_of_bodies() and (crate, it.name) not in always]
+    return {(crate, name) for at, (crate, _, name) in enumerate(sorted(found)) if at % DAYS == day % DAYS}
+
+
+def having_equal(day=None):
+    """The crates that have edits which change nothing; where a day is given those that the gate tries on it."""
+    found = [it for it in having() if glob.glob(f"{program.HERE}/crates/{it}/{EQUAL}/*.edit")]
+    return [it for at, it in enumerate(found) if day is None or at % DAYS == day % DAYS]
 
 
 def having(names=()):
