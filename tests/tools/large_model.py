@@ -188,6 +188,18 @@ def scenes(lock):
     yield "two sweeps and an upload", scene(True, ["a"], ("upload", "b"), ("collect",), ("swept",), ("swept",))
 
 
+def asked_again():
+    """A sweep on which a pointer comes once pointers were listed, by another way than an upload, has to see it."""
+    world = World(True, [], Lock)
+    run = Run(world, [world.swept()])
+    while run.ready():
+        run.step(0)
+        if len(world.seen) == 3:
+            # (blobs, objects and their pointers have been listed)
+            world.pointers.add("a")
+    parts.same("before a deletion a sweep asks again", (NAME in world.blobs, len(world.seen) > 3), (True, True))
+
+
 def all_of():
     usual, blob_reading.measured = blob_reading.measured, measured
     say, cache_sweep.say, cache_blobs.say = cache_sweep.say, lambda _: None, lambda _: None
@@ -195,6 +207,7 @@ def all_of():
         for name, make in scenes(Lock):
             found, count = search(make)
             parts.same(f"{name}, next to a sweep: no order of {count} states loses a blob", found, None)
+        asked_again()
         lost = [name for name, make in scenes(NoLock) if search(make)[0]]
         parts.check("without the lock an order is found that loses one", lost, lost)
     finally:

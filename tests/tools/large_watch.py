@@ -85,7 +85,8 @@ def swept(team, rng):
 
 def answering(words, team):
     """Whether blobs answer: of a folder that is taken away, and of a bucket that refuses."""
-    same("blobs that answer", health(team), (200, WELL))
+    if not same("blobs that answer", health(team), (200, WELL)):
+        return
     os.rename(team.blobs, f"{team.blobs}-away")
     parts.until("a folder that is gone doesn't answer", lambda: health(team) == (503, NO_BLOBS))
     os.rename(f"{team.blobs}-away", team.blobs)
