@@ -184,7 +184,7 @@ def banned(file, count):
 
 
 def restarted(site):
-    """The store is restarted while clients read and add: no request fails, for want of a listener or otherwise."""
+    """The store is restarted while clients read and add: no request fails, also where nobody listens for a moment."""
     ann, server, answers, stop = site.user("ann"), site.servers["red"], [], threading.Event()
 
     def ask(at):
