@@ -6,6 +6,7 @@ import re
 Chosen = collections.namedtuple("Chosen", "label bench section what peer", defaults=[None])
 KIB = "`list` on {} objects of 1,024 bytes with 3 references each"
 HUNDRED = "`list` on 100 objects of 1,048,576 bytes.*"
+FOLDER, BUCKET = ".* nixkeep-cache, in a folder", ".* nixkeep-cache, in a bucket of Swift"
 MANY = r"GET /info/{{path}} over 10,000 objects through nginx, {} clients?"
 FIGURES = [
     Chosen("a command without a store (`who`)", "commands", "who, from the start.*", "time"),
@@ -41,6 +42,16 @@ FIGURES = [
            "records, all in nginx's cache: each second"),
     Chosen("time without answers at a restart with 10,000 objects", "restarts", "a server of .*",
            "time without answers, with RestartSec=1s"),
+    Chosen("a closure of over 2 GiB to `nixkeep-cache --blobs FOLDER`", "large", FOLDER,
+           "`nix copy` up, uncompressed"),
+    Chosen("the same, compressed by Nix", "large", FOLDER, "`nix copy` up, by zstd"),
+    Chosen("the same from there", "large", FOLDER, "a substituter"),
+    Chosen("memory of `nixkeep-cache` for the first of these", "large", FOLDER,
+           "memory of nixkeep-cache for the uncompressed upload"),
+    Chosen("memory for the last", "large", FOLDER, "memory of nixkeep-cache for the download"),
+    Chosen("records of these, without nginx's cache", "large", FOLDER, "records"),
+    Chosen("the closure to a bucket of Swift", "large", BUCKET, "`nix copy` up, uncompressed"),
+    Chosen("the closure from there", "large", BUCKET, "a substituter"),
 ]
 # The rows and the columns of the table of growth: actions of bench/nix, and who does them over how many objects.
 ACTIONS = ["add a text", "query", "list", "why", "live", "delete", "gc", "open after a crash"]
