@@ -76,16 +76,18 @@ def lines_of(name, found):
 
 
 def facts(found):
-    """What the figures depend on: all that the newest run says, and which other benchmarks are of another one."""
-    now = max((it["facts"] for it in found.values()), key=lambda it: it["Date"], default={})
-    tools = ", ".join(version(word, text) for word, text in now.items() if word not in ("Machine", "Date", "Commit"))
+    """What the figures depend on: the newest run, the newest version of each peer, and what another run has measured."""
+    runs = sorted((it["facts"] for it in found.values()), key=lambda it: it["Date"])
+    now = runs[-1] if runs else {}
+    tools = {word: text for run in runs for word, text in run.items() if text != "not installed"}
+    tools = ", ".join(version(word, tools.get(word, now[word])) for word in now if word not in ("Machine", "Date", "Commit"))
     yield from (f"- {word}: {now[word]}" for word in ("Machine", "Date", "Commit") if word in now)
     yield f"- Compared with: {tools}"
-    runs = collections.defaultdict(list)
+    earlier = collections.defaultdict(list)
     for name, it in found.items():
         if (run := (it["facts"]["Date"], it["facts"]["Commit"])) != (now["Date"], now["Commit"]):
-            runs[run].append(name)
-    for (date, commit), names in runs.items():
+            earlier[run].append(name)
+    for (date, commit), names in earlier.items():
         yield f"- Measured earlier, at commit {commit} on {date}: {', '.join(sorted(names))}"
 
 
