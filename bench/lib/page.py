@@ -76,11 +76,12 @@ def lines_of(name, found):
 
 
 def facts(found):
-    """What the figures depend on: the newest run, the newest version of each peer, and what another run has measured."""
+    """What the figures depend on: the newest run, the newest version of each peer, and what other runs measured."""
     runs = sorted((it["facts"] for it in found.values()), key=lambda it: it["Date"])
     now = runs[-1] if runs else {}
     tools = {word: text for run in runs for word, text in run.items() if text != "not installed"}
-    tools = ", ".join(version(word, tools.get(word, now[word])) for word in now if word not in ("Machine", "Date", "Commit"))
+    peers = [word for word in now if word not in ("Machine", "Date", "Commit")]
+    tools = ", ".join(version(word, tools.get(word, now[word])) for word in peers)
     yield from (f"- {word}: {now[word]}" for word in ("Machine", "Date", "Commit") if word in now)
     yield f"- Compared with: {tools}"
     earlier = collections.defaultdict(list)
