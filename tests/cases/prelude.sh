@@ -31,9 +31,9 @@ runtime() {
 }
 
 # `rows FILE STATEMENT`: what SQLite finds in a file, a line for each row. `put FILE STATEMENTS`: it changes the file.
-rows() { python3 -c 'import sqlite3, sys
+rows() { python3 -Sc 'import sqlite3, sys
 for row in sqlite3.connect(sys.argv[1]).execute(sys.argv[2]): print(*row)' "$@"; }
-put() { python3 -c 'import sqlite3, sys; sqlite3.connect(sys.argv[1]).executescript(sys.argv[2])' "$@"; }
+put() { python3 -Sc 'import sqlite3, sys; sqlite3.connect(sys.argv[1]).executescript(sys.argv[2])' "$@"; }
 
 # `$top`: the repository.
 top=${PRELUDE%/tests/cases/prelude.sh}

@@ -17,7 +17,7 @@ SECONDS = 1200
 SHELL = """
 . "$PRELUDE"
 for step in "$STEPS"/*.step; do
-  eval "$(cat "$step")" </dev/null >"$step.output" 2>"$step.errors"
+  eval "$(<"$step")" </dev/null >"$step.output" 2>"$step.errors"
   echo "$?" >"$step.status"
 done
 """

@@ -8,6 +8,9 @@ LIST = os.path.join(os.path.dirname(os.path.dirname(os.path.realpath(__file__)))
 # Other commands of these packages.
 ALSO = {"nix": "nix-bin", "nix-instantiate": "nix-bin", "nix-hash": "nix-bin", "ab": "apache2-utils"}
 
+# Whether Debian's Python has a module. (To load one may take half a second.)
+HAS_MODULE = ["/usr/bin/python3", "-c", "import importlib.util, sys; sys.exit(not importlib.util.find_spec(sys.argv[1]))"]
+
 
 @functools.cache
 def listed():
@@ -27,7 +30,7 @@ def package_of(tool):
 def found(tool):
     """Where a command is, if it is there; or whether a file, or a module of Debian's Python (`python3-NAME`), is."""
     if tool.startswith("python3-"):
-        return subprocess.run(["/usr/bin/python3", "-c", f"import {tool[8:]}"], capture_output=True).returncode == 0
+        return subprocess.run([*HAS_MODULE, tool[8:]], capture_output=True).returncode == 0
     if tool.startswith("/"):
         return os.path.exists(tool)
     return shutil.which(tool) or shutil.which(tool, path="/usr/sbin:/sbin")

@@ -54,31 +54,40 @@ def by_name():
     }
 
 
-def needs_libraries(file):
-    """Whether a script needs the program of crates/bench, which the toolchain has to build."""
-    return file != f"{TESTS}/{BENCH}" and bool(options_of(file, {"libraries": ""}))
+class Part:
+    """A script of tests/ by name, what is given to it where it takes such an option, and further words."""
+
+    def __init__(self, name, given, more=()):
+        self.name, self.file, self.given, self.more = name, os.path.normpath(f"{TESTS}/{name}"), given, more
+
+    def run(self):
+        """Runs it; None where it needs the program of crates/bench, which isn't given: the toolchain has to build
+        that."""
+        if self.name != BENCH and "libraries" not in self.given and options_of(self.file, {"libraries": ""}):
+            return None
+        return run([self.file, *options_of(self.file, self.given), *self.more], False)
 
 
 def of_program(given, is_whole=False):
-    """The scripts that try the program, each with its words: those that take longest first. Where it isn't whole, less
-    of some is tried, and no machine is booted for the units."""
+    """The parts that try the program, those that take longest first. Where it isn't whole, less of some is tried, and no
+    machine is booted for the units."""
     bounded, more = (BOUNDED, MORE) if is_whole else ({**BOUNDED, **SHORT}, {})
     found = ["tools/test_remote", TEAM, "gate/cases", "tools/test_cache"]
     found += [f"faults/{it}" for it in scripts("faults")]
     found += [f"compare/{it}" for it in scripts("compare")]
     found += [f"tools/{it}" for it in scripts("tools", "test_") if f"tools/{it}" not in found]
-    return [[file, *options_of(file, given), *bounded.get(it, []), *more.get(it, [])] for it in found
-            for file in [os.path.normpath(f"{TESTS}/{it}")]]
+    return [Part(it, given, [*bounded.get(it, []), *more.get(it, [])]) for it in found]
 
 
-def side_by_side(words, begun=()):
-    """Runs scripts side by side, and prints what each printed when it has ended; returns the runs. `begun` are more
+def side_by_side(found, begun=()):
+    """Runs parts side by side, and prints what each printed when it has ended; returns the runs. `begun` are more
     calls, which begin first and are printed last."""
     processors = len(os.sched_getaffinity(0))
     # (most of them wait now and then, but not the wrong bodies)
     with ThreadPoolExecutor(1 + processors if begun else 2 * processors) as pool:
         first = [pool.submit(it) for it in begun]
-        others = [pool.submit(run, it, False) for it in words]
+        others = [pool.submit(it.run) for it in found]
         for it in [*others, *first]:
-            runs.told(it.result())
+            if ran := it.result():
+                runs.told(ran)
         return [it.result() for it in [*first, *others]]

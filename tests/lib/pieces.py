@@ -3,9 +3,11 @@ import fcntl
 import os
 import struct
 import subprocess
-import tempfile
 import termios
 import time
+
+# Between two looks whether a piece was read: who looks again at once takes the time of who reads.
+SECONDS = 0.0003
 
 
 def unread(pipe):
@@ -16,15 +18,19 @@ def unread(pipe):
 def run(command, pieces):
     """What the command prints, and its status, for an input that comes in these pieces."""
     source, sink = os.pipe()
-    with tempfile.TemporaryFile() as output, subprocess.Popen(command, stdin=source, stdout=output) as running:
+    with open(os.memfd_create("output"), "w+b") as output, \
+            subprocess.Popen(command, stdin=source, stdout=output) as running:
         os.close(source)
         for piece in pieces:
+            # (a read gives no more than one packet, so that a single byte needs no look)
+            is_packet = len(piece) == 1
+            fcntl.fcntl(sink, fcntl.F_SETFL, os.O_DIRECT if is_packet else 0)
             try:
                 os.write(sink, piece)
             except BrokenPipeError:
                 break
-            while unread(sink) and running.poll() is None:
-                time.sleep(0)
+            while not is_packet and unread(sink) and running.poll() is None:
+                time.sleep(SECONDS)
         os.close(sink)
         status = running.wait()
         output.seek(0)

@@ -1,8 +1,10 @@
 """Running the scripts of tests/: which there are, what each prints, and how much passed and failed."""
+import functools
 import os
 import re
 import resource
 import subprocess
+import sys
 import threading
 import time
 
@@ -32,10 +34,22 @@ def scripts(folder, start=""):
     return [it for it in files if os.access(f"{TESTS}/{folder}/{it}", os.X_OK)]
 
 
+def compile_modules(top):
+    """Compiles the modules of a copy of the repository, so that not each process that imports one has to do it. A module
+    that was changed since isn't taken, as its sum is compared."""
+    words = [sys.executable, "-m", "compileall", "-q", "-j", "0", "--invalidation-mode", "checked-hash"]
+    subprocess.run([*words, *(f"{top}/{it}" for it in ("bench", "examples", "tests", "tools"))])
+
+
+@functools.cache
+def help_of(file):
+    """What a script prints as its help."""
+    return subprocess.run([file, "--help"], capture_output=True, text=True).stdout
+
+
 def options_of(file, given):
     """The options that a script takes, as its help says, of those that are given by name."""
-    ran = subprocess.run([file, "--help"], capture_output=True, text=True)
-    taken = [name for name, value in given.items() if value is not None and f"--{name}" in ran.stdout]
+    taken = [name for name, value in given.items() if value is not None and f"--{name}" in help_of(file)]
     return [word for name in taken for word in (f"--{name}", str(given[name]))]
 
 
