@@ -21,6 +21,10 @@ BOUNDED = {
 }
 # The script that tries a team's deployment.
 TEAM = "../examples/team/try"
+# Those that take longest, the longest first: so at the end, when few are left, none of them goes on alone.
+LONGEST = [TEAM, "tools/test_cache", "gate/cases", "tools/test_remote", "tools/test_large", "faults/refuse_memory",
+           "faults/hostile_clients", "tools/test_closure", "faults/fail_streams", "faults/stop_writes",
+           "compare/nix_store", "compare/sqlite", "tools/test_explain", "tools/test_backup", "tools/test_overview"]
 # What more is tried in the gate, where the proofs take longer anyway.
 MORE = {"compare/model": ["--count", "20000"]}
 # What is tried of a script that takes minutes, where five minutes are to be taken for all.
@@ -72,16 +76,16 @@ def of_program(given, is_whole=False):
     """The parts that try the program, those that take longest first. Where it isn't whole, less of some is tried, and no
     machine is booted for the units."""
     bounded, more = (BOUNDED, MORE) if is_whole else ({**BOUNDED, **SHORT}, {})
-    found = ["tools/test_remote", TEAM, "gate/cases", "tools/test_cache"]
-    found += [f"faults/{it}" for it in scripts("faults")]
-    found += [f"compare/{it}" for it in scripts("compare")]
-    found += [f"tools/{it}" for it in scripts("tools", "test_") if f"tools/{it}" not in found]
+    by_kind = {"faults": "", "compare": "", "tools": "test_"}
+    found = [f"{folder}/{it}" for folder, start in by_kind.items() for it in scripts(folder, start)]
+    found = [*LONGEST, *[it for it in found if it not in LONGEST]]
     return [Part(it, given, [*bounded.get(it, []), *more.get(it, [])]) for it in found]
 
 
 def side_by_side(found, begun=()):
     """Runs parts side by side, and prints what each printed when it has ended; returns the runs. `begun` are more
     calls, which begin first and are printed last."""
+    runs.compile_modules(os.path.dirname(TESTS))
     processors = len(os.sched_getaffinity(0))
     # (most of them wait now and then, but not the wrong bodies)
     with ThreadPoolExecutor(1 + processors if begun else 2 * processors) as pool:

@@ -23,6 +23,8 @@ from tests.lib.http import free_port
 OPTIONS = ("db", "config", "user", "group")
 # What nixkeep-remote computes by itself.
 LOCAL = ("text-path", "source-path", "ls")
+# Numbers of sock_diag(7): the kind of socket, messages that ask and answer, one of an error, the state of a listener.
+NETLINK_DIAG, DIAG, ERROR, LISTENS = 4, 20, 2, 10
 
 
 def leading(words):
@@ -72,8 +74,26 @@ def sockets(folder):
     return set()
 
 
+def told_of(port):
+    """What the kernel says of the sockets that listen on a port, by sock_diag(7): a message for each, and one that ends
+    them."""
+    asked = struct.pack("=IHH8xBB2xI", 72, DIAG, 0x301, socket.AF_INET, socket.IPPROTO_TCP, 1 << LISTENS)
+    with socket.socket(socket.AF_NETLINK, socket.SOCK_RAW, NETLINK_DIAG) as kernel:
+        kernel.send(asked + struct.pack("!H46x", port))
+        told, at = kernel.recv(1 << 16), 0
+    while at < len(told):
+        length, kind = struct.unpack_from("=IH", told, at)
+        yield kind, told[at : at + length]
+        at += length
+
+
 def listeners(port):
     """The links of /proc to the sockets that listen on a port of this machine."""
+    with contextlib.suppress(OSError):
+        found = [*told_of(port)]
+        if ERROR not in dict(found):
+            return {f"socket:[{struct.unpack_from('=I', it, 84)[0]}]" for kind, it in found if kind == DIAG}
+    # (a kernel without that has a table of all connections, also of those that ended within the last minute)
     with open("/proc/net/tcp") as file:
         return {f"socket:[{it.split()[9]}]" for it in file if f":{port:04X} 00000000:0000 0A " in it}
 
