@@ -1,4 +1,5 @@
 """Nix over a throw-away store in a folder, with the usual directory in its paths."""
+import functools
 import hashlib
 import json
 import os
@@ -16,6 +17,18 @@ def literal(text):
     """A string of the language of Nix."""
     escapes = {'"': '\\"', "\\": "\\\\", "\n": "\\n", "\t": "\\t", "\r": "\\r", "$": "\\$"}
     return '"' + "".join(escapes.get(it, it) for it in text) + '"'
+# Nix reads the memory map and the environment of each process that it sees, for roots: in a namespace of its own, of none.
+APART = ["unshare", "--map-root-user", "--pid", "--fork", "--mount-proc"]
+
+
+@functools.cache
+def apart():
+    """What runs a command without the other processes of the machine, where it allows namespaces."""
+    try:
+        is_allowed = subprocess.run([*APART, "true"], capture_output=True).returncode == 0
+    except OSError:
+        is_allowed = False
+    return APART if is_allowed else []
 
 
 class Nix:
@@ -62,6 +75,11 @@ class Nix:
             digest, size, deriver, count = (next(left) for _ in range(4))
             found[path] = digest, int(size), deriver, [next(left) for _ in range(int(count))]
         return found
+
+    @functools.cache
+    def archive(self, path):
+        """That of a path, which doesn't change any more."""
+        return self("nix-store", "--dump", self.place(path))
 
     def contents(self, path):
         return Path(self.place(path)).read_bytes()

@@ -37,6 +37,7 @@ SHORT = {
     "compare/model": ["--count", "500"],
     "faults/refuse_memory": ["--count", "8"],
     "faults/stop_writes": ["--count", "2"],
+    "faults/fail_streams": ["--count", "6"],
     "faults/cut_heads": ["--count", "500"],
 }
 # The checks of the repository, which need no program.
