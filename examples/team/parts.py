@@ -84,7 +84,7 @@ def skipped(what, *tools):
 
 def found(tool):
     if tool.startswith("python3-"):
-        # (it isn't loaded, which takes up to half a second)
+        # (to load one may take half a second)
         asked = "import importlib.util, sys; sys.exit(not importlib.util.find_spec(sys.argv[1]))"
         return subprocess.run(["/usr/bin/python3", "-c", asked, tool[8:]], capture_output=True).returncode == 0
     return shutil.which(tool) or shutil.which(tool, path="/usr/sbin")

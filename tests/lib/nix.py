@@ -17,7 +17,9 @@ def literal(text):
     """A string of the language of Nix."""
     escapes = {'"': '\\"', "\\": "\\\\", "\n": "\\n", "\t": "\\t", "\r": "\\r", "$": "\\$"}
     return '"' + "".join(escapes.get(it, it) for it in text) + '"'
-# Nix reads the memory map and the environment of each process that it sees, for roots: in a namespace of its own, of none.
+
+
+# Where Nix looks for roots it reads the memory map and the environment of each process: here it sees no others.
 APART = ["unshare", "--map-root-user", "--pid", "--fork", "--mount-proc"]
 
 

@@ -74,8 +74,8 @@ class Part:
 
 
 def of_program(given, is_whole=False):
-    """The parts that try the program, those that take longest first. Where it isn't whole, less of some is tried, and no
-    machine is booted for the units."""
+    """The parts that try the program, those that take longest first. Where it isn't whole, less of some is tried, and
+    no machine is booted for the units."""
     bounded, more = (BOUNDED, MORE) if is_whole else ({**BOUNDED, **SHORT}, {})
     by_kind = {"faults": "", "compare": "", "tools": "test_"}
     found = [f"{folder}/{it}" for folder, start in by_kind.items() for it in scripts(folder, start)]

@@ -35,9 +35,9 @@ def scripts(folder, start=""):
 
 
 def compile_modules(top):
-    """Compiles the modules of a copy of the repository, so that not each process that imports one has to do it. A module
-    that was changed since isn't taken, as its sum is compared."""
-    words = [sys.executable, "-m", "compileall", "-q", "-j", "0", "--invalidation-mode", "checked-hash"]
+    """Compiles the modules of a copy of the repository, so that not each process that imports one has to do it. What
+    was made of other bytes than a module has now isn't used."""
+    words = [sys.executable, "-m", "compileall", "-qq", "-j", "0", "--invalidation-mode", "checked-hash"]
     subprocess.run([*words, *(f"{top}/{it}" for it in ("bench", "examples", "tests", "tools"))])
 
 

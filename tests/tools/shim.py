@@ -101,7 +101,7 @@ def listeners(port):
 def listens(port, server):
     """Waits until this server, and no other program, listens on a port. Returns False if it ends before."""
     while server.poll() is None:
-        # (the list of all connections is long, so it is read once there is a socket)
+        # (before it has a socket none is looked for)
         if (found := sockets(f"/proc/{server.pid}/fd")) and found & listeners(port):
             return True
         time.sleep(0.002)
