@@ -31,7 +31,7 @@ MORE = {"compare/model": ["--count", "20000"]}
 SHORT = {
     "tools/test_remote": ["--count", "20"],
     "compare/nix_store": ["--count", "3"],
-    "compare/sqlite": ["--count", "3"],
+    "compare/sqlite": ["--count", "2"],
     "tools/test_units": ["said"],
     BENCH: ["commands"],
     "compare/model": ["--count", "500"],
