@@ -64,9 +64,9 @@ pub struct Tight {
 }
 
 impl Keeper for Tight {
-    ghost kept = { λ it. it.held.items };
+    ghost use Rattle.std.specs.Prelude.{◌≡◌};
 
-    ghost may_be = { λ it all. Unit {0} };
+    ghost represents = { λ it all. it.held.items ≡ all };
 
     fn keep(&mut self, piece: &[u8]) -> Result<(), AllocError> {
         if piece.len() > self.room.saturating_sub(self.held.len()) {

@@ -2,13 +2,14 @@
 ghost use Rattle.std.specs.Prelude.{◌≡◌, ◌⊎◌, IfOk, IfErr, IfSome, ⊤};
 ghost use Rattle.tool.specs.Bodies as spec;
 ghost use Rattle.tool.specs.Requests.{IsAsked, IsAskedOver};
+ghost use Rattle.wire_requests.specs.Kept.{bytes_of};
 
 use paths::StoreDir;
 use std::alloc::Global;
 use std::io::Read;
 use store_types::Request;
 use tool_pure::{Failure, Stop, read_input, receive_input};
-use wire_requests::{Body, read_import, runtime_body};
+use wire_requests::{Parted, read_import, runtime_body};
 
 /// All bytes of standard input.
 fn read_whole<R: Read>(alloc: Global, input: &mut R) -> Result<Vec<u8>, Stop>
@@ -20,8 +21,8 @@ fn read_whole<R: Read>(alloc: Global, input: &mut R) -> Result<Vec<u8>, Stop>
 }
 
 /// The request that imports the object of a body, at its path.
-fn parse_import(alloc: Global, dir: &StoreDir, body: Body) -> Result<Request, Stop>
-    ensures { IsAsked ⊥ (spec.Imports dir.now body) result }
+fn parse_import(alloc: Global, dir: &StoreDir, body: Parted) -> Result<Request, Stop>
+    ensures { IsAsked ⊥ (spec.Imports dir.now (bytes_of body)) result }
 {
     Ok(read_import(alloc, dir, body)?)
 }
@@ -37,7 +38,7 @@ fn parse_runtime(alloc: Global, dir: &StoreDir, body: &[u8]) -> Result<Request, 
 pub(crate) fn import<R: Read>(alloc: Global, dir: &StoreDir, input: &mut R) -> Result<Request, Stop>
     ensures { IsAskedOver ⊤ (spec.Imports dir.now) (R.remaining input.old) result }
 {
-    let mut body = Body::parted(alloc);
+    let mut body = Parted::new(alloc);
     receive_input(input, &mut body)?;
     parse_import(alloc, dir, body)
 }

@@ -2,5 +2,5 @@ pub mod Along
 pub mod Asked
 pub mod Chosen
 pub mod Held
-pub mod Known
 pub mod Seen
+pub mod Spent

@@ -1,12 +1,13 @@
 -- The course of a message before the store is asked, in the order of the tests.
-use Rattle.std.specs.Prelude.{◌≡◌, ◌⊎◌, ℕ, true, false, List, Option, Some, None, ⊤}
+use Rattle.std.specs.Prelude.{◌≡◌, ◌⊎◌, ℕ, true, false, List, Option, Some, None, Result, IfOk, ⊤}
+use Rattle.std.specs.declared.alloc.AllocError.{AllocError}
 use Rattle.httparse.specs.Grammar.{RequestHead}
 use Rattle.wire_messages.specs.Fields.{fields_of}
 use Rattle.wire_messages.specs.Callers.{caller_in}
 use Rattle.policy.specs.Settings.{Settings}
 use Rattle.policy.specs.Caller.{Caller}
 use Rattle.policy.specs.Class.{class_of}
-use Rattle.policy.specs.Operation.{Operation, plain}
+use Rattle.policy.specs.Operation.{plain}
 use Rattle.policy.specs.Rules.{first_broken}
 use Rattle.policy.specs.declared.kinds.Rule.{Rule}
 use Rattle.wire_requests.specs.Methods.{kind_of, allowed}
@@ -15,14 +16,14 @@ use Rattle.wire_requests.specs.Table.{requests_of}
 use Rattle.wire_requests.specs.declared.kind.Kind.{Kind}
 use Rattle.wire_requests.specs.declared.requests.Requests.{Requests}
 use Rattle.model.specs.Request.{Request}
-use Rattle.store_types.specs.View as views
 use Rattle.wire_requests.specs.Asks.{Asks, has_bad_path}
 use Rattle.report.specs.Stops.{denial_text}
 use Rattle.model.specs.declared.refusal.Refusal.TheVariants.{BadStorePath, BadCaller, NoRoute, BadMethod, BadBodyHead}
+use Rattle.wire_requests.specs.declared.error.AskError.{AskError}
+use Rattle.wire_requests.specs.declared.error.AskError.TheVariants as asks
+use Rattle.wire_server.specs.declared.response.Response.{Response}
 use Rattle.wire_server.specs.Responses as responses
 use Rattle.wire_server.specs.Responses.{Replied, replied, refused}
-use Rattle.wire.specs.Replies.{response_to}
-use Rattle.wire.specs.Lost.{AsksOfRules, lost_reply}
 use Rattle.wire.specs.declared.admission.Admission as code
 use Rattle.wire.specs.declared.admission.Admission.TheVariants as codes
 
@@ -74,19 +75,11 @@ Reads dir c kind target body course =
     ⊎ ((has_bad_path kind target ≡ false) × ((q : Request) → Asks dir kind target body q → ⊥)
     × (course ≡ replies (refused BadBodyHead None))))
 
--- Memory was refused for the body: what is asked isn't known, and the store isn't asked.
-abbrev pub Loses : Settings → Caller → Kind → List ℕ → List ℕ → Course → Type 0
-Loses s c kind target body course =
-    (op : Operation) × AsksOfRules s.store_dir kind target body op
-    × (course ≡ replies (response_to s.store_dir (lost_reply s c op)))
-
 abbrev pub Follows : Settings → List ℕ → List ℕ → Admission → Course → Type 0
 Follows s target body (refuses it) course = course ≡ replies it
-Follows s target body (admits c kind) course =
-    Reads s.store_dir c kind target body course ⊎ Loses s c kind target body course
+Follows s target body (admits c kind) course = Reads s.store_dir c kind target body course
 
--- The course that a message takes: first what its head decides; then, if memory is there for its body, the path in its
--- target and its body.
+-- The course that a message takes: first what its head decides; then the path in its target; then its body.
 abbrev pub HasCourse : Settings → RequestHead → List ℕ → Course → Type 0
 HasCourse s h body course = Follows s h.target body (admission_of s h) course
 
@@ -100,3 +93,10 @@ admission_view (codes.Admitted it) = admits it.caller it.kind
 abbrev pub HasParameters : List ℕ → code.Admission → Type 0
 HasParameters target (codes.Refused r) = ⊤
 HasParameters target (codes.Admitted it) = AreParameters it.kind target it.parameters
+
+-- The response to a message that isn't a request, by what its reading has decided; or memory was refused. It always was
+-- if it was for the reading.
+abbrev pub IsRefusalOf : AskError → Result Response AllocError → Type 0
+IsRefusalOf asks.BadPath result = IfOk result (λ r. replied r ≡ refused BadStorePath None)
+IsRefusalOf asks.BadBodyHead result = IfOk result (λ r. replied r ≡ refused BadBodyHead None)
+IsRefusalOf asks.Memory result = IfOk result (λ r. ⊥)

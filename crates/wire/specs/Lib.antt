@@ -1,6 +1,5 @@
 pub mod Answers
 pub mod Courses
 pub mod Ends
-pub mod Lost
 pub mod Replies
 pub mod Worlds

@@ -1,5 +1,5 @@
 //! Bodies, as they arrive.
-ghost use Rattle.wire_requests.specs.Left.{IsLeftOf};
+ghost use Rattle.wire_requests.specs.Kept.{Represents};
 
 use std::alloc::AllocError;
 use wire_messages::Keeper;
@@ -12,9 +12,7 @@ pub(crate) struct Arriving {
 }
 
 impl Keeper for Arriving {
-    ghost kept = { λ it. it.body };
-
-    ghost may_be = { λ it all. IsLeftOf it.body all };
+    ghost represents = { λ it all. Represents it.body all };
 
     fn keep(&mut self, piece: &[u8]) -> Result<(), AllocError> {
         self.body.push(piece)

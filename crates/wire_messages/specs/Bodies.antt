@@ -1,12 +1,8 @@
--- Reads of a body: what came, and what is kept of it.
+-- Reads of a body: what came, and what is kept for it.
 use Rattle.std.specs.Prelude.{◌≡◌, ℕ, ◌+◌, ◌<◌, ◌≤◌, List, [], ◌++◌, length, take, drop, Option, Result, Ok, Err, IfErr, Bool, true, false}
 use Rattle.std.specs.Io.KnownBytes.{Consumes, IsAtEnd}
 use Rattle.wire_messages.specs.declared.error.ReceiveError.{ReceiveError}
 use Rattle.wire_messages.specs.declared.error.ReceiveError.TheVariants.{Read}
-use Rattle.wire_messages.specs.declared.keeping.Fate.{Fate}
-use Rattle.wire_messages.specs.declared.keeping.Fate.TheVariants.{Kept, Lost, Short}
-use Rattle.wire_messages.specs.declared.keeping.Piece.{Piece}
-use Rattle.wire_messages.specs.declared.keeping.Piece.TheVariants as pieces
 
 -- All bytes that are missing of a body were read, or the input ended before that.
 pub record ReadsRest (old new : Option (List ℕ)) (left : ℕ) (read : List ℕ)
@@ -30,41 +26,31 @@ pub record ReadsOrFails {T : Type 0} (result : Result T ReceiveError) (reads : T
   pub came : reads
   pub fault : IfErr result (λ e. e ≡ Read)
 
--- ---- bodies that are kept, or for which memory was refused
+-- ---- bodies that are kept
 
--- whether a body came whole
-abbrev pub has_come : Result Fate ReceiveError → Result Bool ReceiveError
-has_come (Ok Kept) = Ok true
-has_come (Ok Lost) = Ok true
-has_come (Ok Short) = Ok false
-has_come (Err e) = Err e
+-- What is kept stands for more bytes than before: those that came.
+abbrev pub Grows : (List ℕ → Type 0) → (List ℕ → Type 0) → List ℕ → Type 0
+Grows represents represents' more = (all : List ℕ) → represents all → represents' (all ++ more)
 
--- A body was kept as it came; or memory was refused for it, and what is still known of it fits the body that came.
-pub record KeepsBody (old new : Option (List ℕ)) (held : List ℕ) (len size : ℕ) (kept kept' : List ℕ)
-    (may_be : List ℕ → Type 0) (result : Result Fate ReceiveError) : Type 0 where
-  pub came : ReadsBody old new held len size (has_come result)
-  pub store_all : result ≡ Ok Kept → kept' ≡ kept ++ take size (drop len (held ++ came.read))
-  pub lost : result ≡ Ok Lost → may_be (kept ++ take size (drop len (held ++ came.read)))
+-- A body was kept as it came: what stood for some bytes stands for these and the body.
+pub record KeepsBody (old new : Option (List ℕ)) (held : List ℕ) (len size : ℕ)
+    (represents represents' : List ℕ → Type 0) (result : Result Bool ReceiveError) : Type 0 where
+  pub came : ReadsBody old new held len size result
+  pub kept : result ≡ Ok true → Grows represents represents' (take size (drop len (held ++ came.read)))
 
 -- ---- inside the crate
 
--- the bytes that are missing of a body were kept, or memory was refused for them
-pub record KeepsRest (old new : Option (List ℕ)) (left : ℕ) (kept kept' : List ℕ) (may_be : List ℕ → Type 0)
-    (result : Result Fate ReceiveError) : Type 0 where
+-- the bytes that are missing of a body were kept
+pub record KeepsRest (old new : Option (List ℕ)) (left : ℕ) (represents represents' : List ℕ → Type 0)
+    (result : Result Bool ReceiveError) : Type 0 where
   pub read : List ℕ
-  pub came : ReadsRest old new left read (has_come result)
-  pub store_all : result ≡ Ok Kept → kept' ≡ kept ++ read
-  pub lost : result ≡ Ok Lost → may_be (kept ++ read)
+  pub came : ReadsRest old new left read result
+  pub kept : result ≡ Ok true → Grows represents represents' read
 
--- some of the bytes were read, no more than there was room for
-abbrev pub ReadsSome : ℕ → Option (List ℕ) → Option (List ℕ) → ℕ → List ℕ → Type 0
-ReadsSome room old new n read = Consumes old new read × (length read ≡ n) × (0 < n) × (n ≤ room)
-
--- the result of one read
-abbrev pub KeepsOn : ℕ → Option (List ℕ) → Option (List ℕ) → List ℕ → List ℕ → (List ℕ → Type 0) → Piece → Type 0
-KeepsOn room old new kept kept' may_be (pieces.Kept n) =
-    (read : List ℕ) × ReadsSome room old new n read × (kept' ≡ kept ++ read)
-KeepsOn room old new kept kept' may_be (pieces.Lost n) =
-    (read : List ℕ) × ReadsSome room old new n read × ((more : List ℕ) → may_be ((kept ++ read) ++ more))
-KeepsOn room old new kept kept' may_be pieces.End = Consumes old new [] × IsAtEnd new × (kept' ≡ kept)
-KeepsOn room old new kept kept' may_be pieces.Failed = Consumes old new []
+-- The result of one read with room for a number of bytes: how many came and were kept, or none at the end of the input.
+abbrev pub KeepsOn : ℕ → Option (List ℕ) → Option (List ℕ) → (List ℕ → Type 0) → (List ℕ → Type 0)
+    → Result ℕ ReceiveError → Type 0
+KeepsOn room old new represents represents' (Ok n) =
+    (read : List ℕ) × Consumes old new read × (length read ≡ n) × (n ≤ room) × (n ≡ 0 → IsAtEnd new)
+    × Grows represents represents' read
+KeepsOn room old new represents represents' (Err e) = (read : List ℕ) × Consumes old new read

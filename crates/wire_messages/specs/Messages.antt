@@ -8,7 +8,6 @@ use Rattle.wire_messages.specs.declared.head.Head.{Head}
 use Rattle.wire_messages.specs.declared.error.Fault.{Fault}
 use Rattle.wire_messages.specs.declared.error.Fault.TheVariants.{BadHead, BadLength, TooLarge}
 use Rattle.wire_messages.specs.declared.error.ReceiveError.{ReceiveError}
-use Rattle.wire_messages.specs.declared.error.ReceiveError.TheVariants.{Silent}
 use Rattle.wire_messages.specs.declared.receive.Start.{Start}
 use Rattle.wire_messages.specs.declared.receive.Start.TheVariants.{NoMore, Begun, NoHead}
 use Rattle.wire_messages.specs.declared.receive.Received.{Received}
@@ -45,7 +44,6 @@ pub record ReadsMore (old new : Option (List ℕ)) (held held' : List ℕ)
   pub consumed : (bs : List ℕ) × Consumes old new bs × OnOk result (held' ≡ held ++ bs)
   pub some : result ≡ Ok true → length held < length held'
   pub at_end : result ≡ Ok false → IsAtEnd new × (held' ≡ held)
-  pub silent : result ≡ Err Silent → held' ≡ held
 
 -- the bytes that are held, with what may follow them, begin in this way
 abbrev pub Starts : List ℕ → Option (List ℕ) → Start → Type 0
@@ -70,9 +68,8 @@ Announces held rest (Message head size) = HoldsHead held head size
 Announces held rest (Faulty fault) = (0 < length held) × IfSome rest (λ more. IsFault (held ++ more) fault)
 
 -- The bytes that were read are appended to those that were held, and the result is right for them and for what may
--- follow. A reader is reported as silent only if nothing of a message is held.
+-- follow.
 abbrev pub Receives : {A : Type 0} → (List ℕ → Option (List ℕ) → A → Type 0) → Option (List ℕ) → Option (List ℕ)
     → List ℕ → List ℕ → Result A ReceiveError → Type 0
 Receives is old new held held' result =
     ((bs : List ℕ) × Consumes old new bs × OnOk result (held' ≡ held ++ bs)) × IfOk result (is held' new)
-    × (result ≡ Err Silent → (held ≡ []) × (held' ≡ []))

@@ -25,9 +25,6 @@ pub enum ReceiveError {
     /// The reader failed.
     #[error("input")]
     Read,
-    /// The reader waited for the first byte of a message, and gave up.
-    #[error("silent")]
-    Silent,
     /// Memory was refused.
     #[error("memory")]
     Memory,

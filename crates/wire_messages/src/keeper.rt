@@ -1,19 +1,18 @@
 //! The trait of what keeps bodies.
-ghost use Rattle.std.specs.Prelude.{◌≡◌, ◌++◌, ℕ, List, OnOk, OnErr};
+ghost use Rattle.std.specs.Prelude.{◌++◌, ℕ, List, OnOk};
 
 use std::alloc::AllocError;
 
-/// Keeps the body of a message as it comes, and may be refused memory for it.
+/// Keeps the body of a message as it comes, or as much of the body as is needed.
 pub trait Keeper {
-    /// All bytes that were stored.
-    ghost kept: { Self → List ℕ };
+    /// Whether what is kept stands for these bytes: all that have come.
+    ghost represents: { Self → List ℕ → Type 0 };
 
-    /// Whether a body for which memory was refused may be these bytes, by what is still known of it.
-    ghost may_be: { Self → List ℕ → Type 0 };
-
-    /// Keeps one more piece. If memory is refused for it, the body may afterwards be anything that begins with all
-    /// bytes that came.
+    /// Takes one more piece.
+    ///
+    /// # Errors
+    ///
+    /// Memory was refused.
     fn keep(&mut self, piece: &[u8]) -> Result<(), AllocError>
-        ensures kept { OnOk result (kept self.new ≡ kept self.old ++ piece.now) }
-        ensures lost { OnErr result ((more : List ℕ) → may_be self.new ((kept self.old ++ piece.now) ++ more)) };
+        ensures { OnOk result ((all : List ℕ) → represents self.old all → represents self.new (all ++ piece.now)) };
 }

@@ -17,5 +17,5 @@ pub use error::{Fault, ReceiveError};
 pub use fields::{HeadFields, MAX_BODY, Values, closes, length_of_body, values_of};
 pub use head::{Head, Look, MAX_HEAD, look_for_head};
 pub use keeper::Keeper;
-pub use keeping::{Fate, receive_body};
+pub use keeping::receive_body;
 pub use receive::{Received, Start, receive_head, receive_start};

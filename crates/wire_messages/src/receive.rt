@@ -1,11 +1,10 @@
 //! Messages, read from a reader in pieces of any size.
-ghost use Rattle.std.specs.Prelude.{◌≡◌};
 ghost use Rattle.wire_messages.specs.Messages.{ReadsMore, Receives, Starts, Announces};
 
 use crate::error::{Fault, ReceiveError};
 use crate::fields::{HeadFields, length_of_body};
 use crate::head::{Head, Look, look_again};
-use std::io::{Error, ErrorKind, Read};
+use std::io::Read;
 
 /// What the input begins with.
 #[derive(Clone, Copy)]
@@ -26,24 +25,6 @@ pub enum Received {
     Faulty(Fault),
 }
 
-/// The error of a failed read: `Silent` if the reader gave up waiting.
-fn broken(fault: &Error) -> ReceiveError {
-    match fault.kind() {
-        ErrorKind::WouldBlock | ErrorKind::TimedOut => ReceiveError::Silent,
-        _ => ReceiveError::Read,
-    }
-}
-
-/// The error of a read in the middle of a message: a reader that gives up waiting there has failed.
-fn within(fault: ReceiveError) -> ReceiveError
-    ensures { result ≡ ReceiveError.Silent → ⊥ }
-{
-    match fault {
-        ReceiveError::Memory => ReceiveError::Memory,
-        _ => ReceiveError::Read,
-    }
-}
-
 /// How many bytes are read at once.
 const WINDOW_SIZE: usize = 4096;
 
@@ -57,7 +38,7 @@ fn read_more<R: Read>(input: &mut R, buffer: &mut Vec<u8>) -> Result<bool, Recei
             buffer.extend_from_slice(&window[..count])?;
             Ok(count > 0)
         }
-        Err(fault) => Err(broken(&fault)),
+        Err(_) => Err(ReceiveError::Read),
     }
 }
 
@@ -65,8 +46,7 @@ fn read_more<R: Read>(input: &mut R, buffer: &mut Vec<u8>) -> Result<bool, Recei
 ///
 /// # Errors
 ///
-/// `Read` if the reader failed; `Silent` if it gave up waiting (`WouldBlock` or `TimedOut`) and nothing is held;
-/// `Memory` if memory was refused.
+/// `Read` if the reader failed; `Memory` if memory was refused.
 pub fn receive_start<R: Read>(input: &mut R, buffer: &mut Vec<u8>) -> Result<Start, ReceiveError>
     ensures { Receives Starts (R.remaining input.old) (R.remaining input.new) buffer.old.items buffer.new.items result }
 {
@@ -84,10 +64,8 @@ pub fn receive_start<R: Read>(input: &mut R, buffer: &mut Vec<u8>) -> Result<Sta
             Look::Unfinished => {}
         }
         seen = buffer.len();
-        match read_more(input, buffer) {
-            Ok(true) => {}
-            Ok(false) => return Ok(Start::NoHead),
-            Err(fault) => return Err(within(fault)),
+        if !read_more(input, buffer)? {
+            return Ok(Start::NoHead);
         }
     }
 }

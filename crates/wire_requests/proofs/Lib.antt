@@ -1,4 +1,5 @@
 pub mod Bare
+pub mod Blanks
 pub mod Conflicts
 pub mod Copied
 pub mod Fits

@@ -1,7 +1,8 @@
 -- Bodies whose payload is kept apart.
 use Rattle.std.proofs.Common.{◌≡◌, ◌<◌, ℕ, List, [], ◌∷◌, ◌++◌, length, refl, sym, ap, ◌∙◌, arith, append_assoc, append-nil, length-append, subst, inl, inr}
 use Rattle.std.proofs.lemmas.List.{append_cancel_left, nil_from_length}
-use Rattle.std.specs.Prelude.{Option, Some, None, IsSome, Result, Ok, Err, OnErr, true, false}
+use Rattle.std.specs.Prelude.{Option, Some, None, IsSome, Result, Ok, Err, OnOk, OnErr, is_ok, is_none, true, false}
+use Rattle.std.proofs.lemmas.Bool.{false≢true}
 use Rattle.intake.specs.Arriving.{appended, bytes_in}
 use Rattle.wire_bodies.specs.Bodies.{IsNamedBody, IsImportBody}
 use Rattle.wire_bodies.specs.declared.heads.NamedHead.{NamedHead}
@@ -9,7 +10,14 @@ use Rattle.wire_bodies.specs.declared.import.ImportHead.{ImportHead}
 use Rattle.wire_bodies.specs.Prefix.{place_after, prefix_from, rest_from, prefix_of, rest_of}
 use Rattle.wire_bodies.specs.declared.prefix.Place.{Place}
 use Rattle.wire_bodies.specs.declared.prefix.Place.TheVariants.{BeginsLine, WithinLine, AfterPrefix}
-use Rattle.wire_requests.specs.Left.{IsLeftOf}
+use Rattle.model.specs.Request as asked
+use Rattle.store_types.specs.Spent.{is_spent}
+use Rattle.store_types.specs.View.{request_view}
+use Rattle.store_types.specs.declared.requests.Request.{Request}
+use Rattle.wire_requests.specs.Kept.{IsParted, IsRequest, without_archive}
+use Rattle.wire_requests.specs.Reads.{Makes, Reads}
+use Rattle.wire_requests.specs.declared.error.AskError.{AskError}
+use Rattle.wire_requests.specs.declared.kind.Kind.{Kind}
 use Rattle.wire_bodies.proofs.Prefixes.{prefix_append, rest_append, prefix_again, rest_prefix, both, of_prefix, from_prefix}
 
 -- a place from which nothing more belongs to the prefix
@@ -107,62 +115,77 @@ pub spent_parted : (text next : List ℕ) (after : Option (List ℕ)) → next �
 spent_parted text next after is spent =
     ap (λ t. prefix_of (next ++ bytes_in t)) spent ∙ ap prefix_of (append-nil next ∙ is) ∙ prefix_again BeginsLine text ∙ sym is
 
--- ---- what is left where memory was refused
+-- ---- what stands for a body
 
--- a prefix that something follows stays that of whatever begins with both
-closed_lines : (prefix archive more : List ℕ) → 0 < length archive → prefix_of (prefix ++ archive) ≡ prefix → prefix_of ((prefix ++ archive) ++ more) ≡ prefix
-closed_lines prefix [] more some is = absurd (omega (arith, some))
-closed_lines prefix (b ∷ archive) more some is =
-    ap prefix_of (append_assoc prefix (b ∷ archive) more)
-    ∙ closed_prefix prefix (b ∷ archive ++ more) (prefix_whole prefix (b ∷ archive) is) (closed prefix b archive is)
+pub lines_in : (lines : List ℕ) (archive : Option (List ℕ)) (body : List ℕ) → IsParted lines archive body → prefix_of body ≡ lines
+lines_in lines None body is = is
+lines_in lines (Some nar) body is = is.0
 
--- the lines of a body of which a piece after them was refused
-pub left_lines : (prefix archive piece more : List ℕ) → prefix_of (prefix ++ archive) ≡ prefix → 0 < length (rest_of (prefix ++ piece))
-    → prefix_of (((prefix ++ archive) ++ piece) ++ more) ≡ prefix_of (prefix ++ piece)
-left_lines prefix archive piece more is some =
-    let rest = rest_of (prefix ++ piece) in
-    let behind : 0 < length (archive ++ rest) = omega (arith, some, length-append archive rest) in
-    ap (λ t. prefix_of (t ++ more)) (sym (all_more prefix archive piece is))
-    ∙ closed_lines (prefix_of (prefix ++ piece)) (archive ++ rest) more behind (still_parted prefix archive piece is)
+module _ (lines piece body : List ℕ) (is : prefix_of body ≡ lines) where
+  parts : lines ++ rest_of body ≡ body
+  parts = ap (λ t. t ++ rest_of body) (sym is) ∙ both BeginsLine body
 
--- the lines of a body of which a piece was refused that reaches beyond them
-pub refused_lines : (all prefix piece next rest more : List ℕ) (archive after : Option (List ℕ)) → prefix ++ bytes_in archive ≡ all → prefix_of (prefix ++ bytes_in archive) ≡ prefix
-    → next ≡ prefix_of (prefix ++ piece) → rest ≡ rest_of (prefix ++ piece) → 0 < length rest → after ≡ None → IsLeftOf (next ++ bytes_in after) ((all ++ piece) ++ more)
-refused_lines all prefix piece next rest more archive after view whole is rest_is some spent =
-    inr (
-    ap (λ t. prefix_of ((t ++ piece) ++ more)) (sym view)
-    ∙ left_lines prefix (bytes_in archive) piece more whole (subst (λ t. 0 < length t) rest_is some)
-    ∙ sym is ∙ sym (append-nil next) ∙ ap (λ t. next ++ bytes_in t) (sym spent)
-    )
+  parted : prefix_of (lines ++ rest_of body) ≡ lines
+  parted = ap prefix_of parts ∙ is
 
--- the lines that bytes of an archive follow are at their end
-pub ended : (prefix archive : List ℕ) → prefix_of (prefix ++ archive) ≡ prefix → (rest_of (prefix ++ archive) ≡ [] → ⊥) → place_after BeginsLine prefix ≡ AfterPrefix
-ended prefix [] is some = absurd (some (sym (archive_is prefix [] is)))
-ended prefix (b ∷ archive) is some = closed prefix b archive is
+  -- the lines of a body that has one piece more
+  lines_with : prefix_of (body ++ piece) ≡ prefix_of (lines ++ piece)
+  lines_with =
+      ap (λ t. prefix_of (t ++ piece)) (sym parts) ∙ ap prefix_of (sym (all_more lines (rest_of body) piece parted)) ∙ still_parted lines (rest_of body) piece parted
 
--- the lines stay where a piece after them is refused
-pub lines_stay : (all prefix piece next : List ℕ) (archive after : Option (List ℕ)) → prefix ++ bytes_in archive ≡ all → prefix_of (prefix ++ bytes_in archive) ≡ prefix
-    → next ≡ prefix_of (prefix ++ piece) → after ≡ None → (rest_of all ≡ [] → ⊥) → next ++ bytes_in after ≡ prefix_of all
-lines_stay all prefix piece next archive after view whole is spent some =
-    let end = ended prefix (bytes_in archive) whole (subst (λ t. rest_of t ≡ [] → ⊥) (sym view) some) in
-    ap (λ t. next ++ bytes_in t) spent ∙ append-nil next ∙ is
-    ∙ closed_prefix prefix piece (prefix_whole prefix (bytes_in archive) whole) end ∙ sym whole ∙ ap prefix_of view
+  -- and what follows them
+  rest_with : rest_of (body ++ piece) ≡ rest_of body ++ rest_of (lines ++ piece)
+  rest_with =
+      ap (λ t. rest_of (t ++ piece)) (sym parts) ∙ ap rest_of (sym (all_more lines (rest_of body) piece parted))
+      ∙ sym (archive_is (prefix_of (lines ++ piece)) (rest_of body ++ rest_of (lines ++ piece)) (still_parted lines (rest_of body) piece parted))
 
--- what is true is true where there is an error
-pub on_err : {A E : Type 0} (P : Type 0) (r : Result A E) → P → OnErr r P
-on_err P (Ok x) p = tt
-on_err P (Err e) p = p
+module _ (lines piece next rest : List ℕ) (is : next ≡ prefix_of (lines ++ piece)) (rest_is : rest ≡ rest_of (lines ++ piece)) where
+  -- lines and archive have taken their part of a piece
+  pub parted_more : (archive after : Option (List ℕ)) (body : List ℕ) → after ≡ appended archive rest → IsParted lines archive body → IsParted next after (body ++ piece)
+  parted_more None after body has known = subst (λ a. IsParted next a (body ++ piece)) (sym has) (lines_with lines piece body known ∙ sym is)
+  parted_more (Some nar) after body has known =
+      subst (λ a. IsParted next a (body ++ piece)) (sym has)
+      (lines_with lines piece body known.0 ∙ sym is, rest_with lines piece body known.0 ∙ ap (λ t. t ++ rest_of (lines ++ piece)) known.1 ∙ ap (λ t. nar ++ t) (sym rest_is))
 
--- lines that are read of what is left are those of the body
-pub read_of_left : (lines left body : List ℕ) → lines ≡ prefix_of left → 0 < length lines → IsLeftOf left body → lines ≡ prefix_of body
-read_of_left lines left body read some (inl none) =
-    absurd (let h : 0 < length {A = ℕ} [] = subst (λ t. 0 < length t) (read ∙ ap prefix_of none) some in omega (arith, h))
-read_of_left lines left body read some (inr is) = read ∙ ap prefix_of (sym is) ∙ prefix_again BeginsLine body
+  -- the lines have, and the archive is spent
+  pub parted_spent : (archive after : Option (List ℕ)) (body : List ℕ) → after ≡ None → IsParted lines archive body → IsParted next after (body ++ piece)
+  parted_spent archive after body has known =
+      subst (λ a. IsParted next a (body ++ piece)) (sym has) (lines_with lines piece body (lines_in lines archive body known) ∙ sym is)
 
--- a text without lines is empty
-pub none_left : (left : List ℕ) → length (prefix_of left) ≡ 0 → left ≡ []
-none_left [] none = refl
-none_left (b ∷ left) none = absurd (omega (arith, none))
+  pub parted_pushed : {E : Type 0} (r : Result (Unit {0}) E) (archive after : Option (List ℕ)) (body : List ℕ) → OnOk r ((after ≡ appended archive rest) × IsSome archive) → OnErr r (after ≡ None)
+      → IsParted lines archive body → IsParted next after (body ++ piece)
+  parted_pushed (Ok u) archive after body ok err known = parted_more archive after body ok.0 known
+  parted_pushed (Err e) archive after body ok err known = parted_spent archive after body err known
+
+  -- they are still parted
+  pub pushed_parted : {E : Type 0} (r : Result (Unit {0}) E) (archive after : Option (List ℕ)) → prefix_of (lines ++ bytes_in archive) ≡ lines
+      → OnOk r ((after ≡ appended archive rest) × IsSome archive) → OnErr r (after ≡ None) → prefix_of (next ++ bytes_in after) ≡ next
+  pushed_parted (Ok u) archive after whole ok err = more_parted lines piece next rest archive after whole is rest_is ok.0 ok.1
+  pushed_parted (Err e) archive after whole ok err = spent_parted (lines ++ piece) next after is err
+
+  -- where nothing was refused they have the whole piece
+  pub pushed_bytes : {E : Type 0} (r : Result (Unit {0}) E) (archive after : Option (List ℕ)) → prefix_of (lines ++ bytes_in archive) ≡ lines → is_ok r ≡ true
+      → OnOk r ((after ≡ appended archive rest) × IsSome archive) → OnErr r (after ≡ None) → next ++ bytes_in after ≡ (lines ++ bytes_in archive) ++ piece
+  pushed_bytes (Ok u) archive after whole same ok err = more_bytes lines piece next rest archive after whole is rest_is ok.0 ok.1
+  pushed_bytes (Err e) archive after whole same ok err = absurd (false≢true same)
+
+-- an intake to which nothing is added
+pub appended_nothing : (archive : Option (List ℕ)) (rest : List ℕ) → length rest ≡ 0 → archive ≡ appended archive rest
+appended_nothing None rest none = refl
+appended_nothing (Some nar) rest none = ap Some (sym (append-nil nar) ∙ ap (λ t. nar ++ t) (sym (nil_from_length rest none)))
+
+-- ---- what is made of it
+
+-- a request that has the archive of a body, or is spent
+pub made_of : (made : Request) (q : List ℕ → asked.Request) (archive : Option (List ℕ)) (lines body : List ℕ) → request_view made ≡ q (bytes_in archive)
+    → without_archive (q (rest_of body)) ≡ q [] → is_spent made ≡ is_none archive → IsParted lines archive body → IsRequest made (q (rest_of body))
+made_of made q None lines body view less spent is = inr (spent, view ∙ sym less)
+made_of made q (Some nar) lines body view less spent is = inl (view ∙ ap q (sym is.1))
+
+-- a request that was read of a whole body
+pub reads_made : (dir : List ℕ) (kind : Kind) (target body : List ℕ) (r : Result Request AskError) → Reads dir kind target body r → Makes dir kind target body r
+reads_made dir kind target body (Ok made) is = (request_view made, is, inl refl)
+reads_made dir kind target body (Err e) is = is
 
 -- ---- what a prefix says
 

@@ -87,9 +87,3 @@ has_bad_path kinds.Nar target = not (is_base_name (path at_nar target))
 has_bad_path kinds.Ls target = not (is_base_name (path at_ls target))
 has_bad_path kinds.RootsOf target = not (is_base_name (path at_roots_of target))
 has_bad_path _ target = false
-
--- The payload of such a request is an archive.
-abbrev pub is_archive : Kind → Bool
-is_archive kinds.AddSource = true
-is_archive kinds.Import = true
-is_archive _ = false

@@ -1,7 +1,6 @@
 pub mod Asks
 pub mod Faults
-pub mod Storage
-pub mod Left
+pub mod Kept
 pub mod Methods
 pub mod Parameters
 pub mod Parts

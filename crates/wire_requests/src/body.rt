@@ -1,125 +1,83 @@
 //! The body of a message, as it arrives.
-ghost use Rattle.std.specs.Prelude.{◌≡◌, [], IfOk};
-ghost use Rattle.wire_requests.specs.Asks as spec;
-ghost use Rattle.wire_requests.specs.Left.{TakesPiece};
+ghost use Rattle.std.specs.Prelude.{◌≡◌, ◌++◌, ℕ, List, [], OnOk};
+ghost use Rattle.wire_requests.specs.Kept as spec;
+ghost use Rattle.wire_requests.specs.Kept.{Represents, form_in};
 
-use crate::arrived::Arrived;
+use crate::blank::Blank;
+use crate::form::{Form, form_of};
 use crate::held::Held;
 use crate::kind::Kind;
 use crate::parted::Parted;
 use std::alloc::{AllocError, Global};
 use std::marker::Model;
-use streams::Sink;
 
-/// The form in which a body is held.
+/// What is kept of a body.
 #[derive(Drop)]
-enum Storage {
-    /// In one buffer.
+pub(crate) enum Storage {
+    /// Whether it says nothing.
+    Bare(Blank),
+    /// All of it, in one buffer.
     Whole(Held),
-    /// The lines in a buffer, the payload in an intake.
+    /// The lines in a buffer, the archive in an intake.
     Parted(Parted),
 }
 
-/// The body of a message, which arrives in pieces of any size. Contracts see all bytes that have arrived.
+/// The body of a message, which arrives in pieces of any size. As much of it is kept as its request needs. Contracts see
+/// what is kept, and which bodies it stands for.
 #[derive(Drop)]
 pub struct Body {
     kept: Storage,
 }
 
 impl Model for Body {
-    ghost use Rattle.std.specs.Prelude.{List, ℕ};
+    ghost use Rattle.wire_requests.specs.declared.body.Storage.{Storage};
 
-    ghost Value = { List ℕ };
+    ghost Value = { Storage };
 
-    ghost use Rattle.wire_requests.specs.Storage.{bytes_of};
-
-    ghost view = { λ body. bytes_of body.kept };
-}
-
-/// Whether the payload of a request of a kind is an archive.
-pub fn is_archive(kind: Kind) -> bool
-    ensures { result ≡ spec.is_archive kind }
-{
-    match kind {
-        Kind::AddSource | Kind::Import => true,
-        _ => false,
-    }
+    ghost view = { λ body. body.kept };
 }
 
 impl Body {
-    /// An empty body, to be held in one buffer, of `size` bytes in the end. Allocates no memory yet.
-    pub fn held(alloc: Global, size: usize) -> Body
-        ensures { result ≡ [] }
+    /// The empty body of a request of a kind, of `size` bytes in the end. Allocates no memory yet.
+    pub fn new(alloc: Global, kind: Kind, size: usize) -> Body
+        ensures form { form_in result ≡ spec.form_of kind }
+        ensures empty { Represents result [] }
     {
-        Body {
-            kept: Storage::Whole(Held {
+        let kept = match form_of(kind) {
+            Form::Bare => Storage::Bare(Blank::Nothing),
+            Form::Whole => Storage::Whole(Held {
                 bytes: Vec::new(alloc),
                 size,
             }),
-        }
+            Form::Parted => Storage::Parted(Parted::new(alloc)),
+        };
+        Body { kept }
     }
 
-    /// An empty body whose payload is an archive, which passes into an intake as it arrives. Allocates no memory yet.
-    pub fn parted(alloc: Global) -> Body
-        ensures { result ≡ [] }
-    {
-        Body {
-            kept: Storage::Parted(Parted::new(alloc)),
-        }
-    }
-
-    /// Takes the next piece.
+    /// Takes the next piece. If memory is refused for an archive, the archive is spent, and the rest of it is dropped.
     ///
     /// # Errors
     ///
-    /// Memory was refused. If the payload is an archive and all lines before it have arrived, these lines stay; else no
-    /// byte stays.
+    /// Memory was refused for anything else.
     pub fn push(&mut self, piece: &[u8]) -> Result<(), AllocError>
-        ensures { TakesPiece self.old piece.now self.new result }
+        ensures form { form_in self.new ≡ form_in self.old }
+        ensures taken { OnOk result ((all : List ℕ) → Represents self.old all
+            → Represents self.new (all ++ piece.now)) }
     {
         match &mut self.kept {
-            Storage::Whole(held) => held.push(piece),
-            Storage::Parted(parted) => parted.push(piece),
-        }
-    }
-
-    /// The body with its payload in an intake.
-    pub(crate) fn into_parted(self, alloc: Global) -> Result<Parted, AllocError>
-        ensures { IfOk result (λ parted. parted ≡ self) }
-    {
-        match self.kept {
-            Storage::Whole(held) => {
-                let mut parted = Parted::new(alloc);
-                parted.push(&held.bytes)?;
-                Ok(parted)
+            Storage::Bare(came) => *came = came.with(piece),
+            Storage::Whole(held) => held.push(piece)?,
+            Storage::Parted(parted) => {
+                parted.push(piece)?;
             }
-            Storage::Parted(parted) => Ok(parted),
         }
-    }
-}
-
-impl Arrived for Body {
-    ghost arrived = { λ body. body };
-
-    fn lines(&self) -> &[u8] {
-        match &self.kept {
-            Storage::Whole(held) => held.lines(),
-            Storage::Parted(parted) => parted.lines(),
-        }
+        Ok(())
     }
 
-    fn into_bytes(self, alloc: Global) -> Result<Vec<u8>, AllocError> {
-        match self.kept {
-            Storage::Whole(held) => held.into_bytes(alloc),
-            Storage::Parted(parted) => parted.into_bytes(alloc),
-        }
-    }
-}
-
-impl Sink for Body {
-    ghost received = { λ body. body };
-
-    fn take(&mut self, piece: &[u8]) -> Result<(), AllocError> {
-        self.push(piece)
+    /// What is kept.
+    pub(crate) fn into_kept(self) -> Storage
+        ensures { result ≡ self }
+    {
+        self.kept
     }
 }

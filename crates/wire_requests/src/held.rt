@@ -1,10 +1,8 @@
 //! A body in one buffer, as it arrives.
-ghost use Rattle.std.specs.Prelude.{◌≡◌, ◌++◌, [], OnOk, OnErr};
+ghost use Rattle.std.specs.Prelude.{◌≡◌, ◌++◌, OnOk};
 
-use crate::arrived::Arrived;
-use std::alloc::{AllocError, Global};
+use std::alloc::AllocError;
 use std::marker::Model;
-use wire_bodies::lines_of;
 
 /// The bytes of a body whose length is known. The first bytes that arrive make room for all, and then the buffer
 /// doesn't grow. Contracts see the bytes.
@@ -25,29 +23,23 @@ impl Model for Held {
 }
 
 impl Held {
-    /// Takes the next piece. If memory is refused, no byte stays.
+    /// Takes the next piece.
+    ///
+    /// # Errors
+    ///
+    /// Memory was refused.
     pub(crate) fn push(&mut self, piece: &[u8]) -> Result<(), AllocError>
         ensures ok { OnOk result (self.new ≡ self.old ++ piece.now) }
-        ensures err { OnErr result (self.new ≡ []) }
     {
         let missing = self.size.saturating_sub(self.bytes.len());
-        let room = missing.max(piece.len());
-        if self.bytes.reserve_exact(room).is_err() || self.bytes.extend_from_slice(piece).is_err() {
-            self.bytes.clear();
-            return Err(AllocError);
-        }
-        Ok(())
-    }
-}
-
-impl Arrived for Held {
-    ghost arrived = { λ held. held };
-
-    fn lines(&self) -> &[u8] {
-        lines_of(&self.bytes)
+        self.bytes.reserve_exact(missing.max(piece.len()))?;
+        self.bytes.extend_from_slice(piece)
     }
 
-    fn into_bytes(self, _: Global) -> Result<Vec<u8>, AllocError> {
-        Ok(self.bytes)
+    /// All bytes.
+    pub(crate) fn into_bytes(self) -> Vec<u8>
+        ensures bytes { result.items ≡ self }
+    {
+        self.bytes
     }
 }

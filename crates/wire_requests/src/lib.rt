@@ -2,16 +2,15 @@
 #![tactic(auto)]
 
 mod adds;
-mod arrived;
+mod blank;
 mod body;
 mod error;
+mod form;
 mod held;
 mod kind;
-mod left;
 mod named;
 mod parameters;
 mod parted;
-mod parts;
 mod questions;
 mod read;
 mod requests;
@@ -20,12 +19,11 @@ mod sweeps;
 mod targets;
 
 pub use adds::{import_body, read_import};
-pub use body::{Body, is_archive};
+pub use body::Body;
 pub use error::AskError;
 pub use kind::Kind;
-pub use left::left_address;
 pub use parameters::Parameters;
-pub use parts::part;
+pub use parted::Parted;
 pub use read::read_request;
 pub use requests::Requests;
 pub use router::{Found, Routes};

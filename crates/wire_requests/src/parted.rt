@@ -1,34 +1,32 @@
 //! A body whose payload is an archive, as it arrives.
-ghost use Rattle.std.specs.Prelude.{◌≡◌, [], OnErr};
+ghost use Rattle.std.specs.Prelude.{◌≡◌, ◌++◌, ℕ, List, [], Ok, OnOk, Some, true};
 ghost use Rattle.wire_bodies.specs.Prefix.{prefix_of, rest_of};
 ghost use Rattle.intake.specs.Arriving.{bytes_in};
-ghost use Rattle.wire_requests.specs.Left.{TakesPiece};
+ghost use Rattle.wire_requests.specs.Kept.{IsParted, bytes_of};
 
-use crate::arrived::Arrived;
 use intake::Intake;
 use std::alloc::{AllocError, Global};
 use std::marker::Model;
 use std::str;
+use streams::Sink;
 use wire_bodies::Prefix;
 
-/// The lines of a body, and the archive after them, which is checked and hashed as it arrives. Contracts see all bytes.
+/// The lines of a body, and the archive after them, which is checked and hashed as it arrives. Contracts see both.
 #[derive(Drop)]
-pub(crate) struct Parted {
-    alloc: Global,
+pub struct Parted {
     prefix: Prefix,
     archive: Intake,
     has_begun: bool,
 }
 
 impl Model for Parted {
-    ghost use Rattle.std.specs.Prelude.{◌≡◌, ◌++◌, List, ℕ};
+    ghost use Rattle.std.specs.Prelude.{◌≡◌, ◌++◌, List, ℕ, Option};
     ghost use Rattle.wire_bodies.specs.Prefix.{prefix_of};
     ghost use Rattle.intake.specs.Arriving.{bytes_in};
-    ghost use Rattle.wire_requests.specs.Left.{IsLeftOf};
 
-    ghost Value = { List ℕ };
+    ghost Value = { List ℕ × Option (List ℕ) };
 
-    ghost view = { λ parted. parted.prefix ++ bytes_in parted.archive };
+    ghost view = { λ parted. (parted.prefix, parted.archive) };
 
     ghost invariant = { λ parted. prefix_of (parted.prefix ++ bytes_in parted.archive) ≡ parted.prefix };
 }
@@ -58,55 +56,61 @@ fn begin(has_begun: bool, prefix: &[u8], rest: &[u8], archive: &mut Intake) -> b
 
 impl Parted {
     /// An empty body. Allocates no memory.
-    pub(crate) fn new(alloc: Global) -> Parted
-        ensures { result ≡ [] }
+    pub fn new(alloc: Global) -> Parted
+        ensures { result ≡ ([], Some []) }
     {
         Parted {
-            alloc,
             prefix: Prefix::new(alloc),
             archive: Intake::new(alloc),
             has_begun: false,
         }
     }
 
-    /// Takes the next piece. If memory is refused for the archive, the lines stay; if it is refused for the lines, no
-    /// byte stays.
-    pub(crate) fn push(&mut self, piece: &[u8]) -> Result<(), AllocError>
-        ensures taken { TakesPiece self.old piece.now self.new result }
-        // Once bytes of the archive have arrived, the lines before it stay.
-        ensures lines { OnErr result ((rest_of self.old ≡ [] → ⊥) → self.new ≡ prefix_of self.old) }
+    /// Takes the next piece. Returns whether all that has come is kept: if memory is refused for the archive, now or
+    /// before, the archive is spent.
+    ///
+    /// # Errors
+    ///
+    /// Memory was refused for the lines.
+    pub(crate) fn push(&mut self, piece: &[u8]) -> Result<bool, AllocError>
+        ensures taken { OnOk result ((all : List ℕ) → IsParted self.old.0 self.old.1 all
+            → IsParted self.new.0 self.new.1 (all ++ piece.now)) }
+        ensures whole { result ≡ Ok true → bytes_of self.new ≡ bytes_of self.old ++ piece.now }
     {
-        let Ok(rest) = self.prefix.take(piece) else {
-            *self = Parted::new(self.alloc);
-            return Err(AllocError);
-        };
+        let rest = self.prefix.take(piece)?;
         if rest.is_empty() {
-            return Ok(());
+            return Ok(true);
         }
         self.has_begun = begin(self.has_begun, self.prefix.bytes(), rest, &mut self.archive);
-        self.archive.push(rest)?;
-        Ok(())
+        Ok(self.archive.push(rest).is_ok())
+    }
+
+    /// The lines up to and with the first empty one.
+    pub(crate) fn lines(&self) -> &[u8]
+        ensures now { result.now ≡ self.now.0 }
+        ensures prefix { prefix_of (bytes_of self.now) ≡ self.now.0 }
+        ensures rest { rest_of (bytes_of self.now) ≡ bytes_in self.now.1 }
+    {
+        self.prefix.bytes()
     }
 
     /// The archive, without a copy.
     pub(crate) fn into_archive(self) -> Intake
-        ensures { bytes_in result ≡ rest_of self }
+        ensures { result ≡ self.1 }
     {
         self.archive
     }
 }
 
-impl Arrived for Parted {
-    ghost arrived = { λ parted. parted };
+/// What is received is what has come without what memory was refused for. A piece is refused once the archive is spent.
+impl Sink for Parted {
+    ghost received = { bytes_of };
 
-    fn lines(&self) -> &[u8] {
-        self.prefix.bytes()
-    }
-
-    fn into_bytes(self, alloc: Global) -> Result<Vec<u8>, AllocError> {
-        let mut bytes = self.prefix.bytes().to_vec(alloc)?;
-        let archive = self.archive.finish()?.pieces.joined()?;
-        bytes.extend_from_slice(&archive)?;
-        Ok(bytes)
+    fn take(&mut self, piece: &[u8]) -> Result<(), AllocError> {
+        if self.push(piece)? {
+            Ok(())
+        } else {
+            Err(AllocError)
+        }
     }
 }

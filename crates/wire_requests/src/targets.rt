@@ -10,7 +10,6 @@ use crate::kind::Kind;
 use crate::parameters::Parameters;
 use paths::numbers::{generation, session};
 use store_types::Request;
-use wire_bodies::is_blank;
 
 /// The request of a kind whose values are all names in the target. `None` for any other kind.
 fn by_names(kind: Kind, parameters: Parameters) -> Option<Request>
@@ -64,10 +63,10 @@ fn by_target(kind: Kind, parameters: Parameters) -> Option<Request>
 
 /// The request of a kind without values, or whose values are all names in the target. `BadBodyHead` if the body isn't
 /// blank.
-pub(crate) fn bare(kind: Kind, parameters: Parameters, body: &[u8]) -> Result<Request, AskError>
-    ensures { (target : List ℕ) → AreParameters kind target parameters → ReadsTarget kind target body.now result }
+pub(crate) fn bare(kind: Kind, parameters: Parameters, is_blank: bool) -> Result<Request, AskError>
+    ensures { (target : List ℕ) → AreParameters kind target parameters → ReadsTarget kind target is_blank result }
 {
-    if !is_blank(body) {
+    if !is_blank {
         return Err(AskError::BadBodyHead);
     }
     by_target(kind, parameters).ok_or(AskError::BadBodyHead)

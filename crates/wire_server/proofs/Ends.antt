@@ -11,10 +11,7 @@ use Rattle.wire_messages.specs.Messages.{IsFault, HoldsMessage}
 use Rattle.wire_messages.specs.Division.{message, faulty, closes}
 use Rattle.wire_server.specs.Responses.{Replied, reply_bytes}
 use Rattle.wire_server.specs.Answers.{body_in}
-use Rattle.wire_server.specs.Courses.{Ran, fault_of}
-use Rattle.wire_server.specs.declared.serving.Stop.{Stop}
-use Rattle.wire_server.specs.declared.serving.Stop.TheVariants.{Failed, Silent}
-use Rattle.wire_server.specs.Serves.{fault_reply, joined, reported, IsWritten, Serves, Stops, Rests}
+use Rattle.wire_server.specs.Serves.{fault_reply, joined, reported, IsWritten, Serves, Stops}
 use Rattle.wire_server.specs.declared.error.WireError.{WireError}
 use Rattle.wire_server.specs.declared.error.WireError.TheVariants.{Read, Write, Memory}
 use Rattle.wire_server.proofs.Reported.{Reported, divides_all, begins_all, follows_start, follows_read, follows_end, follows_any, follows_fault, follows_last, follows_more, follows_item, joined_more, counted_more, replies_item, replies_fault}
@@ -74,34 +71,6 @@ module _ {S : Type 0} (answers : S → RequestHead → List ℕ → Replied → 
     answered = report.answered;
     written = Appends-kept output out out' (joined report.replies) report.written kept;
   }
-
-  -- left before another message
-  pub rested : (rest out : Option (List ℕ)) (held : List ℕ) (t : S) (n : ℕ) → Reported answers input rest output out held s t n → Rests answers input output out s t (reported n)
-  rested rest out held t n report = record {
-    items = report.done;
-    replies = report.replies;
-    counted = ap reported report.counted;
-    prefix = begins_all input report.done (follows_any input rest held report.done report.follows);
-    answered = report.answered;
-    written = report.written;
-  }
-
-  -- which is to be broken off there
-  rests_stop : (out : Option (List ℕ)) (t : S) (n : ℕ) → Rests answers input output out s t n → Stops answers input output out s t Read
-  rests_stop out t n rests = record {
-    items = rests.items;
-    replies = rests.replies;
-    bytes = joined rests.replies;
-    prefix = rests.prefix;
-    answered = rests.answered;
-    written = refl;
-    appended = rests.written;
-  }
-
-  -- which is an error of a connection of two streams, as any other end before the input's
-  pub broken_off : (out : Option (List ℕ)) (t : S) (stop : Stop) → Ran answers input output out s t (Err stop) → Stops answers input output out s t (fault_of stop)
-  broken_off out t (Failed e) stops = stops
-  broken_off out t (Silent n) rests = rests_stop out t n rests
 
   -- as many as are counted
   pub counted_out : (rest out : Option (List ℕ)) (held : List ℕ) (t : S) (n : ℕ) → Reported answers input rest output out held s t n

@@ -21,16 +21,8 @@ use Rattle.wire_server.specs.declared.response.Response.{Response}
 use Rattle.wire_server.specs.declared.ready.Ready.{Ready}
 use Rattle.wire_server.specs.declared.exchange.Exchange.{Exchange}
 use Rattle.wire_server.specs.Answers.{body_in, Answered, IsReady}
-use Rattle.wire_server.specs.Arrivals.{Whole, Brings, halt_of}
+use Rattle.wire_server.specs.Arrivals.{Whole, Brings, fault_of}
 use Rattle.wire_server.specs.Exchanges.{IsAnswered, IsLost}
-
--- what was kept where nothing had been
-pub store_all : (before after body : List ℕ) → before ≡ [] → after ≡ before ++ body → after ≡ body
-store_all before after body none all = all ∙ ap (λ t. t ++ body) none
-
--- what is known of a body of which nothing had been kept
-pub of_nothing : (may_be : List ℕ → Type 0) (before body : List ℕ) → before ≡ [] → may_be (before ++ body) → may_be body
-of_nothing may_be before body none is = subst (λ t. may_be (t ++ body)) none is
 
 -- ---- a body that comes
 
@@ -52,10 +44,10 @@ module _ (held read : List ℕ) (head : Head) (size : ℕ) (is : HoldsHead held 
       (more, at_end_all (λ t. IsFault t BadLength) all rest fault end)
 
   -- it came whole
-  module _ {S C B : Type 0} (answers : S → RequestHead → List ℕ → Replied → S → Type 0) (decides : S → RequestHead → C → Type 0) (kept : B → List ℕ) (may_be : B → List ℕ → Type 0) (s : S) where
+  module _ {S C B : Type 0} (answers : S → RequestHead → List ℕ → Replied → S → Type 0) (decides : S → RequestHead → C → Type 0) (represents : B → List ℕ → Type 0) (s : S) where
     pub whole_arrives : (ready : Ready C B) → head.spans.len + size ≤ length (held ++ read)
-        → IsReady answers decides kept may_be s is.0 (body_in (held ++ read) head size) ready
-        → drop (head.spans.len + size) (held ++ read) ≡ drop (head.spans.len + size) held → Whole answers decides kept may_be s (held ++ read) held head size ready
+        → IsReady answers decides represents s is.0 (body_in (held ++ read) head size) ready
+        → drop (head.spans.len + size) (held ++ read) ≡ drop (head.spans.len + size) held → Whole answers decides represents s (held ++ read) held head size ready
     whole_arrives ready whole is_ready rest = record {
       h = is.0;
       message = record { holds = holds-append held read head is.0 is.1; states = is.2; whole = whole };
@@ -64,13 +56,11 @@ module _ (held read : List ℕ) (head : Head) (size : ℕ) (is : HoldsHead held 
       rest = sym rest;
     }
 
-module _ {S C B : Type 0} (answers : S → RequestHead → List ℕ → Replied → S → Type 0) (decides : S → RequestHead → C → Type 0) (kept : B → List ℕ) (may_be : B → List ℕ → Type 0) (s : S) where
-  -- nothing came
-  pub brings_none : (all held : List ℕ) (rest : Option (List ℕ)) (fault : ReceiveError) → (fault ≡ received.Silent → held ≡ [])
-      → Brings answers decides kept may_be s all held rest (Err (halt_of fault))
-  brings_none all held rest received.Read silent = tt
-  brings_none all held rest received.Silent silent = silent refl
-  brings_none all held rest received.Memory silent = tt
+-- nothing came
+module _ {S C B : Type 0} (answers : S → RequestHead → List ℕ → Replied → S → Type 0) (decides : S → RequestHead → C → Type 0) (represents : B → List ℕ → Type 0) (s : S) where
+  pub brings_none : (all held : List ℕ) (rest : Option (List ℕ)) (fault : ReceiveError) → Brings answers decides represents s all held rest (Err (fault_of fault))
+  brings_none all held rest received.Read = tt
+  brings_none all held rest received.Memory = tt
 
 -- a number of bytes that stays at the greatest is as good as the number, where there are fewer
 pub drop_saturated : (n m : ℕ) (bytes : List ℕ) → m ≡ min n 18446744073709551615 → length bytes < 18446744073709551616 → drop m bytes ≡ drop n bytes
@@ -82,8 +72,8 @@ drop_saturated n m bytes is fits = by (m == n) refl
 
 -- ---- a message that came whole
 
-module _ {S C B : Type 0} (answers : S → RequestHead → List ℕ → Replied → S → Type 0) (decides : S → RequestHead → C → Type 0) (kept : B → List ℕ) (may_be : B → List ℕ → Type 0)
-    (s : S) (all held : List ℕ) (head : Head) (size : ℕ) (ready : Ready C B) (is : Whole answers decides kept may_be s all held head size ready) (new : S) where
+module _ {S C B : Type 0} (answers : S → RequestHead → List ℕ → Replied → S → Type 0) (decides : S → RequestHead → C → Type 0) (represents : B → List ℕ → Type 0)
+    (s : S) (all held : List ℕ) (head : Head) (size : ℕ) (ready : Ready C B) (is : Whole answers decides represents s all held head size ready) (new : S) where
   -- the response that came
   pub answered_whole : (held' : List ℕ) (x : Exchange) → answers s is.h (body_in all head size) (replied x.response) new → x.close ≡ closes is.h
       → held' ≡ drop (head.spans.len + size) held → IsAnswered answers all held' s x new
@@ -93,9 +83,3 @@ module _ {S C B : Type 0} (answers : S → RequestHead → List ℕ → Replied 
   pub lost_whole : (e : AllocError) → Answered answers s is.h (body_in all head size) (Err e) new → IsLost answers all s new
   lost_whole e (inl none) = inl none
   lost_whole e (inr (r, a)) = inr (r, record { head = head; size = size; h = is.h; holds = is.message; answered = a })
-
--- a response that leaves the state, or none
-pub answered_still : {S : Type 0} (answers : S → RequestHead → List ℕ → Replied → S → Type 0) (s : S) (h : RequestHead) (body : List ℕ) (r : Result Response AllocError)
-    → IfOk r (λ x. answers s h body (replied x) s) → Answered answers s h body r s
-answered_still answers s h body (Ok x) is = is
-answered_still answers s h body (Err e) is = inl refl

@@ -5,10 +5,7 @@ use Rattle.httparse.specs.Grammar.{RequestHead}
 use Rattle.wire_messages.specs.Division.{Item, message, faulty}
 use Rattle.wire_server.specs.Responses.{Replied}
 use Rattle.wire_server.specs.declared.error.WireError.{WireError}
-use Rattle.wire_server.specs.declared.sessions.Close.{Close}
-use Rattle.wire_server.specs.declared.sessions.Close.TheVariants.{Ended, Idle}
-use Rattle.wire_server.specs.Serves.{Replies, Served, Rests}
-use Rattle.wire_server.specs.Closes.{Closes}
+use Rattle.wire_server.specs.Serves.{Replies, Served}
 use Rattle.wire_server.specs.Sessions.{result_of}
 use Rattle.wire_server.specs.ServesAll as server
 use Rattle.wire_server.specs.ServesAll.{Session, Follow, ServesOn}
@@ -75,37 +72,12 @@ module _ {S W : Type 0} (answers : S → RequestHead → List ℕ → Replied �
             ),
       )
 
-  rests_seen : (input output output' : Option (List ℕ)) (old : S) (w : W) (new : S) (count : ℕ) → Shows old w
-      → Rests answers input output output' old new count → Sees old new (λ w'. Rests seen input output output' w w' count)
-  rests_seen input output output' old w new count shows rests =
-      let more = replies_seen old w rests.items rests.replies new shows rests.answered in (
-        more.0,
-        more.1,
-        λ good.
-            let after = more.2 good in (
-              after.0,
-              record {
-                items = rests.items;
-                replies = rests.replies;
-                counted = rests.counted;
-                prefix = rests.prefix;
-                answered = after.1;
-                written = rests.written;
-              },
-            ),
-      )
-
-  closes_seen : (input output output' : Option (List ℕ)) (old : S) (w : W) (new : S) (close : Close) → Shows old w
-      → Closes answers input output output' old new close → Sees old new (λ w'. Closes seen input output output' w w' close)
-  closes_seen input output output' old w new (Ended end) shows served = served_seen input output output' old w new (result_of end) shows served
-  closes_seen input output output' old w new (Idle count) shows rests = rests_seen input output output' old w new count shows rests
-
   -- connections one after another
   follow_seen : (old : S) (w : W) (err err' : Option (List ℕ)) (sessions : List Session) (new : S) → Shows old w → Follow answers old err sessions new err'
       → Sees old new (λ w'. Follow seen w err sessions w' err')
   follow_seen old w err err' [] new shows (same, kept) = (w, subst (λ s. Shows s w) (sym same) shows, λ good. (subst Good same good, (refl, kept)))
   follow_seen old w err err' (session ∷ sessions) new shows (fresh, mid, said, is, served, says, rest) =
-      let one = closes_seen session.input fresh session.output old w mid session.close shows served in
+      let one = served_seen session.input fresh session.output old w mid (result_of session.end) shows served in
       let more = follow_seen mid one.0 said err' sessions new one.1 rest in
       (more.0, more.1, λ good. let after = more.2 good in let first = one.2 after.0 in (first.0, (fresh, one.0, said, is, first.1, says, after.1)))
 

@@ -7,11 +7,9 @@ use Rattle.httparse.specs.Grammar.{RequestHead}
 use Rattle.wire_server.specs.Responses.{Replied}
 use Rattle.wire_server.specs.declared.sessions.End.{End}
 use Rattle.wire_server.specs.declared.sessions.End.TheVariants as ends
-use Rattle.wire_server.specs.declared.sessions.Close.{Close}
-use Rattle.wire_server.specs.declared.sessions.Close.TheVariants.{Ended, Idle}
 use Rattle.wire_server.specs.Peers.{IsFresh, ClosesPeers, AcceptsPeers}
-use Rattle.wire_server.specs.Sessions.{Says, failure}
-use Rattle.wire_server.specs.Closes.{Closes, Reports, failed}
+use Rattle.wire_server.specs.Serves.{Served}
+use Rattle.wire_server.specs.Sessions.{Says, failure, result_of}
 use Rattle.wire_server.specs.ServesAll.{Session, Follow, Serves, failures}
 use Rattle.wire_server.proofs.Peers.{takes_none, takes_more, leaves_none, leaves_more}
 
@@ -28,35 +26,27 @@ says_kept (ends.Served count) a b c p q = Keeps-trans a b c p q
 says_kept (ends.Reported fault) a b c p q = appends_kept a b c _ p q
 says_kept (ends.Unreported fault) a b c p (n, below, q) = (n, below, appends_kept a b c _ p q)
 
-reports_kept : (close : Close) (a b c : Option (List ℕ)) → Keeps a b → Reports close b c → Reports close a c
-reports_kept (Ended end) a b c p q = says_kept end a b c p q
-reports_kept (Idle count) a b c p q = Keeps-trans a b c p q
-
 -- ---- how many failed
 
 failures_append : (sessions more : List Session) → failures (sessions ++ more) ≡ failures sessions + failures more
 failures_append [] more = omega arith
 failures_append (session ∷ sessions) more = let rest = failures_append sessions more in omega (arith, rest)
 
-failure_le : (end : End) → failure end ≤ 1
+pub failure_le : (end : End) → failure end ≤ 1
 failure_le (ends.Served count) = omega arith
 failure_le (ends.Reported fault) = omega arith
 failure_le (ends.Unreported fault) = omega arith
 
-pub failed_le : (close : Close) → failed close ≤ 1
-failed_le (Ended end) = failure_le end
-failed_le (Idle count) = omega arith
-
 pub failures_le : (sessions : List Session) → failures sessions ≤ length sessions
 failures_le [] = omega arith
-failures_le (session ∷ sessions) = omega (arith, failed_le session.close, failures_le sessions)
+failures_le (session ∷ sessions) = omega (arith, failure_le session.end, failures_le sessions)
 
 module _ {S : Type 0} (answers : S → RequestHead → List ℕ → Replied → S → Type 0) where
   follow_kept : (old new : S) (err said err' : Option (List ℕ)) (sessions : List Session) → Keeps err said → Follow answers old said sessions new err'
       → Follow answers old err sessions new err'
   follow_kept old new err said err' [] kept (same, more) = (same, Keeps-trans err said err' kept more)
   follow_kept old new err said err' (session ∷ sessions) kept (before, mid, line, fresh, served, says, rest) =
-      (before, mid, line, fresh, served, reports_kept session.close err said line kept says, rest)
+      (before, mid, line, fresh, served, says_kept session.end err said line kept says, rest)
 
   follow_more : (old mid new : S) (err said err' : Option (List ℕ)) (sessions more : List Session) → Follow answers old err sessions mid said
       → Follow answers mid said more new err' → Follow answers old err (sessions ++ more) new err'
@@ -92,12 +82,12 @@ module _ {S : Type 0} (answers : S → RequestHead → List ℕ → Replied → 
     }
 
     -- one more connection
-    pub sofar_more : (waiting'' closed'' : Option (List (List ℕ))) (err'' input before output : Option (List ℕ)) (new' : S) (close : Close)
+    pub sofar_more : (waiting'' closed'' : Option (List (List ℕ))) (err'' input before output : Option (List ℕ)) (new' : S) (end : End)
         → AcceptsPeers waiting' waiting'' (input ∷ []) → ClosesPeers closed' closed'' (output ∷ []) → IsFresh before
-        → Closes answers input before output new new' close → Reports close err' err''
-        → Sofar waiting waiting'' closed closed'' err err'' old new' (n + 1) (count + failed close)
-    sofar_more waiting'' closed'' err'' input before output new' close accepted left fresh served says =
-        let session : Session = record { input = input; output = output; close = close } in
+        → Served answers input before output new new' (result_of end) → Says end err' err''
+        → Sofar waiting waiting'' closed closed'' err err'' old new' (n + 1) (count + failure end)
+    sofar_more waiting'' closed'' err'' input before output new' end accepted left fresh served says =
+        let session : Session = record { input = input; output = output; end = end } in
         record {
           sessions = sofar.sessions ++ session ∷ [];
           serves = record {

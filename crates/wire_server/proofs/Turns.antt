@@ -8,7 +8,6 @@ use Rattle.wire_server.specs.Responses.{Replied, replied, reply_bytes}
 use Rattle.wire_server.specs.declared.error.WireError.{WireError}
 use Rattle.wire_server.specs.declared.error.WireError.TheVariants.{Read, Write, Memory}
 use Rattle.wire_server.specs.declared.exchange.Exchange.{Exchange}
-use Rattle.wire_server.specs.declared.receiving.Halt.TheVariants.{Failed}
 use Rattle.wire_server.specs.Arrivals.{Brings, Arrives}
 use Rattle.wire_server.specs.Sends.{SendsReply}
 use Rattle.wire_server.specs.Serves.{Serves, Stops, reported}
@@ -25,11 +24,11 @@ module _ {S : Type 0} (answers : S → RequestHead → List ℕ → Replied → 
       subst (λ u. Serves answers input output out s u (reported n)) (sym same) (ended answers input output s rest out (held ++ read) t n read_told none end)
 
   -- nothing came
-  pub turn_broken : {C B : Type 0} (decides : S → RequestHead → C → Type 0) (kept : B → List ℕ) (may_be : B → List ℕ → Type 0) (e : WireError)
-      → Arrives answers decides kept may_be t mid rest held held' (Err (Failed e)) → Stops answers input output out s t e
-  turn_broken decides kept may_be e (read, consumed, brings) = stopped answers input output s mid out held t n report e (λ is. by e brings is)
+  pub turn_broken : {C B : Type 0} (decides : S → RequestHead → C → Type 0) (represents : B → List ℕ → Type 0) (e : WireError)
+      → Arrives answers decides represents t mid rest held held' (Err e) → Stops answers input output out s t e
+  turn_broken decides represents e (read, consumed, brings) = stopped answers input output s mid out held t n report e (λ is. by e brings is)
     where
-      by : (v : WireError) → Brings answers decides kept may_be t (held ++ read) held' rest (Err (Failed v)) → v ≡ Write → ⊥
+      by : (v : WireError) → Brings answers decides represents t (held ++ read) held' rest (Err v) → v ≡ Write → ⊥
       by Read brings is = cc
       by Write none is = none
       by Memory brings is = cc

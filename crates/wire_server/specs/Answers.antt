@@ -21,16 +21,14 @@ Answered answers old h body (Ok response) new = answers old h body (replied resp
 Answered answers old h body (Err e) new = (new ≡ old) ⊎ ((r : Replied) × answers old h body r new)
 
 module _ {S C B : Type 0} (answers : S → RequestHead → List ℕ → Replied → S → Type 0)
-    (decides : S → RequestHead → C → Type 0) (kept : B → List ℕ) where
-  -- A head decides this from a state: a course, and nothing of the body was kept yet; or the response, whatever the
-  -- body is, which leaves the state as it is.
+    (decides : S → RequestHead → C → Type 0) (represents : B → List ℕ → Type 0) where
+  -- A head decides this from a state: a course, and what keeps the body stands for no bytes yet; or the response,
+  -- whatever the body is, which leaves the state as it is.
   abbrev pub IsBegun : S → RequestHead → Begun C B → Type 0
-  IsBegun s h (Accepted course body) = decides s h course × (kept body ≡ [])
+  IsBegun s h (Accepted course body) = decides s h course × represents body []
   IsBegun s h (Refused response) = (all : List ℕ) → answers s h all (replied response) s
 
-  -- The message once its body has come: the body was kept; or memory was refused for it, and what is still known of it
-  -- fits the body.
-  abbrev pub IsReady : (B → List ℕ → Type 0) → S → RequestHead → List ℕ → Ready C B → Type 0
-  IsReady may_be s h all (ready.Kept course body) = decides s h course × (kept body ≡ all)
-  IsReady may_be s h all (ready.Lost course body) = decides s h course × may_be body all
-  IsReady may_be s h all (ready.Refused response) = answers s h all (replied response) s
+  -- The message once its body has come: what was kept stands for the body.
+  abbrev pub IsReady : S → RequestHead → List ℕ → Ready C B → Type 0
+  IsReady s h all (ready.Kept course body) = decides s h course × represents body all
+  IsReady s h all (ready.Refused response) = answers s h all (replied response) s

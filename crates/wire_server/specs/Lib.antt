@@ -1,7 +1,5 @@
 pub mod Answers
 pub mod Arrivals
-pub mod Closes
-pub mod Courses
 pub mod Exchanges
 pub mod Peers
 pub mod ReplyHead

@@ -90,15 +90,6 @@ module _ {S : Type 0} (answers : S → RequestHead → List ℕ → Replied → 
     pub written : IsWritten fault replies bytes
     pub appended : Appends output output' bytes
 
-  -- The peer was silent after items that the input begins with: all of their replies were written whole.
-  pub record Rests (input output output' : Option (List ℕ)) (old new : S) (count : ℕ) : Type 0 where
-    pub items : List Item
-    pub replies : List (List ℕ)
-    pub counted : count ≡ reported (length items)
-    pub prefix : BeginsWith input items
-    pub answered : Replies old items replies new
-    pub written : Appends output output' (joined replies)
-
   abbrev pub Served : Option (List ℕ) → Option (List ℕ) → Option (List ℕ) → S → S → Result ℕ WireError → Type 0
   Served input output output' old new (Ok n) = Serves input output output' old new n
   Served input output output' old new (Err e) = Stops input output output' old new e

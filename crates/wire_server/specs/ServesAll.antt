@@ -5,19 +5,20 @@ use Rattle.std.specs.declared.io.Error.{Error}
 use Rattle.httparse.specs.Grammar.{RequestHead}
 use Rattle.wire_server.specs.Responses.{Replied}
 use Rattle.wire_server.specs.Peers.{IsFresh, ClosesPeers, AcceptsPeers}
-use Rattle.wire_server.specs.Closes.{Closes, Reports, failed}
-use Rattle.wire_server.specs.declared.sessions.Close.{Close}
+use Rattle.wire_server.specs.Serves.{Served}
+use Rattle.wire_server.specs.Sessions.{Says, failure, result_of}
+use Rattle.wire_server.specs.declared.sessions.End.{End}
 
--- a connection: what its peer sent, what was written to the peer, and why it was closed
+-- a connection: what its peer sent, what was written to the peer, and how it ended
 pub record Session : Type 0 where
   pub input : Option (List ℕ)
   pub output : Option (List ℕ)
-  pub close : Close
+  pub end : End
 
 -- how many connections failed
 abbrev pub failures : List Session → ℕ
 failures [] = 0
-failures (session ∷ sessions) = failed session.close + failures sessions
+failures (session ∷ sessions) = failure session.end + failures sessions
 
 module _ {S : Type 0} (answers : S → RequestHead → List ℕ → Replied → S → Type 0) where
   -- each connection is served from the state that the one before it left, and its line on the errors follows the line
@@ -26,7 +27,7 @@ module _ {S : Type 0} (answers : S → RequestHead → List ℕ → Replied → 
   Follow old err [] new err' = (new ≡ old) × Keeps err err'
   Follow old err (session ∷ sessions) new err' =
       (fresh : Option (List ℕ)) × (mid : S) × (said : Option (List ℕ)) × IsFresh fresh
-      × Closes answers session.input fresh session.output old mid session.close × Reports session.close err said
+      × Served answers session.input fresh session.output old mid (result_of session.end) × Says session.end err said
       × Follow mid said sessions new err'
 
   -- connections were accepted from a listener, served, and closed

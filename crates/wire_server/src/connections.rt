@@ -3,14 +3,13 @@ ghost use Rattle.wire_server.specs.ServesAll.{ServesOn};
 
 use crate::listener::Listener;
 use crate::responder::Responder;
-use crate::sessions::serve_peer;
+use crate::sessions::serve_connection;
 use std::alloc::Global;
 use std::io;
 use std::io::Write;
 
 /// Serves a number of connections, one after another, and returns how many failed. For each failed one, a line on
-/// `errors` says why; the next connection is served all the same. An idle connection, whose input gives up waiting
-/// between two messages, is closed and not counted.
+/// `errors` says why; the next connection is served all the same.
 ///
 /// # Errors
 ///
@@ -29,9 +28,9 @@ pub fn serve_on<L: Listener, E: Write, T, A: Responder<T>>(
     let mut failed = 0;
     'connections: for _ in 0..connections {
         let (mut input, mut output) = listener.accept()?;
-        let close = serve_peer(alloc, &mut input, &mut output, errors, responder, state);
+        let end = serve_connection(alloc, &mut input, &mut output, errors, responder, state);
         listener.close(input, output);
-        failed += close.failures();
+        failed += end.failures();
     }
     Ok(failed)
 }

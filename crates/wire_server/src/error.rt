@@ -1,10 +1,12 @@
 //! Why a connection ends before its input does.
 ghost use Rattle.std.specs.Prelude.{◌≡◌};
+ghost use Rattle.wire_server.specs.Arrivals.{fault_of};
 ghost use Rattle.wire_server.specs.declared.error.WireError.TheVariants.{Memory, Write};
 
 use std::alloc::AllocError;
 use std::io;
 use thiserror::Error;
+use wire_messages::ReceiveError;
 
 /// Why a connection ends before its input does.
 #[derive(Clone, Copy, Debug, PartialEq, Eq, Error)]
@@ -25,6 +27,17 @@ impl From<AllocError> for WireError {
 
     fn from(_: AllocError) -> WireError {
         WireError::Memory
+    }
+}
+
+impl From<ReceiveError> for WireError {
+    ghost from_gives = { λ fault e. e ≡ fault_of fault };
+
+    fn from(fault: ReceiveError) -> WireError {
+        match fault {
+            ReceiveError::Read => WireError::Read,
+            ReceiveError::Memory => WireError::Memory,
+        }
     }
 }
 

@@ -41,14 +41,13 @@ fn respond<T, A: Responder<T>>(
     ready: Ready<A::Course, A::Body>,
 ) -> Result<Response, AllocError>
     requires { (h : RequestHead) × (body : List ℕ) × Holds held.now head.now h
-        × IsReady A.answers A.decides A.Body.kept A.Body.may_be state.old h body ready }
+        × IsReady A.answers A.decides A.Body.represents state.old h body ready }
     ensures { (h : RequestHead) (body : List ℕ) → Holds held.now head.now h
-        → IsReady A.answers A.decides A.Body.kept A.Body.may_be state.old h body ready
+        → IsReady A.answers A.decides A.Body.represents state.old h body ready
         → Answered A.answers state.old h body result state.new }
 {
     match ready {
         Ready::Kept(course, body) => responder.answer(state, held, head, course, body),
-        Ready::Lost(course, body) => responder.answer_lost(state, held, head, course, body),
         Ready::Refused(response) => Ok(response),
     }
 }
@@ -62,9 +61,9 @@ fn answer_message<T, A: Responder<T>>(
     size: usize,
     ready: Ready<A::Course, A::Body>,
 ) -> Result<Exchange, AllocError>
-    requires { (all : List ℕ) × Whole A.answers A.decides A.Body.kept A.Body.may_be state.old all buffer.old.items
+    requires { (all : List ℕ) × Whole A.answers A.decides A.Body.represents state.old all buffer.old.items
         head.now size ready }
-    ensures { (all : List ℕ) → Whole A.answers A.decides A.Body.kept A.Body.may_be state.old all buffer.old.items
+    ensures { (all : List ℕ) → Whole A.answers A.decides A.Body.represents state.old all buffer.old.items
         head.now size ready
         → Responds A.answers all buffer.new.items state.old state.new result }
 {
@@ -87,9 +86,9 @@ pub(crate) fn answer_next<T, A: Responder<T>>(
     next: Next<A::Course, A::Body>,
 ) -> Result<Option<Exchange>, AllocError>
     requires { (all : List ℕ) × (rest : Option (List ℕ))
-        × Arrived A.answers A.decides A.Body.kept A.Body.may_be state.old all buffer.old.items rest next }
+        × Arrived A.answers A.decides A.Body.represents state.old all buffer.old.items rest next }
     ensures { (all : List ℕ) (rest : Option (List ℕ))
-        → Arrived A.answers A.decides A.Body.kept A.Body.may_be state.old all buffer.old.items rest next
+        → Arrived A.answers A.decides A.Body.represents state.old all buffer.old.items rest next
         → Comes A.answers all buffer.new.items rest state.old state.new result }
 {
     match next {

@@ -1,5 +1,7 @@
 //! The two directions of a connection of a port.
-ghost use Rattle.std.specs.Prelude.{◌≡◌, nat_lt, nat_le};
+ghost use Rattle.std.specs.Prelude.{◌≡◌, IfOk, None, is_ok, nat_lt, nat_le, true};
+ghost use Rattle.std.specs.Io.{ReadsAtMost};
+ghost use Rattle.std.specs.Io.KnownBytes.{ReadConsumes};
 ghost use Rattle.std.specs.Duration.{as_nanos};
 
 use std::io;
@@ -46,27 +48,39 @@ fn is_over(waited: Duration) -> bool
     waited >= Duration::from_secs(OVER)
 }
 
-impl Incoming {
-    /// The input; `is_ready` is whether the connection could be prepared.
-    pub(crate) fn new(stream: TcpStream, is_ready: bool) -> Incoming {
-        Incoming { stream, is_ready }
-    }
+/// The two directions of a connection. `output` is a second handle of it, or why it couldn't be prepared.
+pub(crate) fn directions<'a, C: Clock>(
+    clock: &'a C,
+    input: TcpStream,
+    output: io::Result<TcpStream>,
+) -> (Incoming, Outgoing<'a, C>)
+    ensures { result.0.is_ready ≡ is_ok output }
+{
+    let incoming = Incoming {
+        stream: input,
+        is_ready: output.is_ok(),
+    };
+    let outgoing = Outgoing {
+        stream: output.ok(),
+        clock,
+    };
+    (incoming, outgoing)
+}
 
+impl Incoming {
     /// The connection.
     pub(crate) fn stream(&mut self) -> &mut TcpStream {
         &mut self.stream
     }
 }
 
-impl<'a, C: Clock> Outgoing<'a, C> {
-    /// The output; `stream` is `None` if the connection couldn't be prepared.
-    pub(crate) fn new(clock: &'a C, stream: Option<TcpStream>) -> Outgoing<'a, C> {
-        Outgoing { stream, clock }
-    }
-}
-
 impl Read for Incoming {
-    fn read(&mut self, buf: &mut [u8]) -> io::Result<usize> {
+    fn read(&mut self, buf: &mut [u8]) -> io::Result<usize>
+        ensures bound { ReadsAtMost result buf.new }
+        ensures bytes { ReadConsumes None None result buf.new }
+        // A connection that couldn't be prepared isn't one that has ended.
+        ensures prepared { IfOk result (λ _. self.old.is_ready ≡ true) }
+    {
         if !self.is_ready {
             return Err(unprepared());
         }

@@ -3,7 +3,7 @@ ghost use Rattle.std.specs.Prelude.{None};
 
 use crate::draining::read_out;
 use crate::listener::Listener;
-use crate::peer::{Incoming, Outgoing};
+use crate::peer::{Incoming, Outgoing, directions};
 use std::io;
 use std::net::{Shutdown, TcpListener, TcpStream};
 use std::rt::Clock;
@@ -50,12 +50,8 @@ impl<'a, C: Clock> Listener for Port<'a, C> {
     /// served.
     fn accept(&mut self) -> io::Result<(Incoming, Outgoing<'a, C>)> {
         let (input, _) = self.listener.accept()?;
-        let output = prepare(&input).ok();
-        let is_ready = output.is_some();
-        Ok((
-            Incoming::new(input, is_ready),
-            Outgoing::new(self.clock, output),
-        ))
+        let output = prepare(&input);
+        Ok(directions(self.clock, input, output))
     }
 
     /// Shuts down writing, drains the input, closes. Closing at once could lose the last reply.

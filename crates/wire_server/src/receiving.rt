@@ -1,22 +1,16 @@
 //! The next message of a connection, as it arrives.
-ghost use Rattle.std.specs.Prelude.{◌≡◌, IfErr};
 ghost use Rattle.httparse.specs.Grammar.{RequestHead};
 ghost use Rattle.wire_messages.specs.Heads.{Holds};
 ghost use Rattle.wire_messages.specs.Messages.{HoldsHead};
 ghost use Rattle.wire_server.specs.Answers.{IsBegun};
-ghost use Rattle.wire_server.specs.Arrivals.{Arrives, halt_of};
-ghost use Rattle.wire_server.specs.declared.error.WireError.TheVariants.{Memory};
-ghost use Rattle.wire_server.specs.declared.receiving.Halt.TheVariants.{Failed};
+ghost use Rattle.wire_server.specs.Arrivals.{Arrives};
 
 use crate::begun::Begun;
 use crate::error::WireError;
 use crate::ready::Ready;
 use crate::responder::Responder;
-use std::alloc::AllocError;
 use std::io::Read;
-use wire_messages::{
-    Fate, Fault, Head, ReceiveError, Received, pass_body, receive_body, receive_head,
-};
+use wire_messages::{Fault, Head, Received, pass_body, receive_body, receive_head};
 
 /// What is next on a connection.
 #[derive(Drop)]
@@ -29,37 +23,8 @@ pub(crate) enum Next<C, B> {
     Faulty(Fault),
 }
 
-/// Why no message is received.
-#[derive(Clone, Copy)]
-pub(crate) enum Halt {
-    Failed(WireError),
-    /// No byte of the next message came for as long as the input waits.
-    Silent,
-}
-
-impl From<AllocError> for Halt {
-    ghost from_gives = { λ _ halt. halt ≡ Failed Memory };
-
-    fn from(_: AllocError) -> Halt {
-        Halt::Failed(WireError::Memory)
-    }
-}
-
-/// A receive error, never a write error.
-impl From<ReceiveError> for Halt {
-    ghost from_gives = { λ fault halt. halt ≡ halt_of fault };
-
-    fn from(fault: ReceiveError) -> Halt {
-        match fault {
-            ReceiveError::Read => Halt::Failed(WireError::Read),
-            ReceiveError::Silent => Halt::Silent,
-            ReceiveError::Memory => Halt::Failed(WireError::Memory),
-        }
-    }
-}
-
 /// Receives the body of a message whose head is in `held`, as the head decided. The body of a refused message is read
-/// and dropped. So is the rest of a body for which memory is refused; the connection goes on.
+/// and dropped.
 fn receive_rest<R: Read, T, A: Responder<T>>(
     input: &mut R,
     held: &[u8],
@@ -67,20 +32,19 @@ fn receive_rest<R: Read, T, A: Responder<T>>(
     head: Head,
     size: usize,
     begun: Begun<A::Course, A::Body>,
-) -> Result<Next<A::Course, A::Body>, Halt>
+) -> Result<Next<A::Course, A::Body>, WireError>
     requires head { HoldsHead held.now head size }
     requires begun { (h : RequestHead) → Holds held.now head h
-        → IsBegun A.answers A.decides A.Body.kept state.now h begun }
-    ensures came { Arrives A.answers A.decides A.Body.kept A.Body.may_be state.now (R.remaining input.old)
+        → IsBegun A.answers A.decides A.Body.represents state.now h begun }
+    ensures { Arrives A.answers A.decides A.Body.represents state.now (R.remaining input.old)
         (R.remaining input.new) held.now held.now result }
-    ensures fault { IfErr result (λ halt. halt ≡ Halt.Failed WireError.Read) }
 {
     match begun {
         Begun::Accepted(course, mut body) => {
-            match receive_body(input, held, &head, size, &mut body)? {
-                Fate::Kept => Ok(Next::Message(head, size, Ready::Kept(course, body))),
-                Fate::Lost => Ok(Next::Message(head, size, Ready::Lost(course, body))),
-                Fate::Short => Ok(Next::Faulty(Fault::BadLength)),
+            if receive_body(input, held, &head, size, &mut body)? {
+                Ok(Next::Message(head, size, Ready::Kept(course, body)))
+            } else {
+                Ok(Next::Faulty(Fault::BadLength))
             }
         }
         Begun::Refused(response) => {
@@ -101,9 +65,9 @@ fn receive_message<R: Read, T, A: Responder<T>>(
     state: &T,
     head: Head,
     size: usize,
-) -> Result<Next<A::Course, A::Body>, Halt>
+) -> Result<Next<A::Course, A::Body>, WireError>
     requires { HoldsHead held.now head size }
-    ensures { Arrives A.answers A.decides A.Body.kept A.Body.may_be state.now (R.remaining input.old) (R.remaining
+    ensures { Arrives A.answers A.decides A.Body.represents state.now (R.remaining input.old) (R.remaining
         input.new) held.now held.now result }
 {
     let begun = responder.begin(state, held, &head, size)?;
@@ -114,15 +78,14 @@ fn receive_message<R: Read, T, A: Responder<T>>(
 ///
 /// # Errors
 ///
-/// `Failed` with `Read` if the reader failed, and with `Memory` if memory was refused for a head or for what the head
-/// decides; `Silent` if the reader gave up waiting before a message.
+/// `Read` if the reader failed; `Memory` if memory was refused for a head, for what the head decides, or for a body.
 pub(crate) fn receive_next<R: Read, T, A: Responder<T>>(
     input: &mut R,
     buffer: &mut Vec<u8>,
     responder: &A,
     state: &T,
-) -> Result<Next<A::Course, A::Body>, Halt>
-    ensures { Arrives A.answers A.decides A.Body.kept A.Body.may_be state.now
+) -> Result<Next<A::Course, A::Body>, WireError>
+    ensures { Arrives A.answers A.decides A.Body.represents state.now
         (R.remaining input.old) (R.remaining input.new) buffer.old.items buffer.new.items result }
 {
     match receive_head(input, buffer)? {

@@ -2,7 +2,7 @@
 ghost use Rattle.std.specs.Prelude.{ℕ, List, IfOk};
 ghost use Rattle.httparse.specs.Grammar.{RequestHead};
 ghost use Rattle.wire_messages.specs.Heads.{Holds};
-ghost use Rattle.wire_server.specs.Responses.{Replied, replied};
+ghost use Rattle.wire_server.specs.Responses.{Replied};
 ghost use Rattle.wire_server.specs.Answers.{Answered, IsBegun};
 
 use crate::begun::Begun;
@@ -39,10 +39,10 @@ pub trait Responder<T> {
     ) -> Result<Begun<Self::Course, Self::Body>, AllocError>
         requires { (h : RequestHead) × Holds held.now head.now h }
         ensures { (h : RequestHead) → Holds held.now head.now h
-            → IfOk result (IsBegun answers decides Self.Body.kept state.now h) };
+            → IfOk result (IsBegun answers decides Self.Body.represents state.now h) };
 
-    /// The response to a message whose head is a prefix of `held` and whose whole body has arrived. If memory is
-    /// refused, the message wasn't answered, or was answered and the response is dropped.
+    /// The response to a message whose head is a prefix of `held` and whose whole body has arrived. `body` is what was
+    /// kept for it. If memory is refused, the message wasn't answered, or was answered and the response is dropped.
     fn answer(
         &self,
         state: &mut T,
@@ -52,21 +52,7 @@ pub trait Responder<T> {
         body: Self::Body,
     ) -> Result<Response, AllocError>
         requires { (h : RequestHead) × Holds held.now head.now h × decides state.old h course }
-        ensures { (h : RequestHead) → Holds held.now head.now h → decides state.old h course
-            → Answered answers state.old h (Self.Body.kept body) result state.new };
-
-    /// The response to a message whose head is a prefix of `held`, and whose body has arrived but couldn't be held for
-    /// lack of memory. The state stays the same. An error if memory is refused again.
-    fn answer_lost(
-        &self,
-        state: &T,
-        held: &[u8],
-        head: &Head,
-        course: Self::Course,
-        body: Self::Body,
-    ) -> Result<Response, AllocError>
-        requires { (h : RequestHead) × Holds held.now head.now h × decides state.now h course }
-        ensures { (h : RequestHead) (whole : List ℕ) → Holds held.now head.now h → decides state.now h course
-            → Self.Body.may_be body whole
-            → IfOk result (λ r. answers state.now h whole (replied r) state.now) };
+        ensures { (h : RequestHead) (all : List ℕ) → Holds held.now head.now h → decides state.old h course
+            → Self.Body.represents body all
+            → Answered answers state.old h all result state.new };
 }

@@ -2,11 +2,10 @@
 ghost use Rattle.std.specs.Prelude.{◌≡◌};
 ghost use Rattle.wire_server.specs.Serves.{Served};
 ghost use Rattle.wire_server.specs.Sessions.{Says, SaysOf, failure, failure_of, result_of};
-ghost use Rattle.wire_server.specs.Closes.{Closes, Reports, failed};
 
 use crate::error::WireError;
 use crate::responder::Responder;
-use crate::serving::{Stop, run, serve};
+use crate::serving::serve;
 use report::Failure;
 use std::alloc::Global;
 use std::io::{Read, Write};
@@ -23,23 +22,14 @@ pub enum End {
     Unreported(WireError),
 }
 
-/// Why the connection of a peer was closed.
-#[derive(Clone, Copy, PartialEq, Eq, Debug)]
-pub(crate) enum Close {
-    /// The connection ended, or failed.
-    Ended(End),
-    /// The peer was silent for too long between two messages. The number is that of the messages answered.
-    Idle(u64),
-}
-
-impl Close {
+impl End {
     /// How many failures this counts as: 0 or 1.
     pub(crate) fn failures(self) -> u32
-        ensures { result ≡ failed self }
+        ensures { result ≡ failure self }
     {
         match self {
-            Close::Ended(End::Served(_)) | Close::Idle(_) => 0,
-            Close::Ended(End::Reported(_)) | Close::Ended(End::Unreported(_)) => 1,
+            End::Served(_) => 0,
+            End::Reported(_) | End::Unreported(_) => 1,
         }
     }
 }
@@ -82,26 +72,5 @@ pub fn serve_connection<R: Read, W: Write, E: Write, T, A: Responder<T>>(
     match serve(alloc, input, output, responder, state) {
         Ok(count) => End::Served(count),
         Err(fault) => report_end(fault, errors),
-    }
-}
-
-/// Serves the connection of a peer. If it fails, a line on `errors` says why. If the peer is silent for too long
-/// between two messages, nothing is written.
-pub(crate) fn serve_peer<R: Read, W: Write, E: Write, T, A: Responder<T>>(
-    alloc: Global,
-    input: &mut R,
-    output: &mut W,
-    errors: &mut E,
-    responder: &A,
-    state: &mut T,
-) -> Close
-    ensures served { Closes A.answers (R.remaining input.old) (W.contents output.old) (W.contents output.new)
-        state.old state.new result }
-    ensures said { Reports result (E.contents errors.old) (E.contents errors.new) }
-{
-    match run(alloc, input, output, responder, state) {
-        Ok(count) => Close::Ended(End::Served(count)),
-        Err(Stop::Failed(fault)) => Close::Ended(report_end(fault, errors)),
-        Err(Stop::Silent(count)) => Close::Idle(count),
     }
 }

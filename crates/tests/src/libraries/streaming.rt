@@ -3,7 +3,7 @@ use crate::fakes::{Drip, Narrow, Tight};
 use std::alloc::Global;
 use std::io::ErrorKind;
 use streams::{ReadError, read_at_most, send_bytes};
-use wire_messages::{Fate, ReceiveError, Received, receive_body, receive_head};
+use wire_messages::{ReceiveError, Received, receive_body, receive_head};
 
 const BYTES: &[u8] = b"mycontent\n";
 
@@ -53,13 +53,13 @@ fn writers_that_fail(rt: HostRuntime) {
     }
 }
 
-/// What becomes of the body of the message that a reader gives, if it gives one. Memory is refused for more than some
-/// bytes of it.
+/// Whether the body of the message that a reader gives came whole, if it gives one. Memory is refused for more than
+/// some bytes of it.
 fn gives_message(
     alloc: Global,
     input: &mut Drip,
     room: usize,
-) -> Result<Option<Fate>, ReceiveError> {
+) -> Result<Option<bool>, ReceiveError> {
     let mut buffer = Vec::new(alloc);
     let Received::Message(head, size) = receive_head(input, &mut buffer)? else {
         return Ok(None);
@@ -88,7 +88,7 @@ fn messages_of_readers_that_fail(rt: HostRuntime) {
     }
 }
 
-// The rest of a body that finds no memory is read, and nothing beyond it.
+// A body that finds no memory ends the reading, and nothing is read beyond one that does.
 #[test]
 fn bodies_without_memory(rt: HostRuntime) {
     let next = b"GET / HTTP/1.1\r\n\r\n";
@@ -101,8 +101,12 @@ fn bodies_without_memory(rt: HostRuntime) {
             fault: ErrorKind::Other,
         };
         let found = gives_message(rt.alloc(), &mut input, room);
-        let wanted = if room == 10 { Fate::Kept } else { Fate::Lost };
-        assert_eq!(rt; found, Ok(Some(wanted)), "{room}");
-        assert!(rt; input.rest == next.as_slice(), "{room}");
+        let wanted = if room == 10 {
+            Ok(Some(true))
+        } else {
+            Err(ReceiveError::Memory)
+        };
+        assert_eq!(rt; found, wanted, "{room}");
+        assert!(rt; input.rest.ends_with(next), "{room}");
     }
 }

@@ -1,7 +1,7 @@
 use Rattle.std.proofs.Common.{◌≡◌, Some, None, IfOk, subst}
 use Rattle.policy.specs.Operation.{plain}
 use Rattle.policy.specs.Rules.{first_broken}
-use Rattle.wire.specs.Courses.{refuses, denied, by_rule, by_route, admission_view}
+use Rattle.wire.specs.Courses.{refuses, denied, by_rule, admission_view}
 use Rattle.wire.proofs.admitting.on_caller.Goals as goal
 
 pub returns-in-Some-clause-decides : goal.returns-in-Some-clause-decides

@@ -1,14 +1,26 @@
-use Rattle.std.proofs.Common.{rules, ◌≤◌}
-use Rattle.wire_messages.proofs.Came.{lost_rest}
+use Rattle.std.proofs.Common.{◌++◌, arith, length-append}
+use Rattle.std.proofs.KnownBytes.{Consumes-trans}
+use Rattle.std.proofs.lemmas.Result.{err_from_is_err_and}
+use Rattle.wire_messages.proofs.Came.{grows_more}
 use Rattle.wire_messages.proofs.keeping.keep_out.Goals as goal
 
-pub returns-in-Lost : goal.returns-in-Lost
-returns-in-Lost g c = record {
-  came =
-      let before = c.reads.invariant in
-      let got = c.in-Lost.ensures in
-      let fits : c.in-Lost.count ≤ c.reads.left = search rules in
-      lost_rest _ _ _ _ c.args.size c.reads.left c.in-Lost.count before.0 got.0 c.pass_lost.ensures.came.0 _ _ _ (g.K.Keeper.may_be c.keep_next.new.body) c.pass_lost.result
-      before.1 before.2 before.3 got.1.0 got.1.1 fits c.pass_lost.ensures.came.1 c.pass_lost.ensures.kept got.2;
-  fault = c.pass_lost.ensures.fault;
-}
+pub returns-in_err-count : goal.returns-in_err-count
+returns-in_err-count g c =
+    let before = c.reads.invariant in
+    let got = c.in_err-count.ensures in
+    let p = err_from_is_err_and c.from_residual.result c.from_residual.ensures.1 in
+    rw p.1 (record {
+      read = before.0 ++ got.0;
+      came = record { consumed = Consumes-trans _ _ _ before.0 got.0 before.1 got.1; whole = λ e. absurd cc; short = λ e. absurd cc };
+      kept = λ e. absurd cc;
+    })
+
+pub reads-preserved : goal.reads-preserved
+reads-preserved g c =
+    let before = c.reads.invariant in
+    let got = c.in_ok-count.ensures in (
+      before.0 ++ got.0,
+      Consumes-trans _ _ _ before.0 got.0 before.1 got.1,
+      omega (arith, length-append before.0 got.0, before.2, got.2, got.3),
+      grows_more (g.K.Keeper.represents c.args.body.now) (g.K.Keeper.represents c.reads.body) (g.K.Keeper.represents c.keep_next.new.body) before.0 got.0 before.3 got.5,
+    )

@@ -14,4 +14,4 @@ returns-in-Err g c =
     sym c.in-Err.is ∙ c.length_of_body.ensures
     ∙ ap₂ (λ b h. body_length (fields_at b h)) (c.new.ensures.buf ∙ c.deref.ensures.value) c.new.ensures.head in
     let whole = λ (more : List ℕ). is_fault (held ++ more) fault (fault_of_head held c.in-Begun.head start.1.1.0 fault start.1.1.1 states more) in
-    ((start.0.0, start.0.1, start.0.2), (start.1.0, whatever (λ t. IsFault t fault) held _ whole), λ e. absurd cc)
+    ((start.0.0, start.0.1, start.0.2), (start.1.0, whatever (λ t. IsFault t fault) held _ whole))

@@ -1,7 +1,7 @@
 use Rattle.std.proofs.Common.{◌≡◌, ◌<◌, Ok, true, length, refl, sym, append-nil, arith}
 use Rattle.std.proofs.lemmas.Bool.Decides.{nat_tests}
 use Rattle.std.proofs.KnownBytes.{Consumes-nil, Consumes-trans}
-use Rattle.wire_messages.specs.declared.error.ReceiveError.TheVariants.{Silent}
+use Rattle.std.proofs.lemmas.Result.{err_from_is_err_and}
 use Rattle.wire_messages.proofs.Heads.{none_in_nothing}
 use Rattle.wire_messages.proofs.receive.receive_start.Goals.{else-is_empty-via-then-is_empty+in_ok-read_more+else-not-branch, else-is_empty-via-else-is_empty}
 use Rattle.wire_messages.proofs.receive.receive_start.Goals as goal
@@ -30,10 +30,11 @@ head-init g c = elim c.else-is_empty.branch [
       })
 ]
 
-pub returns-in-Err : goal.returns-in-Err
-returns-in-Err g c =
+pub returns-in_err-read_more-2 : goal.returns-in_err-read_more-2
+returns-in_err-read_more-2 g c =
     let took = c.head.invariant.took in
-    ((_, Consumes-trans _ _ _ _ _ took.consumed c.read_more-in-head.ensures.consumed.1, tt), tt, λ e. let same : c.within.result ≡ Silent = cc in absurd (c.within.ensures same))
+    let p = err_from_is_err_and c.from_residual-in_err-read_more-2.result c.from_residual-in_err-read_more-2.ensures.1 in
+    rw p.1 ((_, Consumes-trans _ _ _ _ _ took.consumed c.read_more-in-head.ensures.consumed.1, tt), tt)
 
 pub look_again-has_begun-requires : goal.look_again-has_begun-requires
 look_again-has_begun-requires g c = rw c.deref.ensures.value (record {

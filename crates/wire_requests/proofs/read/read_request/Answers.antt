@@ -1,17 +1,22 @@
-use Rattle.std.proofs.Common.{sym, subst, ◌∙◌}
+use Rattle.std.proofs.Common.{◌≡◌, ◌∙◌, sym, ap, subst}
+use Rattle.wire_requests.specs.Asks.{is_blank}
+use Rattle.wire_requests.specs.Kept.{Represents, allows}
 use Rattle.wire_requests.specs.Reads.{Reads}
+use Rattle.wire_requests.proofs.Blanks.{blank_allows}
+use Rattle.wire_requests.proofs.Parting.{reads_made}
 use Rattle.wire_requests.proofs.read.read_request.Goals as goal
 
-pub returns-in-AddText : goal.returns-in-AddText
-returns-in-AddText c = λ target are. subst (λ k. Reads c.args.dir.now k target c.args.body c.add_text.result) (sym c.in-AddText.is) (c.add_text.ensures target)
+pub returns-in-Bare : goal.returns-in-Bare
+returns-in-Bare c = λ target all are kept.
+    let here = subst (λ body. Represents body all) (sym c.into_kept.ensures ∙ c.in-Bare.is) kept in
+    let says : is_blank all ≡ c.is_blank.result = blank_allows all ∙ ap allows (sym here) ∙ sym c.is_blank.ensures in
+    reads_made c.args.dir.now c.args.kind target all c.read_bare.result (c.read_bare.ensures c.args.dir.now all says target are)
 
-pub returns-in-AddSource : goal.returns-in-AddSource
-returns-in-AddSource c = λ target are. subst (λ k. Reads c.args.dir.now k target c.args.body c.add_source.result) (sym c.in-AddSource.is) (c.add_source.ensures target)
+pub returns-in-Whole : goal.returns-in-Whole
+returns-in-Whole c = λ target all are kept.
+    let here = subst (λ body. Represents body all) (sym c.into_kept.ensures ∙ c.in-Whole.is) kept in
+    let whole = c.into_bytes.ensures.bytes ∙ here in
+    reads_made c.args.dir.now c.args.kind target all c.read_whole.result (subst (λ body. Reads c.args.dir.now c.args.kind target body c.read_whole.result) whole (c.read_whole.ensures target are))
 
-pub returns-in-Import : goal.returns-in-Import
-returns-in-Import c = λ target are. subst (λ k. Reads c.args.dir.now k target c.args.body c.import.result) (sym c.in-Import.is) (c.import.ensures target)
-
-pub returns-in_ok-body-in_default : goal.returns-in_ok-body-in_default
-returns-in_ok-body-in_default c = λ target are.
-    subst (λ body. Reads c.args.dir.now c.args.kind target body c.read_whole.result) (c.deref.ensures.value ∙ c.in_ok-body-in_default.ensures)
-    (c.read_whole.ensures c.in_default.not-AddText c.in_default.not-AddSource c.in_default.not-Import target are)
+pub returns-in-Parted : goal.returns-in-Parted
+returns-in-Parted c = λ target all are kept. c.read_parted.ensures target all (subst (λ body. Represents body all) (sym c.into_kept.ensures ∙ c.in-Parted.is) kept)

@@ -1,7 +1,7 @@
 use Rattle.std.proofs.Common.{◌<◌, [], ◌∷◌, ◌++◌, length, length-append, arith}
 use Rattle.std.proofs.lemmas.Result.{err_from_is_err_and}
 use Rattle.wire_server.proofs.Peers.{takes_more, leaves_more}
-use Rattle.wire_server.proofs.Sofar.{failed_le, failures_le, sofar_start, sofar_still, sofar_more}
+use Rattle.wire_server.proofs.Sofar.{failure_le, failures_le, sofar_start, sofar_still, sofar_more}
 use Rattle.wire_server.proofs.connections.serve_on.Goals as goal
 
 -- src/connections.rt:29:5
@@ -16,7 +16,7 @@ overflow_add-failed g c =
       c.ranges.connections,
       c.connections-test.true,
       c.failures-failed.ensures,
-      failed_le c.serve_peer-close.result,
+      failure_le c.serve_connection-end.result,
       c.connections.invariant.counted,
       c.connections.invariant.failing,
       failures_le c.connections.invariant.sessions,
@@ -35,7 +35,7 @@ returns-in_err-input g c =
 pub connections-preserved : goal.connections-preserved
 connections-preserved g c =
     let accepted = takes_more _ _ _ (g.L.Input.Read.remaining c.in_ok-input.input ∷ []) [] c.in_ok-input.ensures.accepted c.close.ensures.accepted in
-    let left = leaves_more _ _ _ [] (g.L.Output.Write.contents c.serve_peer-close.new.output ∷ []) c.in_ok-input.ensures.left c.close.ensures.left in
-    let more = sofar_more g.A.Responder.answers _ _ _ _ _ _ _ _ _ _ c.connections.invariant _ _ _ _ _ _ _ c.serve_peer-close.result accepted left c.in_ok-input.ensures.fresh
-    c.serve_peer-close.ensures.served c.serve_peer-close.ensures.said in
+    let left = leaves_more _ _ _ [] (g.L.Output.Write.contents c.serve_connection-end.new.output ∷ []) c.in_ok-input.ensures.left c.close.ensures.left in
+    let more = sofar_more g.A.Responder.answers _ _ _ _ _ _ _ _ _ _ c.connections.invariant _ _ _ _ _ _ _ c.serve_connection-end.result accepted left c.in_ok-input.ensures.fresh
+    c.serve_connection-end.ensures.served c.serve_connection-end.ensures.said in
     rw c.failures-failed.ensures more

@@ -1,4 +1,4 @@
-use Rattle.std.proofs.Common.{Err, ◌++◌, ◌∙◌, ap, subst, append_assoc}
+use Rattle.std.proofs.Common.{◌++◌, ◌∙◌, ap, subst, append_assoc}
 use Rattle.std.proofs.KnownBytes.{Consumes-trans}
 use Rattle.std.proofs.lemmas.Result.{err_from_is_err_and}
 use Rattle.wire_server.specs.Arrivals.{Brings}
@@ -12,7 +12,7 @@ returns-in-Message g c =
     let all = ap (λ t. t ++ next.0) head.0.2 ∙ append_assoc c.args.buffer.now.items head.0.0 next.0 in (
       head.0.0 ++ next.0,
       Consumes-trans _ _ _ head.0.0 next.0 head.0.1 next.1,
-      subst (λ t. Brings g.A.Responder.answers g.A.Responder.decides g.A.Body.Keeper.kept g.A.Body.Keeper.may_be c.args.state.now t c.receive_head.new.buffer.items (g.R.Read.remaining c.receive_message.new.input) c.receive_message.result) all next.2,
+      subst (λ t. Brings g.A.Responder.answers g.A.Responder.decides g.A.Body.Keeper.represents c.args.state.now t c.receive_head.new.buffer.items (g.R.Read.remaining c.receive_message.new.input) c.receive_message.result) all next.2,
     )
 
 pub returns-in_err-head : goal.returns-in_err-head
@@ -22,6 +22,5 @@ returns-in_err-head g c =
     rw (p.1, p.2) (
       got.0.0,
       got.0.1,
-      brings_none g.A.Responder.answers g.A.Responder.decides g.A.Body.Keeper.kept g.A.Body.Keeper.may_be c.args.state.now (c.args.buffer.now.items ++ got.0.0) c.receive_head.new.buffer.items (g.R.Read.remaining c.receive_head.new.input) _
-          (λ is. (got.2 (ap (λ e. Err e) is)).1),
+      brings_none g.A.Responder.answers g.A.Responder.decides g.A.Body.Keeper.represents c.args.state.now (c.args.buffer.now.items ++ got.0.0) c.receive_head.new.buffer.items (g.R.Read.remaining c.receive_head.new.input) _,
     )

@@ -1,4 +1,4 @@
-use Rattle.std.proofs.Common.{◌≡◌, sym, subst, ap, ◌∙◌}
+use Rattle.std.proofs.Common.{◌≡◌, sym, subst}
 use Rattle.wire_server.specs.Responses.{replied}
 use Rattle.wire.specs.Courses.{refuses, admits, admission_of}
 use Rattle.wire.proofs.Asked.{refused_by_head}
@@ -10,7 +10,7 @@ returns-in-Admitted g c = λ h is.
     let head = rw c.in-Admitted.is at c.in_ok-endpoint.ensures.decides in
     let has = rw c.in-Admitted.is at c.in_ok-endpoint.ensures.parameters in
     let it = subst (λ s. admits endpoint.caller endpoint.kind ≡ admission_of s h) c.config.ensures (head h is) in
-    ((sym it, has h is), c.body_for-body.ensures)
+    ((sym it, has h is), c.new-body.ensures.empty)
 
 pub returns-in-Refused : goal.returns-in-Refused
 returns-in-Refused g c = λ h is.
