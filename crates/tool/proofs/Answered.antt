@@ -122,12 +122,12 @@ module _ {C : Type 0} (remaining : C → Option (List ℕ)) where
 not_help : (fault : UsageFault) (kind : ErrorKind) → kind ≡ usage_kind fault → (kind ≡ DisplayHelp) ⊎ (kind ≡ DisplayVersion) → ⊥
 not_help NoSubcommand kind is (inl help) = let no : MissingSubcommand ≡ DisplayHelp = sym is ∙ help in cc
 not_help NoSubcommand kind is (inr help) = let no : MissingSubcommand ≡ DisplayVersion = sym is ∙ help in cc
-not_help UnknownAction kind is (inl help) = let no : InvalidValue ≡ DisplayHelp = sym is ∙ help in cc
-not_help UnknownAction kind is (inr help) = let no : InvalidValue ≡ DisplayVersion = sym is ∙ help in cc
-not_help MissingValue kind is (inl help) = let no : MissingRequiredArgument ≡ DisplayHelp = sym is ∙ help in cc
-not_help MissingValue kind is (inr help) = let no : MissingRequiredArgument ≡ DisplayVersion = sym is ∙ help in cc
-not_help ExtraValue kind is (inl help) = let no : TooManyValues ≡ DisplayHelp = sym is ∙ help in cc
-not_help ExtraValue kind is (inr help) = let no : TooManyValues ≡ DisplayVersion = sym is ∙ help in cc
+not_help (UnknownAction of) kind is (inl help) = let no : InvalidValue ≡ DisplayHelp = sym is ∙ help in cc
+not_help (UnknownAction of) kind is (inr help) = let no : InvalidValue ≡ DisplayVersion = sym is ∙ help in cc
+not_help (MissingValue of) kind is (inl help) = let no : MissingRequiredArgument ≡ DisplayHelp = sym is ∙ help in cc
+not_help (MissingValue of) kind is (inr help) = let no : MissingRequiredArgument ≡ DisplayVersion = sym is ∙ help in cc
+not_help (ExtraValue of) kind is (inl help) = let no : TooManyValues ≡ DisplayHelp = sym is ∙ help in cc
+not_help (ExtraValue of) kind is (inr help) = let no : TooManyValues ≡ DisplayVersion = sym is ∙ help in cc
 not_help OwnerOfPermanent kind is (inl help) = let no : ArgumentConflict ≡ DisplayHelp = sym is ∙ help in cc
 not_help OwnerOfPermanent kind is (inr help) = let no : ArgumentConflict ≡ DisplayVersion = sym is ∙ help in cc
 not_help BadLimit kind is (inl help) = let no : ValueValidation ≡ DisplayHelp = sym is ∙ help in cc

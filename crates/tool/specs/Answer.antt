@@ -104,8 +104,7 @@ abbrev pub RunsLine : Doing → Line → Console → Type 0
 RunsLine of_file line console = Answers (Err (Failed NoMemory)) console.written
     ⊎ ((opened : Opened) × (is_some opened ≡ is_some line.config) × AnswersOpened of_file line opened console)
 
--- The fault of the words is that they ask for help. `clap` has a kind for the version too, but the grammar of nixkeep
--- has no such option.
+-- the fault of the words is that they ask for help or for the version
 abbrev pub AsksHelp : CommandError → Type 0
 AsksHelp (Usage fault) = (kind_of fault ≡ DisplayHelp) ⊎ (kind_of fault ≡ DisplayVersion)
 AsksHelp (Misuse fault) = ⊥

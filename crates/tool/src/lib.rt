@@ -23,8 +23,8 @@ pub use report::Refusal;
 pub use sqlite::Unknown;
 pub use tool_pure::{Failure, Stop, Verdict, judge, ls, source_path, text_path, who};
 pub use tool_words::{
-    CommandError, CommandLine, DeleteArguments, GcArguments, NamedRootKind, ObjectArguments,
-    ProfileAction, ProfileArguments, RootArguments, ServeArguments, Task, TempAction,
-    TempArguments, UnrootArguments, Unrooted, UsageFault, command,
+    Acting, CommandError, CommandLine, DeleteArguments, GcArguments, NamedRootKind,
+    ObjectArguments, ProfileAction, ProfileArguments, RootArguments, ServeArguments, Task,
+    TempAction, TempArguments, UnrootArguments, Unrooted, UsageFault, command,
 };
 pub use wire::serve_on;

@@ -4,6 +4,8 @@ use Rattle.std.specs.Option.{option_map_or}
 use Rattle.std.specs.Str.{bytes_eq}
 use Rattle.clap.specs.Walk.{Row, Text}
 use Rattle.paths.specs.Decimal.{decimal_of, generation_number}
+use Rattle.tool_words.specs.declared.error.Acting.{Acting}
+use Rattle.tool_words.specs.declared.error.Acting.TheVariants.{Profile, Temp}
 use Rattle.tool_words.specs.declared.error.UsageFault.{UsageFault}
 use Rattle.tool_words.specs.declared.error.UsageFault.TheVariants.{UnknownAction, MissingValue, ExtraValue, OwnerOfPermanent, BadLimit, ConnectionsWithoutPort}
 use Rattle.tool_words.specs.declared.line.NamedRootKind.{NamedRootKind}
@@ -13,31 +15,31 @@ use Rattle.tool_words.specs.declared.line.ServeArguments.TheVariants.{Streams, P
 use Rattle.tool_words.specs.Asked.{Asked, OnProfile, OnSession, set, rollback, switch, delete_generation, add_temp, end_session, unroot_permanent, unroot_user}
 use Rattle.tool_words.specs.Values.{is_given}
 
--- an action that wants a value
-abbrev pub requiring : {A : Type 0} → (Text → A) → Option Text → Result A UsageFault
-requiring act (Some text) = Ok (act text)
-requiring act None = Err MissingValue
+-- an action of a subcommand that wants a value
+abbrev pub requiring : {A : Type 0} → Acting → (Text → A) → Option Text → Result A UsageFault
+requiring of act (Some text) = Ok (act text)
+requiring of act None = Err (MissingValue of)
 
--- an action that takes none
-abbrev pub without : {A : Type 0} → A → Option Text → Result A UsageFault
-without act (Some text) = Err ExtraValue
-without act None = Ok act
+-- an action of a subcommand that takes none
+abbrev pub without : {A : Type 0} → Acting → A → Option Text → Result A UsageFault
+without of act (Some text) = Err (ExtraValue of)
+without of act None = Ok act
 
 -- an ACTION of `profile` with its VALUE
 abbrev pub on_profile : Text → Option Text → Result OnProfile UsageFault
 on_profile action value =
-    if bytes_eq action (codes "set") then requiring set value
-    else if bytes_eq action (codes "rollback") then without rollback value
-    else if bytes_eq action (codes "switch") then requiring (λ n. switch (generation_number n)) value
-    else if bytes_eq action (codes "delete") then requiring (λ n. delete_generation (generation_number n)) value
-    else Err UnknownAction
+    if bytes_eq action (codes "set") then requiring Profile set value
+    else if bytes_eq action (codes "rollback") then without Profile rollback value
+    else if bytes_eq action (codes "switch") then requiring Profile (λ n. switch (generation_number n)) value
+    else if bytes_eq action (codes "delete") then requiring Profile (λ n. delete_generation (generation_number n)) value
+    else Err (UnknownAction Profile)
 
 -- an ACTION of `temp` with its PATH
 abbrev pub on_session : Text → Option Text → Result OnSession UsageFault
 on_session action path =
-    if bytes_eq action (codes "add") then requiring add_temp path
-    else if bytes_eq action (codes "end") then without end_session path
-    else Err UnknownAction
+    if bytes_eq action (codes "add") then requiring Temp add_temp path
+    else if bytes_eq action (codes "end") then without Temp end_session path
+    else Err (UnknownAction Temp)
 
 -- the kind of a root that is set
 abbrev pub root_kind : List Row → NamedRootKind

@@ -1,6 +1,6 @@
 -- The subcommands and the whole command line as `clap` gets them.
-use Rattle.std.specs.Prelude.{◌≡◌, codes, fold, false}
-use Rattle.clap.specs.Simple.{App, app_of, new_app, with_rule, with_subcommand}
+use Rattle.std.specs.Prelude.{◌≡◌, codes, fold, false, true}
+use Rattle.clap.specs.Simple.{App, app_of, new_app, on_top, with_rule, with_subcommand}
 use Rattle.clap.specs.declared.builder.command.Command.{Command}
 use Rattle.clap.specs.declared.builder.command.Command.TheViews.{out-Command}
 use Rattle.tool_words.specs.declared.verb.Verb.{Verb}
@@ -61,10 +61,14 @@ serve_app =
     with_rule (with_rule (plain_app Serve) (number_option (codes "port") 65535))
     (number_option (codes "connections") 1000000)
 
+-- a command that has a version, so `clap` adds `-V` and `--version`
+abbrev pub with_version : App → App
+with_version = on_top (λ s. record s { has_version = true })
+
 -- `nixkeep`, and the options that come before the subcommand: `[--db FILE] [--config FILE] [--user USER] [--group
 -- GROUP]`
 abbrev pub options_app : App
-options_app = with_rule (with_rule (with_rule (with_rule (new_app (codes "nixkeep"))
+options_app = with_rule (with_rule (with_rule (with_rule (with_version (new_app (codes "nixkeep")))
     (option_named (codes "db"))) (option_named (codes "config"))) (option_named (codes "user")))
     (option_named (codes "group"))
 

@@ -7,9 +7,9 @@ use Rattle.tool_words.specs.declared.error.UsageFault.TheVariants.{NoSubcommand,
 -- the kind of a fault
 abbrev pub usage_kind : UsageFault → ErrorKind
 usage_kind NoSubcommand = MissingSubcommand
-usage_kind UnknownAction = InvalidValue
-usage_kind MissingValue = MissingRequiredArgument
-usage_kind ExtraValue = TooManyValues
+usage_kind (UnknownAction of) = InvalidValue
+usage_kind (MissingValue of) = MissingRequiredArgument
+usage_kind (ExtraValue of) = TooManyValues
 usage_kind OwnerOfPermanent = ArgumentConflict
 usage_kind BadLimit = ValueValidation
 usage_kind ConnectionsWithoutPort = MissingRequiredArgument

@@ -4,7 +4,7 @@ ghost use Rattle.tool_words.specs.Actions as action;
 ghost use Rattle.tool_words.specs.Actions.{on_profile, on_session, limit, served};
 ghost use Rattle.tool_words.specs.Asked.{optional_text, on_profile_view, on_session_view, unroot_view};
 
-use crate::error::UsageFault;
+use crate::error::{Acting, UsageFault};
 use crate::line::{ProfileAction, ServeArguments, TempAction, UnrootArguments, Unrooted};
 use paths::numbers::generation;
 
@@ -19,21 +19,21 @@ pub(crate) fn profile_action<'a>(
     match action {
         "set" => match value {
             Some(path) => Ok(ProfileAction::Set(path)),
-            None => Err(UsageFault::MissingValue),
+            None => Err(UsageFault::MissingValue(Acting::Profile)),
         },
         "rollback" => match value {
-            Some(_) => Err(UsageFault::ExtraValue),
+            Some(_) => Err(UsageFault::ExtraValue(Acting::Profile)),
             None => Ok(ProfileAction::Rollback),
         },
         "switch" => match value {
             Some(number) => Ok(ProfileAction::Switch(generation(number))),
-            None => Err(UsageFault::MissingValue),
+            None => Err(UsageFault::MissingValue(Acting::Profile)),
         },
         "delete" => match value {
             Some(number) => Ok(ProfileAction::Delete(generation(number))),
-            None => Err(UsageFault::MissingValue),
+            None => Err(UsageFault::MissingValue(Acting::Profile)),
         },
-        _ => Err(UsageFault::UnknownAction),
+        _ => Err(UsageFault::UnknownAction(Acting::Profile)),
     }
 }
 
@@ -48,13 +48,13 @@ pub(crate) fn temp_action<'a>(
     match action {
         "add" => match path {
             Some(path) => Ok(TempAction::Add(path)),
-            None => Err(UsageFault::MissingValue),
+            None => Err(UsageFault::MissingValue(Acting::Temp)),
         },
         "end" => match path {
-            Some(_) => Err(UsageFault::ExtraValue),
+            Some(_) => Err(UsageFault::ExtraValue(Acting::Temp)),
             None => Ok(TempAction::End),
         },
-        _ => Err(UsageFault::UnknownAction),
+        _ => Err(UsageFault::UnknownAction(Acting::Temp)),
     }
 }
 

@@ -9,12 +9,19 @@ use crate::verb::{VERBS, Verb};
 use clap::Command;
 use std::alloc::{AllocError, Global};
 
+/// The version: that of the file VERSION at the top of the repository, as the gate checks.
+const VERSION: &str = "1.0.0";
+
+/// What the first line of the help says, with the version.
+const ABOUT: &str = "nixkeep 1.0.0: a multi-user Nix store whose behaviour is proved";
+
 /// `nixkeep` with the options that come before the subcommand.
 fn options<'a>(alloc: Global) -> Result<Command<'a>, AllocError>
     ensures { IfOk result (λ c. app_of c ≡ options_app) }
 {
     Command::new(alloc, "nixkeep")
-        .about("A multi-user Nix store whose behaviour is proved")
+        .about(ABOUT)
+        .version(VERSION)
         .arg(option(
             alloc,
             "db",
@@ -47,6 +54,13 @@ fn subcommand<'a>(alloc: Global, verb: Verb) -> Result<Command<'a>, AllocError>
         Verb::Serve => serve(alloc),
         _ => Ok(plain(alloc, verb)),
     }
+}
+
+/// A subcommand by itself, which names itself as in a command line.
+pub(crate) fn alone<'a>(alloc: Global, verb: Verb) -> Result<Command<'a>, AllocError> {
+    let name = verb.name();
+    let whole = format!(in alloc; "nixkeep {name}")?;
+    subcommand(alloc, verb)?.bin_name(whole.as_str())
 }
 
 /// The command `nixkeep`, with its options and subcommands.

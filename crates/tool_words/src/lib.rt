@@ -12,7 +12,7 @@ mod tasks;
 mod values;
 mod verb;
 
-pub use error::{CommandError, UsageFault};
+pub use error::{Acting, CommandError, UsageFault};
 pub use line::{
     CommandLine, DeleteArguments, GcArguments, NamedRootKind, ObjectArguments, ProfileAction,
     ProfileArguments, RootArguments, ServeArguments, Task, TempAction, TempArguments,

@@ -72,7 +72,12 @@ pub(crate) fn profile<'a>(alloc: Global) -> Result<Command<'a>, AllocError>
             "USER",
             "Whose profile it is [default: the caller's]",
         ))?
-        .arg(required(alloc, "action", "ACTION", "set, rollback, switch or delete"))?
+        .arg(required(
+            alloc,
+            "action",
+            "set|rollback|switch|delete",
+            "What happens to the profile",
+        ))?
         .arg(required(alloc, "name", "NAME", "The name of the profile"))?
         .arg(optional(
             alloc,
@@ -93,7 +98,12 @@ pub(crate) fn temp<'a>(alloc: Global) -> Result<Command<'a>, AllocError>
             "USER",
             "Whose session it is [default: the caller's]",
         ))?
-        .arg(required(alloc, "action", "ACTION", "add or end"))?
+        .arg(required(
+            alloc,
+            "action",
+            "add|end",
+            "What happens to the session's temporary roots",
+        ))?
         .arg(required(
             alloc,
             "session",
