@@ -40,7 +40,7 @@ _nixkeep() {
   done
 
   case $subcommand:$words in
-    :0) offered="$subcommands --db --config --user --group" ;;
+    :0) offered="$subcommands --db --config --user --group --version" ;;
     help:0) offered=$subcommands ;;
     root:*) offered='--permanent' ;;
     unroot:*) offered='--permanent --owner' ;;

@@ -29,6 +29,7 @@ end
 
 complete -c nixkeep -f
 complete -c nixkeep -s h -l help -d 'Print help'
+complete -c nixkeep -n __nixkeep_first -s V -l version -d 'Print the version'
 
 complete -c nixkeep -n __nixkeep_first -l db -r -F -d 'The database of the store'
 complete -c nixkeep -n __nixkeep_first -l config -r -F -d 'The configuration'

@@ -7,6 +7,7 @@ every word is a value. One thing of `nixkeep` is missing: no similar words are s
 POSITIONAL = ("required", "optional", "any", "some")
 HELP = "Print this message or the help of the given subcommand(s)"
 MORE = "For more information, try '--help'."
+SHORT = {"help": "-h", "version": "-V"}
 
 
 class Told(Exception):
@@ -37,10 +38,11 @@ class Line:
 
 
 class Command:
-    """A command, its arguments, and its subcommands by name."""
+    """A command, its arguments, and its subcommands by name. `requests` are its options that ask for a text."""
 
-    def __init__(self, name, about, *arguments, commands=()):
+    def __init__(self, name, about, *arguments, commands=(), has_version=False):
         self.name, self.about, self.arguments = name, about, arguments
+        self.requests = ("help", "version") if has_version else ("help",)
         self.commands = {it.name: it for it in commands}
         self.options = {it.name: it for it in arguments if it.kind not in POSITIONAL}
         self.positional = [it for it in arguments if it.kind in POSITIONAL]
@@ -81,7 +83,7 @@ def usage(command, title, used=None):
         words = ["[OPTIONS]"] * bool(command.options) + ["[COMMAND]"] * bool(command.commands)
     else:
         words = [shown(it) for it in command.options.values() if it.name in used]
-        words += ["--help"] * ("help" in used)
+        words += [f"--{it}" for it in command.requests if it in used]
     return " ".join(["Usage:", title, *words, *map(shown, command.positional)])
 
 
@@ -102,8 +104,17 @@ def help_text(command, title):
         parts.append(f"Commands:\n{columns([*rows, ('help', HELP)])}")
     if command.positional:
         parts.append(f"Arguments:\n{columns([(shown(it), it.about) for it in command.positional])}")
-    parts.append(f"Options:\n{columns([*options, ('-h, --help', 'Print help')])}")
+    requests = [(f"{SHORT[it]}, --{it}", f"Print {it}") for it in command.requests]
+    parts.append(f"Options:\n{columns([*options, *requests])}")
     return Told("\n".join(parts), 0)
+
+
+def answer(command, title, request):
+    """What an option that asks for a text prints."""
+    if request == "help":
+        return help_text(command, title)
+    from . import version
+    return Told(f"{version.line(command.name)}\n", 0)
 
 
 def help_of(top, title, words):
@@ -156,16 +167,16 @@ class Reader:
     def long(self, word):
         """Reads `--NAME`, `--NAME=VALUE`, or the first word of `--NAME VALUE`."""
         name, has_value, value = word[2:].partition("=")
-        found = self.command.options.get(name)
-        if not found and name != "help":
+        found, is_request = self.command.options.get(name), name in self.command.requests
+        if not found and not is_request:
             raise self.unknown(f"--{name}", self.used())
         if self.waiting:
             raise self.lacks()
-        if has_value and (name == "help" or found.kind == "flag"):
+        if has_value and (is_request or found.kind == "flag"):
             line = usage(self.command, self.title, {*self.values, name})
             raise fault(f"unexpected value '{value}' for '--{name}' found; no more were expected", line)
-        if name == "help":
-            raise help_text(self.command, self.title)
+        if is_request:
+            raise answer(self.command, self.title, name)
         if found.kind == "flag":
             self.put(found, True)
         elif has_value:
@@ -174,11 +185,12 @@ class Reader:
             self.waiting = found
 
     def short(self, word):
-        if not word.startswith("-h"):
+        asked = [it for it in self.command.requests if word.startswith(SHORT[it])]
+        if not asked:
             raise self.unknown(word[:2], None)
         if self.waiting:
             raise self.lacks()
-        raise help_text(self.command, self.title)
+        raise answer(self.command, self.title, asked[0])
 
     def value(self, word):
         """Reads a word without a hyphen, and returns whether it is the subcommand."""
@@ -249,13 +261,13 @@ def read(top, title, words):
     reader = Reader(top, title, iter(words))
     name = reader.read()
     if name is None:
-        raise misuse("no subcommand is named", title)
+        raise misuse(top, title, "no subcommand is named")
     own = Reader(top.commands[name], f"{title} {name}", reader.words)
     own.read()
     own.place()
     return Line(reader.values, name, own.values)
 
 
-def misuse(text, title):
-    """The usage error of words that don't go together."""
-    return fault(text, f"Usage: {title} [OPTIONS] [COMMAND]")
+def misuse(command, title, text):
+    """The usage error of words of a command that don't go together."""
+    return fault(text, usage(command, title))

@@ -327,11 +327,6 @@ def run(words, title):
     """Runs a command line, and returns the exit status."""
     is_who = False
     try:
-        if words == ["--version"]:
-            from . import version
-
-            streams.write([f"{version.line('nixkeep-remote')}\n".encode()])
-            return DONE
         line = subcommands.read(words, title)
         is_who = line.name == "who"
         return OWN.get(line.name, store_command)(Asked(line, os.environ))

@@ -2,10 +2,11 @@
 from . import command_line
 from .command_line import Argument, Command, flag, option, optional, required
 
-# Of each ACTION whether it wants a value, and the name of that.
+# The name of the value of an ACTION, how each is written that wants one, and how each that doesn't.
 ACTIONS = {
-    "profile": ({"set": True, "rollback": False, "switch": True, "delete": True}, "value"),
-    "temp": ({"add": True, "end": False}, "path"),
+    "profile": ("value", {"set": "set NAME PATH", "switch": "switch NAME N", "delete": "delete NAME N"},
+                {"rollback": "rollback NAME"}, "set, rollback, switch and delete"),
+    "temp": ("path", {"add": "add SESSION PATH"}, {"end": "end SESSION"}, "add and end"),
 }
 
 
@@ -54,7 +55,7 @@ COMMANDS = (
         "profile",
         "Change a profile: set NAME PATH, rollback NAME, switch NAME N, delete NAME N",
         option("owner", "USER", "Whose profile it is [default: the caller's]"),
-        required("action", "set, rollback, switch or delete"),
+        Argument("action", "required", "set|rollback|switch|delete", "What happens to the profile"),
         required("name", "The name of the profile"),
         optional("value", "A path to set, the number of a generation to switch to or to delete"),
     ),
@@ -62,7 +63,7 @@ COMMANDS = (
         "temp",
         "Change a session's temporary roots: add SESSION PATH, end SESSION",
         option("owner", "USER", "Whose session it is [default: the caller's]"),
-        required("action", "add or end"),
+        Argument("action", "required", "add|end", "What happens to the session's temporary roots"),
         required("session", "The number of the session, 1 to 4,194,304"),
         optional("path", "A path to add"),
     ),
@@ -89,6 +90,7 @@ TOP = Command(
     option("ca", "FILE", "Certificates to trust, in place of the system's [default: $NIXKEEP_CA]"),
     option("store-dir", "DIR", "The store directory of the server [default: $NIXKEEP_STORE_DIR, or /nix/store]"),
     commands=COMMANDS,
+    has_version=True,
 )
 
 
@@ -96,16 +98,23 @@ def misuse_of(line):
     """What is wrong with a line whose words don't go together, or None."""
     values = line.values
     if line.name in ACTIONS:
-        actions, name = ACTIONS[line.name]
-        has_value = name in values
-        if values["action"] not in actions:
-            return "there is no such ACTION"
-        if has_value != actions[values["action"]]:
-            return "the ACTION takes no value" if has_value else "the ACTION wants a value"
+        return misuse_of_action(line.name, values)
     if line.name == "unroot" and "permanent" in values and "owner" in values:
-        return "a permanent root has no owner"
+        return "a permanent root has no owner: either --permanent or --owner is given"
     if line.name == "gc" and "max-freed" in values and not is_decimal(values["max-freed"], 2**64 - 1):
-        return "--max-freed wants a number of bytes in decimal digits"
+        return "--max-freed wants a number of bytes below 2^64, in digits without a leading zero"
+    return None
+
+
+def misuse_of_action(name, values):
+    value, wanting, without, all_of_them = ACTIONS[name]
+    action, has_value = values["action"], value in values
+    if action not in wanting and action not in without:
+        return f"{name} has no such action: it has {all_of_them}"
+    if has_value and action in without:
+        return f"there is a value too many: {', '.join(without.values())}"
+    if not has_value and action in wanting:
+        return f"a value is missing: {', '.join(wanting.values())}"
     return None
 
 
@@ -120,5 +129,5 @@ def read(words, title):
     line = command_line.read(TOP, title, words)
     misuse = misuse_of(line)
     if misuse:
-        raise command_line.misuse(misuse, title)
+        raise command_line.misuse(TOP.commands[line.name], f"{title} {line.name}", misuse)
     return line
