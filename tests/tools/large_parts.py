@@ -339,12 +339,12 @@ def swept(team, path, archive, rng):
     team.start()
     file, size = team.file(unused), team.file(unused).stat().st_size
     same("later it is named", team.tool("sweep", "--dry-run"),
-         (0, [f"would delete {file.name[:52]} {size}", f"swept 1 blobs {size} bytes, kept 3"]))
+         (0, [f"would delete {file.name[:52]} {size}", f"swept 1 blob {size} bytes, kept 3"]))
     check("by a trial that deletes nothing", file.exists())
     said = team.tool("sweep", "--grace", "200000")[1][-1]
     same("a longer grace keeps it", said, "swept 0 blobs 0 bytes, kept 4")
     same("and is deleted", team.tool("sweep"),
-         (0, [f"deleted {file.name[:52]} {size}", f"swept 1 blobs {size} bytes, kept 3"]))
+         (0, [f"deleted {file.name[:52]} {size}", f"swept 1 blob {size} bytes, kept 3"]))
     same("what objects name is there", (file.exists(), team.verify()[0]), (False, 0))
     same("its record comes too late", team.record(some_path(rng, "late"), unused)[0], 400)
     team("build", "DELETE", "/temp/build/4194304")

@@ -4,6 +4,7 @@ import sys
 import tomllib
 
 from . import backup_file, blob_reading, blobs, paths, streams
+from .count_of import count_of
 from .failures import DONE, FAILED, Stop
 from .http_client import Place, Server
 from .progress import Progress
@@ -86,7 +87,7 @@ def verify(said):
     lines = [f"{why} {name} {' '.join(path for path, _ in again.get(name, []))}".rstrip()
              for name, why in faults.items() if name in again or name in there]
     missing = sum(it.startswith("missing") for it in lines)
-    total = f"verified {len(everything)} blobs {sum(there.values())} bytes: {missing} missing, "
+    total = f"verified {count_of(len(everything), 'blob')} {count_of(sum(there.values()), 'byte')}: {missing} missing, "
     total += f"{len(lines) - missing} damaged, {len({*there} - {*by_name})} that no object names"
     streams.write([f"{it}\n".encode() for it in [*lines, total]])
     return FAILED if lines else DONE

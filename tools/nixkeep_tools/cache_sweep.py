@@ -11,6 +11,7 @@ from aiohttp import web
 from . import paths
 from .cache_blobs import say
 from .cache_http import Route, body, reply
+from .count_of import count_of
 
 SWEEP = re.compile(r"/sweep")
 
@@ -61,7 +62,7 @@ class Sweep:
                 yield f"{'would delete' if is_dry else 'deleted'} {blob.name} {blob.size}"
         if not is_dry:
             self.ended(len(found) - count, sum(it.size for it in found) - size)
-        yield f"swept {count} blobs {size} bytes, kept {len(found) - count}"
+        yield f"swept {count_of(count, 'blob')} {count_of(size, 'byte')}, kept {len(found) - count}"
 
     def ended(self, count, size):
         """Remembers a sweep that has left so much. What can't be written is lost at a restart."""

@@ -31,12 +31,11 @@ TEMPLATE = """{% macro path(base) %}
 {% else %}<p>No root reaches it. The next collection deletes it.</p>{% endif %}
 {% else %}
 {% if it.differs %}<p class="notice"
- role="alert">By the server's own listing {{ it.differs }} paths are live that aren't
-  here, or the other way round: the store changed meanwhile, or its settings keep-outputs and keep-derivations are
-  others.</p>{% endif %}
+ role="alert">The server's own listing of live paths differs by {{ many(it.differs, 'path') }}: the store changed
+  meanwhile, or its settings keep-outputs and keep-derivations are others.</p>{% endif %}
 <dl class="sums">{% for word, (count, bytes) in sums %}<div><dt>{{ word }}</dt><dd class="size">{{ size(bytes) }}</dd>
-  <dd>{{ '{:,}'.format(count) }} paths</dd></div>{% endfor %}</dl>
-<p>A collection would free {{ size(sums[1][1][1]) }}: the {{ '{:,}'.format(sums[1][1][0]) }} dead paths.</p>
+  <dd>{{ many(count, 'path') }}</dd></div>{% endfor %}</dl>
+<p>A collection would free {{ size(sums[1][1][1]) }}: {{ many(sums[1][1][0], 'dead path') }}.</p>
 {% if link %}<form action="{{ link }}"><label for="why">Why is this path kept?</label>
 <input id="why" name="why" required autocomplete="off" placeholder="{{ it.store.store_dir }}/..">
 <button>Show</button></form>{% endif %}

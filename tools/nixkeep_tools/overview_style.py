@@ -69,6 +69,7 @@ HEAD = """<!DOCTYPE html>
 <body>
 <a class="skip" href="#main">To the figures</a>
 {% macro size(bytes) %}<abbr title="{{ '{:,}'.format(bytes) }} bytes">{{ bytes|human }}</abbr>{% endmacro %}
+{% macro many(count, word) %}{{ '{:,}'.format(count) }} {{ word }}{{ '' if count == 1 else 's' }}{% endmacro %}
 """
 
 
