@@ -16,7 +16,8 @@ under way, so a collection can't take it. A command that was stopped goes on whe
 EPILOG = """\
 A URL is http://HOST:PORT, https://HOST or unix:/PATH. A PATH is a store path, a base name, or a link to a store path,
 such as ./result. Texts and sources go with their content address, so anybody allowed may push them. Only a trusted
-user may push anything else. Archives above 16,777,216 bytes are refused before anything is sent.
+user may push anything else. An archive above 16,777,216 bytes needs a nixkeep-cache that keeps large ones, and is
+refused elsewhere before anything is sent.
 
 environment: NIXKEEP_SERVER, NIXKEEP_USER, NIXKEEP_CREDENTIALS, NIXKEEP_CREDENTIALS_FILE and NIXKEEP_CA have the same
 meaning as for nixkeep-remote(1)
