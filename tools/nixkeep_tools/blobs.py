@@ -35,8 +35,13 @@ class Parts:
 
     def begin(self):
         os.makedirs(self.folder, mode=0o700, exist_ok=True)
-        for it in os.listdir(self.folder):
-            os.unlink(f"{self.folder}/{it}")
+        # (a link here would have the files of another folder deleted)
+        folder = os.open(self.folder, os.O_RDONLY | os.O_DIRECTORY | os.O_NOFOLLOW)
+        try:
+            for it in os.listdir(folder):
+                os.unlink(it, dir_fd=folder)
+        finally:
+            os.close(folder)
 
     def part(self):
         self.count += 1

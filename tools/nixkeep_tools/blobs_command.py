@@ -45,9 +45,11 @@ def asked(server, *request):
 
 
 def sweep(said):
+    """Asks for a sweep. It fails if a blob couldn't be deleted."""
     lines = [f"grace: {said.grace}"] * (said.grace is not None) + ["dry-run: true"] * said.dry_run
-    streams.write(asked(server_of(said), "POST", "/sweep", "".join(f"{it}\n" for it in [*lines, ""]).encode()).parts())
-    return DONE
+    text = asked(server_of(said), "POST", "/sweep", "".join(f"{it}\n" for it in [*lines, ""]).encode()).text()
+    streams.write([text.encode()])
+    return FAILED if any(it.startswith("failed ") for it in text.splitlines()) else DONE
 
 
 def listed(server):
@@ -60,14 +62,16 @@ def listed(server):
 
 def fault(place, name, wanted):
     """What is wrong with a blob, or None. `wanted` are the figures of its pointers, each with its path."""
-    if place.size(name) is None:
-        return "missing" if wanted else None
     try:
+        if place.size(name) is None:
+            return "missing" if wanted else None
         found = blob_reading.measured(place, name)
     except FileNotFoundError:
         return "missing" if wanted else None
     except blob_reading.Damaged as damaged:
         return str(damaged).replace("blob-damaged", "damaged", 1)
+    except OSError as error:
+        return f"damaged {name} in {place.where}: {error.strerror or error}:"
     return "damaged: its file isn't the one that was put there" if any(it != found for _, it in wanted) else None
 
 

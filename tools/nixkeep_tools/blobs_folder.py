@@ -15,6 +15,16 @@ def synced(folder):
         os.close(number)
 
 
+def locking(name, flags):
+    """The opener of a lock. Whoever may write its folder can't lead it to another file, nor have that cut off."""
+    return os.open(name, flags | os.O_NOFOLLOW | os.O_NONBLOCK, 0o600)
+
+
+def reading(name, flags):
+    """The opener of a blob, which never waits: what isn't a file has no bytes."""
+    return os.open(name, flags | os.O_NONBLOCK)
+
+
 class Folder:
     def __init__(self, folder):
         self.where, self.folder, self.lock = folder, folder.rstrip("/") or "/", None
@@ -26,7 +36,7 @@ class Folder:
 
     def begin(self):
         os.makedirs(self.folder, mode=0o700, exist_ok=True)
-        self.lock = open(f"{self.folder}/lock", "w", opener=lambda name, flags: os.open(name, flags, 0o600))
+        self.lock = open(f"{self.folder}/lock", "ab", opener=locking)
         try:
             fcntl.flock(self.lock, fcntl.LOCK_EX | fcntl.LOCK_NB)
         except BlockingIOError:
@@ -34,8 +44,13 @@ class Folder:
         self.parts.begin()
 
     def answer(self):
-        with open(f"{self.parts.folder}/answer", "wb") as made:
-            os.unlink(made.name)
+        file = f"{self.parts.folder}/answer"
+        with contextlib.suppress(FileNotFoundError):
+            os.unlink(file)
+        with open(file, "xb") as made:
+            os.unlink(file)
+            # (a full disk makes a file, and no byte of it)
+            made.write(b"x")
 
     def put(self, part, name):
         """The file is on the disk before it has the name of a blob, and the name is before this returns."""
@@ -60,8 +75,9 @@ class Folder:
             return os.stat(self.file(name)).st_size
 
     def open(self, name, at=0):
-        opened = open(self.file(name), "rb", buffering=0)
-        opened.seek(at)
+        opened = open(self.file(name), "rb", buffering=0, opener=reading)
+        if at:
+            opened.seek(at)
         return opened
 
     def list(self):
@@ -73,7 +89,7 @@ class Folder:
         for entry in sorted(os.scandir(folder), key=lambda it: it.name):
             if name := blobs.named(f"{folder.name}/{entry.name}"):
                 with contextlib.suppress(FileNotFoundError):
-                    found = entry.stat()
+                    found = entry.stat(follow_symlinks=False)
                     yield blobs.Blob(name, found.st_size, found.st_mtime)
 
     def delete(self, name):
