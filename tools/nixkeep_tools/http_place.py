@@ -22,7 +22,9 @@ class Place:
             return
         found = self.scheme in ("http", "https") and (_plain(rest) or _any(url))
         if not found:
-            raise Stop(f"failed: server: {url}: http://HOST:PORT, https://HOST or unix:/PATH is meant")
+            # (without a password in it)
+            shown = f"{self.scheme}://{rest.rpartition('@')[2]}" if "@" in rest else url
+            raise Stop(f"failed: server: {shown}: http://HOST:PORT, https://HOST or unix:/PATH is meant")
         self.host, self.port, path = found
         self.prefix = path.rstrip("/")
 
