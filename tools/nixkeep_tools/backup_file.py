@@ -54,9 +54,14 @@ def words_of(program, config, *more):
 # ---- a file
 
 
+def fresh(path, flags=os.O_WRONLY | os.O_CREAT | os.O_EXCL):
+    """The number of a new file that only its owner may read; none may be there."""
+    return os.open(path, flags | os.O_NOFOLLOW, 0o600)
+
+
 def create(path):
     """Makes an empty file that only its owner may read; none may be there."""
-    os.close(os.open(path, os.O_WRONLY | os.O_CREAT | os.O_EXCL | os.O_NOFOLLOW, 0o600))
+    os.close(fresh(path))
 
 
 def open_copy(path):
@@ -105,10 +110,13 @@ def ran(words, what):
 
 def rows(path):
     """The number of objects in a file and the bytes of their archives, as its rows have them."""
-    with store_file.open_store(path) as conn:
-        if "object" not in store_file.tables_of(conn):
-            raise Stop(f"failed: test: {path}: it has no table of a store")
-        found = store_file.read_objects(conn)
+    try:
+        with store_file.open_store(path) as conn:
+            if "object" not in store_file.tables_of(conn):
+                raise Stop(f"failed: test: {path}: it has no table of a store")
+            found = store_file.read_objects(conn)
+    except sqlite3.Error as error:
+        raise Stop(f"failed: test: {path}: {reason(error)}") from None
     return len(found), sum(it.size for it in found.values())
 
 

@@ -52,8 +52,8 @@ def put(copy, folder):
     with contextlib.suppress(FileNotFoundError):
         os.unlink(fresh)
     try:
-        backup_file.create(fresh)
-        with open(copy, "rb") as source, open(fresh, "wb") as target:
+        # (opened once: nobody can put a link in its place)
+        with open(copy, "rb") as source, open(fresh, "xb", opener=backup_file.fresh) as target:
             shutil.copyfileobj(source, target)
             os.fchown(target.fileno(), seen.st_uid, seen.st_gid)
         backup_folder.sync(fresh)
@@ -75,6 +75,8 @@ def restore(words):
     config = words.config or f"/etc/nixkeep/{words.name}.toml"
     if not os.path.isdir(folder):
         raise Stop(f"failed: folder: {folder}: there is none; start nixkeep@{words.name} once, which makes it")
+    if os.path.exists(words.copy) and not os.path.isfile(words.copy):
+        raise Stop(f"failed: copy: {words.copy}: it is no file")
     if os.path.exists(f"{words.copy}-wal"):
         raise Stop(f"failed: copy: {words.copy}-wal: a copy is one file, without a log")
     count, size = backup_file.rows(words.copy)
