@@ -6,7 +6,8 @@ after each step every pointer has to name a blob that is there. States that were
 import collections
 
 import parts
-from nixkeep_tools import blob_reading, blobs, cache_blobs, cache_counts, cache_large, cache_server, cache_sweep, paths
+from nixkeep_tools import blob_reading, blobs, cache_blobs, cache_counts, cache_large, cache_server, cache_shares
+from nixkeep_tools import cache_sweep, paths
 from nixkeep_tools.blob_packing import Packed
 
 MADE = Packed(None, bytes(32), 5_000, bytes(32), 4_000)
@@ -55,7 +56,7 @@ class World:
         kept.put = cache_counts.Count()
         self.kept, self.large = kept, cache_large.Large(kept, self, 0, None, "/nix/store")
         self.large.uploads, self.large.checked = self, self.checked
-        self.sweep = cache_sweep.Sweep(kept, self, 3600, 60, "/dev/full/none")
+        self.sweep = cache_sweep.Sweep(kept, self, cache_shares.Shares(None, None), 3600, 60, "/dev/full/none")
 
     async def step(self, work):
         await Wait()
@@ -93,7 +94,7 @@ class World:
                          if it in self.pointers}
         return await self.step(found)
 
-    async def imported(self, caller, base, given, size):
+    async def imported(self, caller, base, given, size, blob):
         await self.step(lambda: self.pointers.add(base))
         return cache_server.Reply(200, "text/plain", base.encode())
 

@@ -117,7 +117,7 @@ def dispatched(parts):
     return answer
 
 
-def large_of(said, server, folder, sending, store):
+def large_of(said, server, folder, sending, shares, store):
     """The part that has large archives, and the one that sweeps them. None without blobs."""
     if not said.blobs:
         return []
@@ -131,7 +131,7 @@ def large_of(said, server, folder, sending, store):
         print(f"nixkeep-cache: {failed}", file=sys.stderr, flush=True)
     kept = Blobs(place, said.blobs_level, sending)
     large = Large(kept, Pointers(server), said.large_from, Stored(f"{folder}/arrived"), store)
-    return [large, Sweep(kept, large.pointers, said.grace, said.idle, f"{folder}/swept.json")]
+    return [large, Sweep(kept, large.pointers, shares, said.grace, said.idle, f"{folder}/swept.json")]
 
 
 def parts_of(said, server, waiting, settings, signing):
@@ -147,7 +147,7 @@ def parts_of(said, server, waiting, settings, signing):
     overviews = Overviews(server, store, keeps, sending, overview_source.name_of(said.config, said.db))
     watched = Watched(said, server, waiting, limit, store)
     followers = [names.deleted, overviews.records.forget, shares.deleted, signing.deleted]
-    own = large_of(said, server, waiting.folder, sending, store)
+    own = large_of(said, server, waiting.folder, sending, shares, store)
     large = own[0] if own else None
     uploads = Uploads(server, names, stored, waiting, sessions, signing, limit, shares, store, said.idle, large)
     passing = Passing(server, names, sessions, limit, shares, sending, followers, said.idle)

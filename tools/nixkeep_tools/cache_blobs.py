@@ -16,8 +16,8 @@ from .blob_reading import Damaged, Gone
 from .cache_counts import Count
 from .cache_http import reply
 
-# The archives that come at once, and the threads that read blobs.
-COMING, READING = 8, 16
+# The archives that come at once, those of one user, and the threads that read blobs.
+COMING, EACH, READING = 12, 8, 16
 # The bytes that one archive on its way to a client has in memory.
 HELD = 3 * blob_reading.PIECE
 # The seconds for which a blob that was there is taken to be there, where a record is asked for.
@@ -37,6 +37,7 @@ class Blobs:
     def __init__(self, place, level, sending):
         self.place, self.level, self.sending = place, level, sending
         self.coming, self.locks = asyncio.Semaphore(COMING), weakref.WeakValueDictionary()
+        self.users = weakref.WeakValueDictionary()
         self.threads = ThreadPoolExecutor(COMING + READING, "blobs")
         self.relied, self.seen, self.put, self.sent, self.asked = {}, {}, Count(), Count(), None
 
@@ -75,10 +76,11 @@ class Blobs:
     # ---- archives that come
 
     @contextlib.asynccontextmanager
-    async def taken(self, compression, pieces):
-        """A file with the blob of an archive that comes in pieces, and its Packed. Raises Bad, Full or OSError."""
-        part = self.place.part()
-        async with self.coming:
+    async def taken(self, user, compression, pieces):
+        """A file with the blob of an archive that comes in pieces, and its Packed. Raises Bad, Full or OSError. The slow
+        uploads of a user leave room for those of others."""
+        part, own = self.place.part(), self.users.setdefault(user, asyncio.Semaphore(EACH))
+        async with own, self.coming:
             try:
                 with self.put.timed():
                     with open(part, "xb", opener=lambda name, flags: os.open(name, flags, 0o600)) as out:

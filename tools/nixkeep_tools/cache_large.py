@@ -87,10 +87,16 @@ class Large:
         digits = cache_records.file_named(name)
         await self.demand_trust(caller)
         compression = next(key for key, it in cache_records.SUFFIXES.items() if name.endswith(f".nar{it}"))
-        async with self.blobs.taken(compression, given) as (part, made):
+        async with self.blobs.taken(caller.user, compression, given) as (part, made):
             if paths.base32(made.sent) != digits:
                 raise Bad(f"nar/{name} has another SHA-256: {paths.nar_hash(made.sent)}")
-            self.arrived.add(name, word_of(await self.blobs.keep(part, made)))
+            self.arrived.add(name, word_of(await self.kept(caller, part, made)))
+
+    async def kept(self, caller, part, made):
+        """Makes a file a blob, which counts for its user until an object names it or a sweep deletes it."""
+        made = await self.blobs.keep(part, made)
+        self.uploads.shares.add(caller.user, paths.base32(made.nar_hash), made.file_size)
+        return made
 
     async def is_large(self, caller, name, record, waiting):
         """Whether the archive of a record is a blob. One that waits as a file becomes one, if it unpacks to more than
@@ -123,7 +129,7 @@ class Large:
             if await self.blobs.size(name) != made.file_size:
                 raise Bad(f"the archive of {base} isn't here any more: upload it again")
             given = with_hash(head, archive) + archive
-            answer = await self.uploads.imported(caller, base, given, made.nar_size)
+            answer = await self.uploads.imported(caller, base, given, made.nar_size, name)
         return passed(answer) if answer.status != 200 else await self.checked(caller, base, pointer, answer)
 
     async def checked(self, caller, base, pointer, answer):
@@ -144,14 +150,14 @@ class Large:
         if head is None:
             return reply(400, "refused: 38 too-large\n")
         cache_changes.note(request, head)
-        return await self.import_pieces(request["caller"], head, again(first, given))
+        return await self.import_pieces(request["caller"], head, again(first, given), request.content_length)
 
     async def import_whole(self, caller, given):
         """The reply to an import with a large archive, or None for another one, which the store does. Raises
         Answered."""
         head, end, archive = given.partition(b"\n\n")
         if len(archive) > self.least:
-            return await self.import_pieces(caller, head + end, again(archive))
+            return await self.import_pieces(caller, head + end, again(archive), len(given))
         self.refuse_pointer(said(head, "ca"), said(head, "path"), archive)
         return None
 
@@ -160,17 +166,22 @@ class Large:
         if not address and pointers.read(archive, paths.full(path.rpartition("/")[2], self.store)):
             raise Answered(reply(403, POINTER))
 
-    async def import_pieces(self, caller, head, given):
+    async def import_pieces(self, caller, head, given, size):
         try:
             base = paths.base_name(said(head, "path"), self.store)
         except paths.Malformed as malformed:
             return reply(400, f"{malformed}\n")
         await self.demand_trust(caller)
-        async with self.blobs.taken("none", given) as (part, made):
+        with self.uploads.shares.room(caller.user, size):
+            made = await self.import_blob(caller, head, given)
+        return await self.imported(caller, base, head, made)
+
+    async def import_blob(self, caller, head, given):
+        """Makes the archive of an import a blob."""
+        async with self.blobs.taken(caller.user, "none", given) as (part, made):
             if said(head, "nar-hash") != paths.nar_hash(made.nar_hash):
                 raise Answered(reply(400, MISMATCH))
-            made = await self.blobs.keep(part, made)
-        return await self.imported(caller, base, head, made)
+            return await self.kept(caller, part, made)
 
     # ---- what is served
 

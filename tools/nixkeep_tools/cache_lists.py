@@ -46,6 +46,15 @@ def connected(file, table):
         raise
 
 
+def add(conn, statement, row):
+    """Adds a row, and returns whether it is new. What can't be written is left out, and a line says so."""
+    try:
+        return conn.execute(statement, row).rowcount > 0
+    except sqlite3.Error as error:
+        warn(f"a row of a list is left out: {error}")
+        return False
+
+
 def delete(conn, statement, rows):
     """Deletes rows in one transaction. What can't be deleted stays, and a line says so: it is tried at the next
     listing."""

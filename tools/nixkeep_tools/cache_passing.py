@@ -61,13 +61,20 @@ class Passing:
         if request.target in ADDS or GROWS.fullmatch(request.target):
             self.limit.check(len(request.body), request.target in ADDS)
         if request.target in ADDS:
-            self.shares.check(request.caller.user, len(request.body))
+            return await self.added(request)
         is_deletion = request.target in DELETES
         answer = await (self.sessions.before(request) if is_deletion else self.server.ask(*request))
-        if answer.status == 200 and request.target in ADDS:
-            self.names.added(answer.text)
-            self.shares.added(request.caller.user, answer.text, len(request.body))
         if answer.status == 200 and is_deletion:
             for it in self.followers:
                 it(answer.text)
+        return answer
+
+    async def added(self, request):
+        """The reply to an add."""
+        user, size = request.caller.user, len(request.body)
+        with self.shares.room(user, size):
+            answer = await self.server.ask(*request)
+            if answer.status == 200:
+                self.names.added(answer.text)
+                self.shares.added(user, answer.text, size)
         return answer

@@ -13,6 +13,8 @@ except ImportError:
 SUFFIXES = {"none": "", "xz": ".xz", "zstd": ".zst"}
 # An archive on its way: the SHA-256 of the file in base 32, and the suffix of its compression.
 FILE = re.compile(r"([0-9abcdfghijklmnpqrsvwxyz]{52})\.nar(\.[0-9a-z]+)?")
+# A SHA-256 in base 32, which is the name of a blob.
+DIGEST = re.compile(r"[0-9abcdfghijklmnpqrsvwxyz]{52}")
 # The memory that one compressed file may ask for.
 ROOM = 128 << 20
 

@@ -1,46 +1,73 @@
 """Shares of a store: how many bytes each user has added, of those that are still there."""
 import collections
+import contextlib
 
-from . import cache_lists
+from . import cache_lists, cache_records
 from .cache_limit import Full
 
 
 class Shares:
-    """A list of who added which object first, in a file of its own. `each` is the most bytes of one user, or None."""
+    """A list of who added which object first, in a file of its own. It has blobs, too, by their names: those that no
+    object names yet. `each` is the most bytes of one user, or None."""
 
     def __init__(self, file, each):
-        self.each, self.conn, self.used = each, None, collections.Counter()
+        self.each, self.conn, self.used, self.coming = each, None, collections.Counter(), collections.Counter()
         if each is None:
             return
         # (what is lost by a power cut counts for nobody)
         self.conn = cache_lists.opened(file, "added (base TEXT PRIMARY KEY, user TEXT, bytes INTEGER) STRICT")
-        self.used.update(dict(self.conn.execute("SELECT user, sum(bytes) FROM added GROUP BY user")))
+        self.count()
 
-    def check(self, user, size):
-        """Raises Full where a user has no room for `size` more bytes."""
-        if self.conn and self.used[user] + size > self.each:
-            used = f"{self.used[user]} of {self.each} bytes are used by {user}"
-            raise Full(f"failed: full {used}: drop roots, and collect\n")
+    def count(self):
+        self.used = collections.Counter(dict(self.conn.execute("SELECT user, sum(bytes) FROM added GROUP BY user")))
+
+    @contextlib.contextmanager
+    def room(self, user, size, blob=None):
+        """Counts bytes as the user's while they come, in the place of those of a blob. Raises Full where there is no
+        room for them."""
+        if not (self.conn and size):
+            yield
+            return
+        used = self.used[user] + self.coming[user] - self.bytes_of(blob, user)
+        if used + size > self.each:
+            raise Full(f"failed: full {used} of {self.each} bytes are used by {user}: drop roots, and collect\n")
+        self.coming[user] += size
+        try:
+            yield
+        finally:
+            self.coming[user] -= size
+
+    def bytes_of(self, base, user):
+        found = self.conn.execute("SELECT bytes FROM added WHERE base = ? AND user = ?", (base, user)).fetchone()
+        return found[0] if found else 0
 
     def added(self, user, text, size):
         """Follows the reply to an add: a path. One that was there before stays that of its user."""
-        if self.conn:
-            row = text.decode().strip().rpartition("/")[2], user, size
-            if self.conn.execute("INSERT OR IGNORE INTO added VALUES (?, ?, ?)", row).rowcount:
-                self.used[user] += size
+        self.add(user, text.decode().strip().rpartition("/")[2], size)
+
+    def add(self, user, base, size):
+        """Counts an object or a blob."""
+        if self.conn and cache_lists.add(self.conn, "INSERT OR IGNORE INTO added VALUES (?, ?, ?)", (base, user, size)):
+            self.used[user] += size
 
     def deleted(self, text):
         """Follows a reply that names the paths which have been deleted, one a line."""
-        if self.conn:
-            self.drop(line.rpartition("/")[2] for line in text.decode().splitlines())
+        self.drop([line.rpartition("/")[2] for line in text.decode().splitlines()])
+
+    def bases(self):
+        return [it for (it,) in self.conn.execute("SELECT base FROM added")] if self.conn else []
+
+    def blobs(self):
+        """The names of the blobs that are counted."""
+        return {it for it in self.bases() if cache_records.DIGEST.fullmatch(it)}
 
     def listed(self, bases):
         """Follows a listing of all paths: what was deleted elsewhere counts no more."""
-        if self.conn:
-            there = set(bases)
-            self.drop([it for (it,) in self.conn.execute("SELECT base FROM added") if it not in there])
+        there = set(bases)
+        self.drop([it for it in self.bases() if it not in there and not cache_records.DIGEST.fullmatch(it)])
 
     def drop(self, bases):
-        for base in bases:
-            for user, size in self.conn.execute("DELETE FROM added WHERE base = ? RETURNING user, bytes", (base,)):
-                self.used[user] -= size
+        """Counts these no more. What can't be written is counted until the next listing or sweep."""
+        if self.conn and bases:
+            cache_lists.delete(self.conn, "DELETE FROM added WHERE base = ?", [(it,) for it in bases])
+            self.count()

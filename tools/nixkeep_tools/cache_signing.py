@@ -149,7 +149,7 @@ class Signing:
         for name in self.trusted.keys() & by_name.keys():
             for it in by_name[name][:TESTED]:
                 if self.is_good(name, message, it):
-                    self.conn.execute("INSERT OR IGNORE INTO signature VALUES (?, ?, ?)", (*row, it))
+                    cache_lists.add(self.conn, "INSERT OR IGNORE INTO signature VALUES (?, ?, ?)", (*row, it))
 
     def is_good(self, name, message, text):
         found = read_form(text)

@@ -9,11 +9,14 @@ import time
 from aiohttp import web
 
 from . import paths
-from .cache_blobs import say
+from .blobs import Failed
+from .cache_blobs import abort, say
 from .cache_http import Route, body, reply
 from .count_of import count_of
 
 SWEEP = re.compile(r"/sweep")
+# The deletions that fail in one sweep, after which it ends: the others would fail, too.
+FAILURES = 20
 
 
 class Sweep:
@@ -21,8 +24,9 @@ class Sweep:
     names it. Pointers are listed after blobs, and asked for again before each deletion. Meanwhile no pointer to that
     blob is imported. A file has when the last sweep ended, and what it has left."""
 
-    def __init__(self, blobs, pointers, grace, idle, file):
-        self.blobs, self.pointers, self.grace, self.idle, self.turn = blobs, pointers, grace, idle, asyncio.Lock()
+    def __init__(self, blobs, pointers, shares, grace, idle, file):
+        self.blobs, self.pointers, self.shares, self.turn = blobs, pointers, shares, asyncio.Lock()
+        self.grace, self.idle = grace, idle
         # The number of blobs and of bytes that sweeps have deleted, and when the last one ended, with the number and
         # the bytes of the blobs that it has left.
         self.deleted, self.bytes, self.file = 0, 0, file
@@ -43,24 +47,40 @@ class Sweep:
             lines = self.lines(request["caller"], grace, bool(found[3]))
             first = await anext(lines)
             await answer.prepare(request)
-            await answer.write(f"{first}\n".encode())
-            async for line in lines:
-                await answer.write(f"{line}\n".encode())
-            await answer.write_eof()
+            try:
+                await answer.write(f"{first}\n".encode())
+                async for line in lines:
+                    await answer.write(f"{line}\n".encode())
+                await answer.write_eof()
+            except BaseException:
+                # (no other reply can follow one that has begun)
+                abort(request.transport)
+                raise
         return answer
 
     async def lines(self, caller, grace, is_dry):
-        """Sweeps, and yields a line for each deletion and a summary. Raises Denied."""
-        before, count, size = time.time() - grace, 0, 0
+        """Sweeps, and yields a line for each deletion, for each one that fails, and a summary. Raises Denied."""
+        before, count, size, failed = time.time() - grace, 0, 0, 0
+        counted, gone = self.shares.blobs(), set()
         found = await self.blobs.apart(lambda: [*self.blobs.place.list()])
         listed = await self.pointers.listed(caller)
         named = {paths.base32(it.nar_hash) for it in (await self.pointers.among(caller, listed)).values()}
         left = [it for it in found if it.since < before and it.name not in named]
         for blob in left:
-            if is_dry or await self.delete(caller, blob, before, {*listed}):
-                count, size = count + 1, size + blob.size
-                yield f"{'would delete' if is_dry else 'deleted'} {blob.name} {blob.size}"
+            try:
+                if is_dry or await self.delete(caller, blob, before, {*listed}):
+                    count, size = count + 1, size + blob.size
+                    gone.add(blob.name)
+                    yield f"{'would delete' if is_dry else 'deleted'} {blob.name} {blob.size}"
+            except (OSError, Failed) as error:
+                say(f"not swept: {blob.name}: {error}")
+                yield f"failed {blob.name}: {error}"
+                if (failed := failed + 1) == FAILURES:
+                    break
         if not is_dry:
+            # (what an object names counts as that object)
+            self.shares.drop([*(counted - ({it.name for it in found} - named - gone))])
+        if not (is_dry or failed):
             self.ended(len(found) - count, sum(it.size for it in found) - size)
         yield f"swept {count_of(count, 'blob')} {count_of(size, 'byte')}, kept {len(found) - count}"
 

@@ -30,13 +30,13 @@ class Uploads:
     async def archive(self, request, name):
         """An archive waits for its record."""
         size = cache_waiting.LONGEST if request.content_length is None else request.content_length
-        self.shares.check(request["caller"].user, size)
-        if self.large and size > self.large.least:
-            await self.large.take(request["caller"], name, pieces(request, self.idle))
+        with self.shares.room(request["caller"].user, size):
+            if self.large and size > self.large.least:
+                await self.large.take(request["caller"], name, pieces(request, self.idle))
+                return reply(201, "")
+            self.limit.check(size)
+            await self.waiting.take(request["caller"].user, name, size, pieces(request, self.idle))
             return reply(201, "")
-        self.limit.check(size)
-        await self.waiting.take(request["caller"].user, name, size, pieces(request, self.idle))
-        return reply(201, "")
 
     async def record(self, request, digits):
         """The archive that waits for this record is imported with what it says."""
@@ -69,17 +69,18 @@ class Uploads:
         del data, archive
         return await self.imported(caller, base, given)
 
-    async def imported(self, caller, base, given, size=None):
+    async def imported(self, caller, base, given, size=None, blob=None):
         """The reply to an import. The session of the user keeps the object before anybody else is served. `size` is
-        that of its archive, where the archive is elsewhere."""
+        that of its archive, where the archive is elsewhere, in a blob."""
         size = len(given) if size is None else size
-        self.limit.check(len(given))
-        self.shares.check(caller.user, size)
-        keeping = self.sessions.keeping(caller, base)
-        answer = (await self.server.asks([Request(caller, "POST", "/import", given), keeping]))[0]
-        if answer.status == 200:
-            self.shares.added(caller.user, answer.text, size)
-            self.names.added(answer.text)
+        with self.shares.room(caller.user, size, blob):
+            self.limit.check(len(given))
+            keeping = self.sessions.keeping(caller, base)
+            answer = (await self.server.asks([Request(caller, "POST", "/import", given), keeping]))[0]
+            if answer.status == 200:
+                self.shares.drop([blob] if blob else [])
+                self.shares.added(caller.user, answer.text, size)
+                self.names.added(answer.text)
         return answer
 
     async def other(self, request):
