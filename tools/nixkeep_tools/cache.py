@@ -1,6 +1,8 @@
 """A binary cache of Nix over a store's server, on Debian's python3-aiohttp."""
 import asyncio
+import collections
 import logging
+import resource
 import sqlite3
 import sys
 import tomllib
@@ -33,6 +35,8 @@ from .notify import notify
 
 # The bytes of large replies that are in memory while clients take them.
 ROOM = 256 << 20
+# The part of the files that a process may open which one user's requests may have: each has a connection.
+PART = 4
 
 
 def caller(request, fixed):
@@ -103,6 +107,26 @@ def admission(server, fixed, is_local, monitor):
     return admitted
 
 
+def fair(most):
+    """A user has at most this number of requests at once, since other users need connections, too."""
+    running = collections.Counter()
+
+    @web.middleware
+    async def counted(request, handler):
+        user = getattr(request.get("caller"), "user", None)
+        if running[user] >= most:
+            return reply(429, f"failed: busy {most} requests of {user} are being answered: try again later\n")
+        running[user] += 1
+        try:
+            return await handler(request)
+        finally:
+            running[user] -= 1
+            if not running[user]:
+                del running[user]
+
+    return counted
+
+
 def dispatched(parts):
     """The handler of all targets. Routes of aiohttp's would undo percent signs in them."""
     routes = [it for part in parts for it in part.routes()]
@@ -162,7 +186,8 @@ async def application(said, server, waiting, settings, signing, is_local):
     fixed = Caller(said.user, said.group) if said.user else None
     parts, sessions, watched = parts_of(said, server, waiting, settings, signing)
     ending, admitted = Ending(), admission(server, fixed, is_local, said.monitor)
-    middlewares = [ending.counted, watched.watching.observed, framed, failures(said.idle), admitted]
+    most = resource.getrlimit(resource.RLIMIT_NOFILE)[0] // (1 if fixed else PART)
+    middlewares = [ending.counted, watched.watching.observed, framed, failures(said.idle), admitted, fair(most)]
     found = web.Application(client_max_size=BODY, middlewares=middlewares)
     found.router.add_route("*", "/{target:.*}", dispatched(parts))
     found.cleanup_ctx.extend([begun(server), expiring(waiting, sessions, watched.day)])
