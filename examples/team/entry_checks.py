@@ -3,9 +3,12 @@ changes."""
 import base64
 import os
 import re
+import shlex
 import socket
 import ssl
 import subprocess
+import time
+from concurrent.futures import ThreadPoolExecutor
 
 import parts
 from parts import body, check, nar, paths, same
@@ -84,6 +87,52 @@ def slow_imports(site):
             waiting += 1
         it.close()
     check("and most of these still wait", waiting >= 7, waiting)
+
+
+def slow_uploads(site):
+    """While eight large uploads of a user come slowly for longer than a minute, one of another user is done, and one
+    more of the first user waits."""
+    trusted, build = ssl.create_default_context(cafile=f"{site.etc}/tls/ca.pem"), site.user("build")
+    login = base64.b64encode(b"build:build-secret").decode()
+    archive, held = nar.regular_file(bytes(200_000)), []
+    name = paths.base32(paths.sha256([archive]))
+    head = f"PUT /nar/{name}.nar HTTP/1.1\r\nhost: red.localhost\r\nauthorization: Basic {login}\r\n"
+    for _ in range(8):
+        plain = socket.create_connection(("127.0.0.1", site.port))
+        held.append(trusted.wrap_socket(plain, server_hostname="red.localhost"))
+        held[-1].sendall(f"{head}content-length: {len(archive)}\r\n\r\n".encode() + archive[:1000])
+    more = nar.regular_file(b"more" * 5_000_000)
+    put = lambda: build("PUT", f"/nar/{paths.base32(paths.sha256([more]))}.nar", more)[0]
+    with ThreadPoolExecutor(1) as pool:
+        ninth = pool.submit(put)
+        for at in range(4):
+            time.sleep(18)
+            for it in held:
+                it.sendall(archive[1000 + at : 1001 + at])
+        check("one more upload waits", not ninth.done())
+        for it in held:
+            it.sendall(archive[1004:])
+        same("and is done once the others are", ninth.result(), 201)
+    same("these are done, too", {it.recv(12) for it in held}, {b"HTTP/1.1 201"})
+    for it in held:
+        it.close()
+
+
+def subjects(site):
+    """Certificates whose subjects have something else than one name and one team, and those of another CA."""
+    folder = f"{site.etc}/tls"
+    openssl = lambda words: subprocess.run(["openssl", *shlex.split(words)], cwd=folder, check=True,
+                                           capture_output=True)
+    openssl("req -x509 -newkey rsa:2048 -nodes -days 1 -subj /O=red/CN=build -keyout foreign.key -out foreign.pem")
+    same("a certificate of another CA", site.user("build", certificate="foreign")("GET", "/paths")[0], 400)
+    for subject in ("/O=red/CN=ann/CN=build", "/O=red/CN=x,O=red", "/O=green/O=red/CN=build", "/CN=build/O=red",
+                    "/O=red+CN=build", "/O=red/CN=b\u00fcild", "/O=red/CN=build/emailAddress=x"):
+        openssl(f"req -newkey rsa:2048 -nodes -utf8 -multivalue-rdn -subj '{subject}' -keyout odd.key -out odd.csr")
+        openssl("x509 -req -in odd.csr -CA ca.pem -CAkey ca.key -CAcreateserial -days 1 -out odd.pem")
+        same(f"the subject {subject} is nobody's", site.user("build", certificate="odd")("GET", "/paths")[0], 401)
+    carol = site.user("carol", certificate="carol")
+    asked = lambda host: carol("GET", "/paths", None, "-H", f"host: {host}")[0]
+    same("a name of another team within a connection", [asked(it) for it in ("green.localhost", "red.evil")], [421] * 2)
 
 
 def forms_of_large(site):
