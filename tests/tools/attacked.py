@@ -1,4 +1,5 @@
 """Tests of nixkeep-cache against who may write its blobs, users who take what others need, and disks that fail."""
+import asyncio
 import contextlib
 import hashlib
 import os
@@ -15,7 +16,7 @@ import cache_store
 import large_parts
 import parts
 from large_stops import archive_of, is_sound, send_half
-from nixkeep_tools import cache_shares
+from nixkeep_tools import cache_records, cache_shares, cache_waiting
 from parts import body, check, nar, paths, same, some_path
 
 TRUSTED = 'allowed-users = ["ann", "bob"]\ntrusted-users = ["build", "carl"]\n'
@@ -215,6 +216,25 @@ def shares(words, rng):
         same("and then it counts no more", team.put(archive_of(rng, 300_000))[0], 201)
 
 
+def late(folder):
+    """An upload that takes longer than archives may wait is refused by name, and leaves nothing."""
+    waiting = cache_waiting.Waiting(f"{folder}/late", 10, 1000, 0.2)
+
+    async def pieces():
+        yield b"x"
+        await asyncio.sleep(0.5)
+        waiting.expire()
+        yield b"y"
+
+    try:
+        asyncio.run(waiting.take("ann", f"{'0' * 52}.nar", 2, pieces()))
+        said = "nothing"
+    except cache_records.Bad as bad:
+        said = str(bad)
+    same("an upload that takes too long", said, f"nar/{'0' * 52}.nar took longer than 0 seconds")
+    same("leaves nothing", (os.listdir(f"{folder}/late"), waiting.files), ([], {}))
+
+
 # ---- a disk that fails
 
 
@@ -242,4 +262,5 @@ def all_of(words):
     crowd(words)
     slow_uploads(words, rng)
     shares(words, rng)
+    late(words.folder)
     unwritten(words.folder)

@@ -87,10 +87,12 @@ class Waiting:
             with open(self.file(key), "xb", opener=lambda file, flags: os.open(file, flags, 0o600)) as out:
                 async for piece in pieces:
                     size += len(piece)
+                    self.demand(key, name)
                     if size > length:
                         raise cache_records.Bad(f"nar/{name} is longer than was said")
                     digest.update(piece)
                     out.write(piece)
+            self.demand(key, name)
             if paths.base32(digest.digest()) != digits:
                 raise cache_records.Bad(f"nar/{name} has another SHA-256: sha256:{paths.base32(digest.digest())}")
             if name in self.files:
@@ -98,7 +100,14 @@ class Waiting:
             self.files[name] = self.files[key]._replace(bytes=size)
             os.rename(self.file(key), self.file(name))
         finally:
-            self.delete(key)
+            # (unless it has expired)
+            if key in self.files:
+                self.delete(key)
+
+    def demand(self, key, name):
+        """Raises Bad for a file that came for so long that its room was given to others."""
+        if key not in self.files:
+            raise cache_records.Bad(f"nar/{name} took longer than {self.seconds:.0f} seconds")
 
     def read(self, name):
         """The bytes of a file that waits. Raises Bad."""
