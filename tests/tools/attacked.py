@@ -17,7 +17,7 @@ import large_parts
 import parts
 from large_stops import archive_of, is_sound, send_half
 from nixkeep_tools import cache_records, cache_shares, cache_waiting
-from parts import body, check, nar, paths, same, some_path
+from parts import body, check, paths, same, some_path
 
 TRUSTED = 'allowed-users = ["ann", "bob"]\ntrusted-users = ["build", "carl"]\n'
 
@@ -94,7 +94,8 @@ def odd_blobs(words, rng):
         file = team.file(archive)
         file.unlink()
         os.mkfifo(file)
-        same("a pipe is no blob", team("ann", "GET", f"/nar/{team.path(archive)[11:]}", None, "--max-time", "60")[0], 502)
+        target = f"/nar/{team.path(archive)[11:]}"
+        same("a pipe is no blob", team("ann", "GET", target, None, "--max-time", "60")[0], 502)
         same("an upload replaces it", team.import_("build", archive, "--max-time", "60")[0], 200)
         is_sound(team, "after a pipe")
         file.unlink()

@@ -72,6 +72,9 @@ def refused(words):
     check("a file that is no store ends the cache", ran.returncode == 3 and "refused: 21" in ran.stderr, ran.stderr)
     ran = run("--nixkeep", words.program, "--config", f"{folder}/store.toml")
     check("so does a wrong configuration", ran.returncode == 3 and "refused: 19" in ran.stderr, ran.stderr)
+    Path(f"{folder}/bytes.toml").write_bytes(b"\xff\xfe")
+    ran = run("--config", f"{folder}/bytes.toml")
+    check("one that is no text is a line", ran.returncode == 1 and ran.stderr.count("\n") == 1, ran.stderr)
     ran = run("--nixkeep", f"{folder}/none")
     check("and a program that isn't there", ran.returncode == 1 and "No such file" in ran.stderr, ran.stderr)
 

@@ -5,7 +5,6 @@ import logging
 import resource
 import sqlite3
 import sys
-import tomllib
 
 from aiohttp import HttpVersion10, HttpVersion11, web
 from aiohttp.http_exceptions import HttpProcessingError
@@ -246,7 +245,7 @@ def main(words=None):
         settings = overview_source.settings(said.config)
         waiting = Waiting(said.waiting, said.waiting_count, said.waiting_bytes, said.waiting_seconds)
         signing = cache_signing.made(said, settings[0])
-    except (OSError, sqlite3.Error, tomllib.TOMLDecodeError, cache_signing.BadKey) as error:
+    except (OSError, sqlite3.Error, ValueError, cache_signing.BadKey) as error:
         sys.exit(f"nixkeep-cache: {error}")
     # A client's malformed head is answered; it is no line for the journal.
     logging.getLogger("aiohttp.server").addFilter(

@@ -77,7 +77,7 @@ class Blobs:
 
     @contextlib.asynccontextmanager
     async def taken(self, user, compression, pieces):
-        """A file with the blob of an archive that comes in pieces, and its Packed. Raises Bad, Full or OSError. The slow
+        """A file with the blob of an archive that comes in pieces, and its Packed. Raises Bad, Full or OSError. Slow
         uploads of a user leave room for those of others."""
         part, own = self.place.part(), self.users.setdefault(user, asyncio.Semaphore(EACH))
         async with own, self.coming:

@@ -3,7 +3,6 @@ import argparse
 import asyncio
 import sqlite3
 import sys
-import tomllib
 
 from . import cache_server, overview_page, overview_source, paths, store_file, version
 from .overview import Overview
@@ -64,7 +63,7 @@ def main(words=None):
                 out.write(text)
         else:
             print(text)
-    except (OSError, sqlite3.Error, tomllib.TOMLDecodeError, KeyError) as error:
+    except (OSError, sqlite3.Error, ValueError, KeyError) as error:
         sys.exit(f"nixkeep-overview: {error}")
     except (overview_source.Denied, overview_source.Unreachable, paths.Malformed, store_file.Locked) as error:
         sys.exit(f"nixkeep-overview: {error}")
