@@ -51,7 +51,7 @@ int fcntl(int fd, int what, ...) {
 }
 #endif
 
-#if defined FAULT_OPEN_TO_ALL || defined FAULT_ANOTHER_FILE
+#if defined FAULT_OPEN_TO_ALL || defined FAULT_ANOTHER_FILE || defined FAULT_OTHERS_FILE
 int open(const char *path, int how, ...) {
   NEXT(open);
   va_list more;
@@ -62,6 +62,12 @@ int open(const char *path, int how, ...) {
   int fd = next(path, how, mode);
   if (fd >= 0 && how & O_CREAT) fchmod(fd, 0666);
   return fd;
+#elif defined FAULT_OTHERS_FILE
+  char name[MOST];
+  snprintf(name, sizeof name, "%s", path);
+  char *own = strstr(name, "/1.db");
+  if (own) own[1] = '0';
+  return next(name, how, mode);
 #else
   char name[MOST];
   size_t size = strlen(path);
