@@ -25,6 +25,8 @@ done
 
 # What compares something in a step of which nothing is wanted.
 COMPARES = re.compile(r"\b(cmp|diff|test|grep|comm)\b|\[\[? |\|\| *echo")
+# A step that only says what a function does.
+FUNCTION = re.compile(r"[\w-]+\(\) \{\s.*\s\}", re.S)
 
 
 class Ran:
@@ -49,7 +51,7 @@ class Step:
 
     def only_prepares(self):
         """Whether nothing is wanted of it but that it says nothing, and it compares nothing."""
-        return not self.wanted and not COMPARES.search(self.command)
+        return not self.wanted and bool(not COMPARES.search(self.command) or FUNCTION.fullmatch(self.command))
 
     def parts(self):
         """The lines of standard output, those of standard error, and the status."""
