@@ -1,17 +1,16 @@
 """Wrong bodies and definitions: which the gate tries, and what a check's refusal of one is worth."""
 import collections
+import functools
 import glob
 import os
 import re
 from pathlib import Path
 
-from tests.lib import functions, program, report
+from tests.lib import days, functions, program, report
 
 SELECTION = "tests/gate/bodies.txt"
 # Edits that change nothing: they have to survive. Those that a check refuses nevertheless, each with the reason.
 EQUAL, EXCUSED = "further/equal", "tests/gate/equal.txt"
-# The days within which the gate tries each edit that it doesn't always try.
-DAYS = 8
 # An error for a name that an edit took away, or for what fell with it: it says nothing of what the body does.
 OF_NAMES = "has no field", "has no goal", "that depend", "that can be named from here"
 # A goal in which nothing is left to prove, which a proof of another shape doesn't fit.
@@ -36,6 +35,7 @@ def sources(crate):
     return {str(it.relative_to(top)): it.read_text(encoding="utf-8") for it in top.glob("src/**/*") if it.is_file()}
 
 
+@functools.cache
 def further(crate, folder="further"):
     """The further edits of a crate, in the order of their names."""
     texts = sources(crate)
@@ -48,19 +48,53 @@ def selected():
     return [tuple(it) for line in lines if (it := line.partition("#")[0].split())]
 
 
-def of_day(day):
-    """The other edits of bodies that the gate tries on a day: pairs of a crate and a name. Each has one of eight days,
-    and those of one function come on days one after another, since a check tries one edit of each function."""
+@functools.cache
+def others():
+    """The edits of bodies that the gate doesn't always try: pairs of a crate and a name. Those of one function are
+    neighbours, since a check tries one edit of each function."""
     always = {*selected()}
     found = [(crate, it.functions, it.name) for crate in having() for it in further(crate)
              if it.is_of_bodies() and (crate, it.name) not in always]
-    return {(crate, name) for at, (crate, _, name) in enumerate(sorted(found)) if at % DAYS == day % DAYS}
+    return [(crate, name) for crate, _, name in sorted(found)]
 
 
-def having_equal(day=None):
-    """The crates that have edits which change nothing; where a day is given those that the gate tries on it."""
-    found = [it for it in having() if glob.glob(f"{program.HERE}/crates/{it}/{EQUAL}/*.edit")]
-    return [it for at, it in enumerate(found) if day is None or at % DAYS == day % DAYS]
+def of_day(day):
+    """Those of them that the gate tries on a day."""
+    return days.of_day(others(), day)
+
+
+@functools.cache
+def definitions():
+    """The edits of definitions and constants that are tried together: lists of pairs of a crate and a name. A crate is
+    proved once for all of its own, so these come together. Those that change a crate below come alone, in the order of
+    these crates."""
+    own, below = {}, []
+    for crate, it in [(crate, it) for crate in having() for it in further(crate) if not it.is_of_bodies()]:
+        if changed := {*crates_below(it)}:
+            below.append((sorted(changed), crate, it.name))
+        else:
+            own.setdefault(crate, []).append((crate, it.name))
+    return [*own.values(), *([(crate, name)] for _, crate, name in sorted(below))]
+
+
+def crates_below(edit):
+    """The crates below its own that an edit changes."""
+    return [file.split("/")[1] for file, _, _ in edit.pairs if file.startswith("../")]
+
+
+def definitions_of_day(day):
+    """Those that the gate tries on a day: pairs of a crate and a name."""
+    return [it for together in days.of_day(definitions(), day) for it in together]
+
+
+def having_equal():
+    """The crates that have edits which change nothing."""
+    return [it for it in having() if glob.glob(f"{program.HERE}/crates/{it}/{EQUAL}/*.edit")]
+
+
+def equal_of_day(day):
+    """Those of them whose control the gate tries on a day."""
+    return days.of_day(having_equal(), day)
 
 
 def having(names=()):

@@ -27,6 +27,15 @@ LONGEST = [TEAM, "tools/test_cache", "gate/cases", "tools/test_remote", "tools/t
            "compare/nix_store", "compare/sqlite", "tools/test_explain", "tools/test_backup", "tools/test_overview"]
 # What more is tried in the gate, where the proofs take longer anyway.
 MORE = {"compare/model": ["--count", "20000"]}
+# What only the gate tries, since it takes minutes, or has itself what `rt ci` has built: whether it is given the
+# program, and its words.
+OF_GATE = {
+    "package/clean_machine": (True, []),
+    "gate/sabotage": (True, ["--today", "--jobs", "1"]),
+    "gate/launched": (False, []),
+    "gate/by_rattle": (False, []),
+    "gate/refused": (False, []),
+}
 # What is tried of a script that takes minutes, where five minutes are to be taken for all.
 SHORT = {
     "tools/test_remote": ["--count", "20"],
@@ -83,13 +92,18 @@ def of_program(given, is_whole=False):
     return [Part(it, given, [*bounded.get(it, []), *more.get(it, [])]) for it in found]
 
 
+def of_gate(given):
+    """The parts that only the gate runs: those that take longest first."""
+    return [Part(it, given if needs_program else {}, more) for it, (needs_program, more) in OF_GATE.items()]
+
+
 def side_by_side(found, begun=()):
     """Runs parts side by side, and prints what each printed when it has ended; returns the runs. `begun` are more
     calls, which begin first and are printed last."""
     runs.compile_modules(os.path.dirname(TESTS))
     processors = len(os.sched_getaffinity(0))
     # (most of them wait now and then, but not the wrong bodies)
-    with ThreadPoolExecutor(1 + processors if begun else 2 * processors) as pool:
+    with ThreadPoolExecutor(len(begun) + processors if begun else 2 * processors) as pool:
         first = [pool.submit(it) for it in begun]
         others = [pool.submit(it.run) for it in found]
         for it in [*others, *first]:

@@ -4,11 +4,13 @@ import shutil
 import subprocess
 from pathlib import Path
 
-from tests.lib import program, report
+from tests.lib import days, program, report
 from tests.lib.tracked import copy_to
 
 FOLDER = f"{program.HERE}/tests/sabotage"
-TABLE = f"{FOLDER}/faults.txt"
+TABLE, COSTS = f"{FOLDER}/faults.txt", f"{FOLDER}/costs.txt"
+# The processor seconds of a part that has no line in the file of these.
+UNKNOWN = 20
 KEYS = ("file", "old", "new", "gone", "mode", "first", "bytes", "become", "ahead", "part", "excused")
 STRICT = ["-O1", "-Wall", "-Wextra", "-Werror"]
 
@@ -42,6 +44,41 @@ def table():
                 report.fail(f"{TABLE}: {name}: two faults of one name")
             found[name] = []
     return [Fault(*it) for it in found.items()]
+
+
+# ---- days
+
+
+def costs():
+    """The processor seconds of each part, as the file has them."""
+    lines = [it for it in Path(COSTS).read_text().splitlines() if not it.startswith("#")]
+    return {tuple(part.split()): float(seconds) for seconds, _, part in (it.partition(": ") for it in lines)}
+
+
+def write_costs(found):
+    """Writes the processor seconds of each part: those of these parts anew."""
+    kept = [it for it in Path(COSTS).read_text().splitlines() if it.startswith("#")]
+    rows = sorted({**costs(), **found}.items(), key=lambda it: -it[1])
+    Path(COSTS).write_text("\n".join([*kept, *(f"{seconds:.1f}: {' '.join(part)}" for part, seconds in rows), ""]))
+
+
+def by_days():
+    """The faults of each of the days, in the order of the table. A day runs each of its parts without a fault too, so
+    faults of one part come together as long as no day takes longer than others; those that take most are placed
+    first."""
+    known, every = costs(), table()
+    cost = lambda it: known.get(tuple(it.part), UNKNOWN)
+    taken, found = [0] * days.DAYS, [[] for _ in range(days.DAYS)]
+    for fault in sorted(every, key=lambda it: (-cost(it), it.part)):
+        more = [cost(fault) * (1 if any(it.part == fault.part for it in on) else 2) for on in found]
+        at = min(range(days.DAYS), key=lambda it: taken[it] + more[it])
+        taken[at] += more[at]
+        found[at].append(fault)
+    return [[it for it in every if it in on] for on in found]
+
+
+def of_day(day):
+    return by_days()[day % days.DAYS]
 
 
 # ---- a copy of the repository
