@@ -31,7 +31,6 @@ MORE = {"compare/model": ["--count", "20000"]}
 # program, and its words.
 OF_GATE = {
     "package/clean_machine": (True, []),
-    "gate/sabotage": (True, ["--today", "--jobs", "1"]),
     "gate/launched": (False, []),
     "gate/by_rattle": (False, []),
     "gate/refused": (False, []),
