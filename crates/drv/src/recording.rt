@@ -61,8 +61,8 @@ fn outcome(alloc: Global, text: &[u8], dir: &StoreDir) -> Result<Vec<(String, St
 ///
 /// # Errors
 ///
-/// `BadDerivation` exactly if the text isn't such a text; `DoubleOutput` exactly if it is and two outputs share a name,
-/// also if their paths are empty; `Memory` if memory was refused, which says nothing about the text.
+/// `BadDerivation` if and only if the text isn't such a text; `DoubleOutput` if and only if it is and two outputs share
+/// a name, also if their paths are empty; `Memory` if memory was refused, which says nothing about the text.
 pub fn outputs(
     alloc: Global,
     text: &[u8],

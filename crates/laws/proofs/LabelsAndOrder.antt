@@ -41,7 +41,11 @@ not_greater Equal b e f = cc
 not_greater Greater b e f = cc
 
 may_follow : (j k : Kind) → (nat_cmp (place j) (place k) ≡ Greater → ⊥) → MayFollow j k
-may_follow permanent k h = tt
+may_follow permanent permanent h = tt
+may_follow permanent user h = tt
+may_follow permanent profile h = tt
+may_follow permanent runtime h = tt
+may_follow permanent temporary h = tt
 may_follow user permanent h = absurd (h refl)
 may_follow user user h = tt
 may_follow user profile h = tt

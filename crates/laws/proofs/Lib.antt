@@ -6,6 +6,7 @@ pub mod Changed
 pub mod Collecting
 pub mod Cycles
 pub mod Deleted
+pub mod DiskUse
 pub mod Failing
 pub mod Faults
 pub mod FaultyObjects

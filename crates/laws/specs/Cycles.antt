@@ -1,5 +1,5 @@
--- The law of a collection up to a limit where references make a cycle: the least dead path left is deleted with all
--- that reach it.
+-- The law of a collection up to a limit where references make a cycle: the first dead path left, in path order, is
+-- deleted with all that reach it.
 use Rattle.std.specs.Prelude.{◌≡◌, ◌<◌, ◌↔◌, Bool, List, length, Some, IsTrue, Contains}
 use Rattle.std.specs.List.Sorted.{IsStrictlySortedBy}
 use Rattle.std.specs.declared.cmp.Ordering.TheVariants.{Less}

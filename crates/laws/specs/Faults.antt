@@ -4,7 +4,7 @@ use Rattle.paths.specs.Names.{is_plain_name}
 use Rattle.model.specs.World.{Path, World, has}
 use Rattle.policy.specs.Settings.{Settings}
 use Rattle.policy.specs.Caller.{Caller}
-use Rattle.model.specs.Request.{Request, set_permanent, drop_permanent, set_user_root, drop_user_root, set_profile, rollback, switch, delete_generation, add_temp, end_session, delete}
+use Rattle.model.specs.Request.{Request, add_text, add_source, import_object, info, nar, ls, list, list_live, list_dead, list_roots, list_roots_of, set_permanent, drop_permanent, set_user_root, drop_user_root, set_profile, rollback, switch, delete_generation, replace_runtime, add_temp, end_session, collect, delete, report}
 use Rattle.model.specs.Reply.{Reply, Answer, done, denied, refused, failed}
 use Rattle.model.specs.declared.refusal.Refusal.{Refusal}
 use Rattle.model.specs.declared.refusal.Refusal.TheVariants.{BadRootName, BadSession, NotValid, NoProfile}
@@ -62,7 +62,21 @@ HasBadName (switch owner name n) = IsFalse (is_plain_name owner) ⊎ IsFalse (is
 HasBadName (delete_generation owner name n) = IsFalse (is_plain_name owner) ⊎ IsFalse (is_plain_name name)
 HasBadName (add_temp owner session p) = IsFalse (is_plain_name owner)
 HasBadName (end_session owner session) = IsFalse (is_plain_name owner)
-HasBadName _ = ⊥
+HasBadName (add_text name refs contents) = ⊥
+HasBadName (add_source name refs b) = ⊥
+HasBadName (import_object i) = ⊥
+HasBadName (info p) = ⊥
+HasBadName (nar p) = ⊥
+HasBadName (ls p) = ⊥
+HasBadName list = ⊥
+HasBadName list_live = ⊥
+HasBadName list_dead = ⊥
+HasBadName list_roots = ⊥
+HasBadName (list_roots_of p) = ⊥
+HasBadName (replace_runtime pairs) = ⊥
+HasBadName (collect ignores limit) = ⊥
+HasBadName (delete named ignores) = ⊥
+HasBadName report = ⊥
 
 -- the names are plain, and there is no profile of them
 pub record IsNoProfile (w : World) (owner name : List ℕ) : Type 0 where
@@ -75,7 +89,28 @@ abbrev pub HasNoProfile : World → Request → Type 0
 HasNoProfile w (rollback owner name) = IsNoProfile w owner name
 HasNoProfile w (switch owner name n) = IsNoProfile w owner name
 HasNoProfile w (delete_generation owner name n) = IsNoProfile w owner name
-HasNoProfile w _ = ⊥
+HasNoProfile w (add_text name refs contents) = ⊥
+HasNoProfile w (add_source name refs b) = ⊥
+HasNoProfile w (import_object i) = ⊥
+HasNoProfile w (info p) = ⊥
+HasNoProfile w (nar p) = ⊥
+HasNoProfile w (ls p) = ⊥
+HasNoProfile w list = ⊥
+HasNoProfile w list_live = ⊥
+HasNoProfile w list_dead = ⊥
+HasNoProfile w list_roots = ⊥
+HasNoProfile w (list_roots_of p) = ⊥
+HasNoProfile w (set_permanent name p) = ⊥
+HasNoProfile w (drop_permanent name) = ⊥
+HasNoProfile w (set_user_root owner name p) = ⊥
+HasNoProfile w (drop_user_root owner name) = ⊥
+HasNoProfile w (set_profile owner name p) = ⊥
+HasNoProfile w (replace_runtime pairs) = ⊥
+HasNoProfile w (add_temp owner session p) = ⊥
+HasNoProfile w (end_session owner session) = ⊥
+HasNoProfile w (collect ignores limit) = ⊥
+HasNoProfile w (delete named ignores) = ⊥
+HasNoProfile w report = ⊥
 
 -- what a call that the rules allow is refused with, unless it fails
 abbrev pub IsRefusedWith : Refusal → Reply → Type 0

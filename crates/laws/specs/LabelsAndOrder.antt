@@ -25,12 +25,21 @@ pub record AreLabelled : Type 0 where
 -- a root of the second kind may come after one of the first: permanent roots come first, then user roots, profiles,
 -- runtime roots, and temporary roots last
 abbrev pub MayFollow : Kind → Kind → Type 0
-MayFollow permanent next = Unit {0}
+MayFollow permanent permanent = Unit {0}
+MayFollow permanent user = Unit {0}
+MayFollow permanent profile = Unit {0}
+MayFollow permanent runtime = Unit {0}
+MayFollow permanent temporary = Unit {0}
 MayFollow user permanent = ⊥
-MayFollow user _ = Unit {0}
+MayFollow user user = Unit {0}
+MayFollow user profile = Unit {0}
+MayFollow user runtime = Unit {0}
+MayFollow user temporary = Unit {0}
 MayFollow profile permanent = ⊥
 MayFollow profile user = ⊥
-MayFollow profile _ = Unit {0}
+MayFollow profile profile = Unit {0}
+MayFollow profile runtime = Unit {0}
+MayFollow profile temporary = Unit {0}
 MayFollow runtime runtime = Unit {0}
 MayFollow runtime temporary = Unit {0}
 MayFollow runtime _ = ⊥

@@ -3,6 +3,7 @@ pub mod AddOrder
 pub mod Changes
 pub mod CutArchives
 pub mod Cycles
+pub mod DiskUse
 pub mod Faults
 pub mod FaultyPieces
 pub mod FaultyRoots

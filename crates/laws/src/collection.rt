@@ -32,7 +32,7 @@ pub fn limits_count_bytes()
 {}
 
 /// Where no references make a cycle, a collection up to a limit takes one path after another, each after all that refer
-/// to it. Where they make one, it takes the least dead path left with all that reach it by references.
+/// to it. Where they make one, it takes the first dead path left, in path order, with all that reach it by references.
 pub fn referrers_are_deleted_first()
     ensures one_by_one { ReferrersAreDeletedFirst }
     ensures cycles { CyclesAreDeletedByTheLeast }

@@ -4,6 +4,7 @@ ghost use Rattle.laws.specs.Reliance.{NobodyPlants, NothingIsReplaced, RootsAreT
 ghost use Rattle.model.specs.Request.{collect, delete};
 ghost use Rattle.laws.specs.Planting.{NobodyPlantsInRuns};
 ghost use Rattle.laws.specs.Operations.{PlainRequestsOnlyAdd, ReadsAndAddsAlonePlain};
+ghost use Rattle.laws.specs.DiskUse.{DiskIsUsedForAReason};
 ghost use Rattle.laws.specs.Others.{OthersOnlyLose, OwnersMay, TrustedMay};
 ghost use Rattle.laws.specs.Permissions.{AllMayAsk, NobodyIgnoresLiveness};
 
@@ -42,4 +43,10 @@ pub fn owners_are_respected()
 pub fn each_change_has_an_operation()
     ensures own { ReadsAndAddsAlonePlain }
     ensures changes { PlainRequestsOnlyAdd }
+{}
+
+/// A request that only reads, and asks for no archive, is answered from memory alone, so it can't fail for the disk.
+/// What puts rows neither reads alone nor deletes alone, so nothing else can fail for a size or for want of a rowid.
+pub fn the_disk_is_used_for_a_reason()
+    ensures { DiskIsUsedForAReason }
 {}

@@ -14,11 +14,11 @@ refers g q p = not (same q p) && is_edge references_only g q p
 abbrev pub is_referred_to : Graph → List Path → Path → Bool
 is_referred_to g left p = list_any (λ q. refers g q p) left
 
--- the least dead path left to which no other path left refers
+-- the first dead path left, in path order, to which no other path left refers
 abbrev pub next_unreferred : Graph → (Path → Bool) → List Path → Option (List Path)
 next_unreferred g dead left = option_map (λ p. p ∷ []) (find (λ p. dead p && not (is_referred_to g left p)) left)
 
--- the least dead path left, and all left that reach it by references
+-- the first dead path left, in path order, and all left that reach it by references
 abbrev pub next_with_referrers : Graph → (Path → Bool) → List Path → Option (List Path)
 next_with_referrers g dead left = option_map (λ p. filter (λ q. reaches references_only g q p) left) (find dead left)
 

@@ -107,7 +107,7 @@ impl Remaining {
         Ok(())
     }
 
-    /// The least dead path left to which no other path left refers.
+    /// The first dead path left, in path order, to which no other path left refers.
     pub(crate) fn next_unreferred(&mut self, graph: &Graph) -> Option<usize>
         requires { IsRemaining graph.now nothing_owed self.old }
         ensures same { StaysLeft graph.now self.old self.new }
@@ -124,7 +124,7 @@ impl Remaining {
         None
     }
 
-    /// The least dead path left.
+    /// The first dead path left, in path order.
     pub(crate) fn least_dead(&self) -> Option<usize>
         requires { length self.now.dead ≡ length self.now.left }
         ensures some { IfSome result (IsLeastDead self.now) }

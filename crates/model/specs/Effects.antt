@@ -6,7 +6,7 @@ use Rattle.paths.specs.Root.{Set, set_of}
 use Rattle.model.specs.World.{Path, Pair, pair_cmp, Profile, Temporary, temporary_cmp, World, has}
 use Rattle.live.specs.Graph.{same, holds}
 use Rattle.policy.specs.Settings.{Settings}
-use Rattle.model.specs.Request.{Request, add_text, add_source, import_object, set_permanent, drop_permanent, set_user_root, drop_user_root, set_profile, rollback, switch, delete_generation, replace_runtime, add_temp, end_session, collect, delete}
+use Rattle.model.specs.Request.{Request, add_text, add_source, import_object, info, nar, ls, list, list_live, list_dead, list_roots, list_roots_of, set_permanent, drop_permanent, set_user_root, drop_user_root, set_profile, rollback, switch, delete_generation, replace_runtime, add_temp, end_session, collect, delete, report}
 use Rattle.model.specs.Liveness.{lives, collected_paths, is_deleted_with}
 use Rattle.model.specs.Adds.{Added, added_text, added_source, added_import}
 use Rattle.model.specs.Profiles.{profile_at, set_to, switched, rolled_back, without_generation}
@@ -77,4 +77,12 @@ effect s w (end_session owner session) = without_session w owner session
 effect s w (collect ignores None) = keeping w (lives s w)
 effect s w (collect ignores (Some limit)) = keeping w (λ p. not (holds (collected_paths s w (Some limit)) p))
 effect s w (delete named ignores) = keeping w (λ p. not (is_deleted_with w named p))
-effect s w q = w
+effect s w (info p) = w
+effect s w (nar p) = w
+effect s w (ls p) = w
+effect s w list = w
+effect s w list_live = w
+effect s w list_dead = w
+effect s w list_roots = w
+effect s w (list_roots_of p) = w
+effect s w report = w

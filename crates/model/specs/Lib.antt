@@ -1,6 +1,7 @@
 pub mod Adds
 pub mod Answers
 pub mod Collection
+pub mod Disk
 pub mod Effects
 pub mod Entries
 pub mod Faults

@@ -1,7 +1,7 @@
 -- Roots as a caller sees them.
 use Rattle.std.specs.Prelude.{ℕ, Bool, true, false, not, ◌&&◌, if◌then◌else◌, List, [], ◌∷◌, map, codes}
 use Rattle.std.specs.List.{filter}
-use Rattle.paths.specs.Root.{Kind, runtime, temporary, Root}
+use Rattle.paths.specs.Root.{Kind, permanent, user, profile, runtime, temporary, Root}
 use Rattle.live.specs.Graph.{same}
 use Rattle.model.specs.World.{Pair}
 use Rattle.policy.specs.declared.kinds.Class.{Class}
@@ -15,7 +15,9 @@ plain r = (r.label, r.target)
 abbrev pub is_hidden : Kind → Bool
 is_hidden runtime = true
 is_hidden temporary = true
-is_hidden _ = false
+is_hidden permanent = false
+is_hidden user = false
+is_hidden profile = false
 
 -- what replaces a hidden label
 abbrev pub hidden_label : List ℕ

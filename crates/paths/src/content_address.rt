@@ -111,7 +111,7 @@ impl Ca {
     ///
     /// # Errors
     ///
-    /// `BadCa` exactly if the text isn't an address; `Memory` if memory was refused.
+    /// `BadCa` if and only if the text isn't an address; `Memory` if memory was refused.
     pub fn parse(alloc: Global, text: &str) -> Result<Ca, CaError>
         ensures ok { IfOk result (λ ca. address_of text.now ≡ Some ca) }
         ensures bad { IfErr result (λ e. (e ≡ CaError.Memory) ⊎ ((e ≡ CaError.BadCa) × (address_of text.now ≡ None))) }
@@ -244,9 +244,9 @@ impl Ca {
     ///
     /// # Errors
     ///
-    /// `CaMismatch` exactly if the digest differs from that of the contents (of a text) or the archive (of a source),
-    /// the path differs from the one made of them, or the address is of a text and `nar` isn't the archive of a regular
-    /// file that isn't executable; `Memory` if memory was refused.
+    /// `CaMismatch` if and only if the digest differs from that of the contents (of a text) or the archive (of a
+    /// source), the path differs from the one made of them, or the address is of a text and `nar` isn't the archive of
+    /// a regular file that isn't executable; `Memory` if memory was refused.
     pub fn verify(
         &self,
         alloc: Global,
@@ -285,7 +285,7 @@ impl Ca {
     ///
     /// # Errors
     ///
-    /// `CaMismatch` exactly if `verify` returns it for the archive; `Memory` if memory was refused.
+    /// `CaMismatch` if and only if `verify` returns it for the archive; `Memory` if memory was refused.
     pub fn verify_facts(
         &self,
         alloc: Global,

@@ -19,13 +19,13 @@ pub fn computed_paths_are_base_names()
     ensures source { SourcePathsAreBaseNames }
 {}
 
-/// A text is a content address exactly if it is the text of that address.
+/// A text is a content address if and only if it is the text of that address.
 pub fn an_address_has_one_text()
     ensures { OneAddressText }
 {}
 
-/// The test of a content address passes exactly if the address fits the object. It passes for the address that a text
-/// or source object gets, at its computed path.
+/// The test of a content address passes if and only if the address fits the object. It passes for the address that a
+/// text or source object gets, at its computed path.
 pub fn addresses_verify_exactly()
     ensures exact { VerifyingIsExact }
     ensures text { TextAddressesVerify }

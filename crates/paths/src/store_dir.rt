@@ -83,7 +83,7 @@ impl StoreDir {
     ///
     /// # Errors
     ///
-    /// `BadStoreDir` exactly if the text isn't a store directory; `Memory` if memory was refused.
+    /// `BadStoreDir` if and only if the text isn't a store directory; `Memory` if memory was refused.
     pub fn parse(alloc: Global, text: &str) -> Result<StoreDir, StoreDirError>
         ensures ok { IfOk result (λ d. (d ≡ text.now) × (is_store_dir text.now ≡ true)) }
         ensures bad { (result ≡ Err StoreDirError.BadStoreDir) ↔ (is_store_dir text.now ≡ false) }

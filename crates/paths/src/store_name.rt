@@ -94,7 +94,7 @@ impl Name {
     ///
     /// # Errors
     ///
-    /// `BadStoreName` exactly if the text isn't a store name; `Memory` if memory was refused.
+    /// `BadStoreName` if and only if the text isn't a store name; `Memory` if memory was refused.
     pub fn parse(alloc: Global, text: &str) -> Result<Name, NameError>
         ensures ok { IfOk result (λ n. (n ≡ text.now) × (is_store_name text.now ≡ true)) }
         ensures bad { (result ≡ Err NameError.BadStoreName) ↔ (is_store_name text.now ≡ false) }

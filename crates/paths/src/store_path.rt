@@ -96,7 +96,7 @@ impl StorePath {
     ///
     /// # Errors
     ///
-    /// `BadStorePath` exactly if the text is neither; `Memory` if memory was refused.
+    /// `BadStorePath` if and only if the text is neither; `Memory` if memory was refused.
     pub fn parse(alloc: Global, dir: &StoreDir, text: &str) -> Result<StorePath, StorePathError>
         ensures ok { IfOk result (λ p. (p ≡ base_of dir.now text.now) × (is_base_name p ≡ true)) }
         ensures bad { (result ≡ Err StorePathError.BadStorePath) ↔ (is_base_name (base_of dir.now text.now) ≡ false) }
@@ -117,7 +117,7 @@ impl StorePath {
     ///
     /// # Errors
     ///
-    /// `BadStorePath` exactly if the text isn't a base name; `Memory` if memory was refused.
+    /// `BadStorePath` if and only if the text isn't a base name; `Memory` if memory was refused.
     pub fn from_base(alloc: Global, text: &str) -> Result<StorePath, StorePathError>
         ensures ok { IfOk result (λ p. (p ≡ text.now) × (is_base_name p ≡ true)) }
         ensures bad { (result ≡ Err StorePathError.BadStorePath) ↔ (is_base_name text.now ≡ false) }

@@ -5,18 +5,20 @@ use Rattle.std.specs.Str.{bytes_eq}
 use Rattle.policy.specs.Caller.{Caller}
 use Rattle.policy.specs.Operation.{Operation, owner_of, drops_owned, imports_without_address, changes_permanent, replaces_runtime, ignore_liveness, deletes}
 use Rattle.policy.specs.declared.kinds.Class.{Class}
-use Rattle.policy.specs.declared.kinds.Class.TheVariants.{Stranger, Trusted}
+use Rattle.policy.specs.declared.kinds.Class.TheVariants.{Stranger, Allowed, Trusted}
 use Rattle.policy.specs.declared.kinds.Rule.{Rule}
 use Rattle.policy.specs.declared.kinds.Rule.TheVariants.{Connect, TrustedImport, TrustedPermanentRoot, TrustedRuntimeRoots, OwnRoot, NoIgnoreLiveness, Live}
 
 -- whether a class is that of strangers, and that of trusted callers
 abbrev pub is_stranger : Class → Bool
 is_stranger Stranger = true
-is_stranger _ = false
+is_stranger Allowed = false
+is_stranger Trusted = false
 
 abbrev pub is_trusted : Class → Bool
 is_trusted Trusted = true
-is_trusted _ = false
+is_trusted Stranger = false
+is_trusted Allowed = false
 
 -- whether an owner, where one is named, is the caller
 abbrev pub is_own : Caller → Option (List ℕ) → Bool

@@ -23,7 +23,7 @@ impl Model for Caller {
 }
 
 impl Caller {
-    /// The caller of a user's name and a primary group, if there is one. `BadCaller` exactly if one of them isn't a
+    /// The caller of a user's name and a primary group, if there is one. `BadCaller` if and only if one of them isn't a
     /// plain name.
     ///
     /// ```rust

@@ -9,7 +9,8 @@ use Rattle.model.specs.Answers.{answer}
 use Rattle.model.specs.Step.{Step, Run}
 use Rattle.model.specs.Labels.{DifferInLabels, FailAlike, LookAlike, AllFailAlike}
 use Rattle.model.proofs.MirrorRuns.{steps_look_alike}
-use Rattle.store_steps.specs.Disk.{reads_disk, StepOver, RunOver, LookAlikeOver}
+use Rattle.model.specs.Disk.{reads_disk}
+use Rattle.store_steps.specs.Disk.{StepOver, RunOver, LookAlikeOver}
 
 module _ (is_clean : Type 0) (s : Settings) where
   -- a step over the disk, and a step

@@ -6,11 +6,12 @@ use Rattle.sqlite.specs.State.{HasCleanDisk}
 use Rattle.sqlite.specs.Held.{Held, state}
 use Rattle.policy.specs.Settings.{Settings}
 use Rattle.policy.specs.Caller.{Caller}
+use Rattle.model.specs.Disk.{reads_disk}
 use Rattle.model.specs.World.{World}
 use Rattle.model.specs.Request.{Request}
 use Rattle.model.specs.Reply.{Reply}
 use Rattle.model.specs.Step.{Step, Run}
-use Rattle.store_steps.specs.Disk.{reads_disk, StepOver, RunOver}
+use Rattle.store_steps.specs.Disk.{StepOver, RunOver}
 
 -- whether one of some calls is answered from the disk
 abbrev pub read_disk : List (Caller × Request) → Bool

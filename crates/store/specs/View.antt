@@ -3,7 +3,7 @@ use Rattle.std.specs.Prelude.{refl}
 use Rattle.std.specs.Coded.{Coded, code_by, coded×}
 use Rattle.policy.specs.Settings.{Settings}
 use Rattle.policy.specs.Codes.{settings_code}
-use Rattle.model.specs.Reply.{Reply, denied, refused}
+use Rattle.model.specs.Reply.{Reply, done, denied, refused, failed}
 use Rattle.tables.specs.TablesValue.{TablesValue, kept_code}
 
 pub record StoreView (S : Type 0) : Type 0 where
@@ -19,4 +19,5 @@ store_view_code {S} store =
 abbrev pub IsStill : Reply → Type 0
 IsStill (denied rule root) = Unit {0}
 IsStill (refused r) = Unit {0}
-IsStill _ = ⊥
+IsStill (done a) = ⊥
+IsStill (failed f) = ⊥

@@ -3,15 +3,13 @@
 ghost use Rattle.std.specs.Prelude.{◌≡◌, IfOk, List, OnErr, map};
 ghost use Rattle.sqlite.specs.State.{HasCleanDisk};
 ghost use Rattle.sqlite.specs.Held.{state};
-ghost use Rattle.paths.specs.Root.{Root};
 ghost use Rattle.model.specs.World.{World};
 ghost use Rattle.model.specs.Labels.{AllFailAlike, DifferInLabels};
-ghost use Rattle.model.specs.Pinning.{KeepsReached, RemainsThroughout};
 ghost use Rattle.model.specs.Reply as replied;
 ghost use Rattle.model.specs.Step.{Run};
 ghost use Rattle.tables.specs.TablesValue.{HasWorld};
-ghost use Rattle.store_steps.specs.Disk.{LookAlikeOver, RunOver};
-ghost use Rattle.store_steps.specs.Durability.{LeavesOthers};
+ghost use Rattle.store_steps.specs.Disk.{LookAlikeOver};
+ghost use Rattle.store.specs.Runs.{RunsFrom};
 ghost use Rattle.store_types.specs.Spent.{SpentAreAnswered};
 ghost use Rattle.store_types.specs.View.{call_view, reply_view};
 
@@ -40,16 +38,11 @@ impl<S: Alter> Store<S> {
     /// Memory was refused for the replies. Then no call was made.
     pub fn run(&mut self, calls: Vec<(Caller, Request)>) -> Result<Vec<Reply>, AllocError>
         ensures settings { self.new.settings ≡ self.old.settings }
-        // From each world that the tables described before, a run to one that they describe now; answers from the disk
-        // are right if the disk is clean.
-        ensures runs { IfOk result (λ replies. (w : World) → HasWorld S.Store self.old.tables w → (next : World)
-            × RunOver (HasCleanDisk (state S.Store self.new.tables.connection))
-            self.old.settings w (map call_view calls.items) (map reply_view replies.items) next
-            × HasWorld S.Store self.new.tables next) }
-        // A root that exists before each call keeps what it reached at first, with the same objects.
-        ensures pins { IfOk result (λ replies. (w : World) → HasWorld S.Store self.old.tables w → (r : Root)
-            → RemainsThroughout self.old.settings w r (map call_view calls.items) (map reply_view replies.items)
-            → (next : World) × HasWorld S.Store self.new.tables next × KeepsReached self.old.settings r w next) }
+        // From each world that the tables described before, a run to one that they describe now, in which each root that
+        // exists throughout keeps what it reached. What other programs have in the database is as it was.
+        ensures runs { IfOk result (λ replies. (w : World) → HasWorld S.Store self.old.tables w
+            → RunsFrom S.Store self.old.settings w (map call_view calls.items) (map reply_view replies.items)
+            self.old.tables self.new.tables) }
         // No reply to a caller who isn't trusted differs by a runtime label: each run of the same calls from a world
         // that differs in these alone, with the same failures at the same places, has the same replies.
         ensures hides { IfOk result (λ replies. (w v last : World) (others : List replied.Reply)
@@ -58,9 +51,6 @@ impl<S: Alter> Store<S> {
             → AllFailAlike (map reply_view replies.items) others
             → LookAlikeOver (HasCleanDisk (state S.Store self.new.tables.connection))
             self.old.settings (map call_view calls.items) (map reply_view replies.items) others) }
-        // Whatever is replied, what other programs have in the database is as it was.
-        ensures others { (w : World) → HasWorld S.Store self.old.tables w
-            → LeavesOthers S.Store self.old.tables self.new.tables }
         ensures spent { IfOk result (λ replies.
             SpentAreAnswered self.old.settings calls.items (map reply_view replies.items)) }
         ensures failed { OnErr result (self.new ≡ self.old) }

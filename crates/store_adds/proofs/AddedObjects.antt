@@ -2,12 +2,14 @@
 use Rattle.std.proofs.Common.{◌≡◌, ℕ, List, Bool, true, false, None, Result, Ok, Err, refl, sym, ap, subst, ◌∙◌, inl, IsTrue}
 use Rattle.std.specs.Prelude.{if◌then◌else◌}
 use Rattle.std.specs.FinMap as finite
+use Rattle.sha2.specs.Sha256.{sha256}
 use Rattle.sqlite_trees.specs.declared.store.Store.{Ghosts}
 use Rattle.sqlite.specs.State.{HasCleanDisk, Survives}
 use Rattle.sqlite.specs.Held.{state}
 use Rattle.tables_sql.specs.declared.failure.Failed.{Failed}
 use Rattle.policy.specs.Settings.{Settings}
 use Rattle.policy.specs.Caller.{Caller}
+use Rattle.model.specs.Disk.{puts_rows, touches_disk}
 use Rattle.model.specs.World.{Path, World, has}
 use Rattle.model.specs.Sound.{IsSound}
 use Rattle.tables_outline.specs.Outline.{OutlineValue, Outlined, outline_of, with_archive}
@@ -22,14 +24,15 @@ use Rattle.model.proofs.SoundAdds.{text_sound}
 use Rattle.store_types.specs.Tested.{Stops}
 use Rattle.model.specs.Effects.{with_object, effect}
 use Rattle.model.specs.Answers.{answer}
-use Rattle.tables.specs.Reasons.{Rows}
+use Rattle.tables.specs.Reasons.{AreAmong}
+use Rattle.tables.specs.RowsPut.{AddedRows}
 use Rattle.tables.specs.Frames.{CommitsChange, FailsToChange}
 use Rattle.tables.specs.TablesValue.{TablesValue, HasWorld, LeavesWorld}
 use Rattle.store_types.specs.declared.replies.Answer.{Answer}
 use Rattle.store_types.specs.declared.replies.Answer.TheVariants.{Path as Placed}
 use Rattle.store_types.specs.declared.replies.Stop.{Stop}
 use Rattle.store_types.specs.declared.replies.Stop.TheVariants.{Refused, Failed as failing}
-use Rattle.store_steps.specs.Causes.{puts_rows, touches_disk}
+use Rattle.store_steps.specs.RowsPut.{ObjectRowsPut, rows_put}
 use Rattle.store_steps.specs.Meets.{MeetsOver, IsMet}
 use Rattle.store_adds.specs.Adding.{Adds, IsAdded}
 use Rattle.store_steps.specs.Crashes.{LeavesPassed}
@@ -53,7 +56,7 @@ module _ {S : Type 0} (g : Ghosts S) (path : Path) (o : Outlined) (k : TablesVal
   pub added_present : (nar : List ℕ) → finite.contains_key k.outline.objects path ≡ true → IsAdded g (it nar) (Ok (Placed path)) k k
   added_present nar e = record {
     dir = refl;
-    cause = λ q touches puts. tt;
+    cause = λ q touches puts among. tt;
     others = others_still g k;
     world = λ w t. (refl, subst (λ (v : World). HasWorld g k v) (sym (ap (λ b. if b then w else put nar w) (valid_reported true e w t))) t);
     unrefused = λ h. h;
@@ -80,20 +83,21 @@ module _ {S : Type 0} (g : Ghosts S) (path : Path) (o : Outlined) (k : TablesVal
         dir = frame.dir;
         world = λ w t. (refl, subst (λ (v : World). HasWorld g new v) (sym (grown w t)) (frame.done w t));
         unrefused = λ h. h;
-        cause = λ q touches puts. tt;
+        cause = λ q touches puts among. tt;
         others = λ clean is_open. ((frame.was_open clean).0, frame.others clean);
         stays_durable = λ _ clean. let is_open = (frame.was_open clean).1 in inl (is_open, frame.durable is_open);
         survives = survives_put frame.survives;
       }
 
       -- the call failed
-      pub added_not : (f : Failed) → CommitsChange g k new (unwritten f) (put read) → (rows : Rows) → FailsToChange g k new (unwritten f) rows
+      pub added_not : (f : Failed) → CommitsChange g k new (unwritten f) (put read) → o.hash ≡ sha256 nar → FailsToChange g k new (unwritten f) (AddedRows path nar o)
           → IsAdded g (it nar) (Err (failing f)) k new
-      added_not f frame rows cause = record {
+      added_not f frame hash cause = record {
         dir = frame.dir;
         world = frame.failed;
         unrefused = λ h. h;
-        cause = λ q touches puts. write_fails g q k new touches rows (λ t row put. puts) (Placed path) (Err f) cause;
+        cause = λ q touches puts among.
+            write_fails g q k new touches (AddedRows path nar o) (subst (λ h. AreAmong (AddedRows path nar (record o { hash = h })) (rows_put k.dir k.outline q)) (sym hash) among) (λ t row put. puts) (Placed path) (Err f) cause;
         others = others_shown g k new frame.shown;
         stays_durable = λ h. absurd h;
         survives = survives_put frame.survives;
@@ -103,11 +107,11 @@ module _ {S : Type 0} (g : Ghosts S) (path : Path) (o : Outlined) (k : TablesVal
 pub met_by_adding : {S : Type 0} (g : Ghosts S) (s : Settings) (c : Caller) (q : Request) (r : Result Answer Stop) (k new : TablesValue S) (a asked : Added)
     → ((w : World) → outline_of w ≡ k.outline → (refusal s w q ≡ None) × (a ≡ asked))
     → ((w : World) → effect s w q ≡ with_object w asked) → ((w : World) → answer s w c q ≡ replied.path asked.path)
-    → IsTrue (touches_disk q) → IsTrue (puts_rows q) → IsAdded g a r k new → IsMet g s c q r k new
-met_by_adding g s c q r k new a asked gives effect_is answer_is touches puts added = record {
+    → IsTrue (touches_disk q) → IsTrue (puts_rows q) → AreAmong (ObjectRowsPut asked) (rows_put k.dir k.outline q) → IsAdded g a r k new → IsMet g s c q r k new
+met_by_adding g s c q r k new a asked gives effect_is answer_is touches puts among added = record {
   dir = added.dir;
   world = λ w t. by w t r (added.world w t);
-  cause = λ w t. added.cause q touches puts;
+  cause = λ w t. added.cause q touches puts (subst (λ (x : Added). AreAmong (ObjectRowsPut x) (rows_put k.dir k.outline q)) (sym (gives w t.outline).1) among);
   others = added.others;
   still = λ h. absurd (added.unrefused h);
   stays_durable = added.stays_durable;

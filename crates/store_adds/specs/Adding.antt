@@ -3,6 +3,7 @@ use Rattle.std.specs.Prelude.{◌≡◌, Result, Ok, Err, IsTrue}
 use Rattle.sqlite_trees.specs.declared.store.Store.{Ghosts}
 use Rattle.sqlite.specs.State.{Survives}
 use Rattle.sqlite.specs.Held.{state}
+use Rattle.model.specs.Disk.{puts_rows, touches_disk}
 use Rattle.model.specs.World.{World}
 use Rattle.model.specs.Request.{Request}
 use Rattle.model.specs.Reply.{path}
@@ -13,7 +14,9 @@ use Rattle.store_types.specs.declared.replies.Answer.{Answer}
 use Rattle.store_types.specs.declared.replies.Stop.{Stop}
 use Rattle.store_types.specs.declared.replies.Stop.TheVariants.{Refused, Failed}
 use Rattle.store_types.specs.View.{answer_view}
-use Rattle.store_steps.specs.Causes.{HasCause, puts_rows, touches_disk}
+use Rattle.tables.specs.Reasons.{AreAmong}
+use Rattle.store_steps.specs.Causes.{HasCause}
+use Rattle.store_steps.specs.RowsPut.{ObjectRowsPut, rows_put}
 use Rattle.store_steps.specs.Durability.{LeavesOthers, StaysDurable}
 use Rattle.store_steps.specs.Meets.{IsAnswered, IsRefused, reply_to}
 
@@ -29,8 +32,9 @@ module _ {S : Type 0} (g : Ghosts S) where
     pub dir : new.dir ≡ old.dir
     pub world : (w : World) → HasWorld g old w → Adds a r w new
     pub unrefused : IsRefused r → ⊥
-    -- a failure has its cause, for each request that puts rows
-    pub cause : (q : Request) → IsTrue (touches_disk q) → IsTrue (puts_rows q) → HasCause g q (reply_to r) old new
+    -- a failure has its cause, for each request that puts the object
+    pub cause : (q : Request) → IsTrue (touches_disk q) → IsTrue (puts_rows q)
+        → AreAmong (ObjectRowsPut a) (rows_put old.dir old.outline q) → HasCause g q (reply_to r) old new
     pub others : LeavesOthers g old new
     pub stays_durable : IsAnswered r → StaysDurable g old new
     pub survives : (w : World) → HasWorld g old w → Survives (state g old.connection) (state g new.connection)

@@ -3,11 +3,11 @@
 ghost use Rattle.std.specs.Prelude.{◌≡◌, ◌<◌, IsTrue, true, false, [], length};
 ghost use Rattle.policy.specs.Settings.{Settings};
 ghost use Rattle.policy.specs.Caller.{Caller};
+ghost use Rattle.model.specs.Disk.{touches_disk};
 ghost use Rattle.model.specs.World.{World};
 ghost use Rattle.model.specs.Sound.{IsSound};
 ghost use Rattle.tables_outline.specs.Outline.{outline_of};
 ghost use Rattle.tables.specs.TablesValue.{HasWorld};
-ghost use Rattle.store_steps.specs.Causes.{touches_disk};
 ghost use Rattle.store_steps.specs.Meets.{IsMet};
 ghost use Rattle.store_removal.specs.Removing.{Removes, without};
 ghost use Rattle.model.specs.Request as asked;

@@ -8,6 +8,7 @@ use Rattle.sqlite_trees.specs.declared.store.Store.{Ghosts}
 use Rattle.tables_sql.specs.declared.failure.Failed.{Failed}
 use Rattle.policy.specs.Settings.{Settings}
 use Rattle.policy.specs.Caller.{Caller}
+use Rattle.model.specs.Disk.{puts_rows, touches_disk}
 use Rattle.model.specs.World.{Pair, Profile, World}
 use Rattle.model.specs.Sound.{IsSound}
 use Rattle.model.specs.Request.{Request}
@@ -18,12 +19,12 @@ use Rattle.model.specs.Effects.{effect}
 use Rattle.tables_outline.specs.Outline.{OutlineValue, outline_of}
 use Rattle.tables.specs.Entries.{with_profile_by}
 use Rattle.tables.specs.Frames.{ChangesTables}
-use Rattle.tables.specs.Reasons.{Rows}
+use Rattle.tables.specs.Reasons.{Rows, AreAmong}
 use Rattle.tables.specs.TablesValue.{TablesValue, HasWorld}
 use Rattle.store_types.specs.View.{answer_view}
 use Rattle.store_types.specs.declared.replies.Answer.{Answer}
 use Rattle.store_types.specs.declared.replies.Stop.{Stop}
-use Rattle.store_steps.specs.Causes.{puts_rows, touches_disk}
+use Rattle.store_steps.specs.RowsPut.{rows_put}
 use Rattle.store_steps.specs.Meets.{IsMet}
 use Rattle.store_steps.specs.Writing.{answered}
 use Rattle.store_steps.proofs.Caused.{write_fails}
@@ -52,12 +53,12 @@ module _ {a b x y : List ℕ} (first : x ≡ a) (second : y ≡ b) where
     -- a request that changes one profile is met by the write
     pub met_by_changing : (s : Settings) (c : Caller) (q : Request) (new : TablesValue S) (o : OutlineValue) → o ≡ k.outline → (reply : Answer)
         → ((w : World) → outline_of w ≡ o → (refusal s w q ≡ None) × (answer_view reply ≡ answer s w c q) × (with_profile_by (a, b) f w ≡ effect s w q))
-        → (rows : Rows) → IsTrue (touches_disk q) → ((t : Table) (row : Row) → rows t row → IsTrue (puts_rows q))
+        → (rows : Rows) → AreAmong rows (rows_put k.dir k.outline q) → IsTrue (touches_disk q) → ((t : Table) (row : Row) → rows.has t row → IsTrue (puts_rows q))
         → (r : Result (Unit {0}) Failed) → ChangesTables g k new r (with_profile_by (x, y) f) rows → (met : Result Answer Stop) → met ≡ answered r reply → IsMet g s c q met k new
-    met_by_changing s c q new o same reply done rows touches puts r changes met is =
+    met_by_changing s c q new o same reply done rows among touches puts r changes met is =
         subst (λ (m : Result Answer Stop). IsMet g s c q m k new) (sym is)
         (met_by_writing g s c q k new (with_profile_by (x, y) f) reply
         (λ w e. (done w (e ∙ sym same)).0)
         (λ w e. (done w (e ∙ sym same)).1)
         (λ w e. changed_as f w ∙ (done w (e ∙ sym same)).2)
-        r changes.frame (write_fails g q k new touches rows puts reply r changes.cause))
+        r changes.frame (write_fails g q k new touches rows among puts reply r changes.cause))

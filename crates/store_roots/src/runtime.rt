@@ -2,6 +2,7 @@
 
 ghost use Rattle.std.specs.Prelude.{◌≡◌, IfOk, OnOk, if◌then◌else◌, map};
 ghost use Rattle.std.specs.List.{filter};
+ghost use Rattle.std.specs.List.Sorted.{IsStrictlySortedBy};
 ghost use Rattle.paths.specs.Root.{set_of};
 ghost use Rattle.policy.specs.Settings.{Settings};
 ghost use Rattle.model.specs.World.{World, pair_cmp};
@@ -68,7 +69,11 @@ pub fn prepare_runtime(
     outline: &Outline,
     pairs: Vec<(String, StorePath)>,
 ) -> Result<BTreeSet<(String, StorePath)>, Stop>
-    ensures { (s : Settings) (w : World) → outline_of w ≡ outline.now
+    ensures valid { IfOk result
+        (λ v. seen_set pair_cmp labelled_bytes v.keys
+        ≡ set_of pair_cmp (filter
+        (λ p. finite.contains_key outline.now.objects p.1) (map labelled_bytes pairs.items))) }
+    ensures given { (s : Settings) (w : World) → outline_of w ≡ outline.now
         → Gives (λ v. seen_set pair_cmp labelled_bytes v.keys) result
         (refusal s w (asked.replace_runtime (map labelled_bytes pairs.items)))
         (valid_pairs_of w (map labelled_bytes pairs.items)) }
@@ -82,7 +87,8 @@ pub fn prepare_runtime(
 
 /// The number of runtime roots.
 pub fn count_of(roots: &BTreeSet<(String, StorePath)>) -> usize
-    ensures { result ≡ finite.len (seen_set pair_cmp labelled_bytes roots.now.keys) }
+    ensures count { result ≡ finite.len (seen_set pair_cmp labelled_bytes roots.now.keys) }
+    ensures ordered { IsStrictlySortedBy (λ a b. pair_cmp (labelled_bytes a) (labelled_bytes b)) roots.now.keys }
 {
     roots.len()
 }

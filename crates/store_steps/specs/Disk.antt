@@ -1,19 +1,14 @@
 -- Answers that come from the disk, and steps over a disk that may return wrong bytes.
-use Rattle.std.specs.Prelude.{◌≡◌, Bool, true, false, List, [], ◌∷◌, IsTrue}
+use Rattle.std.specs.Prelude.{◌≡◌, List, [], ◌∷◌, IsTrue}
 use Rattle.model.specs.World.{World}
 use Rattle.policy.specs.Settings.{Settings}
 use Rattle.policy.specs.Caller.{Caller}
-use Rattle.model.specs.Request.{Request, nar, ls}
+use Rattle.model.specs.Disk.{reads_disk}
+use Rattle.model.specs.Request.{Request}
 use Rattle.model.specs.Reply.{Reply, done}
 use Rattle.model.specs.Answers.{answer}
 use Rattle.model.specs.Step.{Step}
 use Rattle.model.specs.Labels.{LookAlike}
-
--- whether a request is answered from the disk: one for an archive or its listing; all others are answered from memory
-abbrev pub reads_disk : Request → Bool
-reads_disk (nar p) = true
-reads_disk (ls p) = true
-reads_disk _ = false
 
 -- A step over a disk. An answer from the disk is the right one if the disk is clean: it has returned so far what was
 -- written to it. All else is true over any disk: the rules, the tests, the failures, and what becomes of the world.

@@ -3,5 +3,6 @@ pub mod Durability
 pub mod Causes
 pub mod Crashes
 pub mod Meets
+pub mod RowsPut
 pub mod Summaries
 pub mod Writing

@@ -7,6 +7,7 @@ use Rattle.tables_sql.specs.Calls.{KeepsShown}
 use Rattle.policy.specs.Settings.{Settings}
 use Rattle.policy.specs.Caller.{Caller}
 use Rattle.model.specs.World.{World}
+use Rattle.model.specs.Disk.{reads_disk}
 use Rattle.model.specs.Request.{Request}
 use Rattle.model.specs.Reply as replied
 use Rattle.model.specs.Tests.{refusal}
@@ -19,7 +20,6 @@ use Rattle.store_types.specs.declared.replies.Stop.TheVariants.{Refused, Failed}
 use Rattle.store_types.specs.View.{answer_view, failure_view}
 use Rattle.store_steps.specs.Durability.{LeavesOthers, StaysDurable}
 use Rattle.store_steps.specs.Crashes.{LeavesPassed}
-use Rattle.store_steps.specs.Disk.{reads_disk}
 use Rattle.store_steps.specs.Causes.{HasCause}
 
 -- the request in a world, with its answer or stop, and the world afterwards: an answer from the disk is the right one
@@ -43,7 +43,8 @@ IsAnswered (Err stop) = ⊥
 
 abbrev pub IsRefused : Result Answer Stop → Type 0
 IsRefused (Err (Refused r)) = Unit {0}
-IsRefused _ = ⊥
+IsRefused (Err (Failed f)) = ⊥
+IsRefused (Ok a) = ⊥
 
 module _ {S : Type 0} (g : Ghosts S) where
   -- a request over tables

@@ -1,12 +1,10 @@
 -- An object that is added to tables.
-use Rattle.std.proofs.Common.{◌≡◌, ℕ, false, List, length, Some, None, Bool, Option, option_map, is_some, cond, refl, sym, ap, ap₂, subst, ◌∙◌, IsTrue, String, Global, string_bytes}
+use Rattle.std.proofs.Common.{◌≡◌, ℕ, false, List, length, Some, None, Bool, Option, option_map, is_some, cond, refl, sym, ap, ap₂, subst, ◌∙◌, arith, IsTrue, String, Global, string_bytes}
 use Rattle.std.specs.Prelude.{IsSome}
 use Rattle.std.specs.Cmp.{eq_by_cmp_equiv}
 use Rattle.std.specs.FinMap as finite
 use Rattle.std.proofs.lemmas.Bool.{false≢true}
 use Rattle.sha2.specs.Sha256.{sha256}
-use Rattle.sqlite_value.specs.Order.{Row}
-use Rattle.sqlite_schema.specs.declared.schema.Table.{Table}
 use Rattle.sqlite_trees.specs.declared.store.Store.{Ghosts}
 use Rattle.sqlite.specs.State.{HasCleanDisk}
 use Rattle.sqlite.specs.Held.{state}
@@ -25,7 +23,9 @@ use Rattle.tables_outline.proofs.Reported.{get-reported}
 use Rattle.tables.specs.Rewritten.{HasNoObject, put_object}
 use Rattle.tables.specs.Entries.{with_archived}
 use Rattle.tables.specs.Frames.{StaysSound}
-use Rattle.tables.specs.RowsPut.{ObjectRows}
+use Rattle.tables_make.specs.Reasons.{AreAmong}
+use Rattle.tables_make.proofs.Reasons.{all_among}
+use Rattle.tables.specs.RowsPut.{AddedRows, ObjectRows, RowsWithAddress}
 use Rattle.tables.specs.TablesValue.{TablesValue, Agrees}
 use Rattle.tables.proofs.Inserted.{AreNew, object_of, object_follows, outline_follows, no_output, no_piece, no_reference, get-set_of}
 use Rattle.tables.proofs.Parts.{same}
@@ -69,10 +69,14 @@ object_undone old put undone path key given same is none back =
 
 -- the rows of one that is added, in other words
 pub object_rows : (nar : List ℕ) {base path : Path} {found given : Outlined} (deriver ca : Option (String Global)) → base ≡ path → found ≡ given → option_map string_bytes deriver ≡ given.deriver
-    → (t : Table) (values : Row) → ObjectRows base (stored (row_part nar) found.hash deriver ca) (finite.keys found.references) (finite.entries found.outputs) (further_pieces nar) t values
-    → ObjectRows path (record { nar = row_part nar; hash = given.hash; deriver = given.deriver; ca = option_map string_bytes ca }) (finite.keys given.references) (finite.entries given.outputs) (further_pieces nar) t values
-object_rows nar deriver ca at is same t values =
-    subst (λ (x : Type 0). x) (λ i. ObjectRows (at i) (record { nar = row_part nar; hash = (is i).hash; deriver = same i; ca = option_map string_bytes ca }) (finite.keys (is i).references) (finite.entries (is i).outputs) (further_pieces nar) t values)
+    → AreAmong (ObjectRows base (stored (row_part nar) found.hash deriver ca) (finite.keys found.references) (finite.entries found.outputs) (further_pieces nar)) (RowsWithAddress path nar given (option_map string_bytes ca))
+object_rows nar {base = base} {found = found} deriver ca at is same =
+    let rows = ObjectRows base (stored (row_part nar) found.hash deriver ca) (finite.keys found.references) (finite.entries found.outputs) (further_pieces nar) in
+    subst (λ (x : Type 0). x) (λ i. AreAmong rows (ObjectRows (at i) (record { nar = row_part nar; hash = (is i).hash; deriver = same i; ca = option_map string_bytes ca }) (finite.keys (is i).references) (finite.entries (is i).outputs) (further_pieces nar))) (all_among rows)
+
+-- and whichever text of the content address it is
+pub address_among : (p : Path) (nar : List ℕ) (o : Outlined) (ca : Option (List ℕ)) → address_in ca ≡ o.ca → AreAmong (RowsWithAddress p nar o ca) (AddedRows p nar o)
+address_among p nar o ca is = record { count = omega arith; has = λ t values h. (ca, is, h) }
 
 module _ {S : Type 0} (g : Ghosts S) (k now : TablesValue S) (view : k ≡ now) (put : OutlineValue) (path key nar : List ℕ) (given found : Outlined) (deriver ca : Option (String Global))
     (agrees : Agrees g k)

@@ -12,7 +12,7 @@ use Rattle.tables_sql.specs.declared.failure.Failed.TheVariants.{Memory, Size, D
 use Rattle.tables_sql.specs.Failures.{HasDiskCause, FailsToRead}
 use Rattle.tables_make.specs.Making.{RunsOutOfTrees, IsIndexNameUsed, FailsToMake}
 use Rattle.tables_make.specs.Migrating.{FailsToMigrate}
-use Rattle.tables_make.proofs.MigratingFailures.{migrating_before}
+use Rattle.tables_make.proofs.MigratingFailures.{whole_before}
 use Rattle.tables_open.specs.Opened.{HasUnkeyed, FailsToOpen}
 use Rattle.tables.specs.declared.refusing.Cause.{Cause}
 use Rattle.tables.specs.declared.refusing.Cause.TheVariants.{BadSchema, OtherStoreDir, Failed as failing}
@@ -67,5 +67,5 @@ module _ (a b c : State) (same : IsUnchanged a b) (first : Survives a b (λ _. �
   cause_before dir OtherStoreDir h = subst (λ (x : Database). IsRefusal dir x OtherStoreDir) same.0.now_is h
   cause_before dir (failing f) (inl h) = inl (open_before f h)
   cause_before dir (failing f) (inr (inl h)) = inr (inl (subst (λ (x : Database). HasNone x.schema) same.0.now_is h.0, make_before dir f h.1))
-  cause_before dir (failing f) (inr (inr (inl h))) = inr (inr (inl (subst (λ (x : Database). HasFirst x.schema) same.0.now_is h.0, migrating_before V1 a b c same first f h.1)))
-  cause_before dir (failing f) (inr (inr (inr h))) = inr (inr (inr (subst (λ (x : Database). HasSecond x.schema) same.0.now_is h.0, migrating_before V2 a b c same first f h.1)))
+  cause_before dir (failing f) (inr (inr (inl h))) = inr (inr (inl (subst (λ (x : Database). HasFirst x.schema) same.0.now_is h.0, whole_before V1 a b c same first f h.1)))
+  cause_before dir (failing f) (inr (inr (inr h))) = inr (inr (inr (subst (λ (x : Database). HasSecond x.schema) same.0.now_is h.0, whole_before V2 a b c same first f h.1)))

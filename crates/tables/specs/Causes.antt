@@ -1,5 +1,4 @@
 -- Why a file isn't opened as a store.
-use Rattle.std.specs.Prelude.{Option}
 use Rattle.std.specs.Option.{option_map_or}
 use Rattle.tables_open.specs.Disk as disk
 use Rattle.tables_open.specs.declared.file.UnopenedFile.{UnopenedFile}
@@ -12,6 +11,7 @@ use Rattle.tables.specs.declared.refusing.Unopened.TheVariants.{File, Store}
 module _ {S D : Type 0} {g : disk.Ghosts D} where
   -- no connection was opened: what isn't a database is no store
   abbrev pub file_cause : UnopenedFile S D g → Cause
+  file_cause (file.Unfound it) = option_map_or Failed it.failure BadSchema
   file_cause (file.Refused failure left) = option_map_or Failed failure BadSchema
   file_cause (file.Unreadable it) = Failed it.failure
 

@@ -171,7 +171,7 @@ IsCause dir old new refusal = IsRefusal dir old.now refusal
 abbrev pub IsNoStore : Database → Type 0
 IsNoStore db = ¬ HasNone db.schema × ((d : List ℕ) → ¬ HoldsStore d db)
 
--- A database is refused as no store, by the definitions, exactly if it is neither opened as the store of some
+-- A database is refused as no store, by the definitions, if and only if it is neither opened as the store of some
 -- directory nor given new tables.
 abbrev pub RefusesTheRest : Type 0
 RefusesTheRest = (dir : List ℕ) (db : Database) → IsRefusal dir db BadSchema ↔ IsNoStore db

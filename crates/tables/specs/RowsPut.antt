@@ -1,16 +1,14 @@
 -- The rows that each write puts.
-use Rattle.std.specs.Prelude.{◌≡◌, ◌⊎◌, ℕ, ℤ, pos, List, [], ◌∷◌, Option, Some, None}
+use Rattle.std.specs.Prelude.{◌≡◌, ℕ, ℤ, pos, List, [], ◌∷◌, Option, Some, None}
 use Rattle.std.specs.FinMap as finite
 use Rattle.sqlite_value.specs.declared.value.Value.TheVariants.{Int, Text}
-use Rattle.sqlite_value.specs.Order.{Row}
-use Rattle.sqlite_schema.specs.declared.schema.Table.{Table}
 use Rattle.tables_schema.specs.Forms.{refs, outs, permanent, user_root, profile, generation, runtime, temp_root}
 use Rattle.tables_sql.specs.Contents.{Stored}
 use Rattle.model.specs.World.{Path, Pair, Temporary}
 use Rattle.tables_world.specs.Rows.{address_in}
 use Rattle.tables_world.specs.Pieces.{row_part, further_pieces}
 use Rattle.tables_outline.specs.Outline.{Outlined}
-use Rattle.tables_make.specs.Reasons.{Rows, IsRow, RowsOf}
+use Rattle.tables_make.specs.Reasons.{Rows, Both, IsRow, RowsOf}
 use Rattle.tables_make.specs.Migrating.{ObjectRow, PieceRow}
 use Rattle.tables.specs.declared.named_roots.RootName.{RootName}
 use Rattle.tables.specs.declared.named_roots.RootName.TheVariants.{Permanent, User}
@@ -41,11 +39,13 @@ TemporaryRow t = IsRow temp_root (Text t.owner ∷ Int (pos t.session) ∷ Text 
 abbrev pub ProfileRow : Pair → ℕ → Rows
 ProfileRow owned current = IsRow profile (Text owned.0 ∷ Text owned.1 ∷ Int (pos current) ∷ [])
 
+-- a path at a number of a profile
+abbrev pub PathRow : Pair → ℕ → Path → Rows
+PathRow owned n target = IsRow generation (Text owned.0 ∷ Text owned.1 ∷ Int (pos n) ∷ Text target ∷ [])
+
 -- a profile, and a path at a number of it
 abbrev pub GenerationRows : Pair → ℕ → Path → ℕ → Rows
-GenerationRows owned n target current t row =
-    ProfileRow owned current t row
-    ⊎ IsRow generation (Text owned.0 ∷ Text owned.1 ∷ Int (pos n) ∷ Text target ∷ []) t row
+GenerationRows owned n target current = Both (ProfileRow owned current) (PathRow owned n target)
 
 -- a profile, and a path at a number of it, if one is given
 abbrev pub NumberedRows : Pair → Option (ℕ × Path) → ℕ → Rows
@@ -63,14 +63,19 @@ OutputRow p e = IsRow outs (Text p ∷ Text e.0 ∷ Text e.1 ∷ [])
 
 -- an object, as its rows hold it, with its references, its outputs and the further pieces of its archive
 abbrev pub ObjectRows : Path → Stored → List Path → List (List ℕ × Path) → List (ℤ × List ℕ) → Rows
-ObjectRows p o references outputs pieces t row =
-    ObjectRow p o t row
-    ⊎ (RowsOf (ReferenceRow p) references t row
-    ⊎ (RowsOf (OutputRow p) outputs t row ⊎ RowsOf (PieceRow p) pieces t row))
+ObjectRows p o references outputs pieces =
+    Both (ObjectRow p o)
+    (Both (RowsOf (ReferenceRow p) references) (Both (RowsOf (OutputRow p) outputs) (RowsOf (PieceRow p) pieces)))
 
--- the rows of an archive and its summary, with a text of the content address
+-- the rows of an archive and its summary, with this text of the content address
+abbrev pub RowsWithAddress : Path → List ℕ → Outlined → Option (List ℕ) → Rows
+RowsWithAddress p nar o ca =
+    ObjectRows p (record { nar = row_part nar; hash = o.hash; deriver = o.deriver; ca = ca }) (finite.keys o.references)
+    (finite.entries o.outputs) (further_pieces nar)
+
+-- the same, whichever text of the content address it is
 abbrev pub AddedRows : Path → List ℕ → Outlined → Rows
-AddedRows p nar o t row =
-    (ca : Option (List ℕ)) × (address_in ca ≡ o.ca)
-    × ObjectRows p (record { nar = row_part nar; hash = o.hash; deriver = o.deriver; ca = ca })
-    (finite.keys o.references) (finite.entries o.outputs) (further_pieces nar) t row
+AddedRows p nar o = record {
+  count = (RowsWithAddress p nar o None).count;
+  has = λ t row. (ca : Option (List ℕ)) × (address_in ca ≡ o.ca) × (RowsWithAddress p nar o ca).has t row;
+}

@@ -1,13 +1,11 @@
 //! Changes of the rows, each committed at once or not at all.
 
 ghost use Rattle.std.specs.Prelude.{IsTrue};
-ghost use Rattle.sqlite_schema.specs.declared.schema.Table.{Table};
-ghost use Rattle.sqlite_value.specs.Order.{Row};
 ghost use Rattle.sqlite.specs.State.{HasCleanDisk};
 ghost use Rattle.sqlite.specs.Held.{state};
 ghost use Rattle.tables_sql.specs.Contents.{Contents, contents_of};
 ghost use Rattle.tables_sql.specs.Calls.{IsWhole};
-ghost use Rattle.tables_make.specs.Reasons.{HasReason};
+ghost use Rattle.tables_make.specs.Reasons.{Rows, HasReason};
 ghost use Rattle.tables.specs.Frames.{MayCommit, CommitsRows};
 ghost use Rattle.tables_rows.specs.Frames.{IsInside, Makes, StaysInside};
 
@@ -24,7 +22,7 @@ pub(crate) trait Change {
     ghost fits: { Self → Contents → Type 0 };
 
     // The rows that the change puts.
-    ghost rows: { Self → Table → Row → Type 0 };
+    ghost rows: { Self → Rows };
 
     fn write<S: Alter>(&self, tx: &mut Transaction<'_, S>) -> Result<(), Failed>
         requires under_way { IsInside S.Store tx.old.conn }

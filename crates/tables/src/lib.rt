@@ -3,6 +3,7 @@
 
 mod adopting;
 mod change;
+mod closing;
 mod cutting;
 mod earlier;
 mod entries;
@@ -30,6 +31,7 @@ mod texts;
 mod user_roots;
 
 pub use adopting::adopt;
+pub use closing::Close;
 pub use entries::{Object, Snapshot};
 pub use files::open;
 pub use keeping::Tables;
@@ -42,6 +44,6 @@ pub use paths::{Root, RootKind};
 pub use sqlite::{Alter, Connection, FileFrom, FileStore, MemStore, Start, Unknown};
 pub use streams::Pieces;
 pub use tables_open::Disk;
-pub use tables_open::file::{UnopenedFile, Unreadable};
+pub use tables_open::file::{Unfound, UnopenedFile, Unreadable};
 pub use tables_outline::{Outline, Profile, Summary};
 pub use tables_sql::failure::Failed;

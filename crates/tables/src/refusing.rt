@@ -1,8 +1,9 @@
 //! Why a database isn't opened as a store.
 
 ghost use Rattle.std.specs.Prelude.{◌≡◌};
+ghost use Rattle.std.specs.Option.{option_map_or};
 ghost use Rattle.tables.specs.Causes.{cause_of};
-ghost use Rattle.tables.specs.declared.refusing.Cause.TheVariants.{Failed as failing};
+ghost use Rattle.tables.specs.declared.refusing.Cause.TheVariants.{BadSchema, Failed as failing};
 
 use sqlite::{Alter, Connection};
 use tables_open::Disk;
@@ -49,6 +50,16 @@ pub enum Unopened<S: Alter, D: Disk> {
     Store(Unadopted<S>),
 }
 
+/// The failure that kept a file from being opened, or that it is no database.
+fn cause_of_failure(failure: Option<Failed>) -> Cause
+    ensures { result ≡ option_map_or failing failure BadSchema }
+{
+    match failure {
+        Some(failure) => Cause::Failed(failure),
+        None => Cause::BadSchema,
+    }
+}
+
 impl<S: Alter, D: Disk> Unopened<S, D> {
     /// Why the file isn't opened as a store. `BadSchema` for a file that isn't a database.
     ///
@@ -62,15 +73,13 @@ impl<S: Alter, D: Disk> Unopened<S, D> {
         ensures { result ≡ cause_of self.now }
     {
         match self {
+            Unopened::File(UnopenedFile::Unfound(unfound)) => cause_of_failure(unfound.failure),
             Unopened::File(
                 UnopenedFile::Refused {
                     failure,
                     left: _left,
                 },
-            ) => match failure {
-                Some(failure) => Cause::Failed(*failure),
-                None => Cause::BadSchema,
-            },
+            ) => cause_of_failure(*failure),
             Unopened::File(UnopenedFile::Unreadable(unreadable)) => {
                 Cause::Failed(unreadable.failure)
             }

@@ -16,10 +16,13 @@ use Rattle.tables_sql.specs.Contents.{rows_named, rows_if_any}
 use Rattle.tables_sql.specs.Texts.{AreReadableRows, HasReadableRows}
 use Rattle.tables_sql.specs.Calls.{IsKeyed, IsStoreDatabase, HasFurther, KeepsFurther, IsUnderWay}
 use Rattle.tables_sql.proofs.Contents.{contents_alike}
-use Rattle.tables_make.proofs.Creates.{tree_is}
+use Rattle.tables_make.proofs.Creates.{tables_after, tree_is}
 use Rattle.tables_sql.proofs.FurtherTables.{if_any_named, if_any_free}
 use Rattle.tables_make.specs.Making.{IsMaking, Makes, all_created, have_distinct_names, placed}
-use Rattle.tables_make.specs.Further.{MakesFurther}
+use Rattle.tables_make.specs.Further.{MakesFurther, grown}
+use Rattle.tables_sql.specs.Rowids.{NumberOn, NumbersOn}
+use Rattle.tables_sql.proofs.Lists.{two_lists}
+use Rattle.tables_sql.proofs.Rowids.{none_numbers_on, same_numbers_on}
 use Rattle.tables_make.proofs.Made.{nine, made_further, foreign_of}
 use Rattle.tables_make.proofs.MakingTogether.{part}
 use Rattle.tables_make.proofs.Settles.{making_free}
@@ -97,6 +100,14 @@ module _ (fs : List Parts) (apart : have_distinct_names (map table_of fs) ≡ tr
     exists = further_still a.now b.now h.sound fs h.schema h.kept f;
   }
 
+  -- no table has a row that it didn't have
+  numbered : NumbersOn 0 (grown (map table_of fs) a.now) b.now
+  numbered =
+      let P : Table → Type 0 = λ t. NumberOn 0 (a.now.trees t.tree) (b.now.trees t.tree) in
+      let were = all_weaker (λ (t : Table). b.now.trees t.tree ≡ a.now.trees t.tree) P (λ t. same_numbers_on 0 (a.now.trees t.tree) (b.now.trees t.tree)) a.now.schema.tables h.kept in
+      let are = all_weaker (λ (t : Table). b.now.trees t.tree ≡ []) P (λ t. none_numbers_on 0 (a.now.trees t.tree) (b.now.trees t.tree)) (placed a.now.schema (map table_of fs)) h.empty in
+      subst (λ (ts : List Table). AllByRecursion P ts) (sym (tables_after a.now.schema (map table_of fs))) (two_lists P a.now.schema.tables (placed a.now.schema (map table_of fs)) were are)
+
   pub makes_further : IsKept a.now b.now piece → IsKept a.now b.now temp_root → MakesFurther (map table_of fs) a b
   unfolding KeepsFurther
   makes_further pieces temp_roots = record {
@@ -108,6 +119,7 @@ module _ (fs : List Parts) (apart : have_distinct_names (map table_of fs) ≡ tr
     frozen = h.frozen of_store.sound;
     of_store = store_still a.now b.now h.sound fs h.schema h.kept of_store;
     exist = all_weaker (λ (t : Table). HasFurther b.now t × (rows_named b.now t.name ≡ [])) (HasFurther b.now) (λ t it. it.0) (map table_of fs) these;
+    numbers = numbered;
     further = (pieces.exists, (temp_roots.exists, tt));
     committed = h.committed;
     mode = h.mode;

@@ -1,17 +1,16 @@
 -- Archives that aren't cut yet have no further pieces, so that each piece of theirs is new.
-use Rattle.std.proofs.Common.{◌≡◌, inl, inr, ℕ, ◌<◌, ◌≤◌, ◌+◌, List, [], ◌∷◌, String, Global, string_bytes, Bool, true, false, cond, length, Some, None, Option, option_map, is_some, refl, sym, ap, ◌∙◌, arith}
-use Rattle.std.specs.Prelude.{ℤ, pos, not}
+use Rattle.std.proofs.Common.{◌≡◌, inl, inr, ℕ, ◌<◌, ◌≤◌, ◌+◌, List, [], ◌∷◌, String, Global, string_bytes, Bool, true, false, cond, length, Some, None, Option, option_map, is_some, refl, sym, ap, subst, ◌∙◌, arith}
+use Rattle.std.specs.Prelude.{ℤ, pos, not, nat_lt}
 use Rattle.std.specs.Ordering.{eq_by_cmp, is_eq}
 use Rattle.std.specs.declared.cmp.Ordering.{Ordering}
 use Rattle.std.specs.Cmp.{IsTotalOrder, Equal-is, tied_itself}
 use Rattle.std.specs.Option.{option_or}
 use Rattle.std.specs.FinMap as finite
-use Rattle.std.proofs.lemmas.Bool.{cases_Bool, false≢true}
+use Rattle.std.proofs.lemmas.Bool.{cases_Bool, false≢true, le-ltb}
 use Rattle.std.proofs.lemmas.List.{length-take}
 use Rattle.std.proofs.lemmas.Option.{same_Some}
 use Rattle.sqlite_value.specs.declared.value.Value.TheVariants.{Text, Blob}
 use Rattle.sqlite_value.specs.Order.{Row}
-use Rattle.sqlite_schema.specs.declared.schema.Table.{Table}
 use Rattle.sqlite.specs.Effect.{Database}
 use Rattle.sqlite.specs.Values.{or_null}
 use Rattle.paths.specs.Root.{bytes_cmp}
@@ -24,8 +23,9 @@ use Rattle.tables_sql.proofs.Orders.{numbered_antisymmetric}
 use Rattle.model.specs.World.{Path}
 use Rattle.tables_world.specs.Pieces.{piece_size}
 use Rattle.tables_make.specs.Cutting.{cut_object}
-use Rattle.tables_make.specs.Migrating.{AllCutRows, IsUncut}
-use Rattle.tables_make.proofs.Reasons.{text_same}
+use Rattle.tables_make.specs.Migrating.{CutRows, CutRowsAt, IsUncut, LongRows}
+use Rattle.tables_make.specs.Reasons.{Rows, AreAmong, NoRow, RowsIfAny}
+use Rattle.tables_make.proofs.Reasons.{all_among, none_among, text_same}
 use Rattle.tables_make.proofs.Rewritten.{cut_stored, one_object, one_piece, piece_at}
 
 -- ---- one key
@@ -71,8 +71,20 @@ module _ (p : Path) (c : Contents) where
       let is = still q o present long in
       one_piece p q n c ∙ ap (λ b. cond b (option_or (piece_at n (finite.get c.objects q)) (finite.get c.pieces (q, n))) (finite.get c.pieces (q, n))) is.0 ∙ h q o is.1 long n
 
-  pub rows_before : (t : Table) (row : Row) → AllCutRows (cut_object p c) t row → AllCutRows c t row
-  rows_before t row h = (h.0, h.1, (still h.0 h.1 h.2 h.3.0).1, h.3)
+  -- so no more rows are put then
+  pub cut_among : (q : Path) → AreAmong (CutRowsAt (cut_object p c) q) (CutRowsAt c q)
+  cut_among q = subst (λ o. AreAmong (RowsIfAny (LongRows q) o) (CutRowsAt c q)) (sym (one_object p q c)) (by (eq_by_cmp bytes_cmp q p) (finite.get c.objects q))
+    where
+      by : (b : Bool) (g : Option Stored) → AreAmong (RowsIfAny (LongRows q) (cond b (option_map cut_stored g) g)) (RowsIfAny (LongRows q) g)
+      by false g = all_among (RowsIfAny (LongRows q) g)
+      by true None = all_among NoRow
+      by true (Some o) =
+          let short : nat_lt piece_size (length (cut_stored o).nar) ≡ false = le-ltb piece_size (length (cut_stored o).nar) (omega (arith, length-take piece_size o.nar)) in
+          subst (λ b. AreAmong (cond b (CutRows q (cut_stored o)) NoRow) (LongRows q o)) (sym short) (none_among (LongRows q o))
+
+-- the rows of an object that is there
+pub rows_found : (P : Rows → Type 0) (c : Contents) (p q : Path) (o : Stored) → q ≡ p → finite.get c.objects p ≡ Some o → P (LongRows q o) → P (CutRowsAt c p)
+rows_found P c p q o named present h = subst (λ g. P (RowsIfAny (LongRows p) g)) (sym present) (subst (λ x. P (LongRows x o)) named h)
 
 -- an object's row, in other words
 pub row_is : {base p front first digest hash : Bytes} → base ≡ p → front ≡ first → digest ≡ hash → (deriver ca : Option (String Global))

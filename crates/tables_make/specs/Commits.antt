@@ -11,7 +11,8 @@ use Rattle.tables_sql.specs.declared.failure.Failed.{Failed}
 use Rattle.tables_world.specs.Worlds.{IsSoundBy}
 use Rattle.tables_make.specs.Making.{FailsToMake}
 use Rattle.tables_make.specs.Migrated.{HasEarlier, IsMigrated, LeavesMigrated}
-use Rattle.tables_make.specs.Migrating.{FailsToMigrate}
+use Rattle.tables_make.specs.Migrating.{MigratedRows, FailsToPutBy}
+use Rattle.tables_make.specs.Reasons.{Rows}
 
 module _ {S : Type 0} (g : Ghosts S) where
   -- ---- all eleven tables
@@ -47,15 +48,15 @@ module _ {S : Type 0} (g : Ghosts S) where
     pub ready : HasCleanDisk (state g old) → IsTrue (state g old).is_open → IsReady (state g old)
     pub tables : HasCleanDisk (state g old) → IsTrue (state g old).is_open → HasEarlier from (state g old).now
 
-  -- The tables of an earlier schema are brought to the third in one transaction, or stay as they are. It ends outside
-  -- a transaction, and a crash leaves what it could leave before, or this.
-  pub record CommitsMigration {T : Type 0} (old new : Held S) (result : Result T Failed) (from : Schema)
+  -- The tables of an earlier schema are brought to the third in one transaction that puts these rows, or stay as they
+  -- are. It ends outside a transaction, and a crash leaves what it could leave before, or this.
+  pub record CommitsMigration {T : Type 0} (old new : Held S) (result : Result T Failed) (from : Schema) (rows : Rows)
       (leaves : State → State → Type 0) (remains : Remains → Type 0) : Type 0 where
     pub idle : new.in_transaction ≡ false
     pub done : HasCleanDisk (state g new) → OnOk result (leaves (state g old) (state g new))
     -- a migration that fails leaves what the connection shows as it was
     pub failed : HasCleanDisk (state g new) → OnErr result (KeepsShown (state g old) (state g new))
-    pub cause : HasCleanDisk (state g new) → IfErr result (FailsToMigrate from (state g old) (state g new))
+    pub cause : HasCleanDisk (state g new) → IfErr result (FailsToPutBy rows from (state g old) (state g new))
     -- after one that is done, a crash leaves nothing else while the connection is open
     pub durable : OnOk result (IsTrue (state g new).is_open → IsDurable (state g new))
     pub survives : Survives (state g old) (state g new) remains
@@ -63,7 +64,7 @@ module _ {S : Type 0} (g : Ghosts S) where
   -- sound rows of each store directory are migrated
   abbrev pub Migrates : {T : Type 0} → Held S → Held S → Result T Failed → Schema → Type 0
   Migrates old new result from =
-      CommitsMigration old new result from
+      CommitsMigration old new result from (MigratedRows from (contents_of (state g old).now))
       (λ a b. (dir : List ℕ) → IsSoundBy from dir (contents_of a.now) → IsMigrated from dir a b)
       (λ left. (dir : List ℕ) → IsSoundBy from dir (contents_of (state g old).now)
       → LeavesMigrated from dir (state g old).now left)

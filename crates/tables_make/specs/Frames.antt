@@ -9,7 +9,7 @@ use Rattle.tables_schema.specs.Forms.{piece}
 use Rattle.tables_sql.specs.Contents.{Contents, contents_of}
 use Rattle.tables_sql.specs.Calls.{HasFurther, IsUnderWay}
 use Rattle.tables_sql.specs.declared.failure.Failed.{Failed}
-use Rattle.tables_rows.specs.Frames.{IsInside, Makes, StaysInside}
+use Rattle.tables_rows.specs.Frames.{IsInside, Makes, Numbers, StaysInside}
 use Rattle.tables_make.specs.Reasons.{Rows, HasReason}
 
 module _ {S : Type 0} (g : Ghosts S) where
@@ -52,4 +52,6 @@ module _ {S : Type 0} (g : Ghosts S) where
       (change : Contents → Contents) (rows : Rows) : Type 0 where
     pub frame : StaysInside g old new result
     pub done : Makes g old new result change
+    -- each table numbers on by no more rows than are put
+    pub numbers : Numbers g rows.count old new result
     pub cause : HasReason g old.now new.now result rows

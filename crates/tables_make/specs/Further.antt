@@ -7,6 +7,7 @@ use Rattle.sqlite.specs.Effect.{Database}
 use Rattle.sqlite.specs.State.{State}
 use Rattle.tables_sql.specs.Contents.{contents_of}
 use Rattle.tables_sql.specs.Frozen.{SparesFrozen}
+use Rattle.tables_sql.specs.Rowids.{NumbersOn}
 use Rattle.tables_sql.specs.Calls.{IsStoreDatabase, HasFurther, KeepsFurther, KeepsForeignRows}
 use Rattle.tables_make.specs.Making.{all_created}
 
@@ -15,8 +16,8 @@ abbrev pub grown : List Table → Database → Database
 grown tables db = record db { schema = all_created db.schema tables }
 
 -- Inside a transaction, which goes on: these tables were made after what was there. They hold no row, so the store's
--- tables hold what they held; each other table keeps its rows, also where the schema doesn't show it, and a further
--- table that existed still does.
+-- tables hold what they held, and none numbers on; each other table keeps its rows, also where the schema doesn't show
+-- it, and a further table that existed still does.
 pub record MakesFurther (tables : List Table) (old new : State) : Type 0 where
   pub was_open : IsTrue old.is_open
   pub is_open : IsTrue new.is_open
@@ -26,6 +27,7 @@ pub record MakesFurther (tables : List Table) (old new : State) : Type 0 where
   pub frozen : SparesFrozen old.now new.now
   pub of_store : IsStoreDatabase new.now
   pub exist : AllByRecursion (HasFurther new.now) tables
+  pub numbers : NumbersOn 0 (grown tables old.now) new.now
   pub further : KeepsFurther old.now new.now
   pub committed : new.committed ≡ old.committed
   pub mode : new.in_transaction ≡ true

@@ -1,18 +1,18 @@
 -- The rows that a migration puts, and why it fails.
-use Rattle.std.specs.Prelude.{◌≡◌, ◌⊎◌, ◌<◌, ℕ, ℤ, List, [], ◌∷◌, length, Some, None, codes}
+use Rattle.std.specs.Prelude.{◌≡◌, ◌⊎◌, ◌<◌, ℕ, ℤ, List, [], ◌∷◌, cond, nat_lt, length, Some, None, codes}
 use Rattle.std.specs.FinMap as finite
 use Rattle.sqlite_value.specs.declared.value.Value.TheVariants.{Int, Text, Blob}
 use Rattle.sqlite.specs.Values.{or_null}
 use Rattle.sqlite.specs.State.{State}
 use Rattle.tables_schema.specs.Forms.{meta, object, piece}
 use Rattle.tables_schema.specs.declared.schema.Schema.{Schema}
-use Rattle.tables_schema.specs.declared.schema.Schema.TheVariants.{V1, V3}
+use Rattle.tables_schema.specs.declared.schema.Schema.TheVariants.{V1, V2, V3}
 use Rattle.tables_schema.specs.Schemas.{schema_text}
 use Rattle.tables_sql.specs.Contents.{Stored, Contents, contents_of}
 use Rattle.tables_sql.specs.declared.failure.Failed.{Failed}
 use Rattle.model.specs.World.{Path}
 use Rattle.tables_world.specs.Pieces.{piece_size, row_part, further_pieces}
-use Rattle.tables_make.specs.Reasons.{Rows, IsRow, RowsOf, IsReason}
+use Rattle.tables_make.specs.Reasons.{Rows, Both, IsRow, NoRow, RowsOf, RowsIfAny, IsReason}
 use Rattle.tables_make.specs.Making.{FailsToMakeThese}
 use Rattle.tables_make.specs.Further.{grown}
 use Rattle.tables_make.specs.Migrated.{missing_tables}
@@ -33,21 +33,25 @@ SettingRow = IsRow meta (Text (codes "schema") ∷ Text (schema_text V3) ∷ [])
 
 -- an object with the first part of its archive, and the pieces of the rest
 abbrev pub CutRows : Path → Stored → Rows
-CutRows p o t row =
-    ObjectRow p (record o { nar = row_part o.nar }) t row ⊎ RowsOf (PieceRow p) (further_pieces o.nar) t row
+CutRows p o = Both (ObjectRow p (record o { nar = row_part o.nar })) (RowsOf (PieceRow p) (further_pieces o.nar))
 
--- the rows of an object whose archive is longer than a row takes
+-- the rows of an object, if its archive is longer than a row takes
 abbrev pub LongRows : Path → Stored → Rows
-LongRows p o t row = (piece_size < length o.nar) × CutRows p o t row
+LongRows p o = cond (nat_lt piece_size (length o.nar)) (CutRows p o) NoRow
 
--- the rows of one of the objects whose archives are that long
-abbrev pub AllCutRows : Contents → Rows
-AllCutRows c t row = (p : Path) × (o : Stored) × (finite.get c.objects p ≡ Some o) × LongRows p o t row
+-- the rows of the object at a path, if there is one and its archive is that long
+abbrev pub CutRowsAt : Contents → Path → Rows
+CutRowsAt c p = RowsIfAny (LongRows p) (finite.get c.objects p)
+
+-- what is put where the archives of some objects are cut, and the setting made that of the third schema
+abbrev pub RewrittenRows : Contents → List Path → Rows
+RewrittenRows c paths = Both (RowsOf (CutRowsAt c) paths) SettingRow
 
 -- what a migration puts: the setting, and from the first schema the objects whose archives are cut
 abbrev pub MigratedRows : Schema → Contents → Rows
-MigratedRows V1 c t row = AllCutRows c t row ⊎ SettingRow t row
-MigratedRows _ c t row = SettingRow t row
+MigratedRows V1 c = RewrittenRows c (finite.keys c.objects)
+MigratedRows V2 c = SettingRow
+MigratedRows V3 c = SettingRow
 
 -- ---- what was not cut yet
 
@@ -71,9 +75,11 @@ IsUncut c =
 abbrev pub with_missing : Schema → State → State
 with_missing from s = record s { now = grown (missing_tables from) s.now }
 
--- Why the tables of a schema aren't brought to the third: those that it lacks aren't made, or next to them the rows
+-- Why the tables of a schema aren't brought to the third: those that it lacks aren't made, or next to them these rows
 -- aren't put.
+abbrev pub FailsToPutBy : Rows → Schema → State → State → Failed → Type 0
+FailsToPutBy rows from old new f =
+    FailsToMakeThese (missing_tables from) ⊥ ⊥ old new f ⊎ IsReason rows (with_missing from old) new f
+
 abbrev pub FailsToMigrate : Schema → State → State → Failed → Type 0
-FailsToMigrate from old new f =
-    FailsToMakeThese (missing_tables from) ⊥ ⊥ old new f
-    ⊎ IsReason (MigratedRows from (contents_of old.now)) (with_missing from old) new f
+FailsToMigrate from old = FailsToPutBy (MigratedRows from (contents_of old.now)) from old

@@ -1,5 +1,5 @@
 -- Why rows aren't put into the store's tables.
-use Rattle.std.specs.Prelude.{⊤, ◌≡◌, ◌⊎◌, List, [], ◌∷◌, Result, IsSome, IsTrue, IfErr}
+use Rattle.std.specs.Prelude.{⊤, ◌≡◌, ◌⊎◌, ◌≤◌, ℕ, ◌+◌, List, [], ◌∷◌, Option, Some, None, Result, IsSome, IsTrue, IfErr}
 use Rattle.sqlite_value.specs.Order.{Row}
 use Rattle.sqlite_schema.specs.declared.schema.Table.{Table}
 use Rattle.sqlite_trees.specs.declared.store.Store.{Ghosts}
@@ -7,26 +7,42 @@ use Rattle.sqlite.specs.Effect.{Database}
 use Rattle.sqlite.specs.State.{State, HasCleanDisk}
 use Rattle.sqlite.specs.Held.{Held, state}
 use Rattle.tables_sql.specs.Calls.{KeepsForeignRows}
-use Rattle.tables_sql.specs.Failures.{HasDiskCause, HasNoRowidLeft, IsTooLarge}
+use Rattle.tables_sql.specs.Failures.{HasDiskCause, IsTooLarge}
+use Rattle.tables_sql.specs.Rowids.{IsFullFor}
 use Rattle.tables_sql.specs.declared.failure.Failed.{Failed}
 use Rattle.tables_sql.specs.declared.failure.Failed.TheVariants.{Memory, Size, Disk}
 
--- some rows of the store's tables: of which table, and with which values after the rowid
-abbrev pub Rows : Type 1
-Rows = Table → Row → Type 0
+-- Some rows of the store's tables: how many at most, and which, by their table and their values after the rowid.
+pub record Rows : Type 1 where
+  pub count : ℕ
+  pub has : Table → Row → Type 0
 
 -- one row of one table
 abbrev pub IsRow : Table → Row → Rows
-IsRow table values t row = (t ≡ table) × (row ≡ values)
+IsRow table values = record { count = 1; has = λ t row. (t ≡ table) × (row ≡ values) }
 
 -- no row of any table
 abbrev pub NoRow : Rows
-NoRow t row = ⊥
+NoRow = record { count = 0; has = λ t row. ⊥ }
+
+-- the rows of both
+abbrev pub Both : Rows → Rows → Rows
+Both a b = record { count = a.count + b.count; has = λ t row. a.has t row ⊎ b.has t row }
 
 -- the rows of each item of a list
 abbrev pub RowsOf : {X : Type 0} → (X → Rows) → List X → Rows
-RowsOf rows [] t row = ⊥
-RowsOf rows (x ∷ xs) t row = rows x t row ⊎ RowsOf rows xs t row
+RowsOf rows [] = NoRow
+RowsOf rows (x ∷ xs) = Both (rows x) (RowsOf rows xs)
+
+-- the rows of an item, if there is one
+abbrev pub RowsIfAny : {X : Type 0} → (X → Rows) → Option X → Rows
+RowsIfAny rows None = NoRow
+RowsIfAny rows (Some x) = rows x
+
+-- the one are among the other, and no more of them
+pub record AreAmong (few many : Rows) : Type 0 where
+  pub count : few.count ≤ many.count
+  pub has : (t : Table) (row : Row) → few.has t row → many.has t row
 
 -- a database that a transaction over the first one may show: the schema and the tables of other programs are as they
 -- were
@@ -37,12 +53,12 @@ pub record IsWithin (old db : Database) : Type 0 where
 -- in such a database one of the rows, or its entry in an index, is larger than the store takes
 abbrev pub HasLargeRow : Rows → Database → Type 0
 HasLargeRow rows old =
-    (db : Database) × IsWithin old db × (t : Table) × (values : Row) × rows t values × IsTooLarge db t values
+    (db : Database) × IsWithin old db × (t : Table) × (values : Row) × rows.has t values × IsTooLarge db t values
 
--- in such a database no rowid is left for one of the rows
+-- The table of one of the rows has no rowids for all of them, in the database before the call.
 abbrev pub RunsOutOfRowids : Rows → Database → Type 0
 RunsOutOfRowids rows old =
-    (db : Database) × IsWithin old db × (t : Table) × (values : Row) × rows t values × HasNoRowidLeft db t
+    (t : Table) × (values : Row) × rows.has t values × IsFullFor rows.count old t
 
 -- Why a call that puts these rows failed. A size is named for one of them alone, over an open connection. The disk is
 -- named for a fault of it in this call, for an earlier one that had shut the connection, for a limit on steps, or where

@@ -8,7 +8,7 @@ ghost use Rattle.tables_sql.specs.Contents.{contents_of};
 ghost use Rattle.tables_sql.specs.Entries.{stored_of};
 ghost use Rattle.tables_world.specs.Pieces.{pieces_by};
 ghost use Rattle.tables_make.specs.Cutting.{put_pieces, cut_row, cut_object, cut_objects};
-ghost use Rattle.tables_make.specs.Migrating.{AllCutRows, CutRows, HasNoPieces, HasUncut, IsUncut, LongRows, PieceRow};
+ghost use Rattle.tables_make.specs.Migrating.{CutRows, CutRowsAt, HasNoPieces, HasUncut, IsUncut, LongRows, PieceRow};
 ghost use Rattle.tables_make.specs.Reasons.{RowsOf};
 ghost use Rattle.tables_make.specs.Frames.{MayCut, IsInsideWith, Writes};
 
@@ -93,7 +93,7 @@ pub(crate) fn cut<S: Alter>(
 ) -> Result<(), Failed>
     requires { IsInsideWith S.Store tx.old.conn (λ db. HasFurther db piece × IsUncut (contents_of db)) }
     ensures { Writes S.Store tx.old.conn tx.new.conn result (cut_object base.now)
-        (AllCutRows (contents_of (state S.Store tx.old.conn.now).now)) }
+        (CutRowsAt (contents_of (state S.Store tx.old.conn.now).now) base.now) }
 {
     let found = objects::get_within(alloc, tx, base)?;
     match found {
@@ -110,7 +110,7 @@ pub(crate) fn cut_all<S: Alter>(
 ) -> Result<(), Failed>
     requires { MayCut S.Store tx.old.conn IsUncut }
     ensures { Writes S.Store tx.old.conn tx.new.conn result (cut_objects (map string_bytes bases.now))
-        (AllCutRows (contents_of (state S.Store tx.old.conn.now).now)) }
+        (RowsOf (CutRowsAt (contents_of (state S.Store tx.old.conn.now).now)) (map string_bytes bases.now)) }
 {
     'bases: for base in bases {
         cut(alloc, tx, base.as_str())?;

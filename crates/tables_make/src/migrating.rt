@@ -8,7 +8,7 @@ ghost use Rattle.tables_schema.specs.declared.schema.Schema.TheVariants.{V1, V2}
 ghost use Rattle.tables_make.specs.Further.{grown};
 ghost use Rattle.tables_make.specs.Cutting.{cut_objects, renumbered};
 ghost use Rattle.tables_make.specs.Migrated.{missing_tables, HasEarlier, Grows, IsGrown};
-ghost use Rattle.tables_make.specs.Migrating.{FailsToMigrate, IsUncut, MigratedRows};
+ghost use Rattle.tables_make.specs.Migrating.{FailsToMigrate, FailsToPutBy, IsUncut, RewrittenRows};
 ghost use Rattle.tables_make.specs.Frames.{MayCut, IsInsideWith, StepsInside, Writes};
 ghost use Rattle.tables_make.specs.Commits.{CommitsMigration, MayMigrate, Migrates};
 
@@ -30,7 +30,7 @@ fn rewrite<S: Alter>(
     requires { MayCut S.Store tx.old.conn IsUncut }
     ensures { Writes S.Store tx.old.conn tx.new.conn result
         (λ c. renumbered (cut_objects (map string_bytes bases.now) c))
-        (MigratedRows V1 (contents_of (state S.Store tx.old.conn.now).now)) }
+        (RewrittenRows (contents_of (state S.Store tx.old.conn.now).now) (map string_bytes bases.now)) }
 {
     cut_all(alloc, tx, bases)?;
     renumber(tx)
@@ -46,7 +46,7 @@ fn write_first<S: Alter>(
     ensures { StepsInside S.Store tx.old.conn tx.new.conn result
         (λ old. Grows (missing_tables V1)
         (renumbered (cut_objects (map string_bytes bases.now) (contents_of old.now))) old)
-        (FailsToMigrate V1) }
+        (λ old. FailsToPutBy (RewrittenRows (contents_of old.now) (map string_bytes bases.now)) V1 old) }
 {
     further::make_both(tx)?;
     rewrite(alloc, tx, bases)
@@ -61,7 +61,8 @@ fn commit_first<S: Alter>(
     requires { MayMigrate S.Store conn.old V1 }
     ensures { let old = (state S.Store conn.old).now in
         let contents = renumbered (cut_objects (map string_bytes bases.now) (contents_of old)) in
-        CommitsMigration S.Store conn.old conn.new result V1 (IsGrown (missing_tables V1) contents)
+        let rows = RewrittenRows (contents_of old) (map string_bytes bases.now) in
+        CommitsMigration S.Store conn.old conn.new result V1 rows (IsGrown (missing_tables V1) contents)
         (λ left. Leaves (grown (missing_tables V1) old) left contents) }
 {
     let mut tx = transaction::begin(conn);

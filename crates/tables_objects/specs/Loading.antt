@@ -27,7 +27,7 @@ module _ {S : Type 0} (g : Ghosts S) where
     pub joined : HasCleanDisk (state g at) → AreJoined (contents_of (state g at).now) source.joined.now
     pub ahead : HasCleanDisk (state g at) → AreStored (contents_of (state g at).now) objects
 
-  -- The answer is true exactly if the contents are sound, and then what is loaded is made of them. The contents are
+  -- The answer is true if and only if the contents are sound, and then what is loaded is made of them. The contents are
   -- only read.
   pub record Loads {T : Type 0} (old new : Held S) (result : Result Bool Failed) (loaded_now : T)
       (AreSound : Contents → Type 0) (loaded_of : Contents → T) : Type 0 where

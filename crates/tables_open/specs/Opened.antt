@@ -29,8 +29,9 @@ use Rattle.sqlite.specs.declared.error.Error.{Error}
 use Rattle.sqlite.specs.declared.error.Error.TheVariants.{SqliteFailure}
 use Rattle.sqlite.specs.declared.error.ErrorCode.TheVariants.{CannotOpen, OutOfMemory, DatabaseBusy}
 use Rattle.tables_sql.specs.declared.failure.Failed.{Failed}
+use Rattle.tables_sql.specs.declared.failure.Failed.TheVariants.{Memory}
 use Rattle.tables_open.specs.declared.file.UnopenedFile.{UnopenedFile}
-use Rattle.tables_open.specs.declared.file.UnopenedFile.TheVariants.{Refused, Unreadable}
+use Rattle.tables_open.specs.declared.file.UnopenedFile.TheVariants.{Unfound, Refused, Unreadable}
 use Rattle.tables_schema.specs.declared.recognising.Recognised.{Recognised}
 use Rattle.tables_schema.specs.declared.recognising.Recognised.TheVariants.{Nothing, Tables, Other}
 use Rattle.tables_schema.specs.declared.schema.Schema.TheVariants.{V1, V2, V3}
@@ -113,19 +114,23 @@ module _ {D : Type 0} {g : disk.Ghosts D} where
     pub same : HasCleanDisk (file_state now) → KeepsShown (file_state was) (file_state now)
     pub survives : Survives (file_state was) (file_state now) (λ _. ⊥)
 
+-- Why no files were opened at a path: out of memory, or no failure, whatever is there. That is all that `sqlite` says.
+abbrev pub IsUnfound : Option Failed → Type 0
+IsUnfound failure = (failure ≡ None) ⊎ (failure ≡ Some Memory)
+
 module _ {S : Type 0} {c : calls.Ghosts Host} {start : Ghosts S} {g : disk.Ghosts (Modelled Host S c start)} where
-  -- all that `sqlite` says of an error of an open, and of what is left of the files
-  abbrev pub Refuses : Error → Option (Leftover (Modelled Host S c start) g) → Type 0
-  Refuses e None = (e ≡ SqliteFailure CannotOpen) ⊎ ((e ≡ SqliteFailure OutOfMemory) ⊎ (e ≡ SqliteFailure DatabaseBusy))
-  Refuses e (Some left) =
+  -- all that `sqlite` says of an error of a connection to files that were opened, and of what is left of them
+  abbrev pub Refuses : Error → Leftover (Modelled Host S c start) g → Type 0
+  Refuses e left =
       IsTrue (is_open_error e)
       × ((files : _) × IsFresh true files.log × IsFresh false files.db
       × (IsCleanLeft left → FailsToOpenFiles files left e × LeavesFiles files left))
 
-  -- Why files that held this weren't opened: `sqlite` refused them for an error, of which this is the failure; or it
-  -- opened them, and what they hold of the store's tables can't be read.
+  -- Why files that held this weren't opened: there were none at the path; `sqlite` refused them for an error, of which
+  -- this is the failure; or it opened them, and what they hold of the store's tables can't be read.
   abbrev pub FailsToOpenFile : Image → UnopenedFile (FileStore (Modelled Host S c start) g) (Modelled Host S c start) g
       → Type 0
+  FailsToOpenFile held (Unfound it) = IsUnfound it.failure
   FailsToOpenFile held (Refused failure left) = (e : Error) × (failure ≡ opening_failure e) × Refuses e left
   FailsToOpenFile held (Unreadable it) =
       (was : _) × IsAsOpened held was it.conn

@@ -6,13 +6,14 @@ ghost use Rattle.sqlite.specs.Held.{state};
 ghost use Rattle.sqlite_wal.specs.Files.{image_at};
 ghost use Rattle.sqlite.specs.Files.{file_state};
 ghost use Rattle.sqlite.specs.Start.{FindsIn};
-ghost use Rattle.tables_sql.specs.Failures.{opening_failure};
 ghost use Rattle.tables_open.specs.Opened.{IsFound, FailsToOpen, IsAsOpened, FailsToOpenFile};
 ghost use Rattle.tables_sql.specs.Calls.{KeepsShown};
 
 use crate::connecting::connect;
+pub use crate::files::Unfound;
+use crate::files::{find, opening_failure};
 use crate::opening;
-use sqlite::{Alter, Connection, Error, ErrorCode, FileFrom, FileStore, Leftover, Start};
+use sqlite::{Alter, Connection, FileFrom, FileStore, Leftover, Start};
 use sqlite_disk::Disk;
 use std::alloc::Global;
 use std::rt::HostRuntime;
@@ -40,29 +41,17 @@ pub struct Unreadable<S: Alter> {
 /// Why a file wasn't opened. `S` is the store of a connection, over files `D`.
 #[derive(Drop)]
 pub enum UnopenedFile<S: Alter, D: Disk> {
-    /// `sqlite` didn't open it.
+    /// No files were opened at the path.
+    Unfound(Unfound<D>),
+    /// The files were opened, but `sqlite` opened no connection to them.
     Refused {
         /// The failure that kept it from being opened; none, where it is something else than a database.
         failure: Option<Failed>,
-        /// What is left of the files, once they were opened.
-        left: Option<Leftover<D>>,
+        /// What is left of the files.
+        left: Leftover<D>,
     },
     /// The database was opened, but what it has of the store's tables can't be read.
     Unreadable(Unreadable<S>),
-}
-
-/// The failure that kept a file from being opened; none, where it is something else than a database.
-fn opening_failure(error: Error) -> Option<Failed>
-    ensures { result ≡ opening_failure error }
-{
-    match error {
-        Error::SqliteFailure(ErrorCode::OutOfMemory) => Some(Failed::Memory),
-        Error::SqliteFailure(ErrorCode::TooBig) => Some(Failed::Size),
-        Error::SqliteFailure(
-            ErrorCode::SystemIoFailure | ErrorCode::DiskFull | ErrorCode::Closed,
-        ) => Some(Failed::Disk),
-        _ => None,
-    }
 }
 
 /// Opens a connection: finds what its database has of the store's tables. Nothing changes, and where it can't be read,
@@ -90,15 +79,15 @@ pub fn inspect<S: Alter>(alloc: Global, mut conn: Connection<S>) -> Result<Opene
 
 /// Opens the file at a path, or makes an empty database there. `start` is what the file held, which no
 /// code reads: a theorem is stated over any, and a program passes `Unknown`, or `Wary` where a torn write may leave any
-/// bytes. Out of memory, and anything but a database with nothing left, need no cause: `sqlite` gives none for memory,
-/// for a path that can't be opened, or for a file that another connection has open.
+/// bytes. Out of memory and `Unfound` need no cause: `sqlite` gives none for memory, for a path that can't be opened,
+/// or for a file that another connection has open.
 pub fn open<S: Start>(
     rt: &HostRuntime,
     path: &str,
     start: S,
 ) -> Result<Opened<FileStore<FileFrom<S>>>, UnopenedFile<FileStore<FileFrom<S>>, FileFrom<S>>>
     ensures memory { path.now ≡ codes ":memory:"
-        → IsErrAnd result (λ e. (left : _) × (e ≡ UnopenedFile.Refused None left)) }
+        → IsErrAnd result (λ e. (it : _) × (e ≡ UnopenedFile.Unfound it) × (it.failure ≡ None)) }
     ensures idle { IfOk result (λ it. it.conn.in_transaction ≡ false) }
     ensures found { IfOk result (λ it. HasCleanDisk (file_state it.conn) → IsFound it.found (file_state it.conn)) }
     ensures opened { IfOk result (λ it. (was : _) × IsAsOpened (image_at S.Start) was it.conn) }
@@ -107,14 +96,17 @@ pub fn open<S: Start>(
     ensures guarded { IfOk result (λ it. HasCleanDisk (file_state it.conn) → (file_state it.conn).IsShielded) }
     ensures cause { IfErr result (FailsToOpenFile (image_at S.Start)) }
 {
-    match connect(rt, path, start) {
-        Ok(conn) => match inspect(rt.alloc(), conn) {
-            Ok(opened) => Ok(opened),
-            Err(untold) => Err(UnopenedFile::Unreadable(untold)),
+    match find(rt, path, start) {
+        Ok(found) => match connect(rt, found) {
+            Ok(conn) => match inspect(rt.alloc(), conn) {
+                Ok(opened) => Ok(opened),
+                Err(untold) => Err(UnopenedFile::Unreadable(untold)),
+            },
+            Err((error, left)) => Err(UnopenedFile::Refused {
+                failure: opening_failure(error),
+                left,
+            }),
         },
-        Err((error, left)) => Err(UnopenedFile::Refused {
-            failure: opening_failure(error),
-            left,
-        }),
+        Err(unfound) => Err(UnopenedFile::Unfound(unfound)),
     }
 }

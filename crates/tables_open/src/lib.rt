@@ -3,6 +3,7 @@
 
 mod connecting;
 pub mod file;
+mod files;
 mod measuring;
 pub mod opening;
 mod options;

@@ -14,7 +14,7 @@ use sqlite::{Error, ErrorCode, Options};
 use std::hash::{BuildHasher, RandomState};
 use std::rt::HostRuntime;
 
-/// How many bytes of pages are kept in any case: 2,000 pages of a file that `sqlite` makes. Each place takes its
+/// How many bytes of pages are always kept: 2,000 pages of a file that `sqlite` makes. Each place takes its
 /// memory, and some microseconds, when the file is opened, whether a page comes to lie in it or not.
 const LEAST_BYTES: u64 = 8_192_000;
 

@@ -25,8 +25,8 @@ abbrev pub all_put : {X : Type 0} → (X → OutlineValue → OutlineValue) → 
 all_put put [] o = o
 all_put put (x ∷ xs) o = all_put put xs (put x o)
 
--- tested and put one after another, beginning with this outline, all rows pass exactly if the answer is true, and then
--- make the other outline
+-- tested and put one after another, beginning with this outline, all rows pass if and only if the answer is true, and
+-- then make the other outline
 pub record LoadAs {X : Type 0} (passes : X → OutlineValue → Bool) (put : X → OutlineValue → OutlineValue)
     (rows : List X) (from : OutlineValue) (answer : Bool) (to : OutlineValue) : Type 0 where
   pub reported : all_pass passes put rows from ≡ answer

@@ -15,6 +15,7 @@ use Rattle.tables_sql.specs.Contents.{contents_of}
 use Rattle.tables_sql.specs.Texts.{IsReadable}
 use Rattle.tables_sql.specs.Failures.{FailsFor, FailsToInsert, IsQueryFailure, IsDeletionFailure, IsAdditionFailure}
 use Rattle.tables_sql.specs.Queries.{HasBegunWith}
+use Rattle.tables_sql.specs.Rowids.{NumbersOn}
 use Rattle.tables_sql.specs.Reading.{IsAmiss}
 use Rattle.tables_sql.proofs.Rising.{select_fails}
 use Rattle.tables_sql.proofs.Scans.{on_ok}
@@ -23,7 +24,7 @@ use Rattle.tables_sql.proofs.Statements.{Selects}
 use Rattle.tables_sql.proofs.Steps.{ready_after}
 use Rattle.tables_sql.proofs.WriteFailures.{removal_failed}
 use Rattle.tables_sql.proofs.Alike.{made, all_made}
-use Rattle.tables_sql.proofs.Description.{Description, Addition, Removal, Part, PartReading, Reading, Selection, form, adds, adds_not, removes, removes_not, selects, selects_not, never_amiss, reported_as, with_all, keys_of}
+use Rattle.tables_sql.proofs.Description.{Description, Addition, Removal, Part, PartReading, Reading, Selection, form, adds, adds_number, adds_not, removes, removes_number, removes_not, selects, selects_not, never_amiss, reported_as, with_all, keys_of}
 
 pub early : {old new : State} → Survives old new (λ _. ⊥) → HasCleanDisk new → HasCleanDisk old
 early {old} {new} survives clean = omega (arith, survives.clean, clean)
@@ -113,6 +114,9 @@ module _ {K X : Type 0} {d : Description K X} {old new : State} {text : List ℕ
   pub puts_new : (r : Result (Unit {0}) Failed) → AllByRecursion IsReadable values → Ran r → OnOk r (finite.get (d.of (contents_of old.now)) k ≡ None)
   puts_new r texts = on_ok r _ _ (λ ran. (adds d old new (under (early survives clean)) (own (early survives clean)) a ran.0 texts ran.1).0)
 
+  pub puts_number : (r : Result (Unit {0}) Failed) → Ran r → OnOk r (NumbersOn 1 old.now new.now)
+  puts_number r = on_ok r _ _ (λ ran. adds_number d old new (under (early survives clean)) (own (early survives clean)) a ran.0 ran.1)
+
   pub fails_to_put : (r : Result (Unit {0}) Failed) → IfErr r (IsAdditionFailure text params old new) → IfErr r (FailsToInsert (form d) values (IsSome (finite.get (d.of (contents_of old.now)) k)) old new)
   fails_to_put r cause = addition_failed r old new _ _ _ _ cause (λ e h. adds_not d old new (under (early survives clean)) (own (early survives clean)) a e h)
 
@@ -122,6 +126,9 @@ module _ {K X : Type 0} {d : Description K X} {old new : State} {text : List ℕ
     (survives : Survives old new (λ _. ⊥)) (under : HasCleanDisk old → IsUnderWay old) (own : WasOwn d old) (clean : HasCleanDisk new) where
   pub takes : (result : Result (Unit {0}) Failed) → OnOk result ((count : ℕ) × ExecutesInside 0 text params old new (Ok count)) → OnOk result (Changes old new (λ c. d.put c (finite.retain_keys (d.of c) (λ k. not (test k)))))
   takes result = on_ok result _ _ (λ ran. removes d old new (under (early survives clean)) (own (early survives clean)) r ran.0 ran.1)
+
+  pub takes_number : (result : Result (Unit {0}) Failed) → OnOk result ((count : ℕ) × ExecutesInside 0 text params old new (Ok count)) → OnOk result (NumbersOn 0 old.now new.now)
+  takes_number result = on_ok result _ _ (λ ran. removes_number d old new (under (early survives clean)) (own (early survives clean)) r ran.0 ran.1)
 
   pub fails_to_take : (result : Result (Unit {0}) Failed) → IfErr result (IsDeletionFailure text params old new) → IfErr result (FailsFor old new)
   fails_to_take result cause = removal_failed result old new _ _ cause (λ e h. removes_not d old new (under (early survives clean)) (own (early survives clean)) r e h)

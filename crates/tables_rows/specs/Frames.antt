@@ -1,6 +1,6 @@
 -- What each call on the tables requires of a connection, and what it keeps of it, by whichever table it reads or
 -- writes.
-use Rattle.std.specs.Prelude.{◌≡◌, false, Option, None, Result, IsSome, IsTrue, IfOk, IfErr, OnOk}
+use Rattle.std.specs.Prelude.{◌≡◌, ℕ, false, Option, None, Result, IsSome, IsTrue, IfOk, IfErr, OnOk}
 use Rattle.std.specs.Borrow.{MutBor}
 use Rattle.sqlite_value.specs.Order.{Row}
 use Rattle.sqlite_schema.specs.declared.schema.Table.{Table}
@@ -12,6 +12,7 @@ use Rattle.tables_sql.specs.Calls.{IsReady, KeepsShown, Changes, HasFurther}
 use Rattle.tables_sql.specs.Contents.{Contents, contents_of}
 pub use Rattle.tables_sql.specs.Frames.{IsInside, StaysInside}
 use Rattle.tables_sql.specs.Failures.{FailsFor, FailsToInsert, FailsToRead}
+use Rattle.tables_sql.specs.Rowids.{NumbersOn}
 use Rattle.tables_sql.specs.declared.failure.Failed.{Failed}
 
 module _ {S : Type 0} (g : Ghosts S) where
@@ -66,6 +67,11 @@ module _ {S : Type 0} (g : Ghosts S) where
   WasFree old new result find =
       HasCleanDisk (state g new.now) → OnOk result (find (contents_of (state g old.now).now) ≡ None)
 
+  -- where it succeeds, each table numbers on by at most n rows
+  abbrev pub Numbers : {T E : Type 0} (n : ℕ) (old new : MutBor (Held S)) (result : Result T E) → Type 0
+  Numbers n old new result =
+      HasCleanDisk (state g new.now) → OnOk result (NumbersOn n (state g old.now).now (state g new.now).now)
+
   -- an error of an insert of this row may also come of its size, of the lack of a rowid, or of such an entry
   abbrev pub FailsToPut : {T X : Type 0} (old new : MutBor (Held S)) (result : Result T Failed) (table : Table)
       (row : Row) (find : Contents → Option X) → Type 0
@@ -90,19 +96,21 @@ module _ {S : Type 0} (g : Ghosts S) where
     pub reads : Reads old.now new.now result shows
     pub cause : FailsWithCause old.now new.now result
 
-  -- an insert of this row makes this change, where there was no entry of its key
+  -- an insert of this row makes this change, where there was no entry of its key, and numbers on by one row
   pub record Inserts {T X : Type 0} (before after : MutBor (Held S)) (result : Result T Failed) (table : Table)
       (row : Row) (find : Contents → Option X) (change : Contents → Contents) : Type 0 where
     pub frame : StaysInside g before after result
     pub done : Makes before after result change
+    pub numbers : Numbers 1 before after result
     pub cause : FailsToPut before after result table row find
     pub new : WasFree before after result find
 
-  -- a delete makes this change
+  -- a delete makes this change, and no table numbers on
   pub record Removes {T : Type 0} (old new : MutBor (Held S)) (result : Result T Failed)
       (change : Contents → Contents) : Type 0 where
     pub frame : StaysInside g old new result
     pub done : Makes old new result change
+    pub numbers : Numbers 0 old new result
     pub cause : FailsWithCause old.now new.now result
 
   -- ---- several reads, one after another

@@ -36,6 +36,8 @@ use Rattle.tables_sql.specs.Calls.{IsKeyed, IsStoreDatabase, IsReady, IsUnderWay
 use Rattle.tables_sql.specs.Queries.{IsSelect, HasBegunWith}
 use Rattle.tables_sql.specs.Reading.{IsAmiss}
 use Rattle.tables_sql.specs.Failures.{failure_of, FailsWith, IsTooLarge, HasNoRowidLeft}
+use Rattle.tables_sql.specs.Rowids.{NumberOn, NumbersOn}
+use Rattle.tables_sql.proofs.Rowids.{left_numbers_on, put_numbers_on, sets_numbers_on}
 use Rattle.tables_sql.proofs.Truths.{free_of}
 use Rattle.tables_sql.proofs.Means.{IsMeant, means_command}
 use Rattle.tables_sql.proofs.Writes.{SetsRows, inserts_in, rowids_where}
@@ -161,6 +163,10 @@ module _ {K X : Type 0} (d : Description K X) (old new : State) (under : IsUnder
         changed (form d) old new (put_row row rows) exists it.1 _ of_store keyed readable d.named (d.written old new (put_row row rows) of_store.has here it.1 _ (more ∙ ap (λ m. finite.insert m k x) (sym held))),
       )
 
+  -- the tables number on by one row
+  pub adds_number : (count : ℕ) → ExecutesInside 0 text params old new (Ok count) → NumbersOn 1 old.now new.now
+  adds_number count h = sets_numbers_on 1 old new (tree_named old.now.schema d.name) (put_row row rows) (put_numbers_on rows row refl) (puts count h).1
+
   -- why it isn't added: beside the store, for a limit on steps, for want of a rowid, or since its key is there
   pub adds_not : (e : Error) → ExecutesInside 0 text params old new (Err e)
       → FailsWith old new (IsTooLarge old.now (form d) values ⊎ (old.is_open ≡ false)) (IsSome old.step_limit ⊎ (HasNoRowidLeft old.now (form d) ⊎ IsSome (finite.get (d.of (contents_of old.now)) k))) (failure_of e)
@@ -190,6 +196,16 @@ module _ {K X : Type 0} (d : Description K X) (old new : State) (under : IsUnder
       let exists = d.exists old.now.schema here in
       let it = deletes_part d.name d.columns d.key d.total d.same d.kind d.entry old new (λ _. exists) under text params r.filter test r.said r.is count h (d.keyed old.now of_store mine) in
       changed (form d) old new it.0 exists it.1 _ of_store it.2 it.3 d.named (d.written old new it.0 of_store.has here it.1 _ (it.4 ∙ ap (λ m. finite.retain_keys m (λ k. not (test k))) (sym (d.held old.now here))))
+
+  -- and no table numbers on
+  pub removes_number : (count : ℕ) → ExecutesInside 0 text params old new (Ok count) → NumbersOn 0 old.now new.now
+  removes_number count h =
+      let of_store = under.of_store h.1.was_open in
+      let mine = own h.1.was_open in
+      let exists = d.exists old.now.schema (d.within old.now of_store mine) in
+      let it = deletes_part d.name d.columns d.key d.total d.same d.kind d.entry old new (λ _. exists) under text params r.filter test r.said r.is count h (d.keyed old.now of_store mine) in
+      let left : NumberOn 0 (rows_named old.now d.name) it.0 = subst (NumberOn 0 (rows_named old.now d.name)) (sym it.5.1) (left_numbers_on it.5.0 (rows_named old.now d.name)) in
+      sets_numbers_on 0 old new (tree_named old.now.schema d.name) it.0 left it.1
 
   pub removes_not : (e : Error) → ExecutesInside 0 text params old new (Err e) → FailsWith old new (old.is_open ≡ false) (IsSome old.step_limit) (failure_of e)
   removes_not e h = delete_fails d.name d.columns d.key old new under (λ up. d.exists old.now.schema (in_schema d old new under own up)) text (length params) params r.filter refl r.is r.accepts e h

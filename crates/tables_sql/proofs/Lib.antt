@@ -46,6 +46,7 @@ pub mod ReferenceLemmas
 pub mod Removals
 pub mod Rising
 pub mod RowByRow
+pub mod Rowids
 pub mod RuntimeRootLemmas
 pub mod Scans
 pub mod SettingLemmas

@@ -1,5 +1,5 @@
 -- What a query lists and what a DELETE leaves, once for every table of the store.
-use Rattle.std.proofs.Common.{◌≡◌, ℕ, List, [], ◌∷◌, Bool, true, not, Result, Ok, Err, IfOk, Vec, Global, map, length, IsTrue, refl, sym, ap, subst, ◌∙◌}
+use Rattle.std.proofs.Common.{◌≡◌, ℕ, ℤ, List, [], ◌∷◌, Bool, true, not, Result, Ok, Err, IfOk, Vec, Global, map, length, IsTrue, refl, sym, ap, subst, ◌∙◌}
 use Rattle.std.specs.declared.cmp.Ordering.{Ordering}
 use Rattle.sqlite_value.specs.declared.value.Value.TheVariants.{Null}
 use Rattle.std.specs.Ordering.{is_lt}
@@ -79,7 +79,7 @@ module _ (name : List ℕ) (columns : List Column) (key : List ℕ) {K X : Type 
       {count : ℕ} (is : Compiles name columns key text count (λ at tree. Delete at (record { lets = []; body = rowids_where tree filter }))) where
     -- the entries of a part of the keys are gone, and the others stay
     pub deletes_part : (count : ℕ) → ExecutesInside 0 text params old new (Ok count) → IsKeyed (rows_named old.now name)
-        → (rows : List Row) × SetsRows old new (tree_named old.now.schema name) rows × (IsKeyed (rows_named old.now name) → IsKeyed rows) × (AreReadableRows (strict name columns key) (rows_named old.now name) → AreReadableRows (strict name columns key) rows) × (map_of R kind entry rows ≡ finite.retain_keys rows_are (λ k. not (test k)))
+        → (rows : List Row) × SetsRows old new (tree_named old.now.schema name) rows × (IsKeyed (rows_named old.now name) → IsKeyed rows) × (AreReadableRows (strict name columns key) (rows_named old.now name) → AreReadableRows (strict name columns key) rows) × (map_of R kind entry rows ≡ finite.retain_keys rows_are (λ k. not (test k))) × ((ids : List ℤ) × (rows ≡ without_all (rows_named old.now name) ids))
     deletes_part count h keyed =
         let exists = at (under.of_store h.1.was_open).has in
         let tree = tree_named old.now.schema name in
@@ -88,4 +88,4 @@ module _ (name : List ℕ) (columns : List Column) (key : List ℕ) {K X : Type 
         let m = means_command old.now.schema text _ (is old.now.schema exists.at tree exists.known) in
         let it = deletes_in name columns key tree exists.at filter text params old new count exists.unreferred under.mode exists.known.named.1 m.0 m.1 h.0 in
         let left = left_map o same kind entry tree filter db params it.0 it.1 (subst IsKeyed (sym same_rows) keyed) test said in
-        (without_all (old.now.trees tree) (ids_of it.0), it.2, keyed_left (ids_of it.0) _, left_readable (strict name columns key) (ids_of it.0) _, subst (λ rs. map_of R kind entry (without_all rs (ids_of it.0)) ≡ finite.retain_keys (map_of R kind entry rs) (λ k. not (test k))) same_rows left)
+        (without_all (old.now.trees tree) (ids_of it.0), it.2, keyed_left (ids_of it.0) _, left_readable (strict name columns key) (ids_of it.0) _, subst (λ rs. map_of R kind entry (without_all rs (ids_of it.0)) ≡ finite.retain_keys (map_of R kind entry rs) (λ k. not (test k))) same_rows left, (ids_of it.0, refl))

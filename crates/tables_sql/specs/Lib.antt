@@ -8,4 +8,5 @@ pub mod Frames
 pub mod Frozen
 pub mod Queries
 pub mod Reading
+pub mod Rowids
 pub mod Texts

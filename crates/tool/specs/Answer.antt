@@ -33,7 +33,7 @@ abbrev pub AnswersUnder : Result Settings KeyWord → (Settings → Type 0) → 
 AnswersUnder (Ok s) answered w = answered s
 AnswersUnder (Err word) answered w = Answers (Err (Refused (BadConfig word))) w ⊎ Answers (Err (Failed NoMemory)) w
 
--- a text went to standard error, with the status of a usage fault
+-- a text went to standard error, with the status of a usage error
 abbrev pub RefusesWords : Written → Type 0
 RefusesWords w = Keeps w.output.old w.output.new × ((text : List ℕ) × Prints text 2 (on_errors w))
 
@@ -114,7 +114,7 @@ AsksHelp Memory = ⊥
 abbrev pub Helps : Written → Type 0
 Helps w = (text : List ℕ) × Answers (Ok text) w
 
--- what is printed for a fault with a text by `clap`: help, a usage fault, or out of memory
+-- what is printed for a fault with a text by `clap`: help, a usage error, or out of memory
 abbrev pub ExplainsUsage : Error → Written → Type 0
 ExplainsUsage fault w =
     Answers (Err (Failed NoMemory)) w

@@ -9,21 +9,22 @@ ghost use Rattle.tool.specs.Files.{DoesFile};
 ghost use Rattle.tool.specs.Requests.{AnswersReading, Ask, asks, reads_all};
 
 use crate::caller_task::CallerTask;
+use crate::ending::{end, reads};
 use crate::requests::request;
 use crate::stores::with_tables;
 use crate::work::Work;
 use policy::{Caller, Config, store_dir};
-use sqlite::{Alter, FileFrom, Start};
+use sqlite::{Alter, Connection, FileFrom, Start};
 use std::alloc::Global;
 use std::io::{Read, Write};
 use std::rt::HostRuntime;
 use store::Store;
-use tables::{Disk, Tables};
+use tables::{Close, Disk, Tables};
 use tool_pure::{parse_caller, say, serve, settings};
 use tool_words::{CommandLine, Task};
 
 /// Makes the request of a subcommand to a store over these tables, prints the reply, and returns the exit status.
-pub(crate) fn call_over<S: Alter + Drop, R: Read, W: Write, E: Write>(
+pub(crate) fn call_over<S: Alter + Drop + Close<Connection<S>>, R: Read, W: Write, E: Write>(
     alloc: Global,
     config: Config,
     tables: Tables<S>,
@@ -50,9 +51,10 @@ pub(crate) fn call_over<S: Alter + Drop, R: Read, W: Write, E: Write>(
 {
     match request(alloc, store_dir(&config), caller, task, input) {
         Ok(request) => {
+            let reads = reads(&request);
             let mut store = Store::new(alloc, config, tables);
             let status = serve(alloc, &mut store, caller, request, output, errors);
-            drop(store.release().release());
+            end(store.release().release(), reads);
             status
         }
         Err(stop) => {

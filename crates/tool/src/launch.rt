@@ -193,7 +193,7 @@ fn explain_usage<W: Write, E: Write>(
     explain_by(fault.use_stderr(), text, output, errors)
 }
 
-/// Prints the text of a usage fault or of help, or that memory ran out. Returns the exit status.
+/// Prints the text of a usage error or of help, or that memory ran out. Returns the exit status.
 fn explain_by<W: Write, E: Write>(
     is_fault: bool,
     text: Result<String, AllocError>,

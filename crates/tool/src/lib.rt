@@ -6,6 +6,7 @@ mod answers;
 mod caller_task;
 mod calls;
 mod deletions;
+mod ending;
 mod files;
 mod input_bodies;
 mod launch;

@@ -15,16 +15,16 @@ ghost use Rattle.tool.specs.Serving.{ServesBy};
 use crate::stores::with_tables;
 use crate::work::Work;
 use policy::Config;
-use sqlite::{Alter, FileFrom, Start};
+use sqlite::{Alter, Connection, FileFrom, Start};
 use std::io::{Read, Write};
 use std::rt::HostRuntime;
-use tables::{Disk, Tables};
+use tables::{Close, Disk, Tables};
 use tool_pure::{say, settings};
 use tool_words::ServeArguments;
 use wire::{serve_port, serve_streams};
 
 /// Serves the store of these tables.
-pub(crate) fn serve_over<S: Alter + Drop, R: Read, W: Write, E: Write>(
+pub(crate) fn serve_over<S: Alter + Drop + Close<Connection<S>>, R: Read, W: Write, E: Write>(
     rt: &HostRuntime,
     config: Config,
     tables: Tables<S>,

@@ -1,5 +1,6 @@
 //! The store that a command line works with: that of a file, or one in memory.
 ghost use Rattle.std.specs.Prelude.{◌≡◌, IfOk, Some};
+ghost use Rattle.sqlite.specs.Files.{over_files};
 ghost use Rattle.report.specs.Outputs.{change_of};
 ghost use Rattle.tool_words.specs.Asked.{optional_text};
 ghost use Rattle.tool.specs.Files.{DoesFile, DoesOpening};
@@ -9,11 +10,11 @@ ghost use Rattle.tool.specs.Works.{DoesNew, DoesWith, OnStore, reads_whole, work
 use crate::files::refuse_file;
 use crate::work::{Work, work_over};
 use policy::{Config, store_dir};
-use sqlite::{Alter, FileFrom, Start};
+use sqlite::{Alter, Connection, FileFrom, FileStore, Start};
 use std::io::{Read, Write};
 use std::rt::HostRuntime;
 use store_types::Reply;
-use tables::{Disk, Tables, Unopened};
+use tables::{Close, Disk, Tables, Unopened};
 use tool_pure::print_reply;
 
 /// Does some work with a new store in memory, for this run.
@@ -49,7 +50,7 @@ fn in_memory<R: Read, W: Write, E: Write>(
 }
 
 /// Does some work with the store that an opening gave, or prints why it gave none.
-fn over_opened<S: Alter + Drop, D: Disk + Drop, R: Read, W: Write, E: Write>(
+fn over_opened<S: Alter + Drop + Close<Connection<S>>, D: Disk + Drop, R: Read, W: Write, E: Write>(
     rt: &HostRuntime,
     opened: Result<Tables<S>, Unopened<S, D>>,
     config: Config,
@@ -82,6 +83,32 @@ fn over_opened<S: Alter + Drop, D: Disk + Drop, R: Read, W: Write, E: Write>(
     }
 }
 
+/// Does some work with the store that an opening of files gave, or prints why it gave none. It is a function of its own,
+/// so that the prover looks up how any files are closed, and not those of a start.
+fn over_files<D: Disk + Drop, R: Read, W: Write, E: Write>(
+    rt: &HostRuntime,
+    opened: Result<Tables<FileStore<D>>, Unopened<FileStore<D>, D>>,
+    config: Config,
+    work: &Work<'_>,
+    input: &mut R,
+    output: &mut W,
+    errors: &mut E,
+) -> u8
+    requires { IfOk opened (λ t. t.dir ≡ config.store_dir) }
+    ensures { AnswersReading (reads_whole work.now)
+        (λ console. (d : OnStore) → work_view work.now ≡ Some d → DoesOpening over_files opened config d console)
+        (record {
+          input = change_of R.remaining input.old input.new;
+          written = record {
+            output = change_of W.contents output.old output.new;
+            errors = change_of E.contents errors.old errors.new;
+            status = result;
+          };
+        }) }
+{
+    over_opened(rt, opened, config, work, input, output, errors)
+}
+
 /// Does some work with the store of the database file at a path, which is made if it is missing. `start` is ghost: what
 /// a theorem assumes of the file.
 fn in_file<F: Start, R: Read, W: Write, E: Write>(
@@ -107,7 +134,7 @@ fn in_file<F: Start, R: Read, W: Write, E: Write>(
         }) }
 {
     let opened = tables::open(rt, path, store_dir(&config), start);
-    over_opened(rt, opened, config, work, input, output, errors)
+    over_files(rt, opened, config, work, input, output, errors)
 }
 
 /// Does some work with the store of a database file, or with one in memory if no file is named.

@@ -13,10 +13,10 @@ use crate::caller_task::CallerTask;
 use crate::calls::call_over;
 use crate::serve::serve_over;
 use policy::Config;
-use sqlite::Alter;
+use sqlite::{Alter, Connection};
 use std::io::{Read, Write};
 use std::rt::HostRuntime;
-use tables::Tables;
+use tables::{Close, Tables};
 use tool_words::ServeArguments;
 
 /// What a command line does with a store.
@@ -29,7 +29,7 @@ pub(crate) enum Work<'a> {
 }
 
 /// Does some work with the store of these tables.
-pub(crate) fn work_over<S: Alter + Drop, R: Read, W: Write, E: Write>(
+pub(crate) fn work_over<S: Alter + Drop + Close<Connection<S>>, R: Read, W: Write, E: Write>(
     rt: &HostRuntime,
     config: Config,
     tables: Tables<S>,

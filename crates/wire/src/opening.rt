@@ -3,10 +3,10 @@ ghost use Rattle.std.specs.Prelude.{◌≡◌, IfOk};
 
 use crate::server::Server;
 use policy::Config;
-use sqlite::Alter;
+use sqlite::{Alter, Connection};
 use std::alloc::{AllocError, Global};
 use store::Store;
-use tables::Tables;
+use tables::{Close, Tables};
 
 /// A server, and the store of these tables.
 ///
@@ -30,7 +30,8 @@ pub(crate) fn open<S: Alter + Drop>(
     }
 }
 
-/// Closes a store, and its tables.
-pub(crate) fn close<S: Alter + Drop>(store: Store<S>) {
-    drop(store.release().release());
+/// Closes a store: its changes are brought into its file, if it has one. A failure of that is ignored, since they are
+/// durable without it.
+pub(crate) fn close<S: Alter + Drop + Close<Connection<S>>>(store: Store<S>) {
+    drop(S::close(store.release().release()));
 }

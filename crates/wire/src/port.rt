@@ -14,12 +14,12 @@ use crate::failures::{FAILED, NO_INPUT};
 use crate::opening::{close, open};
 use policy::Config;
 use report::{Failure, print_failure};
-use sqlite::Alter;
+use sqlite::{Alter, Connection};
 use std::alloc::Global;
 use std::io::Write;
 use std::net::{Ipv4Addr, Net, TcpListener, TcpStream};
 use std::rt::Clock;
-use tables::Tables;
+use tables::{Close, Tables};
 use wire_server::{Listener, Port, Responder};
 
 /// Serves a number of connections of a listener, and returns the exit status.
@@ -67,7 +67,11 @@ fn listen<N: Net<Listener = TcpListener, Stream = TcpStream> + Clock, E: Write, 
 }
 
 /// Serves the store of these tables on a number of connections of a port of 127.0.0.1.
-fn serve<N: Net<Listener = TcpListener, Stream = TcpStream> + Clock, S: Alter + Drop, E: Write>(
+fn serve<
+    N: Net<Listener = TcpListener, Stream = TcpStream> + Clock,
+    S: Alter + Drop + Close<Connection<S>>,
+    E: Write,
+>(
     net: &N,
     alloc: Global,
     port: u16,
@@ -108,7 +112,7 @@ fn serve<N: Net<Listener = TcpListener, Stream = TcpStream> + Clock, S: Alter + 
 /// ```
 pub fn serve_port<
     N: Net<Listener = TcpListener, Stream = TcpStream> + Clock,
-    S: Alter + Drop,
+    S: Alter + Drop + Close<Connection<S>>,
     E: Write,
 >(
     net: &N,

@@ -14,10 +14,10 @@ use crate::failures::FAILED;
 use crate::opening::{close, open};
 use policy::Config;
 use report::{Failure, print_failure};
-use sqlite::Alter;
+use sqlite::{Alter, Connection};
 use std::alloc::Global;
 use std::io::{Read, Write};
-use tables::Tables;
+use tables::{Close, Tables};
 use wire_server::{End, serve_connection};
 
 /// The exit status of one connection.
@@ -31,7 +31,7 @@ fn status_of(end: End) -> u8
 }
 
 /// Serves the store of these tables on one connection.
-fn serve<S: Alter + Drop, R: Read, W: Write, E: Write>(
+fn serve<S: Alter + Drop + Close<Connection<S>>, R: Read, W: Write, E: Write>(
     alloc: Global,
     config: Config,
     tables: Tables<S>,
@@ -68,7 +68,7 @@ fn serve<S: Alter + Drop, R: Read, W: Write, E: Write>(
 /// assert!(rt; status == 0 && errors.is_empty());
 /// assert!(rt; output.ends_with(b"refused: 36 bad-head\n"));
 /// ```
-pub fn serve_streams<S: Alter + Drop, R: Read, W: Write, E: Write>(
+pub fn serve_streams<S: Alter + Drop + Close<Connection<S>>, R: Read, W: Write, E: Write>(
     alloc: Global,
     config: Config,
     tables: Tables<S>,

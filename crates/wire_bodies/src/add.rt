@@ -13,7 +13,7 @@ use std::alloc::Global;
 ///
 /// # Errors
 ///
-/// `BadBodyHead` exactly if the body isn't an add; `Memory` if memory was refused.
+/// `BadBodyHead` if and only if the body isn't an add; `Memory` if memory was refused.
 pub fn named_body<'b>(
     alloc: Global,
     dir: &StoreDir,

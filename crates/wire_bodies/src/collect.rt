@@ -37,7 +37,7 @@ fn number_if_any(entries: &Lines<'_>, key: &str) -> Result<Option<u64>, BodyErro
 ///
 /// # Errors
 ///
-/// `BadBodyHead` exactly if the entries aren't those of a collection.
+/// `BadBodyHead` if and only if the entries aren't those of a collection.
 pub fn collect_head(entries: &Lines<'_>) -> Result<CollectHead, BodyError>
     ensures ok { IfOk result (λ head. IsCollect entries.now head) }
     ensures bad { result ≡ Err BodyError.BadBodyHead → (head : CollectOf) → IsCollect entries.now head → ⊥ }

@@ -29,7 +29,7 @@ pub struct DeleteHead {
 ///
 /// # Errors
 ///
-/// `BadBodyHead` exactly if the entries aren't those of an add; `Memory` if memory was refused.
+/// `BadBodyHead` if and only if the entries aren't those of an add; `Memory` if memory was refused.
 pub fn named_head(
     alloc: Global,
     dir: &StoreDir,
@@ -51,7 +51,7 @@ pub fn named_head(
 ///
 /// # Errors
 ///
-/// `BadBodyHead` exactly if the entries don't name one path; `Memory` if memory was refused.
+/// `BadBodyHead` if and only if the entries don't name one path; `Memory` if memory was refused.
 pub fn path_head(alloc: Global, dir: &StoreDir, entries: &Lines<'_>) -> Result<StorePath, BodyError>
     ensures ok { IfOk result (λ path. IsPath dir.now entries.now path) }
     ensures bad { result ≡ Err BodyError.BadBodyHead → (path : List ℕ) → IsPath dir.now entries.now path → ⊥ }
@@ -66,7 +66,7 @@ pub fn path_head(alloc: Global, dir: &StoreDir, entries: &Lines<'_>) -> Result<S
 ///
 /// # Errors
 ///
-/// `BadBodyHead` exactly if the entries aren't those of a deletion; `Memory` if memory was refused.
+/// `BadBodyHead` if and only if the entries aren't those of a deletion; `Memory` if memory was refused.
 pub fn delete_head(
     alloc: Global,
     dir: &StoreDir,

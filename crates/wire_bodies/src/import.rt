@@ -26,7 +26,7 @@ pub struct ImportHead {
 ///
 /// # Errors
 ///
-/// `BadBodyHead` exactly if the entries aren't those of an import; `Memory` if memory was refused.
+/// `BadBodyHead` if and only if the entries aren't those of an import; `Memory` if memory was refused.
 pub fn import_head(
     alloc: Global,
     dir: &StoreDir,
@@ -51,7 +51,7 @@ pub fn import_head(
 ///
 /// # Errors
 ///
-/// `BadBodyHead` exactly if the body isn't an import; `Memory` if memory was refused.
+/// `BadBodyHead` if and only if the body isn't an import; `Memory` if memory was refused.
 pub fn import_body<'b>(
     alloc: Global,
     dir: &StoreDir,

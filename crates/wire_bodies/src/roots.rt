@@ -58,7 +58,7 @@ fn each_root(
 ///
 /// # Errors
 ///
-/// `BadBodyHead` exactly if the entries aren't such; `Memory` if memory was refused.
+/// `BadBodyHead` if and only if the entries aren't such; `Memory` if memory was refused.
 pub fn runtime_head(
     alloc: Global,
     dir: &StoreDir,

@@ -43,7 +43,7 @@ fn entries_of<'b>(body: &'b [u8]) -> Result<Lines<'b>, BodyError>
 ///
 /// # Errors
 ///
-/// `BadBodyHead` exactly if the body doesn't name one path; `Memory` if memory was refused.
+/// `BadBodyHead` if and only if the body doesn't name one path; `Memory` if memory was refused.
 pub fn path_body(alloc: Global, dir: &StoreDir, body: &[u8]) -> Result<StorePath, BodyError>
     ensures ok { IfOk result (λ path. Says (IsPath dir.now) body.now path) }
     ensures bad { result ≡ Err BodyError.BadBodyHead → (path : List ℕ) → Says (IsPath dir.now) body.now path → ⊥ }
@@ -56,7 +56,7 @@ pub fn path_body(alloc: Global, dir: &StoreDir, body: &[u8]) -> Result<StorePath
 ///
 /// # Errors
 ///
-/// `BadBodyHead` exactly if the body isn't a deletion; `Memory` if memory was refused.
+/// `BadBodyHead` if and only if the body isn't a deletion; `Memory` if memory was refused.
 pub fn delete_body(alloc: Global, dir: &StoreDir, body: &[u8]) -> Result<DeleteHead, BodyError>
     ensures ok { IfOk result (λ head. Says (IsDelete dir.now) body.now head) }
     ensures bad { result ≡ Err BodyError.BadBodyHead → (head : DeleteOf) → Says (IsDelete dir.now) body.now head → ⊥ }
@@ -69,7 +69,7 @@ pub fn delete_body(alloc: Global, dir: &StoreDir, body: &[u8]) -> Result<DeleteH
 ///
 /// # Errors
 ///
-/// `BadBodyHead` exactly if the body isn't a collection; `Memory` if memory was refused.
+/// `BadBodyHead` if and only if the body isn't a collection; `Memory` if memory was refused.
 pub fn collect_body(alloc: Global, body: &[u8]) -> Result<CollectHead, BodyError>
     ensures ok { IfOk result (λ head. Says IsCollect body.now head) }
     ensures bad { result ≡ Err BodyError.BadBodyHead → (head : CollectOf) → Says IsCollect body.now head → ⊥ }
@@ -82,7 +82,7 @@ pub fn collect_body(alloc: Global, body: &[u8]) -> Result<CollectHead, BodyError
 ///
 /// # Errors
 ///
-/// `BadBodyHead` exactly if the body isn't such entries; `Memory` if memory was refused.
+/// `BadBodyHead` if and only if the body isn't such entries; `Memory` if memory was refused.
 pub fn runtime_body(
     alloc: Global,
     dir: &StoreDir,

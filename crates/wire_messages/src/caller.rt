@@ -23,7 +23,7 @@ fn caller_named(alloc: Global, user: &[u8], group: Option<&str>) -> Result<Calle
 ///
 /// # Errors
 ///
-/// `BadCaller` exactly if the head names no caller; `Memory` if memory was refused.
+/// `BadCaller` if and only if the head names no caller; `Memory` if memory was refused.
 pub fn read_caller(alloc: Global, fields: &HeadFields<'_>) -> Result<Caller, CallerError>
     ensures ok { IfOk result (λ c. caller_in (fields_at fields.now.buf.now fields.now.head.now) ≡ Some c) }
     ensures bad { result ≡ Err CallerError.BadCaller

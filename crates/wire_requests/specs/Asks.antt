@@ -21,7 +21,8 @@ use Rattle.wire_requests.specs.View.{imported, flag}
 abbrev pub is_blank : List ℕ → Bool
 is_blank body = bytes_eq (spelled body) (10 ∷ [])
 
--- the request that the parameters of a target make without a body
+-- The request that the parameters of a target make without a body. Each kind is named, so that none has such a request
+-- because it was forgotten.
 abbrev pub by_names : Kind → List ℕ → Option Request
 by_names kinds.DropPermanent target = Some (drop_permanent (name at_permanent target))
 by_names kinds.DropUserRoot target = Some (drop_user_root (user at_user_root target) (name at_user_root target))
@@ -32,7 +33,25 @@ by_names kinds.DeleteGeneration target =
     Some (delete_generation (user at_generation target) (name at_generation target)
     (generation_number (number at_generation target)))
 by_names kinds.EndSession target = Some (end_session (user at_temp target) (session_number (session at_temp target)))
-by_names _ target = None
+by_names kinds.AddText target = None
+by_names kinds.AddSource target = None
+by_names kinds.Import target = None
+by_names kinds.Info target = None
+by_names kinds.Nar target = None
+by_names kinds.Ls target = None
+by_names kinds.RootsOf target = None
+by_names kinds.List target = None
+by_names kinds.ListRoots target = None
+by_names kinds.Live target = None
+by_names kinds.Dead target = None
+by_names kinds.Report target = None
+by_names kinds.SetPermanent target = None
+by_names kinds.SetUserRoot target = None
+by_names kinds.SetProfile target = None
+by_names kinds.AddTemp target = None
+by_names kinds.ReplaceRuntime target = None
+by_names kinds.Collect target = None
+by_names kinds.Delete target = None
 
 -- the request of a kind without a body, with parameters or none
 abbrev pub by_target : Kind → List ℕ → Option Request
@@ -86,4 +105,24 @@ has_bad_path kinds.Info target = not (is_base_name (path at_info target))
 has_bad_path kinds.Nar target = not (is_base_name (path at_nar target))
 has_bad_path kinds.Ls target = not (is_base_name (path at_ls target))
 has_bad_path kinds.RootsOf target = not (is_base_name (path at_roots_of target))
-has_bad_path _ target = false
+has_bad_path kinds.AddText target = false
+has_bad_path kinds.AddSource target = false
+has_bad_path kinds.Import target = false
+has_bad_path kinds.List target = false
+has_bad_path kinds.ListRoots target = false
+has_bad_path kinds.Live target = false
+has_bad_path kinds.Dead target = false
+has_bad_path kinds.Report target = false
+has_bad_path kinds.SetPermanent target = false
+has_bad_path kinds.DropPermanent target = false
+has_bad_path kinds.SetUserRoot target = false
+has_bad_path kinds.DropUserRoot target = false
+has_bad_path kinds.SetProfile target = false
+has_bad_path kinds.Rollback target = false
+has_bad_path kinds.Switch target = false
+has_bad_path kinds.DeleteGeneration target = false
+has_bad_path kinds.AddTemp target = false
+has_bad_path kinds.EndSession target = false
+has_bad_path kinds.ReplaceRuntime target = false
+has_bad_path kinds.Collect target = false
+has_bad_path kinds.Delete target = false

@@ -109,7 +109,7 @@ fn imported(head: ImportHead, nar: Intake) -> Request
 ///
 /// # Errors
 ///
-/// `BadBodyHead` exactly if the body isn't an import; `Memory` if memory runs out.
+/// `BadBodyHead` if and only if the body isn't an import; `Memory` if memory runs out.
 pub fn read_import(alloc: Global, dir: &StoreDir, body: Parted) -> Result<Request, BodyError>
     ensures whole { ReadsImport dir.now (bytes_of body) result }
     // If the archive is spent, the request is the one of each body with these lines, but for its archive.
@@ -135,7 +135,7 @@ pub fn read_import(alloc: Global, dir: &StoreDir, body: Parted) -> Result<Reques
 ///
 /// # Errors
 ///
-/// `BadBodyHead` exactly if the body isn't an import; `Memory` if memory runs out.
+/// `BadBodyHead` if and only if the body isn't an import; `Memory` if memory runs out.
 pub fn import_body(alloc: Global, dir: &StoreDir, body: &[u8]) -> Result<Request, BodyError>
     ensures { ReadsImport dir.now body.now result }
 {

@@ -109,8 +109,9 @@ fn read_parted(alloc: Global, dir: &StoreDir, kind: Kind, body: Parted) -> Resul
 ///
 /// # Errors
 ///
-/// `BadPath` exactly if the target names a path that isn't a base name; `BadBodyHead` exactly if it doesn't and the
-/// body isn't one of the kind; `Memory` if memory runs out, or the body was made for a kind whose body has another form.
+/// `BadPath` if and only if the target names a path that isn't a base name; `BadBodyHead` if and only if it doesn't and
+/// the body isn't one of the kind; `Memory` if memory runs out, or the body was made for a kind whose body has another
+/// form.
 pub fn read_request(
     alloc: Global,
     dir: &StoreDir,

@@ -29,7 +29,7 @@ use wire_bodies::{BodyError, DeleteHead, collect_body, delete_body};
 ///
 /// # Errors
 ///
-/// `BadBodyHead` exactly if the body isn't a list of runtime roots; `Memory` if memory runs out.
+/// `BadBodyHead` if and only if the body isn't a list of runtime roots; `Memory` if memory runs out.
 pub fn runtime_body(alloc: Global, dir: &StoreDir, body: &[u8]) -> Result<Request, BodyError>
     ensures ok { IfOk result (λ q. (named : List Pair) × Says (IsRuntime dir.now) body.now named
         × (request_view q ≡ asked named)) }

@@ -2,7 +2,6 @@ use Rattle.std.proofs.Common.{refl, sym, ap, ◌∙◌}
 use Rattle.std.proofs.lemmas.Result.{err_from_is_err_and}
 use Rattle.std.specs.FinMap as finite
 use Rattle.tables_outline.specs.Outline.{OutlineValue}
-use Rattle.tables.specs.RowsPut.{AddedRows}
 use Rattle.store_adds.proofs.AddedObjects.{added_present, sound_put, added_new, added_not}
 use Rattle.store_adds.proofs.adding.add.Goals as goal
 
@@ -27,4 +26,4 @@ returns-in_err-insert_object g c =
     let p = err_from_is_err_and c.from_residual.result c.from_residual.ensures.1 in
     rw (p.1, p.2) (added_not g.S.Store c.args.added.path c.args.added.object c.args.tables.now c.args.added.nar c.args.added.nar refl
     (ap (λ (x : OutlineValue). finite.contains_key x.objects c.args.added.path) (sym c.outline.ensures) ∙ sym c.has.ensures ∙ c.if-has.false)
-    c.insert_object.new.self c.in_err-insert_object.field-0.0 c.in_err-insert_object.ensures.frame (AddedRows c.args.added.path c.args.added.nar c.args.added.object) c.in_err-insert_object.ensures.cause)
+    c.insert_object.new.self c.in_err-insert_object.field-0.0 c.in_err-insert_object.ensures.frame c.args.added.hash c.in_err-insert_object.ensures.cause)

@@ -1,9 +1,12 @@
-use Rattle.std.proofs.Common.{Err, refl, subst}
+use Rattle.std.proofs.Common.{ℕ, List, Err, refl, subst}
 use Rattle.std.proofs.lemmas.Result.{err_from_is_err_and}
 use Rattle.nar.specs.Tree.{IsBytes}
 use Rattle.model.specs.Request.{add_text}
 use Rattle.model.specs.Adds.{added_text}
 use Rattle.store_adds.specs.Parts.{added_view}
+use Rattle.tables.specs.Reasons.{AreAmong}
+use Rattle.store_steps.specs.RowsPut.{ObjectRowsPut}
+use Rattle.store_steps.proofs.Caused.{own_among}
 use Rattle.store_steps.proofs.Untouched.{met_by_reading, reads_stopped}
 use Rattle.store_adds.proofs.AddedObjects.{met_by_adding, text_given, text_stopped, text_stays_sound}
 use Rattle.store_adds.proofs.adding.add_text.Goals as goal
@@ -21,7 +24,8 @@ returns g c caller =
     (added_view c.in_ok-added.added) (added_text c.args.config.now.store_dir c.args.name c.args.refs.items c.args.contents.items)
     (text_given c.args.name c.args.refs.items c.outline.result.now c.args.tables.now.outline c.store_dir-dir.result.now c.args.config.now.store_dir c.deref.result.now c.args.contents.items
     c.outline.ensures c.store_dir-dir.ensures c.deref.ensures.value (added_view c.in_ok-added.added) c.in_ok-added.ensures.reported)
-    (λ w. refl) (λ w. refl) refl refl c.add.ensures
+    (λ w. refl) (λ w. refl) refl refl
+    (subst (λ (d : List ℕ). AreAmong (ObjectRowsPut (added_text d c.args.name c.args.refs.items c.args.contents.items)) (ObjectRowsPut (added_text c.args.tables.now.dir c.args.name c.args.refs.items c.args.contents.items))) c.requires.dir (own_among (ObjectRowsPut (added_text c.args.tables.now.dir c.args.name c.args.refs.items c.args.contents.items)))) c.add.ensures
 
 pub returns-in_err-added : goal.returns-in_err-added
 returns-in_err-added g c caller =

@@ -1,9 +1,12 @@
-use Rattle.std.proofs.Common.{Err, refl}
+use Rattle.std.proofs.Common.{ℕ, List, Err, refl, subst}
 use Rattle.std.proofs.lemmas.Result.{err_from_is_err_and}
 use Rattle.model.specs.Request.{import_object}
 use Rattle.model.specs.Adds.{added_import}
 use Rattle.store_adds.specs.Parts.{added_view}
 use Rattle.store_types.specs.View.{import_view}
+use Rattle.tables.specs.Reasons.{AreAmong}
+use Rattle.store_steps.specs.RowsPut.{ObjectRowsPut}
+use Rattle.store_steps.proofs.Caused.{own_among}
 use Rattle.store_steps.proofs.Untouched.{met_by_reading, reads_stopped}
 use Rattle.store_adds.proofs.AddedObjects.{met_by_adding}
 use Rattle.store_adds.proofs.AddedImports.{import_given, import_stopped, import_stays_sound}
@@ -21,7 +24,8 @@ returns-clause-met g c caller =
     (added_view c.in_ok-added.added) (added_import c.args.config.now.store_dir (import_view c.args.import))
     (import_given (import_view c.args.import) c.outline.result.now c.args.tables.now.outline c.store_dir-dir.result.now c.args.config.now.store_dir
     c.outline.ensures c.store_dir-dir.ensures (added_view c.in_ok-added.added) c.in_ok-added.ensures.reported)
-    (λ w. refl) (λ w. refl) refl refl c.add.ensures
+    (λ w. refl) (λ w. refl) refl refl
+    (subst (λ (d : List ℕ). AreAmong (ObjectRowsPut (added_import d (import_view c.args.import))) (ObjectRowsPut (added_import c.args.tables.now.dir (import_view c.args.import)))) c.requires.dir (own_among (ObjectRowsPut (added_import c.args.tables.now.dir (import_view c.args.import))))) c.add.ensures
 
 pub returns-in_err-added-clause-met : goal.returns-in_err-added-clause-met
 returns-in_err-added-clause-met g c caller =

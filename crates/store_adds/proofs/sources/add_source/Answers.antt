@@ -1,8 +1,11 @@
-use Rattle.std.proofs.Common.{Err, refl}
+use Rattle.std.proofs.Common.{ℕ, List, Err, refl, subst}
 use Rattle.std.proofs.lemmas.Result.{err_from_is_err_and}
 use Rattle.model.specs.Request.{add_source}
 use Rattle.model.specs.Adds.{added_source}
 use Rattle.store_adds.specs.Parts.{added_view}
+use Rattle.tables.specs.Reasons.{AreAmong}
+use Rattle.store_steps.specs.RowsPut.{ObjectRowsPut}
+use Rattle.store_steps.proofs.Caused.{own_among}
 use Rattle.store_steps.proofs.Untouched.{met_by_reading, reads_stopped}
 use Rattle.store_adds.proofs.AddedObjects.{met_by_adding}
 use Rattle.store_adds.proofs.AddedSources.{source_given, source_stopped, source_stays_sound}
@@ -21,7 +24,8 @@ returns-clause-met g c caller =
     (added_view c.in_ok-added.added) (added_source c.args.config.now.store_dir c.args.name c.args.refs.items (bytes_in c.args.nar))
     (source_given c.args.name c.args.refs.items (bytes_in c.args.nar) c.outline.result.now c.args.tables.now.outline c.store_dir-dir.result.now c.args.config.now.store_dir
     c.outline.ensures c.store_dir-dir.ensures (added_view c.in_ok-added.added) c.in_ok-added.ensures.reported)
-    (λ w. refl) (λ w. refl) refl refl c.add.ensures
+    (λ w. refl) (λ w. refl) refl refl
+    (subst (λ (d : List ℕ). AreAmong (ObjectRowsPut (added_source d c.args.name c.args.refs.items (bytes_in c.args.nar))) (ObjectRowsPut (added_source c.args.tables.now.dir c.args.name c.args.refs.items (bytes_in c.args.nar)))) c.requires.dir (own_among (ObjectRowsPut (added_source c.args.tables.now.dir c.args.name c.args.refs.items (bytes_in c.args.nar))))) c.add.ensures
 
 pub returns-in_err-added-clause-met : goal.returns-in_err-added-clause-met
 returns-in_err-added-clause-met g c caller =

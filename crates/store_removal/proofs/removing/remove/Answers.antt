@@ -5,7 +5,8 @@ use Rattle.store_types.specs.declared.replies.Stop.{Stop}
 use Rattle.store_steps.specs.Meets.{IsMet}
 use Rattle.store_removal.specs.Removing.{without}
 use Rattle.tables.specs.Reasons.{NoRow}
-use Rattle.store_steps.proofs.Caused.{write_fails}
+use Rattle.store_steps.specs.RowsPut.{rows_put}
+use Rattle.store_steps.proofs.Caused.{none_among, write_fails}
 use Rattle.store_steps.proofs.Written.{sound_as}
 use Rattle.store_removal.proofs.Removed.{met_by_none, met_by_removing}
 use Rattle.store_removal.proofs.removing.remove.Goals as goal
@@ -27,4 +28,4 @@ returns g c s caller q touches removes =
     subst (λ (r : Result Answer Stop). IsMet g.S.Store s caller q r c.args.tables.now c.remove_objects.new.self) (sym c.answered.ensures)
     (met_by_removing g.S.Store s caller q c.args.tables.now found.paths.items found.bytes (Freed found.paths found.bytes) refl removes c.remove_objects.new.self c.deref-2.result.now c.deref-2.ensures.value
     c.remove_objects.result c.remove_objects.ensures.frame
-    (write_fails g.S.Store q c.args.tables.now c.remove_objects.new.self touches NoRow (λ t row none. absurd none) (Freed found.paths found.bytes) c.remove_objects.result c.remove_objects.ensures.cause))
+    (write_fails g.S.Store q c.args.tables.now c.remove_objects.new.self touches NoRow (none_among (rows_put c.args.tables.now.dir c.args.tables.now.outline q)) (λ t row none. absurd none) (Freed found.paths found.bytes) c.remove_objects.result c.remove_objects.ensures.cause))

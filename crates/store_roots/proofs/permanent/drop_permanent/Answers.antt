@@ -10,7 +10,7 @@ use Rattle.store_types.specs.declared.replies.Stop.{Stop}
 use Rattle.store_types.specs.declared.replies.Stop.TheVariants.{Refused}
 use Rattle.store_steps.specs.Meets.{IsMet}
 use Rattle.tables.specs.Reasons.{NoRow}
-use Rattle.store_steps.proofs.Caused.{write_fails}
+use Rattle.store_steps.proofs.Caused.{own_among, write_fails}
 use Rattle.store_steps.proofs.Written.{met_by_stopping, met_by_writing}
 use Rattle.model.proofs.SoundRoots.{permanent_dropped}
 use Rattle.store_roots.proofs.permanent.drop_permanent.Goals as goal
@@ -33,4 +33,4 @@ returns g c s caller =
     (λ w is. subst (λ (n : List ℕ). refusal s w (drop_permanent n) ≡ None) same (c.in_ok-may_drop.ensures s w (is ∙ sym c.outline.ensures)))
     (λ w is. refl) (λ w is. ap (λ (n : List ℕ). without_permanent w n) same)
     c.drop_permanent.result c.drop_permanent.ensures.frame
-    (write_fails g.S.Store (drop_permanent name) c.args.tables.now c.drop_permanent.new.self refl NoRow (λ t row none. absurd none) Changed c.drop_permanent.result c.drop_permanent.ensures.cause))
+    (write_fails g.S.Store (drop_permanent name) c.args.tables.now c.drop_permanent.new.self refl NoRow (own_among NoRow) (λ t row none. absurd none) Changed c.drop_permanent.result c.drop_permanent.ensures.cause))

@@ -9,8 +9,9 @@ use Rattle.store_types.specs.declared.replies.Answer.TheVariants.{Changed}
 use Rattle.store_types.specs.declared.replies.Stop.{Stop}
 use Rattle.store_types.specs.declared.replies.Stop.TheVariants.{Refused}
 use Rattle.store_steps.specs.Meets.{IsMet}
+use Rattle.tables.specs.Reasons.{AreAmong}
 use Rattle.tables.specs.RowsPut.{PermanentRow}
-use Rattle.store_steps.proofs.Caused.{write_fails}
+use Rattle.store_steps.proofs.Caused.{own_among, write_fails}
 use Rattle.store_steps.proofs.Written.{met_by_stopping, met_by_writing}
 use Rattle.store_steps.proofs.Fits.{no_settings, permanent_fits}
 use Rattle.store_roots.proofs.permanent.set_permanent.Goals as goal
@@ -37,4 +38,5 @@ returns g c s caller =
     (λ w is. subst (λ (n : List ℕ). refusal s w (set_permanent n path) ≡ None) same (c.in_ok-may_set.ensures s w (is ∙ sym c.outline.ensures)))
     (λ w is. refl) (λ w is. ap (λ (n : List ℕ). with_permanent w n path) same)
     c.put_permanent.result c.put_permanent.ensures.frame
-    (write_fails g.S.Store (set_permanent name path) c.args.tables.now c.put_permanent.new.self refl (PermanentRow c.as_str-text.result.now path) (λ t row put. refl) Changed c.put_permanent.result c.put_permanent.ensures.cause))
+    (write_fails g.S.Store (set_permanent name path) c.args.tables.now c.put_permanent.new.self refl (PermanentRow c.as_str-text.result.now path)
+    (subst (λ (n : List ℕ). AreAmong (PermanentRow c.as_str-text.result.now path) (PermanentRow n path)) same (own_among (PermanentRow c.as_str-text.result.now path))) (λ t row put. refl) Changed c.put_permanent.result c.put_permanent.ensures.cause))

@@ -6,6 +6,7 @@ use Rattle.model.specs.Request.{delete_generation}
 use Rattle.store_types.specs.declared.replies.Answer.TheVariants.{Changed}
 use Rattle.store_types.specs.declared.replies.Stop.TheVariants.{Refused}
 use Rattle.tables.specs.Reasons.{NoRow}
+use Rattle.store_steps.proofs.Caused.{own_among}
 use Rattle.store_steps.proofs.Written.{met_by_stopping}
 use Rattle.store_steps.proofs.Fits.{no_settings, deletion_fits}
 use Rattle.store_roots.proofs.ProfileChanges.{met_by_changing, present_as, sound_changed}
@@ -31,5 +32,5 @@ returns g c s caller =
     met_by_changing c.as_str.ensures.value c.as_str-2.ensures.value g.S.Store c.args.tables.now (λ p. without_generation p c.args.number)
     s caller (delete_generation (string_bytes c.args.owned.0) (string_bytes c.args.owned.1) c.args.number) c.drop_generation.new.self c.outline.result.now c.outline.ensures Changed
     (λ w is. (c.in_ok-may_delete.ensures.reported s w is, refl, refl))
-    NoRow refl (λ t row none. absurd none)
+    NoRow (own_among NoRow) refl (λ t row none. absurd none)
     c.drop_generation.result c.drop_generation.ensures c.answered.result c.answered.ensures

@@ -1,17 +1,19 @@
-use Rattle.std.proofs.Common.{ℕ, Option, refl, sym, ap, subst, ◌∙◌}
+use Rattle.std.proofs.Common.{ℕ, Option, refl, sym, ap, subst, ◌∙◌, arith}
 use Rattle.std.proofs.lemmas.Result.{err_from_is_err_and}
 use Rattle.std.specs.Prelude.{string_bytes, unwrap_or}
-use Rattle.model.specs.World.{World}
+use Rattle.model.specs.World.{Pair, World}
 use Rattle.model.specs.Sound.{IsSound}
 use Rattle.model.specs.Profiles.{profile_at, switched}
 use Rattle.model.specs.Request.{rollback}
 use Rattle.model.specs.Reply.{generation}
 use Rattle.store_types.specs.declared.replies.Answer.TheVariants.{Generation}
 use Rattle.store_types.specs.declared.replies.Stop.TheVariants.{Refused}
+use Rattle.tables.specs.Reasons.{AreAmong}
 use Rattle.tables.specs.RowsPut.{ProfileRow}
+use Rattle.store_steps.specs.RowsPut.{AnyProfileRow}
 use Rattle.store_steps.proofs.Written.{met_by_stopping}
 use Rattle.store_steps.proofs.Fits.{no_settings, rollback_fits}
-use Rattle.store_roots.proofs.ProfileChanges.{met_by_changing, present_as, rolled_to, sound_changed}
+use Rattle.store_roots.proofs.ProfileChanges.{met_by_changing, present_as, rolled_to, same_owned, sound_changed}
 use Rattle.store_roots.proofs.profiles.rollback.Goals as goal
 
 pub switch_generation-requires-clause-present : goal.switch_generation-requires-clause-present
@@ -44,5 +46,7 @@ returns g c s caller =
       ap (λ (r : Option ℕ). generation (unwrap_or r (profile_at w (owner, name)).current)) below,
       rolled_to c.as_str.ensures.value c.as_str-2.ensures.value c.in_ok-number.number w below,
     ))
-    (ProfileRow (c.as_str.result.now, c.as_str-2.result.now) c.in_ok-number.number) refl (λ t row put. refl)
+    (ProfileRow (c.as_str.result.now, c.as_str-2.result.now) c.in_ok-number.number)
+    (subst (λ (o : Pair). AreAmong (ProfileRow (c.as_str.result.now, c.as_str-2.result.now) c.in_ok-number.number) (AnyProfileRow o)) (same_owned c.as_str.ensures.value c.as_str-2.ensures.value) (record { count = omega arith; has = λ t row h. (c.in_ok-number.number, h) }))
+    refl (λ t row put. refl)
     c.switch_generation.result c.switch_generation.ensures c.answered.result c.answered.ensures

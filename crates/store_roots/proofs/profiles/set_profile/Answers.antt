@@ -1,4 +1,4 @@
-use Rattle.std.proofs.Common.{refl, sym, ap, ap₂, ◌∙◌}
+use Rattle.std.proofs.Common.{refl, sym, ap, ap₂, subst, ◌∙◌, arith}
 use Rattle.std.proofs.lemmas.Result.{err_from_is_err_and}
 use Rattle.std.specs.Prelude.{string_bytes}
 use Rattle.model.specs.World.{Pair}
@@ -8,7 +8,9 @@ use Rattle.model.specs.Request.{set_profile}
 use Rattle.model.specs.Reply.{generation}
 use Rattle.store_types.specs.declared.replies.Answer.TheVariants.{Generation}
 use Rattle.store_types.specs.declared.replies.Stop.TheVariants.{Refused}
+use Rattle.tables.specs.Reasons.{AreAmong}
 use Rattle.tables.specs.RowsPut.{GenerationRows}
+use Rattle.store_steps.specs.RowsPut.{AnyGenerationRows}
 use Rattle.store_steps.proofs.Written.{met_by_stopping}
 use Rattle.store_steps.proofs.Fits.{no_settings, profile_fits}
 use Rattle.store_roots.proofs.ProfileChanges.{met_by_changing, same_owned, sound_changed}
@@ -35,5 +37,8 @@ returns g c s caller =
     met_by_changing c.as_str.ensures.value c.as_str-2.ensures.value g.S.Store c.args.tables.now (λ p. set_to p c.args.path)
     s caller (set_profile (string_bytes c.args.owned.0) (string_bytes c.args.owned.1) c.args.path) c.set_profile.new.self c.outline.result.now c.outline.ensures (Generation c.in_ok-number.number)
     (λ w is. let numbered = c.in_ok-number.ensures.reported s w is in (numbered.0, ap generation numbered.1, refl))
-    (GenerationRows (c.as_str.result.now, c.as_str-2.result.now) c.in_ok-number.number c.args.path c.in_ok-number.number) refl (λ t row put. refl)
+    (GenerationRows (c.as_str.result.now, c.as_str-2.result.now) c.in_ok-number.number c.args.path c.in_ok-number.number)
+    (subst (λ (o : Pair). AreAmong (GenerationRows (c.as_str.result.now, c.as_str-2.result.now) c.in_ok-number.number c.args.path c.in_ok-number.number) (AnyGenerationRows o c.args.path)) (same_owned c.as_str.ensures.value c.as_str-2.ensures.value)
+    (record { count = omega arith; has = λ t row h. (c.in_ok-number.number, c.in_ok-number.number, h) }))
+    refl (λ t row put. refl)
     c.set_profile.result c.set_profile.ensures c.answered.result c.answered.ensures

@@ -6,4 +6,7 @@ use Rattle.store_roots.proofs.RuntimePairs.{counted}
 use Rattle.store_roots.proofs.runtime.count_of.Goals as goal
 
 pub returns : goal.returns
-returns c = c.len.ensures.len ∙ sym (counted pair_cmp labelled_bytes pair_total pair_antisymmetric c.args.roots.now.keys c.len.ensures.ordered)
+returns c = record {
+  count = c.len.ensures.len ∙ sym (counted pair_cmp labelled_bytes pair_total pair_antisymmetric c.args.roots.now.keys c.len.ensures.ordered);
+  ordered = c.len.ensures.ordered;
+}

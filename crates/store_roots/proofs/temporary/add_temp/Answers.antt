@@ -1,4 +1,4 @@
-use Rattle.std.proofs.Common.{◌≡◌, ℕ, List, None, Err, Result, refl, sym, ap₂, subst, ◌∙◌}
+use Rattle.std.proofs.Common.{◌≡◌, ℕ, List, None, Err, Result, refl, sym, ap₂, subst, subst₂, ◌∙◌}
 use Rattle.std.proofs.lemmas.Result.{err_from_is_err_and}
 use Rattle.std.specs.Prelude.{string_bytes}
 use Rattle.model.specs.Sound.{IsSound}
@@ -10,8 +10,9 @@ use Rattle.store_types.specs.declared.replies.Answer.TheVariants.{Changed}
 use Rattle.store_types.specs.declared.replies.Stop.{Stop}
 use Rattle.store_types.specs.declared.replies.Stop.TheVariants.{Refused}
 use Rattle.store_steps.specs.Meets.{IsMet}
+use Rattle.tables.specs.Reasons.{AreAmong}
 use Rattle.tables.specs.RowsPut.{TemporaryRow}
-use Rattle.store_steps.proofs.Caused.{write_fails}
+use Rattle.store_steps.proofs.Caused.{own_among, write_fails}
 use Rattle.store_steps.proofs.Written.{met_by_stopping, met_by_writing}
 use Rattle.store_steps.proofs.Fits.{no_settings, temporary_fits}
 use Rattle.store_roots.proofs.temporary.add_temp.Goals as goal
@@ -44,4 +45,6 @@ returns g c s caller =
     (λ w is. refl)
     (λ w is. ap₂ (λ (o : List ℕ) (n : ℕ). with_temporary w (record { owner = o; session = n; path = path })) c.as_str-text.ensures.value c.in_ok-number.ensures.number)
     c.add_temp.result c.add_temp.ensures.frame
-    (write_fails g.S.Store (add_temp owner session path) c.args.tables.now c.add_temp.new.self refl (TemporaryRow (record { owner = c.as_str-text.result.now; session = c.in_ok-number.number; path = path })) (λ t row put. refl) Changed c.add_temp.result c.add_temp.ensures.cause))
+    (write_fails g.S.Store (add_temp owner session path) c.args.tables.now c.add_temp.new.self refl (TemporaryRow (record { owner = c.as_str-text.result.now; session = c.in_ok-number.number; path = path }))
+    (subst₂ (λ (o : List ℕ) (n : ℕ). AreAmong (TemporaryRow (record { owner = c.as_str-text.result.now; session = c.in_ok-number.number; path = path })) (TemporaryRow (record { owner = o; session = n; path = path }))) c.as_str-text.ensures.value c.in_ok-number.ensures.number
+    (own_among (TemporaryRow (record { owner = c.as_str-text.result.now; session = c.in_ok-number.number; path = path })))) (λ t row put. refl) Changed c.add_temp.result c.add_temp.ensures.cause))

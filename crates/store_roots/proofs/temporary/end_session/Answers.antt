@@ -13,7 +13,7 @@ use Rattle.store_types.specs.declared.replies.Answer.TheVariants.{TemporaryCount
 use Rattle.store_types.specs.declared.replies.Stop.TheVariants.{Refused}
 use Rattle.store_steps.specs.Meets.{IsMet}
 use Rattle.tables.specs.Reasons.{NoRow}
-use Rattle.store_steps.proofs.Caused.{write_fails}
+use Rattle.store_steps.proofs.Caused.{own_among, write_fails}
 use Rattle.store_steps.proofs.Written.{counted_done, counted_failed, met_by_stopping, met_by_writing}
 use Rattle.store_roots.proofs.temporary.end_session.Goals as goal
 
@@ -47,7 +47,7 @@ returns-in_err-count g c s caller =
     (λ w is. ap (λ (o : OutlineValue). temporary_count (finite.len (finite.retain_keys o.temporary (is_of_session owner session)))) (sym is))
     (λ w is. ap₂ (λ (o : List ℕ) (n : ℕ). without_session w o n) same numbered)
     (Err c.in_err-count.field-0.0) (counted_failed g.S.Store c.args.tables.now c.end_session.new.self (λ w. without_session w c.as_str-text.result.now c.in_ok-number.number) c.in_err-count.field-0.0 c.in_err-count.ensures.frame)
-    (write_fails g.S.Store (end_session owner session) c.args.tables.now c.end_session.new.self refl NoRow (λ t row none. absurd none)
+    (write_fails g.S.Store (end_session owner session) c.args.tables.now c.end_session.new.self refl NoRow (own_among NoRow) (λ t row none. absurd none)
     (TemporaryCount (finite.len (finite.retain_keys c.args.tables.now.outline.temporary (is_of_session owner session)))) (Err c.in_err-count.field-0.0) c.in_err-count.ensures.cause))
 
 pub returns-in_err-number : goal.returns-in_err-number

@@ -10,7 +10,7 @@ use Rattle.store_types.specs.declared.replies.Stop.TheVariants.{Refused}
 use Rattle.store_steps.specs.Meets.{IsMet}
 use Rattle.model.proofs.SoundRoots.{user_root_dropped}
 use Rattle.tables.specs.Reasons.{NoRow}
-use Rattle.store_steps.proofs.Caused.{write_fails}
+use Rattle.store_steps.proofs.Caused.{own_among, write_fails}
 use Rattle.store_steps.proofs.Written.{met_by_stopping, met_by_writing}
 use Rattle.store_roots.proofs.user_roots.drop_user_root.Goals as goal
 
@@ -31,4 +31,4 @@ returns g c s caller =
     (λ w is. c.in_ok-may_drop.ensures s w (is ∙ sym c.outline.ensures))
     (λ w is. refl) (λ w is. ap₂ (λ (o n : List ℕ). without_user_root w (o, n)) c.as_str.ensures.value c.as_str-2.ensures.value)
     c.drop_user_root.result c.drop_user_root.ensures.frame
-    (write_fails g.S.Store (drop_user_root owner name) c.args.tables.now c.drop_user_root.new.self refl NoRow (λ t row none. absurd none) Changed c.drop_user_root.result c.drop_user_root.ensures.cause))
+    (write_fails g.S.Store (drop_user_root owner name) c.args.tables.now c.drop_user_root.new.self refl NoRow (own_among NoRow) (λ t row none. absurd none) Changed c.drop_user_root.result c.drop_user_root.ensures.cause))

@@ -1,4 +1,4 @@
-use Rattle.std.proofs.Common.{ℕ, List, Result, refl, sym, ap₂, subst, ◌∙◌}
+use Rattle.std.proofs.Common.{ℕ, List, Result, refl, sym, ap₂, subst, subst₂, ◌∙◌}
 use Rattle.std.proofs.lemmas.Result.{err_from_is_err_and}
 use Rattle.std.specs.Prelude.{string_bytes}
 use Rattle.model.specs.Request.{set_user_root}
@@ -8,8 +8,9 @@ use Rattle.store_types.specs.declared.replies.Answer.TheVariants.{Changed}
 use Rattle.store_types.specs.declared.replies.Stop.{Stop}
 use Rattle.store_types.specs.declared.replies.Stop.TheVariants.{Refused}
 use Rattle.store_steps.specs.Meets.{IsMet}
+use Rattle.tables.specs.Reasons.{AreAmong}
 use Rattle.tables.specs.RowsPut.{UserRootRow}
-use Rattle.store_steps.proofs.Caused.{write_fails}
+use Rattle.store_steps.proofs.Caused.{own_among, write_fails}
 use Rattle.store_steps.proofs.Written.{sound_as, met_by_stopping, met_by_writing}
 use Rattle.store_steps.proofs.Fits.{no_settings, user_root_fits}
 use Rattle.store_roots.proofs.user_roots.set_user_root.Goals as goal
@@ -40,4 +41,5 @@ returns g c s caller =
     (λ w is. c.in_ok-may_set.ensures s w (is ∙ sym c.outline.ensures))
     (λ w is. refl) (λ w is. ap₂ (λ (o n : List ℕ). with_user_root w (o, n) path) c.as_str.ensures.value c.as_str-2.ensures.value)
     c.put_user_root.result c.put_user_root.ensures.frame
-    (write_fails g.S.Store (set_user_root owner name path) c.args.tables.now c.put_user_root.new.self refl (UserRootRow (c.as_str.result.now, c.as_str-2.result.now) path) (λ t row put. refl) Changed c.put_user_root.result c.put_user_root.ensures.cause))
+    (write_fails g.S.Store (set_user_root owner name path) c.args.tables.now c.put_user_root.new.self refl (UserRootRow (c.as_str.result.now, c.as_str-2.result.now) path)
+    (subst₂ (λ (o n : List ℕ). AreAmong (UserRootRow (c.as_str.result.now, c.as_str-2.result.now) path) (UserRootRow (o, n) path)) c.as_str.ensures.value c.as_str-2.ensures.value (own_among (UserRootRow (c.as_str.result.now, c.as_str-2.result.now) path))) (λ t row put. refl) Changed c.put_user_root.result c.put_user_root.ensures.cause))

@@ -11,7 +11,8 @@ use Rattle.tables_make.specs.Reasons.{HasReason}
 use Rattle.tables.specs.Frames.{CommitsRows}
 use Rattle.tables.specs.TablesValue.{IsWritten}
 use Rattle.tables.proofs.Begun.{always_done, begun_has, undone}
-use Rattle.tables_make.proofs.Reasons.{as_reason, begun_reason, commit_reason}
+use Rattle.tables_sql.proofs.TestFailures.{passed_on}
+use Rattle.tables_make.proofs.Reasons.{as_reason, begun_reason, commit_reason, later_reason}
 use Rattle.tables.proofs.Transactions.{others_kept, written}
 use Rattle.tables.proofs.change.commit.Goals as goal
 
@@ -60,3 +61,18 @@ returns-clause-cause g c =
     let late : HasCleanDisk wrote = omega (arith, c.commit.ensures.survives.clean, clean) in
     as_reason _ _ (λ e h. begun_reason g.S.Store before start rows new c.begin-tx.ensures.begun e
     (commit_reason rows (state g.S.Store start) wrote new _ (c.in_ok-write.ensures.done late) c.write.ensures.frame.survives e h)) c.commit.result (c.commit.ensures.cause clean))
+
+pub returns-in_err-write-clause-cause : goal.returns-in_err-write-clause-cause
+returns-in_err-write-clause-cause g c =
+    let rows = g.C.Change.rows c.args.change.now in
+    let before = c.args.conn.now in
+    let start = c.begin-tx.result.conn.now in
+    let wrote = state g.S.Store c.write.new.tx.conn.now in
+    let new = state g.S.Store c.drop-tx.new.self.0 in
+    let same : c.drop-tx.new.self.0 ≡ c.conn-1.given.0 = search rules in
+    subst (λ h. HasReason g.S.Store before h c.from_residual.result rows) same
+    (λ clean.
+    let late : HasCleanDisk wrote = omega (arith, c.drop-tx.ensures.survives.clean, clean) in
+    passed_on c.from_residual.result _ _ c.from_residual.ensures.1
+    (begun_reason g.S.Store before start rows new c.begin-tx.ensures.begun _
+    (later_reason rows (state g.S.Store start) wrote new _ c.drop-tx.ensures.survives _ (c.in_err-write.ensures.cause late))))

@@ -1,4 +1,4 @@
-use Rattle.std.proofs.Common.{◌≡◌, ℕ, ◌+◌, ◌*◌, ◌<◌, ◌≤◌, length, map, arith, inl, inr, [], ◌∷◌, refl, sym, ap, subst, ◌∙◌, List}
+use Rattle.std.proofs.Common.{◌≡◌, ℕ, ◌+◌, ◌*◌, ◌<◌, ◌≤◌, length, map, arith, [], ◌∷◌, refl, sym, ap, subst, ◌∙◌, List}
 use Rattle.std.specs.Prelude.{ℤ, pos}
 use Rattle.std.specs.FinMap as finite
 use Rattle.sqlite_value.specs.declared.value.Value.TheVariants.{Int, Text, Blob}
@@ -9,7 +9,7 @@ use Rattle.tables_schema.specs.Forms.{piece}
 use Rattle.tables_sql.specs.Contents.{Contents, contents_of}
 use Rattle.tables_world.specs.Pieces.{further_pieces}
 use Rattle.tables.specs.Rewritten.{AreFree, put_pieces}
-use Rattle.tables_make.specs.Reasons.{RowsOf}
+use Rattle.tables_make.specs.Reasons.{Both, RowsOf}
 use Rattle.tables_make.specs.Migrating.{PieceRow}
 use Rattle.tables_sql.proofs.Going.{Goes, goes_first, goes_next, goes_done}
 use Rattle.tables_sql.proofs.Transactions.{survives_none}
@@ -18,7 +18,7 @@ use Rattle.tables.proofs.AfterWrites.{clean_before}
 use Rattle.tables_sql.proofs.TestFailures.{passed_on, survives_both}
 use Rattle.tables_sql.proofs.Orders.{numbered_total}
 use Rattle.tables.proofs.Free.{free_next}
-use Rattle.tables_make.proofs.Reasons.{is_none, next_reason, put_reason}
+use Rattle.tables_make.proofs.Reasons.{AreLeft, is_none, left_next, left_whole, next_reason, numbers_of, put_reason, row_among}
 use Rattle.tables.proofs.Transactions.{pieces_exist}
 use Rattle.tables_make.proofs.Inside.{done_fails}
 use Rattle.tables_make.proofs.Failed.{none_done}
@@ -33,7 +33,9 @@ pieces-init g c =
       same_reference = refl;
       goes = λ clean. subst (λ ps. Goes change (further_pieces nar) first first ps) (sym (all_left nar)) (goes_first change (further_pieces nar) first (c.requires.under_way clean) (c.requires.is_open clean));
       free = λ clean. subst (λ ps. AreFree (contents_of first.now).pieces (map (λ (e : ℤ × List ℕ). (c.args.base.now, e.0)) ps)) (sym (all_left nar)) (c.requires.fits clean);
-      among = λ t values. subst (λ ps. RowsOf (PieceRow c.args.base.now) ps t values) (all_left nar);
+      left = λ clean.
+          let rows = RowsOf (PieceRow c.args.base.now) (further_pieces nar) in
+          subst (λ ps. AreLeft rows (RowsOf (PieceRow c.args.base.now) ps) first.now first.now) (sym (all_left nar)) (left_whole rows first.now);
       survives = survives_none first;
     }
 
@@ -59,7 +61,11 @@ pieces-preserved g c =
           let free = subst (λ ps. AreFree was.pieces (map keys ps)) (next_left n nar more) (c.pieces.invariant.free (clean_before now next _ c.insert.ensures.frame.survives clean)) in
           let after = free_next numbered_total was.pieces (base, pos n) c.piece.result.now (map keys (left_from (n + 1) nar)) free in
           subst (λ (x : Contents). AreFree x.pieces (map keys (left_from (n + 1) nar))) (sym (c.in_ok-insert.ensures.done clean).contents) after;
-      among = λ t values h. c.pieces.invariant.among t values (subst (λ ps. RowsOf (PieceRow base) ps t values) (sym (next_left n nar more)) (inr h));
+      left = λ clean.
+          let early = clean_before now next _ c.insert.ensures.frame.survives clean in
+          let rows = RowsOf (PieceRow base) (further_pieces nar) in
+          left_next rows (PieceRow base (pos n, piece_of n nar)) (RowsOf (PieceRow base) (left_from (n + 1) nar)) first.now now.now next.now
+          (subst (λ ps. AreLeft rows (RowsOf (PieceRow base) ps) first.now now.now) (next_left n nar more) (c.pieces.invariant.left early)) (c.pieces.invariant.goes early).changes.schema (c.in_ok-insert.ensures.numbers clean);
       survives = survives_both first now next c.pieces.invariant.survives c.insert.ensures.frame.survives;
     }
 
@@ -77,6 +83,7 @@ returns-then-place-count g c = record {
       let change : List (ℤ × List ℕ) → Contents → Contents = λ ps x. record x { pieces = put_pieces c.args.base.now ps x.pieces } in
       let end : length nar ≤ 65536 * n = omega arith in
       goes_done change (further_pieces nar) (state g.S.Store c.args.tx.now.conn.now) now (left_from n nar) (ap (λ ps. change ps (contents_of now.now)) (past_end n nar end)) (c.pieces.invariant.goes clean);
+  numbers = λ clean. numbers_of _ _ (state g.S.Store c.args.tx.now.conn.now).now (state g.S.Store c.pieces.tx.conn.now).now (c.pieces.invariant.left clean);
   cause = λ clean. tt;
 }
 
@@ -87,6 +94,7 @@ returns-in_err-insert g c = record {
       done_fails g.S.Store c.args.tx.now.conn c.pieces.tx.conn c.insert.new.tx.conn _ c.pieces.invariant.same_reference (λ clean. (c.pieces.invariant.goes clean).changes) c.pieces.invariant.survives
       c.from_residual.result c.insert.ensures.frame.same_reference c.in_err-insert.ensures.frame.failed c.insert.ensures.frame.survives;
   done = λ clean. none_done c.from_residual.result _ _ c.from_residual.ensures.1;
+  numbers = λ clean. none_done c.from_residual.result _ _ c.from_residual.ensures.1;
   cause = λ clean.
       let base = c.args.base.now in
       let nar = c.args.nar.now in
@@ -100,9 +108,11 @@ returns-in_err-insert g c = record {
       let free = subst (λ ps. AreFree was.pieces (map (λ (e : ℤ × List ℕ). (base, e.0)) ps)) (next_left n nar more) (c.pieces.invariant.free early) in
       let row : Row = Text base ∷ Int (pos n) ∷ Blob c.piece.result.now ∷ [] in
       let is : row ≡ Text base ∷ Int (pos n) ∷ Blob (piece_of n nar) ∷ [] = ap (λ b. Text base ∷ Int (pos n) ∷ Blob b ∷ []) c.piece.ensures in
+      let rows = RowsOf (PieceRow base) (further_pieces nar) in
+      let later = RowsOf (PieceRow base) (left_from (n + 1) nar) in
       passed_on c.from_residual.result _ _ c.from_residual.ensures.1
-      (next_reason _ first now next _ (c.pieces.invariant.goes early).changes c.pieces.invariant.survives _
-      (put_reason (RowsOf (PieceRow base) (further_pieces nar)) now next piece row _ (c.pieces.invariant.among piece row (subst (λ ps. RowsOf (PieceRow base) ps piece row) (sym (next_left n nar more)) (inl (refl, is)))) (is_none _ free.free.0) _ (c.in_err-insert.ensures.cause clean)));
+      (next_reason rows (Both (PieceRow base (pos n, piece_of n nar)) later) first now next _ (c.pieces.invariant.goes early).changes c.pieces.invariant.survives (subst (λ ps. AreLeft rows (RowsOf (PieceRow base) ps) first.now now.now) (next_left n nar more) (c.pieces.invariant.left early)) _
+      (put_reason (Both (PieceRow base (pos n, piece_of n nar)) later) now next piece row _ (row_among piece row _ later is) (is_none _ free.free.0) _ (c.in_err-insert.ensures.cause clean)));
 }
 
 pub returns : goal.returns
@@ -113,5 +123,6 @@ returns g c = record {
     survives = c.pieces.invariant.survives;
   };
   done = λ clean. tt;
+  numbers = λ clean. tt;
   cause = λ clean. tt;
 }

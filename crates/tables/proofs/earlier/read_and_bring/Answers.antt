@@ -4,7 +4,7 @@ use Rattle.sqlite.specs.Held.{state}
 use Rattle.tables_sql.specs.Contents.{contents_of}
 use Rattle.tables_sql.proofs.Steps.{clean_before}
 use Rattle.tables_world.specs.Worlds.{IsSoundBy}
-use Rattle.tables_make.proofs.MigratingFailures.{migrating_before}
+use Rattle.tables_make.proofs.MigratingFailures.{whole_before}
 use Rattle.tables.specs.Opening.{IsFoundBy}
 use Rattle.tables.proofs.Brought.{both_migrate, both_leave}
 use Rattle.tables.proofs.Causes.{migration_cause}
@@ -56,4 +56,4 @@ returns-in_err-bring-clause-cause g c clean =
     let early = clean_before a b _ c.read_as.ensures.frame.survives read in
     let p = err_from_is_err_and c.from_residual-in_err-bring.result c.from_residual-in_err-bring.ensures.1 in
     rw (p.1, p.2) (migration_cause c.args.dir.now a d c.in_err-bring.field-0.0 c.args.schema (c.requires.found early) c.in_err-bring.ensures.needed
-    (migrating_before c.args.schema a b d (c.in_ok-loaded.ensures.unchanged read) c.read_as.ensures.frame.survives c.in_err-bring.field-0.0 (c.in_err-bring.ensures.migrates.cause clean)))
+    (whole_before c.args.schema a b d (c.in_ok-loaded.ensures.unchanged read) c.read_as.ensures.frame.survives c.in_err-bring.field-0.0 (c.in_err-bring.ensures.migrates.cause clean)))

@@ -15,7 +15,8 @@ use Rattle.tables.proofs.AfterWrites.{clean_before}
 use Rattle.tables.proofs.Lists.{zip_at, no_pairs_left}
 use Rattle.tables_sql.proofs.Transactions.{survives_none}
 use Rattle.tables_sql.proofs.TestFailures.{passed_on, survives_both}
-use Rattle.tables_make.proofs.Reasons.{is_none, next_reason, of_item, put_reason}
+use Rattle.tables_make.specs.Reasons.{Both, RowsOf}
+use Rattle.tables_make.proofs.Reasons.{AreLeft, is_none, left_next, left_whole, next_reason, numbers_of, put_reason, row_among}
 use Rattle.tables_make.proofs.Inside.{done_fails}
 use Rattle.tables_make.proofs.Failed.{none_done}
 use Rattle.tables.proofs.objects.put_outputs.Goals as goal
@@ -28,6 +29,7 @@ outputs-init g c =
       same_reference = refl;
       goes = λ clean. goes_first (λ es (x : Contents). record x { outs = put_outputs c.args.base.now es x.outs }) all first (c.requires.frame.under_way clean) (c.requires.frame.is_open clean);
       free = c.requires.frame.fits;
+      left = λ clean. left_whole (RowsOf (OutputRow c.args.base.now) all) first.now;
       survives = survives_none first;
     }
 
@@ -59,6 +61,11 @@ outputs-preserved g c =
           let free = subst (λ es. AreFree was.outs (map keys es)) split (c.outputs.invariant.free (clean_before now next _ c.insert.ensures.frame.survives clean)) in
           let after = free_next pair_total was.outs (base, name) target (map keys rest) free in
           subst (λ (x : Contents). AreFree x.outs (map keys rest)) (sym (c.in_ok-insert.ensures.done clean).contents) (subst (λ (m : finite.FinMap pair_cmp Path). AreFree m (map keys rest)) written after);
+      left = λ clean.
+          let early = clean_before now next _ c.insert.ensures.frame.survives clean in
+          let rows = RowsOf (OutputRow base) all in
+          left_next rows (OutputRow base (name, target)) (RowsOf (OutputRow base) rest) first.now now.now next.now (subst (λ es. AreLeft rows (RowsOf (OutputRow base) es) first.now now.now) split (c.outputs.invariant.left early))
+          (c.outputs.invariant.goes early).changes.schema (c.in_ok-insert.ensures.numbers clean);
       survives = survives_both first now next c.outputs.invariant.survives c.insert.ensures.frame.survives;
     }
 
@@ -73,6 +80,7 @@ returns g c = record {
       let none = ap (λ n. drop n all) end ∙ no_pairs_left string_bytes c.args.names.now c.args.outputs.now c.requires.count in
       goes_done (λ es (x : Contents). record x { outs = put_outputs c.args.base.now es x.outs }) all first now (drop c.outputs.i all)
       (ap (λ es. record (contents_of now.now) { outs = put_outputs c.args.base.now es (contents_of now.now).outs }) none) (c.outputs.invariant.goes clean);
+  numbers = λ clean. numbers_of _ _ (state g.S.Store c.args.tx.now.conn.now).now (state g.S.Store c.outputs.tx.conn.now).now (c.outputs.invariant.left clean);
   cause = λ clean. tt;
 }
 
@@ -83,6 +91,7 @@ returns-in_err-insert g c = record {
       done_fails g.S.Store c.args.tx.now.conn c.outputs.tx.conn c.insert.new.tx.conn _ c.outputs.invariant.same_reference (λ clean. (c.outputs.invariant.goes clean).changes) c.outputs.invariant.survives
       c.from_residual.result c.insert.ensures.frame.same_reference c.in_err-insert.ensures.frame.failed c.insert.ensures.frame.survives;
   done = λ clean. none_done c.from_residual.result _ _ c.from_residual.ensures.1;
+  numbers = λ clean. none_done c.from_residual.result _ _ c.from_residual.ensures.1;
   cause = λ clean.
       let base = c.args.base.now in
       let first = state g.S.Store c.args.tx.now.conn.now in
@@ -101,7 +110,9 @@ returns-in_err-insert g c = record {
       let free = subst (λ es. AreFree was.outs (map (λ (e : List ℕ × Path). (base, e.0)) es)) split (c.outputs.invariant.free early) in
       let row : Row = Text base ∷ Text c.as_str.result.now ∷ Text c.as_str-in-outputs.result.now ∷ [] in
       let is : row ≡ Text base ∷ Text name ∷ Text target ∷ [] = ap₂ (λ n t. Text base ∷ Text n ∷ Text t ∷ []) c.as_str.ensures.value c.as_str-in-outputs.ensures.value in
+      let rows = RowsOf (OutputRow base) all in
+      let later = RowsOf (OutputRow base) rest in
       passed_on c.from_residual.result _ _ c.from_residual.ensures.1
-      (next_reason _ first now next _ (c.outputs.invariant.goes early).changes c.outputs.invariant.survives _
-      (put_reason _ now next _ row _ (of_item (OutputRow base) all rest (name, target) c.outputs.i split _ row (refl, is)) (is_none _ (ap (λ n. finite.get was.outs (base, n)) c.as_str.ensures.value ∙ free.free.0)) _ (c.in_err-insert.ensures.cause clean)));
+      (next_reason rows (Both (OutputRow base (name, target)) later) first now next _ (c.outputs.invariant.goes early).changes c.outputs.invariant.survives (subst (λ es. AreLeft rows (RowsOf (OutputRow base) es) first.now now.now) split (c.outputs.invariant.left early)) _
+      (put_reason (Both (OutputRow base (name, target)) later) now next _ row _ (row_among _ row _ later is) (is_none _ (ap (λ n. finite.get was.outs (base, n)) c.as_str.ensures.value ∙ free.free.0)) _ (c.in_err-insert.ensures.cause clean)));
 }

@@ -14,7 +14,8 @@ use Rattle.tables.proofs.Lists.{left_at, none_left}
 use Rattle.tables_sql.proofs.TestFailures.{passed_on, survives_both}
 use Rattle.tables_sql.proofs.Orders.{pair_total}
 use Rattle.tables.proofs.Free.{free_next}
-use Rattle.tables_make.proofs.Reasons.{is_none, next_reason, of_item, put_reason}
+use Rattle.tables_make.specs.Reasons.{Both, RowsOf}
+use Rattle.tables_make.proofs.Reasons.{AreLeft, is_none, left_next, left_whole, next_reason, numbers_of, put_reason, row_among}
 use Rattle.tables_make.proofs.Inside.{done_fails}
 use Rattle.tables_make.proofs.Failed.{none_done}
 use Rattle.tables.proofs.objects.put_references.Goals as goal
@@ -26,6 +27,7 @@ targets-init g c =
       same_reference = refl;
       goes = λ clean. goes_first (λ rs (x : Contents). record x { refs = put_references c.args.base.now rs x.refs }) c.args.targets.now first (c.requires.under_way clean) (c.requires.is_open clean);
       free = c.requires.fits;
+      left = λ clean. left_whole (RowsOf (ReferenceRow c.args.base.now) c.args.targets.now) first.now;
       survives = survives_none first;
     }
 
@@ -54,6 +56,11 @@ targets-preserved g c =
           let after = free_next pair_total was.refs (base, item) tt (map keys rest) free in
           subst (λ (x : Contents). AreFree x.refs (map keys rest)) (sym (c.in_ok-insert.ensures.done clean).contents)
           (subst (λ (t : Path). AreFree (finite.insert was.refs (base, t) tt) (map keys rest)) (sym c.as_str-target.ensures.value) after);
+      left = λ clean.
+          let early = clean_before now next _ c.insert.ensures.frame.survives clean in
+          let rows = RowsOf (ReferenceRow base) all in
+          left_next rows (ReferenceRow base item) (RowsOf (ReferenceRow base) rest) first.now now.now next.now (subst (λ ts. AreLeft rows (RowsOf (ReferenceRow base) ts) first.now now.now) split (c.targets.invariant.left early))
+          (c.targets.invariant.goes early).changes.schema (c.in_ok-insert.ensures.numbers clean);
       survives = survives_both first now next c.targets.invariant.survives c.insert.ensures.frame.survives;
     }
 
@@ -64,6 +71,7 @@ returns-in_err-insert g c = record {
       done_fails g.S.Store c.args.tx.now.conn c.targets.tx.conn c.insert.new.tx.conn _ c.targets.invariant.same_reference (λ clean. (c.targets.invariant.goes clean).changes) c.targets.invariant.survives
       c.from_residual.result c.insert.ensures.frame.same_reference c.in_err-insert.ensures.frame.failed c.insert.ensures.frame.survives;
   done = λ clean. none_done c.from_residual.result _ _ c.from_residual.ensures.1;
+  numbers = λ clean. none_done c.from_residual.result _ _ c.from_residual.ensures.1;
   cause = λ clean.
       let base = c.args.base.now in
       let first = state g.S.Store c.args.tx.now.conn.now in
@@ -79,9 +87,11 @@ returns-in_err-insert g c = record {
       let free = subst (λ ts. AreFree was.refs (map (λ (t : Path). (base, t)) ts)) split (c.targets.invariant.free early) in
       let row : Row = Text base ∷ Text c.as_str-target.result.now ∷ [] in
       let is : row ≡ Text base ∷ Text item ∷ [] = ap (λ t. Text base ∷ Text t ∷ []) c.as_str-target.ensures.value in
+      let rows = RowsOf (ReferenceRow base) all in
+      let later = RowsOf (ReferenceRow base) rest in
       passed_on c.from_residual.result _ _ c.from_residual.ensures.1
-      (next_reason _ first now next _ (c.targets.invariant.goes early).changes c.targets.invariant.survives _
-      (put_reason _ now next _ row _ (of_item (ReferenceRow base) all rest item c.targets.target-index split _ row (refl, is)) (is_none _ (ap (λ t. finite.get was.refs (base, t)) c.as_str-target.ensures.value ∙ free.free.0)) _ (c.in_err-insert.ensures.cause clean)));
+      (next_reason rows (Both (ReferenceRow base item) later) first now next _ (c.targets.invariant.goes early).changes c.targets.invariant.survives (subst (λ ts. AreLeft rows (RowsOf (ReferenceRow base) ts) first.now now.now) split (c.targets.invariant.left early)) _
+      (put_reason (Both (ReferenceRow base item) later) now next _ row _ (row_among _ row _ later is) (is_none _ (ap (λ t. finite.get was.refs (base, t)) c.as_str-target.ensures.value ∙ free.free.0)) _ (c.in_err-insert.ensures.cause clean)));
 }
 
 pub returns : goal.returns
@@ -95,5 +105,6 @@ returns g c = record {
       let none = ap (λ n. drop n all) end ∙ none_left all in
       goes_done (λ rs (x : Contents). record x { refs = put_references c.args.base.now rs x.refs }) all first now (drop c.targets.target-index all)
       (ap (λ rs. record (contents_of now.now) { refs = put_references c.args.base.now rs (contents_of now.now).refs }) none) (c.targets.invariant.goes clean);
+  numbers = λ clean. numbers_of _ _ (state g.S.Store c.args.tx.now.conn.now).now (state g.S.Store c.targets.tx.conn.now).now (c.targets.invariant.left clean);
   cause = λ clean. tt;
 }

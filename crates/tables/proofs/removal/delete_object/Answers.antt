@@ -5,6 +5,8 @@ use Rattle.sqlite.specs.Held.{state}
 use Rattle.live.specs.Graph.{same}
 use Rattle.tables_sql.specs.Contents.{Contents, contents_of}
 use Rattle.tables_sql.proofs.Transactions.{done_both, failed_next, steps_both}
+use Rattle.tables_sql.proofs.Rowids.{numbers_on_then}
+use Rattle.tables_sql.proofs.Scans.{on_ok}
 use Rattle.tables_sql.proofs.Steps.{under_after}
 use Rattle.tables.specs.Rewritten.{without_object}
 use Rattle.tables.proofs.Covered.{references_reported, outputs_reported, pieces_reported, single_removed}
@@ -12,7 +14,8 @@ use Rattle.tables_make.proofs.Failing.{err_kept}
 use Rattle.tables_make.proofs.Failed.{none_done, always_failed}
 use Rattle.tables_sql.proofs.TestFailures.{passed_on, survives_both}
 use Rattle.tables.proofs.Transactions.{changes_at, pieces_exist}
-use Rattle.tables_make.proofs.Reasons.{as_reason, next_reason, removal_reason}
+use Rattle.tables_make.specs.Reasons.{NoRow}
+use Rattle.tables_make.proofs.Reasons.{as_reason, next_reason, none_put, removal_reason}
 use Rattle.tables.proofs.removal.delete_object.Goals as goal
 
 pub delete_references-requires : goal.delete_references-requires
@@ -96,13 +99,14 @@ returns-in_err-delete_references g c = record {
         survives = survives_both a b d c.delete.ensures.frame.survives c.delete_references.ensures.frame.survives;
       };
   done = λ clean. none_done c.from_residual-in_err-delete_references.result _ _ c.from_residual-in_err-delete_references.ensures.1;
+  numbers = λ clean. none_done c.from_residual-in_err-delete_references.result _ _ c.from_residual-in_err-delete_references.ensures.1;
   cause = λ clean.
       let a = state g.S.Store c.args.tx.now.conn.now in
       let b = state g.S.Store c.delete.new.tx.conn.now in
       let d = state g.S.Store c.delete_references.new.tx.conn.now in
       let late : HasCleanDisk b = omega (arith, c.delete_references.ensures.frame.survives.clean, clean) in
       passed_on c.from_residual-in_err-delete_references.result _ _ c.from_residual-in_err-delete_references.ensures.1
-      (next_reason _ a b d _ (c.in_ok-delete.ensures.done late) c.delete.ensures.frame.survives _ (c.in_err-delete_references.ensures.cause clean));
+      (next_reason NoRow NoRow a b d _ (c.in_ok-delete.ensures.done late) c.delete.ensures.frame.survives (none_put NoRow a.now b.now (c.in_ok-delete.ensures.numbers late)) _ (c.in_err-delete_references.ensures.cause clean));
 }
 
 -- one that the outline hasn't has nothing else
@@ -116,6 +120,7 @@ returns-in_default g c = record {
       let early : HasCleanDisk a = omega (arith, c.delete.ensures.frame.survives.clean, clean) in
       let path = c.args.path.now in
       changes_at a b _ (without_object path) (ap (λ p. record (contents_of a.now) { objects = finite.retain_keys (contents_of a.now).objects (λ k. not (same k p)) }) c.as_str-base.ensures.value ∙ single_removed c.args.outline.now (contents_of a.now) path (c.requires.tables early it.was_open).1 (sym c.in_default.ensures)) it;
+  numbers = c.in_ok-delete.ensures.numbers;
   cause = λ clean. tt;
 }
 
@@ -132,15 +137,18 @@ returns-in_err-delete_outputs g c = record {
         survives = survives_both a d e (survives_both a b d c.delete.ensures.frame.survives c.delete_references.ensures.frame.survives) c.delete_outputs.ensures.frame.survives;
       };
   done = λ clean. none_done c.from_residual-in_err-delete_outputs.result _ _ c.from_residual-in_err-delete_outputs.ensures.1;
+  numbers = λ clean. none_done c.from_residual-in_err-delete_outputs.result _ _ c.from_residual-in_err-delete_outputs.ensures.1;
   cause = λ clean.
       let a = state g.S.Store c.args.tx.now.conn.now in
       let b = state g.S.Store c.delete.new.tx.conn.now in
       let d = state g.S.Store c.delete_references.new.tx.conn.now in
       let e = state g.S.Store c.delete_outputs.new.tx.conn.now in
       let late : HasCleanDisk d = omega (arith, c.delete_outputs.ensures.frame.survives.clean, clean) in
+      let early : HasCleanDisk b = omega (arith, c.delete_references.ensures.frame.survives.clean, late) in
+      let on = numbers_on_then 0 0 a.now b.now d.now (c.in_ok-delete.ensures.done early).schema (c.in_ok-delete.ensures.numbers early) (c.in_ok-delete_references.ensures.numbers late) in
       passed_on c.from_residual-in_err-delete_outputs.result _ _ c.from_residual-in_err-delete_outputs.ensures.1
-      (next_reason _ a d e _ (steps_both a b d _ _ c.in_ok-delete.ensures.done c.delete_references.ensures.frame.survives c.in_ok-delete_references.ensures.done late)
-      (survives_both a b d c.delete.ensures.frame.survives c.delete_references.ensures.frame.survives) _ (c.in_err-delete_outputs.ensures.cause clean));
+      (next_reason NoRow NoRow a d e _ (steps_both a b d _ _ c.in_ok-delete.ensures.done c.delete_references.ensures.frame.survives c.in_ok-delete_references.ensures.done late)
+      (survives_both a b d c.delete.ensures.frame.survives c.delete_references.ensures.frame.survives) (none_put NoRow a.now d.now on) _ (c.in_err-delete_outputs.ensures.cause clean));
 }
 
 pub returns : goal.returns
@@ -163,6 +171,19 @@ returns g c = record {
       let e = state g.S.Store c.delete_outputs.new.tx.conn.now in
       let f = state g.S.Store c.delete_pieces.new.tx.conn.now in
       done_both a e f _ _ (steps_both a d e _ _ (steps_both a b d _ _ c.in_ok-delete.ensures.done c.delete_references.ensures.frame.survives c.in_ok-delete_references.ensures.done) c.delete_outputs.ensures.frame.survives c.in_ok-delete_outputs.ensures.done) c.delete_pieces.ensures.frame.survives c.delete_pieces.result _ (λ x. ap (λ p. without_object p x) c.as_str-base.ensures.value) c.delete_pieces.ensures.done;
+  numbers = λ clean.
+      let a = state g.S.Store c.args.tx.now.conn.now in
+      let b = state g.S.Store c.delete.new.tx.conn.now in
+      let d = state g.S.Store c.delete_references.new.tx.conn.now in
+      let e = state g.S.Store c.delete_outputs.new.tx.conn.now in
+      let f = state g.S.Store c.delete_pieces.new.tx.conn.now in
+      let late : HasCleanDisk e = omega (arith, c.delete_pieces.ensures.frame.survives.clean, clean) in
+      let early : HasCleanDisk d = omega (arith, c.delete_outputs.ensures.frame.survives.clean, late) in
+      let first : HasCleanDisk b = omega (arith, c.delete_references.ensures.frame.survives.clean, early) in
+      let deleted = c.in_ok-delete.ensures.done first in
+      let two = steps_both a b d _ _ c.in_ok-delete.ensures.done c.delete_references.ensures.frame.survives c.in_ok-delete_references.ensures.done early in
+      on_ok c.delete_pieces.result _ _ (numbers_on_then 0 0 a.now e.now f.now ((c.in_ok-delete_outputs.ensures.done late).schema ∙ two.schema)
+      (numbers_on_then 0 0 a.now d.now e.now two.schema (numbers_on_then 0 0 a.now b.now d.now deleted.schema (c.in_ok-delete.ensures.numbers first) (c.in_ok-delete_references.ensures.numbers early)) (c.in_ok-delete_outputs.ensures.numbers late))) (c.delete_pieces.ensures.numbers clean);
   cause = λ clean.
       let a = state g.S.Store c.args.tx.now.conn.now in
       let b = state g.S.Store c.delete.new.tx.conn.now in
@@ -170,15 +191,21 @@ returns g c = record {
       let e = state g.S.Store c.delete_outputs.new.tx.conn.now in
       let f = state g.S.Store c.delete_pieces.new.tx.conn.now in
       let late : HasCleanDisk e = omega (arith, c.delete_pieces.ensures.frame.survives.clean, clean) in
-      as_reason _ _ (next_reason _ a e f _
+      let early : HasCleanDisk d = omega (arith, c.delete_outputs.ensures.frame.survives.clean, late) in
+      let first : HasCleanDisk b = omega (arith, c.delete_references.ensures.frame.survives.clean, early) in
+      let deleted = c.in_ok-delete.ensures.done first in
+      let two = steps_both a b d _ _ c.in_ok-delete.ensures.done c.delete_references.ensures.frame.survives c.in_ok-delete_references.ensures.done early in
+      let on = numbers_on_then 0 0 a.now d.now e.now two.schema (numbers_on_then 0 0 a.now b.now d.now deleted.schema (c.in_ok-delete.ensures.numbers first) (c.in_ok-delete_references.ensures.numbers early)) (c.in_ok-delete_outputs.ensures.numbers late) in
+      as_reason _ _ (next_reason NoRow NoRow a e f _
       (steps_both a d e _ _ (steps_both a b d _ _ c.in_ok-delete.ensures.done c.delete_references.ensures.frame.survives c.in_ok-delete_references.ensures.done) c.delete_outputs.ensures.frame.survives c.in_ok-delete_outputs.ensures.done late)
-      (survives_both a d e (survives_both a b d c.delete.ensures.frame.survives c.delete_references.ensures.frame.survives) c.delete_outputs.ensures.frame.survives)) c.delete_pieces.result (c.delete_pieces.ensures.cause clean);
+      (survives_both a d e (survives_both a b d c.delete.ensures.frame.survives c.delete_references.ensures.frame.survives) c.delete_outputs.ensures.frame.survives) (none_put NoRow a.now e.now on)) c.delete_pieces.result (c.delete_pieces.ensures.cause clean);
 }
 
 pub returns-in_err-delete : goal.returns-in_err-delete
 returns-in_err-delete g c = record {
   frame = record { same_reference = c.delete.ensures.frame.same_reference; failed = λ clean. always_failed c.from_residual.result _ (c.in_err-delete.ensures.frame.failed clean); survives = c.delete.ensures.frame.survives };
   done = λ clean. none_done c.from_residual.result _ _ c.from_residual.ensures.1;
+  numbers = λ clean. none_done c.from_residual.result _ _ c.from_residual.ensures.1;
   cause = λ clean.
       passed_on c.from_residual.result _ _ c.from_residual.ensures.1 (removal_reason _ (state g.S.Store c.args.tx.now.conn.now) (state g.S.Store c.delete.new.tx.conn.now) _ (c.in_err-delete.ensures.cause clean));
 }

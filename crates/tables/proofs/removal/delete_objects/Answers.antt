@@ -4,6 +4,7 @@ use Rattle.tables_sql.specs.Contents.{contents_of}
 use Rattle.model.specs.World.{Path}
 use Rattle.tables.specs.Rewritten.{Covers, without_object, without_objects}
 use Rattle.tables_sql.proofs.Going.{goes_first, goes_next, goes_done}
+use Rattle.tables_sql.proofs.Rowids.{numbers_on_none, numbers_on_then}
 use Rattle.tables_sql.proofs.Steps.{under_after}
 use Rattle.tables_sql.proofs.Transactions.{survives_none}
 use Rattle.tables.proofs.Covered.{covers_less}
@@ -12,7 +13,8 @@ use Rattle.tables.proofs.Lists.{left_at, none_left}
 use Rattle.tables.proofs.Removed.{without_none, without_next}
 use Rattle.tables_sql.proofs.TestFailures.{passed_on, survives_both}
 use Rattle.tables.proofs.Transactions.{pieces_exist}
-use Rattle.tables_make.proofs.Reasons.{next_reason}
+use Rattle.tables_make.specs.Reasons.{NoRow}
+use Rattle.tables_make.proofs.Reasons.{next_reason, none_put}
 use Rattle.tables_make.proofs.Inside.{done_fails}
 use Rattle.tables_make.proofs.Failed.{none_done}
 use Rattle.tables.proofs.removal.delete_objects.Goals as goal
@@ -24,6 +26,7 @@ paths-init g c =
       same_reference = refl;
       goes = λ clean. goes_first without_objects c.args.paths.now first (c.requires.under_way clean) (c.requires.is_open clean);
       covers = c.requires.fits;
+      numbers = λ clean. numbers_on_none first.now;
       survives = survives_none first;
     }
 
@@ -43,6 +46,9 @@ paths-preserved g c =
       same_reference = c.in_ok-delete_object.ensures.frame.same_reference ∙ c.paths.invariant.same_reference;
       goes = λ clean. goes_next without_objects all first now next left rest _ (c.paths.invariant.goes (clean_before now next _ c.delete_object.ensures.frame.survives clean)) (c.in_ok-delete_object.ensures.done clean) same;
       covers = λ clean. subst (Covers c.args.outline.now) (sym (c.in_ok-delete_object.ensures.done clean).contents) (covers_less c.args.outline.now item was (c.paths.invariant.covers (clean_before now next _ c.delete_object.ensures.frame.survives clean)));
+      numbers = λ clean.
+          let early = clean_before now next _ c.delete_object.ensures.frame.survives clean in
+          numbers_on_then 0 0 first.now now.now next.now (c.paths.invariant.goes early).changes.schema (c.paths.invariant.numbers early) (c.in_ok-delete_object.ensures.numbers clean);
       survives = survives_both first now next c.paths.invariant.survives c.delete_object.ensures.frame.survives;
     }
 
@@ -66,6 +72,7 @@ returns g c = record {
       let none = ap (λ n. drop n all) end ∙ none_left all in
       goes_done without_objects all first now (drop c.paths.path-index all)
       (ap (λ (xs : List Path). without_objects xs (contents_of now.now)) none ∙ without_none (contents_of now.now)) (c.paths.invariant.goes clean);
+  numbers = c.paths.invariant.numbers;
   cause = λ clean. tt;
 }
 
@@ -75,10 +82,12 @@ returns-in_err-delete_object g c = record {
       done_fails g.S.Store c.args.tx.now.conn c.paths.tx.conn c.delete_object.new.tx.conn _ c.paths.invariant.same_reference (λ clean. (c.paths.invariant.goes clean).changes) c.paths.invariant.survives
       c.from_residual.result c.delete_object.ensures.frame.same_reference c.in_err-delete_object.ensures.frame.failed c.delete_object.ensures.frame.survives;
   done = λ clean. none_done c.from_residual.result _ _ c.from_residual.ensures.1;
+  numbers = λ clean. none_done c.from_residual.result _ _ c.from_residual.ensures.1;
   cause = λ clean.
       let first = state g.S.Store c.args.tx.now.conn.now in
       let now = state g.S.Store c.paths.tx.conn.now in
       let next = state g.S.Store c.delete_object.new.tx.conn.now in
+      let early = clean_before now next _ c.delete_object.ensures.frame.survives clean in
       passed_on c.from_residual.result _ _ c.from_residual.ensures.1
-      (next_reason _ first now next _ (c.paths.invariant.goes (clean_before now next _ c.delete_object.ensures.frame.survives clean)).changes c.paths.invariant.survives _ (c.in_err-delete_object.ensures.cause clean));
+      (next_reason NoRow NoRow first now next _ (c.paths.invariant.goes early).changes c.paths.invariant.survives (none_put NoRow first.now now.now (c.paths.invariant.numbers early)) _ (c.in_err-delete_object.ensures.cause clean));
 }

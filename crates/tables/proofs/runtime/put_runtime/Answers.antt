@@ -1,4 +1,4 @@
-use Rattle.std.proofs.Common.{◌≡◌, inl, inr, [], ◌∷◌, map, refl, sym, ap, ap₂, subst, subst₂, ◌∙◌, List}
+use Rattle.std.proofs.Common.{◌≡◌, [], ◌∷◌, map, refl, sym, ap, ap₂, subst, subst₂, ◌∙◌, List}
 use Rattle.std.specs.FinMap as finite
 use Rattle.sqlite_value.specs.declared.value.Value.TheVariants.{Text}
 use Rattle.sqlite_value.specs.Order.{Row}
@@ -7,16 +7,17 @@ use Rattle.tables_schema.specs.Forms.{runtime}
 use Rattle.tables_sql.specs.Contents.{Contents, contents_of, Pair, PairSet}
 use Rattle.tables_outline.specs.Maps.{labelled_bytes}
 use Rattle.tables.specs.Rewritten.{AreFree, put_pairs}
-use Rattle.tables_make.specs.Reasons.{RowsOf}
+use Rattle.tables_make.specs.Reasons.{Both, RowsOf}
 use Rattle.tables.specs.RowsPut.{RuntimeRow}
 use Rattle.tables_sql.specs.Calls.{Changes}
+use Rattle.tables_sql.specs.Rowids.{NumbersOn}
 use Rattle.tables_sql.proofs.Going.{goes_first, goes_next, goes_done}
 use Rattle.tables_sql.proofs.Transactions.{survives_none}
 use Rattle.tables.proofs.AfterWrites.{clean_before}
 use Rattle.tables_sql.proofs.TestFailures.{passed_on, survives_both}
 use Rattle.tables_sql.proofs.Orders.{pair_total}
 use Rattle.tables.proofs.Free.{free_next, runtime_free}
-use Rattle.tables_make.proofs.Reasons.{is_none, next_reason, put_reason}
+use Rattle.tables_make.proofs.Reasons.{AreLeft, is_none, left_next, left_whole, next_reason, numbers_of, put_reason, row_among}
 use Rattle.tables_make.proofs.Inside.{done_fails}
 use Rattle.tables_make.proofs.Failed.{none_done}
 use Rattle.tables.proofs.runtime.put_runtime.Goals as goal
@@ -31,7 +32,7 @@ roots-init g c =
           let same : c.into_iter-root-iterator.result ≡ c.args.roots.now.keys = cc in
           subst (λ ks. AreFree (contents_of first.now).runtime (map labelled_bytes ks)) (sym same)
           (subst (λ (m : PairSet). AreFree m (map labelled_bytes c.args.roots.now.keys)) (sym (c.requires.fits clean)) (runtime_free c.args.roots.now.keys c.len-count.ensures.ordered));
-      among = λ t values h. h;
+      left = λ clean. left_whole (RowsOf RuntimeRow (map labelled_bytes c.into_iter-root-iterator.result)) first.now;
       survives = survives_none first;
     }
 
@@ -56,7 +57,11 @@ roots-preserved g c =
           let after = free_next pair_total was.runtime (labelled_bytes c.in-Some.root.now) tt rest free in
           subst (λ (x : Contents). AreFree x.runtime rest) (sym (c.in_ok-insert.ensures.done clean).contents)
           (subst₂ (λ l t. AreFree (finite.insert was.runtime (l, t) tt) rest) (sym c.as_str.ensures.value) (sym c.as_str-in-roots.ensures.value) after);
-      among = λ t values h. c.roots.invariant.among t values (subst (λ ps. RowsOf RuntimeRow ps t values) (sym split) (inr h));
+      left = λ clean.
+          let early = clean_before now next _ c.insert.ensures.frame.survives clean in
+          let rows = RowsOf RuntimeRow (map labelled_bytes c.into_iter-root-iterator.result) in
+          left_next rows (RuntimeRow (labelled_bytes c.in-Some.root.now)) (RowsOf RuntimeRow rest) first.now now.now next.now (subst (λ ps. AreLeft rows (RowsOf RuntimeRow ps) first.now now.now) split (c.roots.invariant.left early))
+          (c.roots.invariant.goes early).changes.schema (c.in_ok-insert.ensures.numbers clean);
       survives = survives_both first now next c.roots.invariant.survives c.insert.ensures.frame.survives;
     }
 
@@ -67,6 +72,7 @@ returns-in_err-insert g c = record {
       done_fails g.S.Store c.args.tx.now.conn c.roots.tx.conn c.insert.new.tx.conn _ c.roots.invariant.same_reference (λ clean. (c.roots.invariant.goes clean).changes) c.roots.invariant.survives
       c.from_residual.result c.insert.ensures.frame.same_reference c.in_err-insert.ensures.frame.failed c.insert.ensures.frame.survives;
   done = λ clean. none_done c.from_residual.result _ _ c.from_residual.ensures.1;
+  numbers = λ clean. none_done c.from_residual.result _ _ c.from_residual.ensures.1;
   cause = λ clean.
       let first = state g.S.Store c.args.tx.now.conn.now in
       let now = state g.S.Store c.roots.tx.conn.now in
@@ -81,9 +87,13 @@ returns-in_err-insert g c = record {
       let row : Row = Text c.as_str.result.now ∷ Text c.as_str-in-roots.result.now ∷ [] in
       let is : row ≡ Text pair.0 ∷ Text pair.1 ∷ [] = ap₂ (λ l t. Text l ∷ Text t ∷ []) c.as_str.ensures.value c.as_str-in-roots.ensures.value in
       let same : c.into_iter-root-iterator.result ≡ c.args.roots.now.keys = cc in
+      let rows = RowsOf RuntimeRow (map labelled_bytes c.args.roots.now.keys) in
+      let later = RowsOf RuntimeRow rest in
+      let all = RowsOf RuntimeRow (map labelled_bytes c.into_iter-root-iterator.result) in
+      let unput = subst (λ ps. AreLeft all (RowsOf RuntimeRow ps) first.now now.now) split (c.roots.invariant.left early) in
       passed_on c.from_residual.result _ _ c.from_residual.ensures.1
-      (next_reason _ first now next _ (c.roots.invariant.goes early).changes c.roots.invariant.survives _
-      (put_reason (RowsOf RuntimeRow (map labelled_bytes c.args.roots.now.keys)) now next runtime row _ (subst (λ ks. RowsOf RuntimeRow (map labelled_bytes ks) runtime row) same (c.roots.invariant.among runtime row (subst (λ ps. RowsOf RuntimeRow ps runtime row) (sym split) (inl (refl, is)))))
+      (next_reason rows (Both (RuntimeRow pair) later) first now next _ (c.roots.invariant.goes early).changes c.roots.invariant.survives (subst (λ ks. AreLeft (RowsOf RuntimeRow (map labelled_bytes ks)) (Both (RuntimeRow pair) later) first.now now.now) same unput) _
+      (put_reason (Both (RuntimeRow pair) later) now next runtime row _ (row_among runtime row _ later is)
       (is_none _ (ap₂ (λ l t. finite.get was.runtime (l, t)) c.as_str.ensures.value c.as_str-in-roots.ensures.value ∙ free.free.0)) _ (c.in_err-insert.ensures.cause clean)));
 }
 
@@ -98,5 +108,10 @@ returns g c = record {
       subst (λ ks. Changes first now (change (map labelled_bytes ks))) same
       (goes_done change (map labelled_bytes c.into_iter-root-iterator.result) first now (map labelled_bytes c.roots.root-iterator)
       (ap (λ ks. change (map labelled_bytes ks) (contents_of now.now)) c.in-None.ensures.steps.0) (c.roots.invariant.goes clean));
+  numbers = λ clean.
+      let first = state g.S.Store c.args.tx.now.conn.now in
+      let now = state g.S.Store c.roots.tx.conn.now in
+      let same : c.into_iter-root-iterator.result ≡ c.args.roots.now.keys = cc in
+      subst (λ ks. NumbersOn (RowsOf RuntimeRow (map labelled_bytes ks)).count first.now now.now) same (numbers_of _ _ first.now now.now (c.roots.invariant.left clean));
   cause = λ clean. tt;
 }

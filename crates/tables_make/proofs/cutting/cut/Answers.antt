@@ -6,14 +6,18 @@ use Rattle.sqlite.specs.Effect.{Database}
 use Rattle.tables_schema.specs.Forms.{piece}
 use Rattle.tables_sql.specs.Contents.{Contents, contents_of}
 use Rattle.tables_sql.specs.Calls.{HasFurther}
+use Rattle.tables_sql.specs.Rowids.{NumbersOn}
+use Rattle.tables_sql.proofs.Scans.{on_ok}
 use Rattle.tables_sql.proofs.Steps.{clean_before, under_after}
 use Rattle.tables_sql.proofs.TestFailures.{passed_on}
 use Rattle.tables_sql.proofs.Transactions.{done_both}
 use Rattle.tables_sql.specs.Entries.{stored_of}
 use Rattle.tables_make.specs.Cutting.{cut_object}
-use Rattle.tables_make.specs.Migrating.{AllCutRows, HasUncut, LongRows}
-use Rattle.tables_make.proofs.Reasons.{as_reason, more_reason, next_reason, removal_reason}
+use Rattle.tables_make.specs.Migrating.{CutRowsAt, HasUncut, LongRows}
+use Rattle.tables_make.specs.Reasons.{IsReason}
+use Rattle.tables_make.proofs.Reasons.{as_reason, left_unchanged, next_reason, numbers_both, numbers_of, removal_reason}
 use Rattle.tables_make.proofs.Steps.{changes_nothing, changes_at, none_cut, found_is, none_is}
+use Rattle.tables_make.proofs.Uncut.{rows_found}
 use Rattle.tables_make.proofs.Inside.{done_stays}
 use Rattle.tables_make.proofs.Failed.{none_done, always_failed}
 use Rattle.tables_make.proofs.cutting.cut.Goals as goal
@@ -55,6 +59,16 @@ returns-in-Some g c = record {
       done_both a b d (λ x. x) (cut_object (stored_of c.in-Some.object).0)
       (λ now. changes_nothing a b (c.requires.under_way (clean_before a b _ c.get_within.ensures.frame.survives now)) (c.in_ok-found.ensures.reads now).0) c.cut_found.ensures.frame.survives
       c.cut_found.result (cut_object c.args.base.now) (λ (x : Contents). ap (λ p. cut_object p x) present.0) c.cut_found.ensures.done clean;
+  numbers = λ clean.
+      let a = state g.S.Store c.args.tx.now.conn.now in
+      let b = state g.S.Store c.get_within.new.tx.conn.now in
+      let d = state g.S.Store c.cut_found.new.tx.conn.now in
+      let it = stored_of c.in-Some.object in
+      let reads = c.in_ok-found.ensures.reads (clean_before b d _ c.cut_found.ensures.frame.survives clean) in
+      let present = found_is (contents_of a.now).objects c.args.base.now c.in_ok-found.found c.in-Some.object c.in-Some.is reads.1 in
+      let rows = LongRows it.0 it.1 in
+      on_ok c.cut_found.result _ _ (λ on. rows_found (λ rs. NumbersOn rs.count a.now d.now) (contents_of a.now) c.args.base.now it.0 it.1 present.0 present.1
+      (numbers_both rows rows a.now b.now d.now (left_unchanged rows a.now b.now reads.0.0.now_is) (ap (λ (x : Database). x.schema) reads.0.0.now_is) on)) (c.cut_found.ensures.numbers clean);
   cause = λ clean.
       let a = state g.S.Store c.args.tx.now.conn.now in
       let b = state g.S.Store c.get_within.new.tx.conn.now in
@@ -64,8 +78,9 @@ returns-in-Some g c = record {
       let reads = c.in_ok-found.ensures.reads early in
       let present = found_is (contents_of a.now).objects c.args.base.now c.in_ok-found.found c.in-Some.object c.in-Some.is reads.1 in
       let nothing = changes_nothing a b (c.requires.under_way (clean_before a b _ c.get_within.ensures.frame.survives early)) reads.0 in
-      as_reason _ _ (λ f h. next_reason _ a b d _ nothing c.get_within.ensures.frame.survives f
-      (more_reason (LongRows it.0 it.1) (AllCutRows (contents_of a.now)) (λ t values put. (it.0, it.1, ap (finite.get (contents_of a.now).objects) present.0 ∙ present.1, put)) b d f h)) c.cut_found.result (c.cut_found.ensures.cause clean);
+      let rows = LongRows it.0 it.1 in
+      as_reason _ _ (λ f h. rows_found (λ rs. IsReason rs a d f) (contents_of a.now) c.args.base.now it.0 it.1 present.0 present.1
+      (next_reason rows rows a b d _ nothing c.get_within.ensures.frame.survives (left_unchanged rows a.now b.now reads.0.0.now_is) f h)) c.cut_found.result (c.cut_found.ensures.cause clean);
 }
 
 pub returns-in-None : goal.returns-in-None
@@ -77,6 +92,11 @@ returns-in-None g c = record {
       let reads = c.in_ok-found.ensures.reads clean in
       changes_at a b (λ x. x) _ (none_cut c.args.base.now (contents_of a.now) (none_is (contents_of a.now).objects c.args.base.now c.in_ok-found.found c.in-None.is reads.1))
       (changes_nothing a b (c.requires.under_way (clean_before a b _ c.get_within.ensures.frame.survives clean)) reads.0);
+  numbers = λ clean.
+      let a = state g.S.Store c.args.tx.now.conn.now in
+      let b = state g.S.Store c.get_within.new.tx.conn.now in
+      let rows = CutRowsAt (contents_of a.now) c.args.base.now in
+      numbers_of rows rows a.now b.now (left_unchanged rows a.now b.now (c.in_ok-found.ensures.reads clean).0.0.now_is);
   cause = λ clean. tt;
 }
 
@@ -84,5 +104,6 @@ pub returns-in_err-found : goal.returns-in_err-found
 returns-in_err-found g c = record {
   frame = record { same_reference = c.get_within.ensures.frame.same_reference; failed = λ clean. always_failed c.from_residual.result _ (c.in_err-found.ensures.frame.failed clean); survives = c.get_within.ensures.frame.survives };
   done = λ clean. none_done c.from_residual.result _ _ c.from_residual.ensures.1;
+  numbers = λ clean. none_done c.from_residual.result _ _ c.from_residual.ensures.1;
   cause = λ clean. passed_on c.from_residual.result _ _ c.from_residual.ensures.1 (removal_reason _ (state g.S.Store c.args.tx.now.conn.now) (state g.S.Store c.get_within.new.tx.conn.now) _ (c.in_err-found.ensures.cause clean));
 }

@@ -1,14 +1,15 @@
 use Rattle.std.proofs.Common.{◌≡◌, drop, map, string_bytes}
-use Rattle.sqlite_value.specs.Order.{Row}
-use Rattle.sqlite_schema.specs.declared.schema.Table.{Table}
 use Rattle.sqlite.specs.State.{HasCleanDisk, Survives}
 use Rattle.sqlite.specs.Held.{state}
 use Rattle.tables_schema.specs.Forms.{piece}
 use Rattle.tables_sql.specs.Calls.{HasFurther}
 use Rattle.tables_sql.specs.Contents.{contents_of}
 use Rattle.tables_sql.proofs.Going.{Goes}
+use Rattle.model.specs.World.{Path}
 use Rattle.tables_make.specs.Cutting.{cut_objects}
-use Rattle.tables_make.specs.Migrating.{AllCutRows, IsUncut}
+use Rattle.tables_make.specs.Migrating.{CutRowsAt, IsUncut}
+use Rattle.tables_make.specs.Reasons.{AreAmong, RowsOf}
+use Rattle.tables_make.proofs.Reasons.{AreLeft}
 use Rattle.tables_make.proofs.cutting.cut_all.Given as goal
 
 -- what is left to cut
@@ -18,6 +19,8 @@ invariant-bases g l = record {
   goes : HasCleanDisk (state g.S.Store l.tx.conn.now) → Goes cut_objects (map string_bytes l.bases) (state g.S.Store l.fn.tx.conn.now) (state g.S.Store l.tx.conn.now) (map string_bytes (drop l.base-index l.bases));
   exists : HasCleanDisk (state g.S.Store l.tx.conn.now) → HasFurther (state g.S.Store l.tx.conn.now).now piece;
   uncut : HasCleanDisk (state g.S.Store l.tx.conn.now) → IsUncut (contents_of (state g.S.Store l.tx.conn.now).now);
-  among : HasCleanDisk (state g.S.Store l.tx.conn.now) → (t : Table) (values : Row) → AllCutRows (contents_of (state g.S.Store l.tx.conn.now).now) t values → AllCutRows (contents_of (state g.S.Store l.fn.tx.conn.now).now) t values;
+  among : HasCleanDisk (state g.S.Store l.tx.conn.now) → (p : Path) → AreAmong (CutRowsAt (contents_of (state g.S.Store l.tx.conn.now).now) p) (CutRowsAt (contents_of (state g.S.Store l.fn.tx.conn.now).now) p);
+  left : HasCleanDisk (state g.S.Store l.tx.conn.now)
+      → AreLeft (RowsOf (CutRowsAt (contents_of (state g.S.Store l.fn.tx.conn.now).now)) (map string_bytes l.bases)) (RowsOf (CutRowsAt (contents_of (state g.S.Store l.fn.tx.conn.now).now)) (map string_bytes (drop l.base-index l.bases))) (state g.S.Store l.fn.tx.conn.now).now (state g.S.Store l.tx.conn.now).now;
   survives : Survives (state g.S.Store l.fn.tx.conn.now) (state g.S.Store l.tx.conn.now) (λ _. ⊥);
 }

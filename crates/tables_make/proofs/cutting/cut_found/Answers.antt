@@ -1,16 +1,25 @@
-use Rattle.std.proofs.Common.{refl, arith, ◌≤◌, ◌<◌, length}
+use Rattle.std.proofs.Common.{refl, sym, subst, arith, ◌≤◌, ◌<◌, cond, length}
+use Rattle.std.proofs.lemmas.Bool.{lt-ltb}
 use Rattle.sqlite.specs.Held.{state}
-use Rattle.tables_sql.specs.Contents.{contents_of}
+use Rattle.tables_sql.specs.Contents.{Stored, contents_of}
+use Rattle.tables_sql.specs.Rowids.{NumbersOn}
+use Rattle.tables_sql.proofs.Scans.{on_ok}
 use Rattle.tables_sql.proofs.Steps.{changes_none, clean_before}
 use Rattle.tables_sql.proofs.Transactions.{survives_none}
 use Rattle.tables_sql.specs.Entries.{stored_of}
+use Rattle.model.specs.World.{Path}
 use Rattle.tables_world.specs.Pieces.{piece_size}
 use Rattle.tables_make.specs.Migrating.{CutRows, LongRows}
+use Rattle.tables_make.specs.Reasons.{Rows, NoRow, IsReason}
 use Rattle.tables_make.proofs.Cuts.{size}
 use Rattle.tables_make.proofs.Grown.{on_done}
-use Rattle.tables_make.proofs.Reasons.{as_reason, more_reason}
+use Rattle.tables_make.proofs.Reasons.{left_whole, as_reason, numbers_of}
 use Rattle.tables_make.proofs.Steps.{changes_at, short_cut, long_cut}
 use Rattle.tables_make.proofs.cutting.cut_found.Goals as goal
+
+-- the rows of an archive that is so long
+as_long : (P : Rows → Type 0) (p : Path) (o : Stored) → piece_size < length o.nar → P (CutRows p o) → P (LongRows p o)
+as_long P p o long = subst (λ b. P (cond b (CutRows p o) NoRow)) (sym (lt-ltb piece_size (length o.nar) long))
 
 pub returns-then-len-gt-PIECE_SIZE : goal.returns-then-len-gt-PIECE_SIZE
 returns-then-len-gt-PIECE_SIZE g c = record {
@@ -20,10 +29,18 @@ returns-then-len-gt-PIECE_SIZE g c = record {
       let b = state g.S.Store c.put_cut.new.tx.conn.now in
       let it = stored_of c.args.object.now in
       on_done c.put_cut.result _ _ (changes_at a b _ _ (long_cut it.0 it.0 it.1 (contents_of a.now) refl ((c.requires.fits (clean_before a b _ c.put_cut.ensures.frame.survives clean)).present))) (c.put_cut.ensures.done clean);
+  numbers = λ clean.
+      let a = state g.S.Store c.args.tx.now.conn.now in
+      let b = state g.S.Store c.put_cut.new.tx.conn.now in
+      let it = stored_of c.args.object.now in
+      let long : piece_size < length it.1.nar = omega (arith, size) in
+      on_ok c.put_cut.result _ _ (as_long (λ rows. NumbersOn rows.count a.now b.now) it.0 it.1 long) (c.put_cut.ensures.numbers clean);
   cause = λ clean.
       let it = stored_of c.args.object.now in
       let long : piece_size < length it.1.nar = omega (arith, size) in
-      as_reason _ _ (more_reason (CutRows it.0 it.1) (LongRows it.0 it.1) (λ t values h. (long, h)) (state g.S.Store c.args.tx.now.conn.now) (state g.S.Store c.put_cut.new.tx.conn.now)) c.put_cut.result (c.put_cut.ensures.cause clean);
+      let a = state g.S.Store c.args.tx.now.conn.now in
+      let b = state g.S.Store c.put_cut.new.tx.conn.now in
+      as_reason _ _ (λ f. as_long (λ rows. IsReason rows a b f) it.0 it.1 long) c.put_cut.result (c.put_cut.ensures.cause clean);
 }
 
 pub returns-else-len-gt-PIECE_SIZE : goal.returns-else-len-gt-PIECE_SIZE
@@ -34,6 +51,10 @@ returns-else-len-gt-PIECE_SIZE g c = record {
       let it = stored_of c.args.object.now in
       let short : length it.1.nar ≤ 65536 = omega arith in
       changes_at a a (λ x. x) _ (short_cut it.0 it.1 (contents_of a.now) short (c.requires.fits clean).present) (changes_none a (c.requires.under_way clean) (c.requires.is_open clean));
+  numbers = λ clean.
+      let db = (state g.S.Store c.args.tx.now.conn.now).now in
+      let rows = LongRows (stored_of c.args.object.now).0 (stored_of c.args.object.now).1 in
+      numbers_of rows rows db db (left_whole rows db);
   cause = λ clean. tt;
 }
 

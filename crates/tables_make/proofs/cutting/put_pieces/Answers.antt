@@ -1,9 +1,8 @@
-use Rattle.std.proofs.Common.{◌≡◌, ℕ, ◌+◌, ◌<◌, ◌∷◌, [], length, take, drop, cond, Some, inl, inr, refl, sym, ap, ap₂, subst, ◌∙◌, arith, List}
+use Rattle.std.proofs.Common.{◌≡◌, ℕ, ◌+◌, ◌<◌, ◌∷◌, [], length, take, drop, cond, Some, refl, sym, ap, ap₂, subst, ◌∙◌, arith, List}
 use Rattle.std.specs.Prelude.{ℤ, pos}
 use Rattle.std.specs.FinMap as finite
 use Rattle.std.proofs.lemmas.List.{take_min, drop_min}
 use Rattle.sqlite_value.specs.declared.value.Value.TheVariants.{Int, Text, Blob}
-use Rattle.sqlite_value.specs.Order.{Row}
 use Rattle.sqlite.specs.Held.{state}
 use Rattle.tables_schema.specs.Forms.{piece}
 use Rattle.tables_sql.specs.Contents.{Contents, contents_of}
@@ -16,9 +15,9 @@ use Rattle.tables_sql.proofs.Under.{piece_after}
 use Rattle.tables_world.specs.Pieces.{piece_size, pieces_by}
 use Rattle.tables_make.specs.Cutting.{put_pieces}
 use Rattle.tables_make.specs.Migrating.{PieceRow}
-use Rattle.tables_make.specs.Reasons.{RowsOf}
+use Rattle.tables_make.specs.Reasons.{Both, RowsOf}
 use Rattle.tables_make.proofs.Cuts.{size, first_piece, no_piece, no_end, at_end}
-use Rattle.tables_make.proofs.Reasons.{is_none, next_reason, put_reason}
+use Rattle.tables_make.proofs.Reasons.{AreLeft, left_whole, first_among, is_none, left_next, next_reason, numbers_of, put_reason}
 use Rattle.tables_make.proofs.Uncut.{apart}
 use Rattle.tables_make.proofs.Inside.{done_fails}
 use Rattle.tables_make.proofs.Failed.{none_done}
@@ -32,7 +31,7 @@ pieces-init g c =
       goes = λ clean. goes_first (λ es (x : Contents). record x { pieces = put_pieces c.args.base.now es x.pieces }) (pieces_by c.args.bytes.now 1 c.args.bytes.now) first (c.requires.under_way clean) (c.requires.is_open clean);
       exists = c.requires.exists;
       free = λ clean k more. c.requires.fits clean (pos k);
-      among = λ t values h. h;
+      left = λ clean. left_whole (RowsOf (PieceRow c.args.base.now) (pieces_by c.args.bytes.now 1 c.args.bytes.now)) first.now;
       survives = survives_none first;
     }
 
@@ -64,7 +63,11 @@ pieces-preserved g c =
           ∙ finite.get-insert numbered_total was.pieces (base, pos n) front (base, pos k)
           ∙ ap (λ b. cond b (Some front) (finite.get was.pieces (base, pos k))) (apart base k n more)
           ∙ c.pieces.invariant.free early k (omega (arith, more));
-      among = λ t values h. c.pieces.invariant.among t values (subst (λ es. RowsOf (PieceRow base) es t values) (sym split) (inr h));
+      left = λ clean.
+          let early = clean_before now next _ c.insert.ensures.frame.survives clean in
+          let rows = RowsOf (PieceRow base) (pieces_by c.args.bytes.now 1 c.args.bytes.now) in
+          let left = subst (λ es. AreLeft rows (RowsOf (PieceRow base) es) first.now now.now) split (c.pieces.invariant.left early) in
+          left_next rows (PieceRow base (pos n, front)) (RowsOf (PieceRow base) (pieces_by after (n + 1) after)) first.now now.now next.now left (c.pieces.invariant.goes early).changes.schema (c.in_ok-insert.ensures.numbers clean);
       survives = survives_both first now next c.pieces.invariant.survives c.insert.ensures.frame.survives;
     }
 
@@ -79,6 +82,7 @@ returns-then-is_empty g c = record {
       let none : pieces_by bytes c.pieces.number bytes ≡ [] = ap (pieces_by bytes c.pieces.number) end ∙ no_piece bytes c.pieces.number in
       goes_done (λ es (x : Contents). record x { pieces = put_pieces c.args.base.now es x.pieces }) (pieces_by c.args.bytes.now 1 c.args.bytes.now) first now (pieces_by bytes c.pieces.number bytes)
       (ap (λ es. record (contents_of now.now) { pieces = put_pieces c.args.base.now es (contents_of now.now).pieces }) none) (c.pieces.invariant.goes clean);
+  numbers = λ clean. numbers_of _ _ (state g.S.Store c.args.tx.now.conn.now).now (state g.S.Store c.pieces.tx.conn.now).now (c.pieces.invariant.left clean);
   cause = λ clean. tt;
 }
 
@@ -89,6 +93,7 @@ returns-in_err-insert g c = record {
       done_fails g.S.Store c.args.tx.now.conn c.pieces.tx.conn c.insert.new.tx.conn _ c.pieces.invariant.same_reference (λ clean. (c.pieces.invariant.goes clean).changes) c.pieces.invariant.survives
       c.from_residual.result c.insert.ensures.frame.same_reference c.in_err-insert.ensures.frame.failed c.insert.ensures.frame.survives;
   done = λ clean. none_done c.from_residual.result _ _ c.from_residual.ensures.1;
+  numbers = λ clean. none_done c.from_residual.result _ _ c.from_residual.ensures.1;
   cause = λ clean.
       let base = c.args.base.now in
       let first = state g.S.Store c.args.tx.now.conn.now in
@@ -102,12 +107,13 @@ returns-in_err-insert g c = record {
       let front_is : front ≡ take piece_size bytes = c.split_at.ensures.front ∙ ap (λ k. take k bytes) c.min.ensures ∙ take_min 65536 bytes ∙ ap (λ k. take k bytes) (sym size) in
       let split : pieces_by bytes n bytes ≡ (pos n, front) ∷ pieces_by (drop piece_size bytes) (n + 1) (drop piece_size bytes) =
       first_piece bytes n some ∙ ap (λ p. (pos n, p) ∷ pieces_by (drop piece_size bytes) (n + 1) (drop piece_size bytes)) (sym front_is) in
-      let row : Row = Text base ∷ Int (pos n) ∷ Blob front ∷ [] in
+      let rows = RowsOf (PieceRow base) (pieces_by c.args.bytes.now 1 c.args.bytes.now) in
+      let row = PieceRow base (pos n, front) in
+      let later = RowsOf (PieceRow base) (pieces_by (drop piece_size bytes) (n + 1) (drop piece_size bytes)) in
       let early = clean_before now next _ c.insert.ensures.frame.survives clean in
       passed_on c.from_residual.result _ _ c.from_residual.ensures.1
-      (next_reason _ first now next _ (c.pieces.invariant.goes early).changes c.pieces.invariant.survives _
-      (put_reason (RowsOf (PieceRow base) (pieces_by c.args.bytes.now 1 c.args.bytes.now)) now next piece row _
-      (c.pieces.invariant.among piece row (subst (λ es. RowsOf (PieceRow base) es piece row) (sym split) (inl (refl, refl))))
+      (next_reason rows (Both row later) first now next _ (c.pieces.invariant.goes early).changes c.pieces.invariant.survives (subst (λ es. AreLeft rows (RowsOf (PieceRow base) es) first.now now.now) split (c.pieces.invariant.left early)) _
+      (put_reason (Both row later) now next piece (Text base ∷ Int (pos n) ∷ Blob front ∷ []) _ (first_among row later)
       (is_none _ (c.pieces.invariant.free early n (omega arith))) _ (c.in_err-insert.ensures.cause clean)));
 }
 
@@ -120,5 +126,6 @@ returns g c = record {
         survives = c.pieces.invariant.survives;
       };
   done = λ clean. tt;
+  numbers = λ clean. tt;
   cause = λ clean. tt;
 }

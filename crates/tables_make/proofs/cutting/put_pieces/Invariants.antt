@@ -1,8 +1,6 @@
 use Rattle.std.proofs.Common.{◌≡◌, ◌≤◌, ℕ, None}
 use Rattle.std.specs.Prelude.{pos}
 use Rattle.std.specs.FinMap as finite
-use Rattle.sqlite_value.specs.Order.{Row}
-use Rattle.sqlite_schema.specs.declared.schema.Table.{Table}
 use Rattle.sqlite.specs.State.{HasCleanDisk, Survives}
 use Rattle.sqlite.specs.Held.{state}
 use Rattle.tables_schema.specs.Forms.{piece}
@@ -13,6 +11,7 @@ use Rattle.tables_world.specs.Pieces.{pieces_by}
 use Rattle.tables_make.specs.Cutting.{put_pieces}
 use Rattle.tables_make.specs.Migrating.{PieceRow}
 use Rattle.tables_make.specs.Reasons.{RowsOf}
+use Rattle.tables_make.proofs.Reasons.{AreLeft}
 use Rattle.tables_make.proofs.cutting.put_pieces.Given as goal
 
 -- what is left to write
@@ -22,6 +21,6 @@ invariant-pieces g l = record {
   goes : HasCleanDisk (state g.S.Store l.tx.conn.now) → Goes (λ es (c : Contents). record c { pieces = put_pieces l.base es c.pieces }) (pieces_by l.bytes 1 l.bytes) (state g.S.Store l.fn.tx.conn.now) (state g.S.Store l.tx.conn.now) (pieces_by l.rest l.number l.rest);
   exists : HasCleanDisk (state g.S.Store l.tx.conn.now) → HasFurther (state g.S.Store l.tx.conn.now).now piece;
   free : HasCleanDisk (state g.S.Store l.tx.conn.now) → (k : ℕ) → l.number ≤ k → finite.get (contents_of (state g.S.Store l.tx.conn.now).now).pieces (l.base, pos k) ≡ None;
-  among : (t : Table) (values : Row) → RowsOf (PieceRow l.base) (pieces_by l.rest l.number l.rest) t values → RowsOf (PieceRow l.base) (pieces_by l.bytes 1 l.bytes) t values;
+  left : HasCleanDisk (state g.S.Store l.tx.conn.now) → AreLeft (RowsOf (PieceRow l.base) (pieces_by l.bytes 1 l.bytes)) (RowsOf (PieceRow l.base) (pieces_by l.rest l.number l.rest)) (state g.S.Store l.fn.tx.conn.now).now (state g.S.Store l.tx.conn.now).now;
   survives : Survives (state g.S.Store l.fn.tx.conn.now) (state g.S.Store l.tx.conn.now) (λ _. ⊥);
 }

@@ -15,6 +15,7 @@ use Rattle.tables_schema.specs.declared.schema.Schema.TheVariants.{V1}
 use Rattle.tables_world.specs.Worlds.{IsSoundBy}
 use Rattle.model.specs.World.{Path}
 use Rattle.tables_make.specs.Cutting.{cut_objects, renumbered}
+use Rattle.tables_make.specs.Migrating.{FailsToPutBy, MigratedRows, RewrittenRows}
 use Rattle.tables_make.specs.Migrated.{missing_tables, HasEarlier, migrated_contents, LeavesMigrated}
 use Rattle.tables_make.proofs.Grown.{grown_as, grown_from, on_done, shown_err}
 use Rattle.tables_make.proofs.Failed.{always_failed, none_done}
@@ -58,7 +59,10 @@ returns g c = record {
       let b = state g.S.Store c.find.new.conn in
       let d = state g.S.Store c.commit_first.new.conn in
       let reads = c.in_ok-bases.ensures.found.reads (clean_before b d _ c.commit_first.ensures.survives clean) in
-      as_reason _ _ (migrating_before V1 a b d reads.0 c.find.ensures.found.frame.survives) c.commit_first.result (c.commit_first.ensures.cause clean);
+      let names = ap (map string_bytes) c.deref.ensures.value ∙ reads.1 in
+      let bases = map string_bytes c.deref.result.now in
+      as_reason _ _ (λ f h. subst (λ ps. FailsToPutBy (RewrittenRows (contents_of a.now) ps) V1 a d f) names (subst (λ (x : Database). FailsToPutBy (RewrittenRows (contents_of x) bases) V1 a d f) reads.0.0.now_is
+      (migrating_before (RewrittenRows (contents_of b.now) bases) V1 a b d reads.0 c.find.ensures.found.frame.survives f h))) c.commit_first.result (c.commit_first.ensures.cause clean);
   durable = c.commit_first.ensures.durable;
   survives =
       let a = state g.S.Store c.args.conn.now in
@@ -79,7 +83,7 @@ returns-in_err-bases g c = record {
   idle = c.find.ensures.found.frame.idle;
   done = λ clean. none_done c.from_residual.result _ _ c.from_residual.ensures.1;
   failed = λ clean. always_failed c.from_residual.result _ (c.find.ensures.found.frame.same clean);
-  cause = λ clean. passed_on c.from_residual.result _ _ c.from_residual.ensures.1 (keys_fail V1 (state g.S.Store c.args.conn.now) (state g.S.Store c.find.new.conn) _ (c.in_err-bases.ensures.found.cause clean));
+  cause = λ clean. passed_on c.from_residual.result _ _ c.from_residual.ensures.1 (keys_fail (MigratedRows V1 (contents_of (state g.S.Store c.args.conn.now).now)) V1 (state g.S.Store c.args.conn.now) (state g.S.Store c.find.new.conn) _ (c.in_err-bases.ensures.found.cause clean));
   durable = none_done c.from_residual.result _ _ c.from_residual.ensures.1;
   survives = survives_weaker (state g.S.Store c.args.conn.now) (state g.S.Store c.find.new.conn) (λ _. ⊥) _ (λ clean db no. absurd no) c.find.ensures.found.frame.survives;
 }

@@ -4,6 +4,7 @@ use Rattle.tables_schema.specs.declared.schema.Schema.TheVariants.{V2}
 use Rattle.tables_sql.specs.Contents.{contents_of}
 use Rattle.tables_make.specs.Cutting.{renumbered}
 use Rattle.tables_make.specs.Commits.{Migrates}
+use Rattle.tables_make.specs.Migrating.{MigratedRows}
 use Rattle.tables_make.specs.Migrated.{HasEarlier}
 use Rattle.tables_make.proofs.Grown.{begun_has, last_named, grows_under}
 use Rattle.tables_make.proofs.Migrations.{migrates, undone_migrates, written_migrates}
@@ -25,8 +26,8 @@ returns g c =
     let end = c.commit.new.tx.0 in
     let same : end ≡ c.conn-2-1.given.0 = search rules in
     subst (λ h. Migrates g.S.Store conn h c.commit.result V2) same
-    (migrates g.S.Store conn end V2 renumbered c.commit.result (λ dir sound. second_written dir (contents_of (state g.S.Store conn).now) sound)
-    (written_migrates g.S.Store conn end V2 renumbered c.commit.result c.begin-tx.result.conn.now (state g.S.Store c.write_second.new.tx.conn.now) c.begin-tx.ensures.begun c.requires c.write_second.ensures.frame.survives last_named
+    (migrates g.S.Store conn end V2 renumbered (MigratedRows V2) c.commit.result (λ dir sound. second_written dir (contents_of (state g.S.Store conn).now) sound) (λ f h. h)
+    (written_migrates g.S.Store conn end V2 renumbered (MigratedRows V2) c.commit.result c.begin-tx.result.conn.now (state g.S.Store c.write_second.new.tx.conn.now) c.begin-tx.ensures.begun c.requires c.write_second.ensures.frame.survives last_named
     c.in_ok-write_second.ensures.done c.commit.ensures.ended c.commit.ensures.done c.commit.ensures.cause c.commit.ensures.failed c.commit.ensures.durable c.commit.ensures.leaves))
 
 -- what was written is undone, and that forgets no fault
@@ -36,6 +37,6 @@ returns-in_err-write_second g c =
     let end = c.drop-tx.new.self.0 in
     let same : end ≡ c.conn-1.given.0 = search rules in
     subst (λ h. Migrates g.S.Store conn h c.from_residual.result V2) same
-    (migrates g.S.Store conn end V2 renumbered c.from_residual.result (λ dir sound. second_written dir (contents_of (state g.S.Store conn).now) sound)
-    (undone_migrates g.S.Store conn end V2 renumbered c.from_residual.result c.begin-tx.result.conn.now (state g.S.Store c.write_second.new.tx.conn.now) c.begin-tx.ensures.begun c.requires c.write_second.ensures.frame.survives
+    (migrates g.S.Store conn end V2 renumbered (MigratedRows V2) c.from_residual.result (λ dir sound. second_written dir (contents_of (state g.S.Store conn).now) sound) (λ f h. h)
+    (undone_migrates g.S.Store conn end V2 renumbered (MigratedRows V2) c.from_residual.result c.begin-tx.result.conn.now (state g.S.Store c.write_second.new.tx.conn.now) c.begin-tx.ensures.begun c.requires c.write_second.ensures.frame.survives
     _ c.from_residual.ensures.1 c.write_second.ensures.frame.kept c.in_err-write_second.ensures.cause c.drop-tx.ensures.ended c.drop-tx.ensures.undone c.drop-tx.ensures.survives))

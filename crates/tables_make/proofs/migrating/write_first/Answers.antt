@@ -1,9 +1,10 @@
-use Rattle.std.proofs.Common.{inl, ap, ◌∙◌}
+use Rattle.std.proofs.Common.{inl, map, string_bytes, ap, subst, ◌∙◌}
 use Rattle.sqlite.specs.Held.{state}
 use Rattle.tables_schema.specs.declared.schema.Schema.TheVariants.{V1}
 use Rattle.tables_sql.specs.Contents.{Contents, contents_of}
 use Rattle.tables_sql.proofs.Steps.{clean_before}
 use Rattle.tables_sql.proofs.TestFailures.{passed_on}
+use Rattle.tables_make.specs.Migrating.{FailsToPutBy, RewrittenRows}
 use Rattle.tables_make.proofs.MigratingFailures.{rows_fail}
 use Rattle.tables_make.proofs.Reasons.{as_reason}
 use Rattle.tables_make.proofs.Uncut.{no_pieces, none_cut}
@@ -43,7 +44,9 @@ returns g c = record {
       let a = state g.S.Store c.args.tx.now.conn.now in
       let b = state g.S.Store c.make_both.new.tx.conn.now in
       let d = state g.S.Store c.rewrite.new.tx.conn.now in
-      as_reason _ _ (rows_fail V1 both_named a b d (c.in_ok-make_both.ensures.done (clean_before b d _ c.rewrite.ensures.frame.survives clean)) c.make_both.ensures.frame.survives) c.rewrite.result (c.rewrite.ensures.cause clean);
+      let made = c.in_ok-make_both.ensures.done (clean_before b d _ c.rewrite.ensures.frame.survives clean) in
+      let bases = map string_bytes c.args.bases.now in
+      as_reason _ _ (λ f h. subst (λ (x : Contents). FailsToPutBy (RewrittenRows x bases) V1 a d f) made.contents (rows_fail V1 both_named a b d made c.make_both.ensures.frame.survives (RewrittenRows (contents_of b.now) bases) f h)) c.rewrite.result (c.rewrite.ensures.cause clean);
 }
 
 pub returns-in_err-make_both : goal.returns-in_err-make_both

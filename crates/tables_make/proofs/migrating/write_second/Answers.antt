@@ -4,6 +4,7 @@ use Rattle.sqlite.specs.State.{HasCleanDisk}
 use Rattle.tables_schema.specs.declared.schema.Schema.TheVariants.{V2}
 use Rattle.tables_sql.proofs.Steps.{clean_before}
 use Rattle.tables_sql.proofs.TestFailures.{passed_on}
+use Rattle.tables_make.specs.Migrating.{SettingRow}
 use Rattle.tables_make.proofs.MigratingFailures.{rows_fail}
 use Rattle.tables_make.proofs.Reasons.{as_reason}
 use Rattle.tables_make.proofs.Grown.{last_named, grows, makes_under, pieces_still, on_done}
@@ -32,7 +33,7 @@ returns g c = record {
       let a = state g.S.Store c.args.tx.now.conn.now in
       let b = state g.S.Store c.make_temp_root.new.tx.conn.now in
       let d = state g.S.Store c.renumber.new.tx.conn.now in
-      as_reason _ _ (rows_fail V2 last_named a b d (c.in_ok-make_temp_root.ensures.done (clean_before b d _ c.renumber.ensures.frame.survives clean)) c.make_temp_root.ensures.frame.survives) c.renumber.result (c.renumber.ensures.cause clean);
+      as_reason _ _ (rows_fail V2 last_named a b d (c.in_ok-make_temp_root.ensures.done (clean_before b d _ c.renumber.ensures.frame.survives clean)) c.make_temp_root.ensures.frame.survives SettingRow) c.renumber.result (c.renumber.ensures.cause clean);
 }
 
 pub returns-in_err-make_temp_root : goal.returns-in_err-make_temp_root

@@ -11,6 +11,6 @@ returns g c = record {
       does_file g.F.Start _ c.args.config d _ c.open-opened.result
       (subst (λ (dir : List ℕ). IfOk c.open-opened.result (λ t. Opens (image_at g.F.Start) dir t)) c.store_dir.ensures c.open-opened.ensures.opens)
       (subst (λ (dir : List ℕ). IfErr c.open-opened.result (λ e. IsUnopened (image_at g.F.Start) dir e)) c.store_dir.ensures c.open-opened.ensures.cause)
-      (c.over_opened.ensures.answer d is);
-  reads = c.over_opened.ensures.reads;
+      (c.over_files.ensures.answer d is);
+  reads = c.over_files.ensures.reads;
 }

@@ -100,18 +100,17 @@ returns-clause-runs g c w t =
     let m = c.loop-asked.invariant.so_far w t in
     let rest = c.loop-asked.asked-iterator.rest in
     let none = nil_from_length rest.items (omega (arith, c.in-None.ensures.steps.0, rest.ok.0)) in
-    (m.0, ended c.args.self.now.settings (map call_view c.args.calls.items) _ w m.0 (map call_view rest.items) (map reply_view c.loop-asked.replies.items) (ap (map call_view) none) m.1, m.2)
-
-pub returns-clause-pins : goal.returns-clause-pins
-returns-clause-pins g c w t r throughout =
-    let m = c.loop-asked.invariant.so_far w t in
-    let rest = c.loop-asked.asked-iterator.rest in
-    let none = nil_from_length rest.items (omega (arith, c.in-None.ensures.steps.0, rest.ok.0)) in
     let s = c.args.self.now.settings in
     let calls = map call_view c.args.calls.items in
     let replies = map reply_view c.loop-asked.replies.items in
     let run = ended s calls _ w m.0 (map call_view rest.items) replies (ap (map call_view) none) m.1 in
-    (m.0, m.2, run_pins _ s w m.0 r calls replies run throughout)
+    record {
+      next = m.0;
+      described = m.2;
+      run = run;
+      pins = λ r throughout. run_pins _ s w m.0 r calls replies run throughout;
+      others = c.loop-asked.invariant.others w t;
+    }
 
 pub returns-clause-hides : goal.returns-clause-hides
 returns-clause-hides g c w v last others t differ run alike =

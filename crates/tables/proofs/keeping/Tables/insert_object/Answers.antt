@@ -8,10 +8,10 @@ use Rattle.tables_sql.specs.Entries.{stored}
 use Rattle.tables_world.specs.Pieces.{row_part, further_pieces}
 use Rattle.tables.specs.TablesValue.{TablesValue}
 use Rattle.tables.specs.Rewritten.{HasNoObject, put_object}
-use Rattle.tables.specs.RowsPut.{AddedRows, ObjectRows}
+use Rattle.tables.specs.RowsPut.{AddedRows, RowsWithAddress}
 use Rattle.tables.proofs.AfterWrites.{write_agrees, write_commits, write_fails, failure_agrees, failure_seen, rows_as}
-use Rattle.tables.proofs.AddedObjects.{found_put, object_undone, object_fits, object_rows, object_write, put_is}
-use Rattle.tables_make.proofs.Reasons.{more_reason}
+use Rattle.tables.proofs.AddedObjects.{address_among, found_put, object_undone, object_fits, object_rows, object_write, put_is}
+use Rattle.tables_make.proofs.Reasons.{among_then, more_reason}
 use Rattle.tables.proofs.keeping.Tables.insert_object.Goals as goal
 
 pub unreachable-requires : goal.unreachable-requires
@@ -83,10 +83,7 @@ returns-clause-cause g c =
     (found_put c.self.inside.outline c.insert_object.new.self c.args.path.now c.in_ok-key.key c.args.object (Some c.in-Some.object.now) c.in_ok-key.ensures.cases c.in_ok-insert_object.ensures.done c.in-Some.ensures)) in
     let more = AddedRows c.args.path.now c.args.nar.now c.args.object in
     failure_seen g.S.Store c.commit.new.conn more c.in-Err.failure c.self.view_is
-    (λ clean. more_reason (ObjectRows c.as_str.result.now (stored (row_part c.args.nar.now) c.in-Some.object.now.hash c.in_ok-texts.texts.deriver c.in_ok-texts.texts.ca) (finite.keys c.in-Some.object.now.references) (finite.entries c.in-Some.object.now.outputs) (further_pieces c.args.nar.now)) more
-    (λ t values h. (
-      option_map string_bytes c.in_ok-texts.texts.ca,
-      c.in_ok-texts.ensures.ca,
-      object_rows c.args.nar.now c.in_ok-texts.texts.deriver c.in_ok-texts.texts.ca c.as_str.ensures.value found c.in_ok-texts.ensures.deriver t values h,
-    ))
+    (λ clean. more_reason _ more (among_then _ (RowsWithAddress c.args.path.now c.args.nar.now c.args.object (option_map string_bytes c.in_ok-texts.texts.ca)) more
+    (object_rows c.args.nar.now c.in_ok-texts.texts.deriver c.in_ok-texts.texts.ca c.as_str.ensures.value found c.in_ok-texts.ensures.deriver)
+    (address_among c.args.path.now c.args.nar.now c.args.object (option_map string_bytes c.in_ok-texts.texts.ca) c.in_ok-texts.ensures.ca))
     (state g.S.Store c.self.inside.connection) (state g.S.Store c.commit.new.conn) c.in-Err.failure (c.in-Err.ensures.cause clean))

@@ -1,24 +1,26 @@
-use Rattle.std.proofs.Common.{◌≡◌, ℕ, List, [], ◌∷◌, drop, map, inl, inr, refl, sym, ap₂, subst, subst₂, arith, ◌∙◌, string_bytes}
+use Rattle.std.proofs.Common.{◌≡◌, ℕ, List, [], ◌∷◌, drop, map, sym, ap₂, subst, subst₂, arith, ◌∙◌, string_bytes}
 use Rattle.std.specs.Prelude.{ℤ}
 use Rattle.std.specs.List.{zip}
 use Rattle.std.specs.FinMap as finite
 use Rattle.sqlite_value.specs.declared.value.Value.TheVariants.{Text, Blob}
 use Rattle.sqlite_value.specs.Order.{Row}
+use Rattle.sqlite.specs.Effect.{Database}
 use Rattle.sqlite.specs.State.{HasCleanDisk}
 use Rattle.sqlite.specs.Held.{state}
 use Rattle.tables_sql.specs.Contents.{Contents, contents_of}
 use Rattle.tables_sql.specs.Entries.{stored, text_or_null}
+use Rattle.tables_sql.specs.Rowids.{NumbersOn}
 use Rattle.model.specs.World.{Path}
 use Rattle.tables_world.specs.Pieces.{piece_size, row_part, further_pieces}
 use Rattle.tables_world.proofs.Migrating.{rising}
 use Rattle.tables.specs.Rewritten.{AreFree, put_object}
-use Rattle.tables_make.specs.Reasons.{RowsOf}
-use Rattle.tables_make.specs.Migrating.{PieceRow}
+use Rattle.tables_make.specs.Reasons.{Rows, AreAmong, Both, RowsOf}
+use Rattle.tables_make.specs.Migrating.{ObjectRow, PieceRow}
 use Rattle.tables.specs.RowsPut.{ReferenceRow, OutputRow, ObjectRows}
 use Rattle.tables.proofs.Cuts.{row_part_is}
 use Rattle.tables.proofs.Free.{outputs_free, pieces_free, references_free}
 use Rattle.tables.proofs.Lists.{zipped, keys_count}
-use Rattle.tables_make.proofs.Reasons.{as_reason, is_none, more_reason, next_reason, put_open, text_same}
+use Rattle.tables_make.proofs.Reasons.{AreLeft, as_reason, first_among, is_none, left_next, more_reason, next_reason, put_open, row_among, second_left, text_same}
 use Rattle.tables_sql.proofs.Transactions.{done_both, failed_next, steps_both}
 use Rattle.tables_sql.proofs.Steps.{under_after}
 use Rattle.tables_make.proofs.Failing.{err_kept}
@@ -145,6 +147,18 @@ returns-clause-done g c =
 
 -- ---- why it failed
 
+-- what is left of an object's rows as they are put
+module _ (object references outputs pieces : Rows) (a b : Database) (put : NumbersOn object.count a b) where
+  after_object : AreLeft (Both object (Both references (Both outputs pieces))) (Both references (Both outputs pieces)) a b
+  after_object = second_left object (Both references (Both outputs pieces)) a b put
+
+  module _ (d : Database) (same : b.schema ≡ a.schema) (next : NumbersOn references.count b d) where
+    after_references : AreLeft (Both object (Both references (Both outputs pieces))) (Both outputs pieces) a d
+    after_references = left_next (Both object (Both references (Both outputs pieces))) references (Both outputs pieces) a b d after_object same next
+
+    after_outputs : (e : Database) → d.schema ≡ a.schema → NumbersOn outputs.count d e → AreLeft (Both object (Both references (Both outputs pieces))) pieces a e
+    after_outputs e same = left_next (Both object (Both references (Both outputs pieces))) outputs pieces a d e after_references same
+
 pub returns-in_err-insert-clause-cause : goal.returns-in_err-insert-clause-cause
 returns-in_err-insert-clause-cause g c clean =
     let it = c.args.self.now in
@@ -153,7 +167,9 @@ returns-in_err-insert-clause-cause g c clean =
     let row : Row = Text it.base.now ∷ Blob c.first.result.now ∷ Blob c.hash.result.now ∷ text_or_null it.texts.now.deriver ∷ text_or_null it.texts.now.ca ∷ [] in
     let is : row ≡ _ = λ i. Text it.base.now ∷ Blob ((c.first.ensures ∙ row_part_is it.nar.now) i) ∷ Blob (c.hash.ensures i) ∷ text_same it.texts.now.deriver i ∷ text_same it.texts.now.ca i ∷ [] in
     let early : HasCleanDisk a = omega (arith, c.insert.ensures.frame.survives.clean, clean) in
-    passed_on c.from_residual.result _ _ c.from_residual.ensures.1 (put_open (ObjectRows it.base.now (stored (row_part it.nar.now) it.object.now.hash it.texts.now.deriver it.texts.now.ca) (finite.keys it.object.now.references) (finite.entries it.object.now.outputs) (further_pieces it.nar.now)) a b _ row _ (inl (refl, is)) (λ up. is_none _ (c.requires.fits early up).object) _ (c.in_err-insert.ensures.cause clean))
+    let pieces = RowsOf (PieceRow it.base.now) (further_pieces it.nar.now) in
+    let rest = Both (RowsOf (ReferenceRow it.base.now) (finite.keys it.object.now.references)) (Both (RowsOf (OutputRow it.base.now) (finite.entries it.object.now.outputs)) pieces) in
+    passed_on c.from_residual.result _ _ c.from_residual.ensures.1 (put_open (ObjectRows it.base.now (stored (row_part it.nar.now) it.object.now.hash it.texts.now.deriver it.texts.now.ca) (finite.keys it.object.now.references) (finite.entries it.object.now.outputs) (further_pieces it.nar.now)) a b _ row _ (row_among _ row _ rest is) (λ up. is_none _ (c.requires.fits early up).object) _ (c.in_err-insert.ensures.cause clean))
 
 pub returns-in_err-put_references-clause-cause : goal.returns-in_err-put_references-clause-cause
 returns-in_err-put_references-clause-cause g c clean =
@@ -162,9 +178,16 @@ returns-in_err-put_references-clause-cause g c clean =
     let b = state g.S.Store c.insert.new.tx.conn.now in
     let d = state g.S.Store c.put_references.new.tx.conn.now in
     let late : HasCleanDisk b = omega (arith, c.put_references.ensures.frame.survives.clean, clean) in
+    let object = ObjectRow it.base.now (stored (row_part it.nar.now) it.object.now.hash it.texts.now.deriver it.texts.now.ca) in
+    let references = RowsOf (ReferenceRow it.base.now) (finite.keys it.object.now.references) in
+    let outputs = RowsOf (OutputRow it.base.now) (finite.entries it.object.now.outputs) in
+    let pieces = RowsOf (PieceRow it.base.now) (further_pieces it.nar.now) in
+    let given = RowsOf (ReferenceRow it.base.now) c.references.result.now in
+    let rest = Both references (Both outputs pieces) in
+    let among = subst (λ ts. AreAmong given (Both (RowsOf (ReferenceRow it.base.now) ts) (Both outputs pieces))) c.references.ensures (first_among given (Both outputs pieces)) in
     passed_on c.from_residual-in_err-put_references.result _ _ c.from_residual-in_err-put_references.ensures.1
-    (next_reason _ a b d _ (c.in_ok-insert.ensures.done late) c.insert.ensures.frame.survives _
-    (more_reason (RowsOf (ReferenceRow it.base.now) c.references.result.now) (ObjectRows it.base.now (stored (row_part it.nar.now) it.object.now.hash it.texts.now.deriver it.texts.now.ca) (finite.keys it.object.now.references) (finite.entries it.object.now.outputs) (further_pieces it.nar.now)) (λ t values h. inr (inl (subst (λ ts. RowsOf (ReferenceRow it.base.now) ts t values) c.references.ensures h))) b d _ (c.in_err-put_references.ensures.cause clean)))
+    (next_reason (Both object rest) rest a b d _ (c.in_ok-insert.ensures.done late) c.insert.ensures.frame.survives (after_object object references outputs pieces a.now b.now (c.in_ok-insert.ensures.numbers late)) _
+    (more_reason given rest among b d _ (c.in_err-put_references.ensures.cause clean)))
 
 pub returns-in_err-put_outputs-clause-cause : goal.returns-in_err-put_outputs-clause-cause
 returns-in_err-put_outputs-clause-cause g c clean =
@@ -174,10 +197,20 @@ returns-in_err-put_outputs-clause-cause g c clean =
     let d = state g.S.Store c.put_references.new.tx.conn.now in
     let e = state g.S.Store c.put_outputs.new.tx.conn.now in
     let late : HasCleanDisk d = omega (arith, c.put_outputs.ensures.frame.survives.clean, clean) in
+    let early : HasCleanDisk b = omega (arith, c.put_references.ensures.frame.survives.clean, late) in
     let entries = finite.entries it.object.now.outputs in
+    let object = ObjectRow it.base.now (stored (row_part it.nar.now) it.object.now.hash it.texts.now.deriver it.texts.now.ca) in
+    let references = RowsOf (ReferenceRow it.base.now) (finite.keys it.object.now.references) in
+    let outputs = RowsOf (OutputRow it.base.now) entries in
+    let pieces = RowsOf (PieceRow it.base.now) (further_pieces it.nar.now) in
+    let given = RowsOf (OutputRow it.base.now) (zip (map string_bytes c.names.result.now) c.outputs.result.now) in
+    let among = subst (λ es. AreAmong given (Both (RowsOf (OutputRow it.base.now) es) pieces)) (ap₂ zip c.names.ensures c.outputs.ensures ∙ zipped entries) (first_among given pieces) in
+    let on = subst (λ ts. NumbersOn (RowsOf (ReferenceRow it.base.now) ts).count b.now d.now) c.references.ensures (c.in_ok-put_references.ensures.numbers late) in
     passed_on c.from_residual-in_err-put_outputs.result _ _ c.from_residual-in_err-put_outputs.ensures.1
-    (next_reason _ a d e _ (steps_both a b d _ _ c.in_ok-insert.ensures.done c.put_references.ensures.frame.survives c.in_ok-put_references.ensures.done late) (survives_both a b d c.insert.ensures.frame.survives c.put_references.ensures.frame.survives) _
-    (more_reason (RowsOf (OutputRow it.base.now) (zip (map string_bytes c.names.result.now) c.outputs.result.now)) (ObjectRows it.base.now (stored (row_part it.nar.now) it.object.now.hash it.texts.now.deriver it.texts.now.ca) (finite.keys it.object.now.references) (finite.entries it.object.now.outputs) (further_pieces it.nar.now)) (λ t values h. inr (inr (inl (subst (λ es. RowsOf (OutputRow it.base.now) es t values) (ap₂ zip c.names.ensures c.outputs.ensures ∙ zipped entries) h)))) d e _ (c.in_err-put_outputs.ensures.cause clean)))
+    (next_reason (Both object (Both references (Both outputs pieces))) (Both outputs pieces) a d e _ (steps_both a b d _ _ c.in_ok-insert.ensures.done c.put_references.ensures.frame.survives c.in_ok-put_references.ensures.done late)
+    (survives_both a b d c.insert.ensures.frame.survives c.put_references.ensures.frame.survives)
+    (after_references object references outputs pieces a.now b.now (c.in_ok-insert.ensures.numbers early) d.now (c.in_ok-insert.ensures.done early).schema on) _
+    (more_reason given (Both outputs pieces) among d e _ (c.in_err-put_outputs.ensures.cause clean)))
 
 pub returns-clause-cause : goal.returns-clause-cause
 returns-clause-cause g c clean =
@@ -188,5 +221,17 @@ returns-clause-cause g c clean =
     let e = state g.S.Store c.put_outputs.new.tx.conn.now in
     let f = state g.S.Store c.put_pieces.new.tx.conn.now in
     let late : HasCleanDisk e = omega (arith, c.put_pieces.ensures.frame.survives.clean, clean) in
-    as_reason _ _ (λ why h. next_reason _ a e f _ (steps_both a d e _ _ (steps_both a b d _ _ c.in_ok-insert.ensures.done c.put_references.ensures.frame.survives c.in_ok-put_references.ensures.done) c.put_outputs.ensures.frame.survives c.in_ok-put_outputs.ensures.done late) (survives_both a d e (survives_both a b d c.insert.ensures.frame.survives c.put_references.ensures.frame.survives) c.put_outputs.ensures.frame.survives) why
-    (more_reason (RowsOf (PieceRow it.base.now) (further_pieces it.nar.now)) (ObjectRows it.base.now (stored (row_part it.nar.now) it.object.now.hash it.texts.now.deriver it.texts.now.ca) (finite.keys it.object.now.references) (finite.entries it.object.now.outputs) (further_pieces it.nar.now)) (λ t values k. inr (inr (inr k))) e f why h)) c.put_pieces.result (c.put_pieces.ensures.cause clean)
+    let early : HasCleanDisk d = omega (arith, c.put_outputs.ensures.frame.survives.clean, late) in
+    let first : HasCleanDisk b = omega (arith, c.put_references.ensures.frame.survives.clean, early) in
+    let entries = finite.entries it.object.now.outputs in
+    let object = ObjectRow it.base.now (stored (row_part it.nar.now) it.object.now.hash it.texts.now.deriver it.texts.now.ca) in
+    let references = RowsOf (ReferenceRow it.base.now) (finite.keys it.object.now.references) in
+    let outputs = RowsOf (OutputRow it.base.now) entries in
+    let pieces = RowsOf (PieceRow it.base.now) (further_pieces it.nar.now) in
+    let on = subst (λ ts. NumbersOn (RowsOf (ReferenceRow it.base.now) ts).count b.now d.now) c.references.ensures (c.in_ok-put_references.ensures.numbers early) in
+    let more = subst (λ es. NumbersOn (RowsOf (OutputRow it.base.now) es).count d.now e.now) (ap₂ zip c.names.ensures c.outputs.ensures ∙ zipped entries) (c.in_ok-put_outputs.ensures.numbers late) in
+    let two = steps_both a b d _ _ c.in_ok-insert.ensures.done c.put_references.ensures.frame.survives c.in_ok-put_references.ensures.done early in
+    as_reason _ _ (next_reason (Both object (Both references (Both outputs pieces))) pieces a e f _
+    (steps_both a d e _ _ (steps_both a b d _ _ c.in_ok-insert.ensures.done c.put_references.ensures.frame.survives c.in_ok-put_references.ensures.done) c.put_outputs.ensures.frame.survives c.in_ok-put_outputs.ensures.done late)
+    (survives_both a d e (survives_both a b d c.insert.ensures.frame.survives c.put_references.ensures.frame.survives) c.put_outputs.ensures.frame.survives)
+    (after_outputs object references outputs pieces a.now b.now (c.in_ok-insert.ensures.numbers first) d.now (c.in_ok-insert.ensures.done first).schema on e.now two.schema more)) c.put_pieces.result (c.put_pieces.ensures.cause clean)

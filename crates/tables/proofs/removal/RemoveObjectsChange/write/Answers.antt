@@ -8,7 +8,8 @@ use Rattle.tables.proofs.Covered.{covers_less}
 use Rattle.tables.proofs.Removed.{without_next}
 use Rattle.tables_sql.proofs.TestFailures.{passed_on, survives_both}
 use Rattle.tables.proofs.Transactions.{pieces_exist}
-use Rattle.tables_make.proofs.Reasons.{as_reason, next_reason}
+use Rattle.tables_make.specs.Reasons.{NoRow}
+use Rattle.tables_make.proofs.Reasons.{as_reason, next_reason, none_put}
 use Rattle.tables.proofs.removal.RemoveObjectsChange.write.Goals as goal
 
 pub delete_object-requires : goal.delete_object-requires
@@ -50,4 +51,4 @@ returns-clause-cause g c clean =
     let b = state g.S.Store c.delete_object.new.tx.conn.now in
     let d = state g.S.Store c.delete_objects.new.tx.conn.now in
     let late : HasCleanDisk b = omega (arith, c.delete_objects.ensures.frame.survives.clean, clean) in
-    as_reason _ _ (next_reason _ a b d _ (c.in_ok-delete_object.ensures.done late) c.delete_object.ensures.frame.survives) c.delete_objects.result (c.delete_objects.ensures.cause clean)
+    as_reason _ _ (next_reason NoRow NoRow a b d _ (c.in_ok-delete_object.ensures.done late) c.delete_object.ensures.frame.survives (none_put NoRow a.now b.now (c.in_ok-delete_object.ensures.numbers late))) c.delete_objects.result (c.delete_objects.ensures.cause clean)

@@ -7,7 +7,7 @@ use Rattle.tables_sql.proofs.Transactions.{done_both, failed_next}
 use Rattle.tables_sql.proofs.Steps.{under_after}
 use Rattle.tables.proofs.PutPairs.{all_put}
 use Rattle.tables_sql.proofs.TestFailures.{passed_on, survives_both}
-use Rattle.tables_make.proofs.Reasons.{as_reason, next_reason, removal_reason}
+use Rattle.tables_make.proofs.Reasons.{as_reason, next_reason, none_put, removal_reason}
 use Rattle.tables.proofs.runtime.ReplaceRuntimeChange.write.Goals as goal
 
 pub put_runtime-requires : goal.put_runtime-requires
@@ -40,4 +40,4 @@ returns-clause-cause g c clean =
     let b = state g.S.Store c.delete.new.tx.conn.now in
     let d = state g.S.Store c.put_runtime.new.tx.conn.now in
     let late : HasCleanDisk b = omega (arith, c.put_runtime.ensures.frame.survives.clean, clean) in
-    as_reason _ _ (next_reason _ a b d _ (c.in_ok-delete.ensures.done late) c.delete.ensures.frame.survives) c.put_runtime.result (c.put_runtime.ensures.cause clean)
+    as_reason _ _ (next_reason _ _ a b d _ (c.in_ok-delete.ensures.done late) c.delete.ensures.frame.survives (none_put _ a.now b.now (c.in_ok-delete.ensures.numbers late))) c.put_runtime.result (c.put_runtime.ensures.cause clean)

@@ -1,4 +1,4 @@
-use Rattle.std.proofs.Common.{arith, refl, ap, ◌∙◌}
+use Rattle.std.proofs.Common.{arith, ap, ◌∙◌}
 use Rattle.std.specs.Prelude.{pos}
 use Rattle.std.specs.FinMap as finite
 use Rattle.sqlite.specs.State.{HasCleanDisk}
@@ -10,7 +10,9 @@ use Rattle.tables_sql.proofs.Steps.{under_after}
 use Rattle.tables_outline.proofs.Puts.{get-removed, put_over}
 use Rattle.tables.proofs.SessionRows.{without_one}
 use Rattle.tables_sql.proofs.TestFailures.{passed_on, survives_both}
-use Rattle.tables_make.proofs.Reasons.{as_reason, is_none, next_reason, put_reason, removal_reason}
+use Rattle.tables.specs.RowsPut.{TemporaryRow}
+use Rattle.tables.specs.Temporary.{keeps}
+use Rattle.tables_make.proofs.Reasons.{all_among, as_reason, is_none, next_reason, none_put, put_reason, removal_reason}
 use Rattle.tables.proofs.Transactions.{temp_roots_exist}
 use Rattle.tables.proofs.temporary.PutTemporaryChange.write.Goals as goal
 
@@ -53,5 +55,6 @@ returns-clause-cause g c clean =
     let n = state g.S.Store c.insert.new.tx.conn.now in
     let early : HasCleanDisk b = omega (arith, c.insert.ensures.frame.survives.clean, clean) in
     let done = c.in_ok-delete.ensures.done early in
-    as_reason _ _ (λ e h. next_reason _ a b n _ done c.delete.ensures.frame.survives e
-    (put_reason _ b n _ _ _ (refl, refl) (is_none _ (ap (λ (x : Contents). finite.get x.temp_roots key) done.contents ∙ ap (λ m. finite.get m key) (without_one _ key.0 key.1 key.2) ∙ get-removed session_path_total session_path_antisymmetric _ key)) e h)) c.insert.result (c.insert.ensures.cause clean)
+    let row = TemporaryRow (keeps it.owner.now it.session it.target.now) in
+    as_reason _ _ (λ e h. next_reason row row a b n _ done c.delete.ensures.frame.survives (none_put row a.now b.now (c.in_ok-delete.ensures.numbers early)) e
+    (put_reason row b n _ _ _ (all_among row) (is_none _ (ap (λ (x : Contents). finite.get x.temp_roots key) done.contents ∙ ap (λ m. finite.get m key) (without_one _ key.0 key.1 key.2) ∙ get-removed session_path_total session_path_antisymmetric _ key)) e h)) c.insert.result (c.insert.ensures.cause clean)

@@ -1,4 +1,4 @@
-use Rattle.std.proofs.Common.{arith, refl, ℕ, List, ap, ◌∙◌}
+use Rattle.std.proofs.Common.{arith, ℕ, List, ap, ◌∙◌}
 use Rattle.std.specs.FinMap as finite
 use Rattle.sqlite.specs.State.{HasCleanDisk}
 use Rattle.sqlite.specs.Held.{state}
@@ -9,7 +9,8 @@ use Rattle.tables.proofs.Parts.{without_pair}
 use Rattle.tables_sql.proofs.Transactions.{done_both, failed_next}
 use Rattle.tables_sql.proofs.Steps.{under_after}
 use Rattle.tables_sql.proofs.TestFailures.{passed_on, survives_both}
-use Rattle.tables_make.proofs.Reasons.{as_reason, is_none, next_reason, put_reason, removal_reason}
+use Rattle.tables.specs.RowsPut.{UserRootRow}
+use Rattle.tables_make.proofs.Reasons.{all_among, as_reason, is_none, next_reason, none_put, put_reason, removal_reason}
 use Rattle.tables.proofs.user_roots.PutUserRootChange.write.Goals as goal
 
 pub insert-requires-clause-under : goal.insert-requires-clause-under
@@ -42,5 +43,6 @@ returns-clause-cause g c clean =
     let n = state g.S.Store c.insert.new.tx.conn.now in
     let early : HasCleanDisk b = omega (arith, c.insert.ensures.frame.survives.clean, clean) in
     let done = c.in_ok-delete.ensures.done early in
-    as_reason _ _ (λ e h. next_reason _ a b n _ done c.delete.ensures.frame.survives e
-    (put_reason _ b n _ _ _ (refl, refl) (is_none _ (ap (λ (x : Contents). finite.get x.user_roots owned) done.contents ∙ ap (λ m. finite.get m owned) (without_pair _ owned.0 owned.1) ∙ get-removed pair_total pair_antisymmetric _ owned)) e h)) c.insert.result (c.insert.ensures.cause clean)
+    let row = UserRootRow owned c.args.self.now.target.now in
+    as_reason _ _ (λ e h. next_reason row row a b n _ done c.delete.ensures.frame.survives (none_put row a.now b.now (c.in_ok-delete.ensures.numbers early)) e
+    (put_reason row b n _ _ _ (all_among row) (is_none _ (ap (λ (x : Contents). finite.get x.user_roots owned) done.contents ∙ ap (λ m. finite.get m owned) (without_pair _ owned.0 owned.1) ∙ get-removed pair_total pair_antisymmetric _ owned)) e h)) c.insert.result (c.insert.ensures.cause clean)
