@@ -132,7 +132,27 @@ def subjects(site):
         same(f"the subject {subject} is nobody's", site.user("build", certificate="odd")("GET", "/paths")[0], 401)
     carol = site.user("carol", certificate="carol")
     asked = lambda host: carol("GET", "/paths", None, "-H", f"host: {host}")[0]
-    same("a name of another team within a connection", [asked(it) for it in ("green.localhost", "red.evil")], [421] * 2)
+    same("a name of another team within a connection", asked("green.localhost"), 421)
+    same("names of other domains", [asked(it) for it in ("red.evil", "red.localhost.evil", "xred.localhost")], [0] * 3)
+
+
+def half_asked(site):
+    """Who sends no request, or half of one, loses the connection after ten seconds, also within TLS."""
+    trusted = ssl.create_default_context(cafile=f"{site.etc}/tls/ca.pem")
+
+    def closed(sent, is_encrypted):
+        with socket.create_connection(("127.0.0.1", site.port)) as plain:
+            made = trusted.wrap_socket(plain, server_hostname="red.localhost") if is_encrypted else plain
+            made.settimeout(30)
+            made.sendall(sent)
+            try:
+                return made.recv(1)
+            except OSError as error:
+                return error
+
+    asked = (b"", False), (b"\x16\x03\x01\x02\x00\x01", False), (b"", True), (b"GET /paths HTTP/1.1\r\nhost: red", True)
+    with ThreadPoolExecutor(4) as pool:
+        same("half a request is waited for ten seconds", [*pool.map(lambda it: closed(*it), asked)], [b""] * 4)
 
 
 def forms_of_large(site):

@@ -237,7 +237,7 @@ def uploaded(user, path, contents, *references):
 
 
 def all_of(site):
-    for it in (other_sites, entry_checks.tls, entry_checks.watched, entry_checks.subjects, entry_checks.slow_imports,
-               dear, logged, compressed, large, entry_checks.forms_of_large, entry_checks.slow_uploads, restarted,
-               collected_meanwhile, kept_for_a_minute):
+    for it in (other_sites, entry_checks.tls, entry_checks.watched, entry_checks.subjects, entry_checks.half_asked,
+               entry_checks.slow_imports, dear, logged, compressed, large, entry_checks.forms_of_large,
+               entry_checks.slow_uploads, restarted, collected_meanwhile, kept_for_a_minute):
         it(site)

@@ -41,19 +41,19 @@ def refuse_large(text, unit):
 
 
 def check(words):
-    """Asks the server for its report, and notes it with what the files look like. Raises Stop if the server may not
+    """Asks the server for its report, and notes it with the version of the store. Raises Stop if the server may not
     start again: then it has to go on as it is."""
     if words.unit and not is_active(words.unit):
         raise Stop(f"failed: unit: {words.unit} doesn't run, so nothing is copied")
     backup_file.ran(backup_file.words_of(backup_file.program_of(words), words.config, "who"), "configuration")
-    before = store_file.stamps(words.db)
+    before = store_file.version(words.db)
     text = report_of(words.server, words.config)
     if not backup_file.TOTAL.search(text):
         raise Stop("failed: report: the server's report has no total")
     if words.unit:
         refuse_large(text, words.unit)
     if words.note:
-        write_note(words.note, {"stamps": before, "report": text})
+        write_note(words.note, {"version": before, "report": text}, os.path.dirname(os.path.abspath(words.db)))
 
 
 def is_active(unit):
@@ -64,16 +64,17 @@ def is_active(unit):
         raise Stop(f"failed: unit: systemctl: {reason(error)}") from None
 
 
-def write_note(path, found):
-    """Writes the note anew; a link at its place isn't followed."""
+def write_note(path, found, folder):
+    """Writes the note anew, for the account that has the folder of the store; a link at its place isn't followed."""
     fresh = f"{path}.new"
     try:
+        seen = os.stat(folder)
         if os.path.lexists(fresh):
             os.unlink(fresh)
-        with open(os.open(fresh, os.O_WRONLY | os.O_CREAT | os.O_EXCL, 0o644), "w", encoding="utf-8") as file:
+        with open(backup_file.fresh(fresh), "w", encoding="utf-8") as file:
+            if os.geteuid() == 0:
+                os.fchown(file.fileno(), seen.st_uid, seen.st_gid)
             json.dump(found, file)
-            # (the account of the store reads it)
-            os.fchmod(file.fileno(), 0o644)
         os.rename(fresh, path)
     except OSError as error:
         raise Stop(f"failed: note: {path}: {reason(error)}") from None
@@ -88,5 +89,5 @@ def wanted(path, database):
             note = json.load(file)
     except (OSError, ValueError) as error:
         raise Stop(f"failed: note: {path}: {reason(error)}") from None
-    is_same = [[*it] for it in store_file.stamps(database)] == note["stamps"]
+    is_same = note["version"] and store_file.version(database) == note["version"]
     return note["report"] if is_same else None

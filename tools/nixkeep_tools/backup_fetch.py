@@ -3,6 +3,8 @@
 The objects come first, until a pass finds that nothing has changed meanwhile; then the roots are set. Requests list
 neither the owners of sessions nor which generation of a profile is current. So in the copy sessions are root's, and the
 highest generation is current.
+
+nixkeep-cache shows a pointer as the large archive that it names, and lists all pointers. The copy has the pointers.
 """
 import collections
 import json
@@ -10,7 +12,7 @@ import os
 import re
 import tempfile
 
-from . import backup_file, closures, objects, paths
+from . import backup_file, closures, nar, objects, paths, pointers
 from .failures import Stop
 from .progress import Progress
 
@@ -21,18 +23,22 @@ PLAIN = r"[A-Za-z0-9_.][A-Za-z0-9_.-]*"
 LABELS = {
     "permanent": re.compile(rf"gcroots/({PLAIN})"),
     "user": re.compile(rf"gcroots/per-user/({PLAIN})/({PLAIN})"),
-    "profile": re.compile(rf"profiles/per-user/({PLAIN})/({PLAIN})-(\d+)-link"),
+    "profile": re.compile(rf"profiles/per-user/({PLAIN})/({PLAIN})-([1-9][0-9]{{0,3}})-link"),
     "runtime": re.compile(r"(.+)"),
-    "temporary": re.compile(r"\{temp:(\d+)\}"),
+    "temporary": re.compile(r"\{temp:([1-9][0-9]{0,6})\}"),
 }
 KINDS = [*LABELS]
-# What a server lists at one time: its roots, its paths and its report, as texts.
-Listed = collections.namedtuple("Listed", "roots paths report")
+# What a server lists at one time: its roots, its paths, its report and the pointers that it shows as large archives, as
+# texts.
+Listed = collections.namedtuple("Listed", "roots paths report pointers")
 Done = collections.namedtuple("Done", "objects bytes roots passes report")
 
 
 def listed(store):
-    return Listed(*[store.ask("GET", it)[1].decode() for it in ("/roots", "/paths", "/report")])
+    roots, names, report = [store.ask("GET", it)[1].decode() for it in ("/roots", "/paths", "/report")]
+    # (a server alone has no large archives)
+    number, large = store.ask("GET", "/pointers", allowed=(objects.NO_ROUTE,))
+    return Listed(roots, names, report, large.decode() if number is None else "")
 
 
 def read_roots(text):
@@ -44,7 +50,9 @@ def read_roots(text):
             raise Stop("failed: caller: the labels of some roots are censored: a copy needs a trusted caller")
         # (the order of kinds says what a label is that has the form of two)
         order = [it for it in ("permanent", "user", "profile", "temporary", "runtime") if KINDS.index(it) >= at]
-        kind = next(it for it in order if LABELS[it].fullmatch(label))
+        kind = next((it for it in order if LABELS[it].fullmatch(label)), None)
+        if not kind:
+            raise ValueError(f"{label[:100]!r} is no root's label")
         at = KINDS.index(kind)
         found.append((kind, LABELS[kind].fullmatch(label).groups(), target.rpartition("/")[2]))
     return found
@@ -55,6 +63,8 @@ class Fetch:
 
     def __init__(self, source, target):
         self.source, self.target = source, target
+        # The pointers that the source shows as large archives, by the base names of their paths.
+        self.pointers = {}
 
     def as_user(self, user, method, target, body=b""):
         self.target.server.fields = {"store-user": user}
@@ -63,22 +73,40 @@ class Fetch:
     # ---- objects
 
     def texts(self, bases):
-        """The texts of the records of these paths in the source, by path; without those that are gone meanwhile."""
+        """The texts of the records of these paths in the source and their pointers or None, by path; without those that
+        are gone meanwhile."""
         found = {}
         for base in bases:
             number, text = self.source.ask("GET", f"/info/{base}", allowed=(NOT_VALID,))
             if number is None:
-                found[base] = text
+                found[base] = text, self.pointers.get(base)
         return found
 
+    def record(self, base, text, pointer):
+        """The Record that an object has in the copy."""
+        found = self.source.record_in(text, base)
+        if not pointer:
+            return found
+        return found._replace(nar_hash=paths.sha256([pointers.archive(pointer)]), nar_size=pointers.SIZE)
+
+    def archive(self, record):
+        """The archive that an object has in the copy, or None if it is gone or has become a large one meanwhile."""
+        if record.base in self.pointers:
+            return pointers.archive(self.pointers[record.base])
+        if record.nar_size > nar.LIMIT:
+            return None
+        number, found = self.source.ask("GET", f"/nar/{record.base}", allowed=(NOT_VALID,))
+        return found if number is None else None
+
     def copy_objects(self, bases, have):
-        """Makes the objects of the target those of the source. `have` has the records of the target, and is kept up.
+        """Makes the objects of the target those of the source. `have` has what `texts` returned of those of the target,
+        and is kept up.
 
         What was deleted or imported anew in the source meanwhile is found in the next pass.
         """
         texts = self.texts(bases)
         self.delete([it for it, text in have.items() if texts.get(it) != text], have)
-        records = {it: objects.read_record(text.decode()) for it, text in texts.items()}
+        records = {it: self.record(it, *found) for it, found in texts.items()}
         missing = [it for it in closures.references_first(records) if it not in have]
         progress = Progress("fetch", sum(records[it].nar_size for it in missing), len(missing))
         try:
@@ -93,8 +121,8 @@ class Fetch:
         """Copies an object, and returns whether that was possible: whether the source has it and what it refers to."""
         if not {*record.refs} <= have.keys() | {record.base}:
             return False
-        number, archive = self.source.ask("GET", f"/nar/{record.base}", allowed=(NOT_VALID,))
-        if number is not None or paths.sha256([archive]) != record.nar_hash:
+        archive = self.archive(record)
+        if archive is None or paths.sha256([archive]) != record.nar_hash:
             return False
         pairs = [("path", record.base), ("nar-hash", paths.nar_hash(record.nar_hash))]
         pairs += [("reference", it) for it in record.refs]
@@ -157,6 +185,8 @@ class Fetch:
         have = {}
         for number in range(1, PASSES + 1):
             before = listed(self.source)
+            large = map(pointers.read_line, before.pointers.splitlines())
+            self.pointers = {it.path.rpartition("/")[2]: it for it in large}
             self.copy_objects([it.rpartition("/")[2] for it in before.paths.splitlines()], have)
             if listed(self.source) == before and len(have) == len(before.paths.splitlines()):
                 break
@@ -172,7 +202,7 @@ class Fetch:
         """The copy answers as the server did."""
         self.target.server.fields = {"store-user": "root"}
         for what, came, meant in zip(Listed._fields, listed(self.target), wanted):
-            if came != meant:
+            if came != meant and what != "pointers":
                 raise Stop(f"failed: test: the copy lists other {what} than the server")
 
 
@@ -189,6 +219,8 @@ def fetch(source, program, found, to):
         target = objects.Store(child.server(objects.FilePlace(to), {}), "root", source.folder, child)
         try:
             done = Fetch(source, target).run()
+        except ValueError as error:
+            raise Stop(f"failed: answer: {source}: it isn't that of a store: {str(error)[:200]}") from None
         finally:
             target.close()
     backup_file.fold(to)

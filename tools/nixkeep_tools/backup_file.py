@@ -156,7 +156,8 @@ def schema_of(path):
         if "meta" not in store_file.tables_of(conn):
             return None
         found = conn.execute("SELECT val FROM meta WHERE word = 'schema'").fetchone()
-    return int(found[0]) if found and found[0].isdigit() else None
+    text = str(found[0]) if found else ""
+    return int(text) if store_file.is_schema(text) else None
 
 
 def before_migration(words):

@@ -100,7 +100,8 @@ def add(folder, make):
         finally:
             delete_new(folder)
         names = os.listdir(folder)
-        deleted = sorted({it for it in names if time_of(it)} - kept(names))
+        # (a clock that is wrong may have given it the oldest name)
+        deleted = sorted({it for it in names if time_of(it)} - kept(names) - {name})
         for it in deleted:
             os.unlink(f"{folder}/{it}")
         return name, deleted

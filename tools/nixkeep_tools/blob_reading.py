@@ -33,9 +33,9 @@ def opened(place, name, pointer):
     """A stream of a blob. Raises Gone, or Damaged for one of another size."""
     size = place.size(name)
     if size is None:
-        raise Gone(f"blob-missing {pointer.path}: {name} isn't in {place.where}")
+        raise Gone(f"blob-missing {pointer.path}: {name} isn't in the blobs")
     if size != pointer.file_size:
-        raise Damaged(f"blob-damaged {pointer.path}: {name} in {place.where} has {size} bytes, not {pointer.file_size}")
+        raise Damaged(f"blob-damaged {pointer.path}: {name} in the blobs has {size} bytes, not {pointer.file_size}")
     return place.open(name)
 
 
@@ -54,16 +54,16 @@ def pieces(place, name, pointer, form, start=0, end=None):
             made = zstandard.ZstdDecompressor(max_window_size=1 << 31)
             given = made.stream_reader(stream, PIECE, read_across_frames=True, closefd=False)
         if is_part:
-            yield from part(given, place, name, pointer, start, end)
+            yield from part(given, name, pointer, start, end)
         else:
-            yield from verified(given, place, name, pointer, form, start)
+            yield from verified(given, name, pointer, form, start)
     except zstandard.ZstdError as error:
-        raise Damaged(f"blob-damaged {pointer.path}: {name} in {place.where} can't be unpacked: {error}") from None
+        raise Damaged(f"blob-damaged {pointer.path}: {name} in the blobs can't be unpacked: {error}") from None
     finally:
         stream.close()
 
 
-def verified(given, place, name, pointer, form, start):
+def verified(given, name, pointer, form, start):
     digest, at, held = hashlib.sha256(), 0, b""
     while data := given.read(PIECE):
         digest.update(data)
@@ -72,18 +72,18 @@ def verified(given, place, name, pointer, form, start):
         held = data[max(0, start - at) :]
         at += len(data)
     if at != size_of(pointer, form) or digest.digest() != hash_of(pointer, form):
-        raise Damaged(f"blob-damaged {pointer.path}: {name} in {place.where} has another SHA-256 than its pointer")
+        raise Damaged(f"blob-damaged {pointer.path}: {name} in the blobs has another SHA-256 than its pointer")
     if held:
         yield held
 
 
-def part(given, place, name, pointer, start, end):
+def part(given, name, pointer, start, end):
     """Yields the bytes of a part, whose digest nothing says: those who ask for parts verify the whole."""
     at = 0
     while at < end:
         data = given.read(PIECE)
         if not data:
-            raise Damaged(f"blob-damaged {pointer.path}: {name} in {place.where} ends too early")
+            raise Damaged(f"blob-damaged {pointer.path}: {name} in the blobs ends too early")
         found = data[max(0, start - at) : end - at]
         at += len(data)
         yield found
@@ -107,7 +107,7 @@ def measured(place, name):
                 nar.add(data)
             found = nar.end(), nar.size, file.end(), file.size
     except Bad as bad:
-        raise Damaged(f"blob-damaged {name} in {place.where}: {bad}") from None
+        raise Damaged(f"blob-damaged {name} in the blobs: {bad}") from None
     if paths.base32(found[0]) != name:
-        raise Damaged(f"blob-damaged {name} in {place.where}: its archive has another SHA-256")
+        raise Damaged(f"blob-damaged {name} in the blobs: its archive has another SHA-256")
     return found

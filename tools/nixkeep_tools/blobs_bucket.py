@@ -4,6 +4,7 @@ import contextlib
 import boto3
 import botocore.config
 import botocore.exceptions
+import botocore.parsers
 from boto3.s3.transfer import TransferConfig
 
 from . import blobs
@@ -21,6 +22,9 @@ def answered(about):
         yield
     except (botocore.exceptions.BotoCoreError, botocore.exceptions.ClientError, boto3.exceptions.Boto3Error) as error:
         raise blobs.Failed(f"{about}: {str(error) or type(error).__name__}".replace("\n", " ")) from error
+    except (botocore.parsers.ResponseParserError, KeyError, ValueError) as error:
+        # (something else answers in its place)
+        raise blobs.Failed(f"{about}: its answer isn't that of a bucket: {error!r}"[:500]) from error
 
 
 class Opened:

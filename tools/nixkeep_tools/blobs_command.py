@@ -1,9 +1,8 @@
 """The command lines `nixkeep-cache sweep` and `nixkeep-cache verify`."""
 import argparse
 import sys
-import tomllib
 
-from . import backup_file, blob_reading, blobs, paths, streams
+from . import backup_file, blob_reading, blobs, paths, pointers, streams
 from .count_of import count_of
 from .failures import DONE, FAILED, Stop
 from .http_client import Place, Server
@@ -55,9 +54,8 @@ def sweep(said):
 def listed(server):
     """The full paths and the Packed of all pointers."""
     for line in asked(server, "GET", "/pointers").text().splitlines():
-        path, nar_hash, nar_size, file_hash, file_size = line.split(" ")
-        unhashed = [paths.unbase32(it.removeprefix("sha256:"), 32) for it in (nar_hash, file_hash)]
-        yield path, (unhashed[0], int(nar_size), unhashed[1], int(file_size))
+        path, *figures = pointers.read_line(line)
+        yield path, tuple(figures)
 
 
 def fault(place, name, wanted):
@@ -71,7 +69,7 @@ def fault(place, name, wanted):
     except blob_reading.Damaged as damaged:
         return str(damaged).replace("blob-damaged", "damaged", 1)
     except OSError as error:
-        return f"damaged {name} in {place.where}: {error.strerror or error}:"
+        return f"damaged {name} in the blobs: {error.strerror or error}:"
     return "damaged: its file isn't the one that was put there" if any(it != found for _, it in wanted) else None
 
 
@@ -112,6 +110,6 @@ def main(words):
     except Stop as stop:
         streams.say(stop.line)
         status = stop.status
-    except (OSError, tomllib.TOMLDecodeError, blobs.Failed) as error:
+    except (OSError, ValueError, blobs.Failed) as error:
         sys.exit(f"nixkeep-cache: {error}")
     sys.exit(status)

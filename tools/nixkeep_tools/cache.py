@@ -14,7 +14,7 @@ from . import cache_options, cache_origin, cache_signing, overview_source, paths
 from .cache_archives import Archives
 from .cache_ending import FINISH, Ending
 from .cache_blobs import Blobs
-from .cache_http import BODY, Answered, Sending, passed, reply
+from .cache_http import BODY, Answered, Sending, passed, reply, told
 from .cache_large import Large
 from .cache_names import Names
 from .cache_overview import Overviews
@@ -69,7 +69,7 @@ def failures(idle):
             return reply(408, f"nothing came for {idle:.0f} seconds\n")
         except (Unreachable, cache_child.Refused, OSError, blobs.Failed, sqlite3.Error) as error:
             print(f"nixkeep-cache: {request.method} {request.raw_path[:300]!r}: {error}", file=sys.stderr, flush=True)
-            return reply(503 if isinstance(error, (OSError, blobs.Failed, sqlite3.Error)) else 502, f"{error}\n")
+            return reply(503 if isinstance(error, (OSError, blobs.Failed, sqlite3.Error)) else 502, f"{told(error)}\n")
 
     return answered
 
@@ -166,7 +166,7 @@ def parts_of(said, server, waiting, settings, signing):
     for name in filter(stored.base, [*waiting.files]):
         waiting.use(name)
     sending, sessions = Sending(ROOM, said.idle), Sessions(server, f"{waiting.folder}/sessions", said.session_seconds)
-    limit = cache_limit.Limit(said.db, said.most_bytes)
+    limit = cache_limit.Limit(said.db, said.most_bytes, getattr(server.place, "memory", lambda: None))
     overviews = Overviews(server, store, keeps, sending, overview_source.name_of(said.config, said.db))
     watched = Watched(said, server, waiting, limit, store)
     followers = [names.deleted, overviews.records.forget, shares.deleted, signing.deleted]
@@ -187,7 +187,8 @@ async def application(said, server, waiting, settings, signing, is_local):
     ending, admitted = Ending(), admission(server, fixed, is_local, said.monitor)
     most = resource.getrlimit(resource.RLIMIT_NOFILE)[0] // (1 if fixed else PART)
     middlewares = [ending.counted, watched.watching.observed, framed, failures(said.idle), admitted, fair(most)]
-    found = web.Application(client_max_size=BODY, middlewares=middlewares)
+    # (a body is what came, as to the server: one that is unpacked ahead of its limits would fill the memory)
+    found = web.Application(client_max_size=BODY, middlewares=middlewares, handler_args={"auto_decompress": False})
     found.router.add_route("*", "/{target:.*}", dispatched(parts))
     found.cleanup_ctx.extend([begun(server), expiring(waiting, sessions, watched.day)])
     found.on_shutdown.append(ending.begin)
@@ -222,8 +223,12 @@ def expiring(waiting, sessions, day):
 
     async def now_and_then():
         while True:
-            waiting.expire()
-            await sessions.expire()
+            try:
+                waiting.expire()
+                await sessions.expire()
+            except (OSError, cache_child.Refused) as error:
+                # (it is tried again: what waits may not stay for ever)
+                print(f"nixkeep-cache: {error}", file=sys.stderr, flush=True)
             day.save()
             await asyncio.sleep(60)
 

@@ -14,10 +14,12 @@ from aiohttp import web
 from . import blob_packing, blob_reading, blobs, cache_limit, paths
 from .blob_reading import Damaged, Gone
 from .cache_counts import Count
-from .cache_http import reply
+from .cache_http import of_client, reply, told
+from .cache_places import Places
 
-# The archives that come at once, those of one user, and the threads that read blobs.
-COMING, EACH, READING = 12, 8, 16
+# The archives that come at once, those of one user, those that are left for users who have none, and the threads that
+# read blobs.
+COMING, EACH, LEFT, READING = 12, 8, 2, 16
 # The bytes that one archive on its way to a client has in memory.
 HELD = 3 * blob_reading.PIECE
 # The seconds for which a blob that was there is taken to be there, where a record is asked for.
@@ -36,8 +38,7 @@ class Blobs:
 
     def __init__(self, place, level, sending):
         self.place, self.level, self.sending = place, level, sending
-        self.coming, self.locks = asyncio.Semaphore(COMING), weakref.WeakValueDictionary()
-        self.users = weakref.WeakValueDictionary()
+        self.coming, self.locks = Places(COMING, EACH, LEFT), weakref.WeakValueDictionary()
         self.threads = ThreadPoolExecutor(COMING + READING, "blobs")
         self.relied, self.seen, self.put, self.sent, self.asked = {}, {}, Count(), Count(), None
 
@@ -73,14 +74,18 @@ class Blobs:
         self.seen[name] = now
         return True
 
+    def forget(self, before):
+        """Forgets who relied on blobs before that time, for which no sweep asks any more."""
+        self.relied = {name: since for name, since in self.relied.items() if since >= before}
+
     # ---- archives that come
 
     @contextlib.asynccontextmanager
     async def taken(self, user, compression, pieces):
         """A file with the blob of an archive that comes in pieces, and its Packed. Raises Bad, Full or OSError. Slow
-        uploads of a user leave room for those of others."""
-        part, own = self.place.part(), self.users.setdefault(user, asyncio.Semaphore(EACH))
-        async with own, self.coming:
+        uploads of some users leave room for those of others."""
+        part = self.place.part()
+        async with self.coming.taken(user):
             try:
                 with self.put.timed():
                     with open(part, "xb", opener=lambda name, flags: os.open(name, flags, 0o600)) as out:
@@ -90,7 +95,7 @@ class Blobs:
             except BaseException as error:
                 self.put.failed += 1
                 if isinstance(error, OSError) and error.errno in FULL:
-                    raise cache_limit.Full(f"failed: full {self.place.where}: {error.strerror}\n") from error
+                    raise cache_limit.Full(f"failed: full blobs: {error.strerror}\n") from error
                 raise
             finally:
                 with contextlib.suppress(FileNotFoundError):
@@ -152,7 +157,7 @@ class Blobs:
         head |= {"content-range": f"bytes {start}-{end - 1}/{whole}"} if is_part else {}
         if request.method == "HEAD":
             if await self.size(name) != pointer.file_size:
-                return missing(f"blob-missing {pointer.path}: {name} isn't whole in {self.place.where}")
+                return missing(f"blob-missing {pointer.path}: {name} isn't whole in the blobs")
             return web.Response(status=206 if is_part else 200, body=b"", headers=head)
         given = blob_reading.pieces(self.place, name, pointer, form, start, end)
         return await self.streamed(request, given, web.StreamResponse(status=206 if is_part else 200, headers=head))
@@ -174,7 +179,7 @@ class Blobs:
         try:
             piece = await self.piece(given, held)
             await answer.prepare(request)
-            await self.pieces(answer, piece, given, held)
+            await self.pieces(request, answer, piece, given, held)
             await answer.write_eof()
             self.sent.number += 1
         except (ConnectionError, TimeoutError):
@@ -188,13 +193,14 @@ class Blobs:
             abort(request.transport)
         return answer
 
-    async def pieces(self, answer, piece, given, held):
+    async def pieces(self, request, answer, piece, given, held):
         """Writes pieces to a reply. While a client takes one, the next is read."""
         while piece:
             ahead = asyncio.ensure_future(self.piece(given, held))
             try:
-                async with asyncio.timeout(self.sending.idle):
+                async with of_client(request, self.sending.idle):
                     await answer.write(piece)
+                request["sent"] = request.get("sent", 0) + len(piece)
                 self.sent.bytes += len(piece)
                 held.moved()
             finally:
@@ -218,7 +224,7 @@ def abort(transport):
 def missing(error):
     """The reply where a blob is gone or damaged, with a line in the log."""
     say(error)
-    return reply(502, f"failed: {error}\n")
+    return reply(502, f"failed: {told(error)}\n")
 
 
 def ranged(request, tag, whole):

@@ -96,6 +96,13 @@ class Child:
         if self.process and self.process.stdin is writer:
             self.signal(signal.SIGTERM)
 
+    def memory(self):
+        """The bytes of memory that the server has, or None where it doesn't run."""
+        with contextlib.suppress(OSError, AttributeError, ValueError):
+            with open(f"/proc/{self.process.pid}/statm", encoding="ascii") as file:
+                return int(file.read().split()[1]) * os.sysconf("SC_PAGE_SIZE")
+        return None
+
     def signal(self, number):
         # (asyncio's own way would reap a process that has ended, and asyncio wouldn't learn its status)
         if self.handle is not None:

@@ -7,23 +7,30 @@ from aiohttp import web
 # The seconds in which requests that have come are answered, which an exchange with the server may take, and those in
 # which a client that has just connected sends its request.
 FINISH, LINGER = 300, 0.2
+# The seconds between two looks at the clients that are waited for, and the bytes that each has to move meanwhile.
+LOOK, LEAST = 20, 20 << 20
+
+
+def moved(request):
+    """The bytes of its body that have come, and those of its reply that were taken."""
+    return getattr(request.content, "total_bytes", 0) + request.get("sent", 0)
 
 
 class Ending:
     """Counts the requests that are being answered. Once the end has begun each reply closes its connection."""
 
     def __init__(self):
-        self.running, self.has_begun, self.is_idle = 0, False, asyncio.Event()
+        self.running, self.has_begun, self.is_idle = {}, False, asyncio.Event()
         self.is_idle.set()
 
     @web.middleware
     async def counted(self, request, handler):
-        self.running += 1
+        self.running[id(request)] = request
         self.is_idle.clear()
         try:
             answer = await handler(request)
         finally:
-            self.running -= 1
+            del self.running[id(request)]
             if not self.running:
                 self.is_idle.set()
         if self.has_begun:
@@ -34,6 +41,17 @@ class Ending:
         """Waits for what is on its way. aiohttp would cut off a body that hasn't come whole."""
         self.has_begun = True
         await asyncio.sleep(LINGER)
+        cutting = asyncio.ensure_future(self.cut_slow())
         with contextlib.suppress(TimeoutError):
             async with asyncio.timeout(FINISH):
                 await self.is_idle.wait()
+        cutting.cancel()
+
+    async def cut_slow(self):
+        """Closes the connections of slow clients, since all others wait for the next start."""
+        while True:
+            before = {key: moved(it) for key, it in self.running.items()}
+            await asyncio.sleep(LOOK)
+            for key, it in [*self.running.items()]:
+                if it.get("waits") and it.transport and moved(it) - before.get(key, 0) < LEAST:
+                    it.transport.abort()

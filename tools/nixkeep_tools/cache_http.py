@@ -28,6 +28,11 @@ class Answered(Exception):
         self.reply = reply
 
 
+def told(error):
+    """What a client gets of an error: nothing of where this machine has its files."""
+    return (error.strerror or type(error).__name__) if isinstance(error, OSError) else error
+
+
 def reply(status, text, kind="text/plain", keep="no-store", **fields):
     """A reply with a text whose end is known; `keep` says how long caches may have it."""
     data = text.encode() if isinstance(text, str) else text
@@ -41,10 +46,21 @@ def passed(answer, kind=None, keep="no-store"):
     return reply(200, answer.text, kind or answer.kind, keep)
 
 
+@contextlib.asynccontextmanager
+async def of_client(request, idle):
+    """While the client of a request is waited for, `idle` seconds at most. Raises TimeoutError."""
+    request["waits"] = True
+    try:
+        async with asyncio.timeout(idle):
+            yield
+    finally:
+        request["waits"] = False
+
+
 async def pieces(request, idle):
     """Yields the body piece by piece. Raises TimeoutError for a client that is silent for `idle` seconds."""
     while True:
-        async with asyncio.timeout(idle):
+        async with of_client(request, idle):
             piece = await request.content.readany()
         if not piece:
             return
@@ -107,8 +123,9 @@ class Sending(Room):
         try:
             await sent.prepare(request)
             for at in range(0, len(text), PIECE):
-                async with asyncio.timeout(self.idle):
+                async with of_client(request, self.idle):
                     await sent.write(text[at : at + PIECE])
+                request["sent"] = at
                 held.moved()
         except (ConnectionError, TimeoutError):
             # (the client has closed, or takes nothing: no reply can reach it)

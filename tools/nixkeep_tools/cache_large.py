@@ -193,7 +193,7 @@ class Large:
             return None, None
         name = paths.base32(pointer.nar_hash)
         if not await self.blobs.is_there(name):
-            answer = missing(f"blob-missing {pointer.path}: {name} isn't in {self.blobs.place.where}")
+            answer = missing(f"blob-missing {pointer.path}: {name} isn't in the blobs")
             return None, reply(404, answer.body)
         return real(text, pointer, base, form_for(request)), None
 

@@ -8,6 +8,9 @@ from . import store_size
 ACCEPTED, WARNED = 0.6, 0.8
 # The part of the limit by which roots may go beyond it: they are needed before a collection.
 ROOTS = 0.05
+# The part of the memory that a server may have before it takes nothing more: its next start needs a fifth more, and
+# many small rows need much more than their bytes in the file.
+HAD = 0.75
 # The seconds between two looks at the file, and between two warnings.
 LOOK, AGAIN = 1, 3600
 
@@ -23,13 +26,18 @@ def usual():
 
 
 class Limit:
-    """A limit of `most` bytes for a file. None is no limit."""
+    """A limit of `most` bytes for a file. None is no limit. `had` returns the bytes of memory that its server has now,
+    or None."""
 
-    def __init__(self, file, most):
+    def __init__(self, file, most, had=lambda: None):
         self.file, self.most, self.used, self.coming, self.looked, self.warned = file, most, 0, 0, -LOOK, -AGAIN
+        self.had, self.memory = had, store_size.memory()
 
     def check(self, size, is_add=True):
         """Counts `size` bytes that come. Raises Full where there is no room for them."""
+        if self.memory is not None and (has := self.had() or 0) > HAD * self.memory:
+            raise Full(f"failed: full the server has {has} of {self.memory} bytes of memory: drop roots, collect, and "
+                       "start it again\n")
         if self.most is None:
             return
         if time.monotonic() - self.looked > LOOK:

@@ -5,7 +5,7 @@ import urllib.parse
 from concurrent.futures import ThreadPoolExecutor
 
 from . import overview, overview_source
-from .cache_http import READ, Route, passed, reply
+from .cache_http import READ, Answered, Route, passed, reply
 
 try:
     from . import overview_page, overview_style
@@ -15,6 +15,8 @@ except ModuleNotFoundError:
 PAGE = re.compile(r"/overview(\?.*)?")
 # The seconds for which figures are kept, and the users whose figures are. A page says of when it is.
 FRESH, USERS = 5, 8
+# The objects times the roots of a store for which figures are made: each object has a bit for each root in memory.
+MOST = 1 << 30
 # The threads that make figures and pages.
 THREADS = 2
 
@@ -72,7 +74,16 @@ class Overviews:
     async def make(self, caller):
         async with self.turn:
             store, live = await self.records.store(caller)
+            self.make_room(len(store.objects), len(store.roots))
             return await self.apart(overview.Overview, store, *self.keeps, live)
+
+    def make_room(self, objects, roots):
+        """Forgets the figures of others where those of one user take much. Raises Answered where they take too much."""
+        if objects * roots > MOST:
+            text = f"the overview of {objects} objects and {roots} roots takes too much memory: drop roots\n"
+            raise Answered(reply(503, text))
+        if objects * roots > MOST // USERS:
+            self.made = {key: it for key, it in self.made.items() if not it[0].done()}
 
     async def apart(self, work, *words):
         """What takes long is done in a thread, so that other clients are served meanwhile."""

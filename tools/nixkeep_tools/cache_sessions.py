@@ -8,7 +8,7 @@ from .cache_server import TOGETHER, Caller, Request, Unreachable
 
 # The number of the session of each user. It is the highest, since people begin with low ones.
 NUMBER = 4_194_304
-# The paths that are remembered at most; the oldest are forgotten first.
+# The paths that are remembered at most; the oldest of whoever has most are forgotten first.
 MOST = 10_000
 
 
@@ -26,7 +26,8 @@ class Sessions:
 
     def __init__(self, server, folder, seconds):
         self.server, self.folder, self.seconds = server, folder, seconds
-        self.told, self.uploading = collections.OrderedDict(), {}
+        # When each path was asked for, by callers.
+        self.told, self.uploading = collections.defaultdict(collections.OrderedDict), {}
         os.makedirs(folder, mode=0o700, exist_ok=True)
 
     def is_fresh(self, since):
@@ -49,25 +50,26 @@ class Sessions:
         """Remembers that a client asked for a path by HEAD: `base` is its name, or None if it isn't there."""
         if base is None:
             self.uploading[caller] = time.time()
-        else:
-            self.told.pop((caller, base), None)
-            self.told[caller, base] = time.time()
-        if len(self.told) > MOST:
-            self.told.popitem(last=False)
+            return
+        self.told[caller].pop(base, None)
+        self.told[caller][base] = time.time()
+        if sum(map(len, self.told.values())) > MOST:
+            max(self.told.values(), key=len).popitem(last=False)
 
     def forget(self, caller):
         """Says that a user has ended the session."""
-        for key in [it for it in self.told if it[0].user == caller.user]:
-            del self.told[key]
+        for it in [it for it in self.told if it.user == caller.user]:
+            del self.told[it]
 
     def remembered(self):
         """What a deletion has to leave and no session keeps yet, each with its caller."""
         self.uploading = {caller: since for caller, since in self.uploading.items() if self.is_fresh(since)}
-        return [key for key, since in self.told.items() if self.is_fresh(since) and key[0] in self.uploading]
+        return [(caller, base) for caller, found in self.told.items() if caller in self.uploading
+                for base, since in found.items() if self.is_fresh(since)]
 
     def kept(self, keys):
-        for key in keys:
-            self.told.pop(key, None)
+        for caller, base in keys:
+            self.told[caller].pop(base, None)
 
     async def before(self, deletion):
         """The reply to a deletion, before which sessions keep what is remembered. Others get their turns in between,

@@ -80,6 +80,7 @@ class Sweep:
         if not is_dry:
             # (what an object names counts as that object)
             self.shares.drop([*(counted - ({it.name for it in found} - named - gone))])
+            self.blobs.forget(time.time() - self.grace)
         if not (is_dry or failed):
             self.ended(len(found) - count, sum(it.size for it in found) - size)
         yield f"swept {count_of(count, 'blob')} {count_of(size, 'byte')}, kept {len(found) - count}"

@@ -21,8 +21,8 @@ class Full(Exception):
 
 
 class Waiting:
-    """The files in a folder: at most `count`, `size` bytes in all, each for `seconds`. One user has half of the room
-    at most, so that nobody takes it from all others."""
+    """The files in a folder: at most `count`, `size` bytes in all, each for `seconds`. One user has at most half of the
+    room that the files of others leave, so that neither one nor two take it from all others."""
 
     def __init__(self, folder, count, size, seconds):
         self.folder, self.count, self.size, self.seconds = folder, count, size, seconds
@@ -53,11 +53,11 @@ class Waiting:
             os.unlink(self.file(name))
         del self.files[name]
 
-    def make_room(self, share, found):
-        """Deletes used files among these, the oldest first, until they have that share of the room. Returns whether
-        they have no more then."""
+    def make_room(self, most, most_bytes, found):
+        """Deletes used files among these, the oldest first, until they are `most`, of `most_bytes` bytes. Returns
+        whether they are no more then."""
         count, size = len(found), sum(it.bytes for _, it in found)
-        is_over = lambda: count > self.count // share or size > self.size // share
+        is_over = lambda: count > most or size > most_bytes
         for name, file in sorted(found, key=lambda it: it[1].since):
             if not is_over():
                 break
@@ -70,10 +70,16 @@ class Waiting:
         """Keeps room for a file that comes. Raises Full."""
         self.expire()
         self.files[key] = file
-        own = [it for it in self.files.items() if it[1].owner == file.owner]
-        if not (self.make_room(2, own) and self.make_room(1, [*self.files.items()])):
+        if not (self.make_room(*self.share(file.owner)) and
+                self.make_room(self.count, self.size, [*self.files.items()])):
             del self.files[key]
             raise Full
+
+    def share(self, owner):
+        """How many files of how many bytes a user may have, and those that are the user's."""
+        others = [it for it in self.files.values() if it.owner != owner and not it.is_used]
+        count, size = self.count - len(others), self.size - sum(it.bytes for it in others)
+        return count // 2, size // 2, [it for it in self.files.items() if it[1].owner == owner]
 
     async def take(self, owner, name, length, pieces):
         """Writes a file as it comes, and keeps it if it is the one that its name says. Raises Full, or Bad."""

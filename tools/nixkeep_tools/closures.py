@@ -142,6 +142,8 @@ class Transfer:
         for piece in self.source.pieces(record):
             digest.update(piece)
             size += len(piece)
+            if size > record.nar_size:
+                break
             if held:
                 yield held
             held = piece

@@ -2,7 +2,7 @@
 from . import explain_pages, explain_rows, explain_schema, paths
 from .count_of import count_of
 from .explain_schema import Fault
-from .store_file import FORMS, LACKS
+from .store_file import FORMS, LACKS, is_schema
 
 BAD_SCHEMA, OTHER_DIR = "21 bad-schema", "22 other-store-dir"
 LAST = max(LACKS)
@@ -29,7 +29,7 @@ class Examined:
     def stated(self):
         """The number of the schema that the file states; None if it states no number."""
         text = str(self.meta.get("schema", ""))
-        return int(text) if text.isascii() and text.isdigit() and str(int(text)) == text else None
+        return int(text) if is_schema(text) else None
 
     @property
     def store_dir(self):

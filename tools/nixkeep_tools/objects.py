@@ -16,8 +16,10 @@ from .http_client import Foreign, Lost, Server, SocketConnection
 
 # `nar_hash` is 32 bytes, `refs` a list of base names, `deriver` a base name or None, `ca` a content address or None.
 Record = collections.namedtuple("Record", "base nar_hash nar_size refs deriver ca")
-NOT_VALID, MISSING_REFERENCE, BAD_BODY, BAD_NAME = 23, 24, 41, 34
+NOT_VALID, MISSING_REFERENCE, BAD_BODY, BAD_NAME, NO_ROUTE = 23, 24, 41, 34, 39
 TRIES = 10
+# The bytes of a reply that is read whole: a listing of millions of paths has fewer.
+MOST = 1 << 28
 
 
 def lines(*pairs):
@@ -130,7 +132,7 @@ class Store:
         """
         try:
             reply = self.server.ask(method, target, body, length, is_repeated=length is None)
-            text = b"".join(reply.parts())
+            text = b"".join(self.bounded(reply))
         except Lost:
             # A child that ended has printed why.
             said, status = self.child.end() if self.child else ("", 0)
@@ -142,6 +144,15 @@ class Store:
             line = text.decode("utf-8", "backslashreplace").rstrip("\n")
             raise Stop(f"{line} {about}" if about else line, reply.status)
         return number, text
+
+    def bounded(self, reply):
+        """Yields the bytes of a reply. Raises Stop for one that doesn't end."""
+        size = 0
+        for part in reply.parts():
+            size += len(part)
+            if size > MOST:
+                raise Stop(f"failed: answer: {self}: it has more than {MOST} bytes")
+            yield part
 
     def full(self, base):
         return f"{self.folder}/{base}"
@@ -170,8 +181,17 @@ class Store:
     # ---- what is there
 
     def record(self, base):
-        _, text = self.ask("GET", f"/info/{base}", about=self.full(base))
-        return read_record(text.decode())
+        return self.record_in(self.ask("GET", f"/info/{base}", about=self.full(base))[1], base)
+
+    def record_in(self, text, base):
+        """The Record of a path in a reply. Raises Stop for a reply that isn't its record."""
+        try:
+            found = read_record(text.decode())
+        except (KeyError, ValueError):
+            found = None
+        if not found or found.base != base or found.nar_size < 0 or not all(map(paths.is_base_name, found.refs)):
+            raise Stop(f"failed: answer: {self}: it isn't the record of {self.full(base)}")
+        return found
 
     def closure(self, tops):
         """The records of the closure of these paths, by base names. The session keeps it."""

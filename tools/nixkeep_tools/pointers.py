@@ -41,6 +41,13 @@ def archive(pointer):
     return nar.regular_file(contents(pointer))
 
 
+def read_line(line):
+    """The Pointer in a line of nixkeep-cache's listing of all pointers. Raises ValueError."""
+    path, nar_hash, nar_size, file_hash, file_size = line.split(" ")
+    unhashed = [paths.unbase32(it.removeprefix("sha256:"), 32) for it in (nar_hash, file_hash)]
+    return Pointer(path, unhashed[0], int(nar_size), unhashed[1], int(file_size))
+
+
 def may_be(nar_size, address):
     """Whether an object with an archive of this size and this content address, or None, may be a pointer."""
     return nar_size == SIZE and not address

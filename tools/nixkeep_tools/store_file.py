@@ -11,6 +11,7 @@ All sizes are bytes of archives, as in `nixkeep report`. Paths are base names.
 import collections
 import contextlib
 import fcntl
+import hashlib
 import os
 import sqlite3
 import struct
@@ -137,6 +138,11 @@ def commits(path):
                 yield first, pages, count
 
 
+def is_schema(text):
+    """Whether a text is the number of a schema, of this version or a later one."""
+    return text.isascii() and text.isdigit() and len(text) < 10 and str(int(text)) == text
+
+
 def quoted(path):
     """A path as it is written after `file:` in a URI of SQLite."""
     return urllib.parse.quote(os.path.abspath(path))
@@ -181,6 +187,22 @@ def tables_of(conn):
     """The names of the store's tables that exist."""
     found = {name for name, in conn.execute("SELECT name FROM sqlite_schema WHERE type = 'table'")}
     return [it for it in FORMS if it in found]
+
+
+def version(path):
+    """A digest of the paths of a store's objects and of its roots, or None if they can't be read, as while they are
+    written. It needs no lock, and stays as it is where a log is copied into its file."""
+    found = hashlib.sha256()
+    try:
+        with open_store(path, despite_lock=True) as conn:
+            for it in conn.execute("SELECT base FROM object ORDER BY base"):
+                found.update(repr(it).encode())
+            for name in tables_of(conn):
+                if name not in ("object", "refs", "outs", "piece"):
+                    found.update(repr((name, sorted(conn.execute(f"SELECT * FROM {name}")))).encode())
+    except (OSError, sqlite3.Error):
+        return None
+    return found.hexdigest()
 
 
 def archive(conn, base):

@@ -31,10 +31,15 @@ def write(parts, number=1):
         raise Stop("failed: output") from None
 
 
+def printable(text):
+    """A text with each character that isn't printable as an escape: a server may have written it, for a terminal."""
+    return "".join(it if it.isprintable() or it == "\n" else ascii(it)[1:-1] for it in text)
+
+
 def say(line):
     """Writes a line to standard error, and returns whether that was possible."""
     try:
-        write([f"{line}\n".encode("utf-8", "backslashreplace")], 2)
+        write([f"{printable(line)}\n".encode()], 2)
         return True
     except Stop:
         return False
