@@ -1,5 +1,5 @@
 /* Faults of a program, each in a library of its own that is loaded ahead of C's: the one that -DFAULT_NAME names. */
-#include "../lib/preload.h"
+#include "../../dev/nixkeep_dev/testing/preload.h"
 #include <netinet/in.h>
 #include <stdarg.h>
 #include <stdio.h>

@@ -9,17 +9,17 @@ import socket
 import subprocess
 import threading
 import time
+import types
 from concurrent.futures import ThreadPoolExecutor
 from pathlib import Path
 
-import cache_store
-import large_parts
 import parts
-from large_stops import archive_of, is_sound, send_half
-from nixkeep_tools import cache_records, cache_shares, cache_waiting
+from nixkeep_tools import cache_blobs, cache_http, cache_overview, cache_records, cache_shares, cache_waiting
 from parts import body, check, paths, same, some_path
+from tests.tools import cache_store, large_parts
+from tests.tools.large_stops import archive_of, is_sound, send_half
 
-TRUSTED = 'allowed-users = ["ann", "bob"]\ntrusted-users = ["build", "carl"]\n'
+TRUSTED = 'allowed-users = ["ann", "bob"]\ntrusted-users = ["build", "carl", "dora"]\n'
 
 
 class Team(large_parts.Team):
@@ -178,15 +178,17 @@ def crowd(words):
 
 
 def slow_uploads(words, rng):
-    """The slow uploads of a user hold up no upload of another one."""
+    """The slow uploads of a user, and of two, hold up no upload of another one."""
     with Team(words, "slow") as team, contextlib.ExitStack() as held:
-        for _ in range(12):
-            archive = archive_of(rng)
-            name = paths.base32(hashlib.sha256(archive).digest())
-            held.enter_context(send_half(team, "PUT", f"/nar/{name}.nar", archive[:1000], len(archive)))
-        parts.until("uploads come", lambda: len(team.incoming()) >= 8)
-        came = team.import_("carl", archive_of(rng), "--max-time", "30")
-        same("while twelve uploads of a user don't come, one of another user is done", came[0], 200)
+        for user, other, count in (("build", "carl", 8), ("carl", "dora", 10)):
+            for _ in range(12):
+                archive = archive_of(rng)
+                name = paths.base32(hashlib.sha256(archive).digest())
+                half = send_half(team, "PUT", f"/nar/{name}.nar", archive[:1000], len(archive), user)
+                held.enter_context(half)
+            parts.until("uploads come", lambda: len(team.incoming()) >= count)
+            came = team.import_(other, archive_of(rng), "--max-time", "30")
+            same(f"while {count} uploads don't come, one of another user is done", came[0], 200)
 
 
 def shares(words, rng):
@@ -236,6 +238,69 @@ def late(folder):
     same("leaves nothing", (os.listdir(f"{folder}/late"), waiting.files), ([], {}))
 
 
+def many_roots():
+    """The overview of a store with many roots takes no more memory than nixkeep-cache may have."""
+    overviews = cache_overview.Overviews(None, "/nix/store", (False, True), None, None)
+    counts = {"ann": (20_000, 10_000), "bob": (20_000, 10_000), "carl": (100_000, 10_738)}
+
+    async def store(user):
+        objects, roots = counts[user]
+        return types.SimpleNamespace(objects=range(objects), roots=range(roots)), set()
+
+    async def made(*_):
+        return "figures"
+
+    async def run():
+        overviews.records, overviews.apart = types.SimpleNamespace(store=store), made
+        found = []
+        for user in counts:
+            try:
+                found.append((await overviews.figures(user), [*overviews.made]))
+            except cache_http.Answered as answered:
+                found.append((answered.reply.status, answered.reply.text))
+        return found
+
+    *figures, refused = asyncio.run(run())
+    same("large figures of one user are kept at a time", figures, [("figures", ["ann"]), ("figures", ["bob"])])
+    text = "the overview of 100000 objects and 10738 roots takes too much memory: drop roots\n"
+    same("larger ones are refused", refused, (503, text))
+
+
+def rooms(folder):
+    """What one user, or two, upload without records leaves room for others. What is in the store makes room."""
+    waiting = cache_waiting.Waiting(f"{folder}/rooms", 16, 10_000, 3600)
+
+    async def pieces(data):
+        yield data
+
+    def put(owner, number):
+        data = number.to_bytes(8, "little")
+        name = f"{paths.base32(hashlib.sha256(data).digest())}.nar"
+        asyncio.run(waiting.take(owner, name, len(data), pieces(data)))
+        return name
+
+    def taken(owner, first):
+        names = []
+        with contextlib.suppress(cache_waiting.Full):
+            for at in range(20):
+                names.append(put(owner, first + at))
+        return names
+
+    found = {owner: taken(owner, 100 * at) for at, owner in enumerate(("ann", "bob", "carl"))}
+    same("each user has half of what the others leave", [len(it) for it in found.values()], [8, 4, 2])
+    for name in found["ann"]:
+        waiting.use(name)
+    same("what is in the store makes room for another user", len(taken("dora", 1000)), 5)
+
+
+def forgotten():
+    """Who relied on a blob is forgotten once no sweep asks for it."""
+    kept = cache_blobs.Blobs.__new__(cache_blobs.Blobs)
+    kept.relied = {"old": 99, "new": 100}
+    kept.forget(100)
+    same("who relied on a blob before is forgotten", kept.relied, {"new": 100})
+
+
 # ---- a disk that fails
 
 
@@ -264,4 +329,7 @@ def all_of(words):
     slow_uploads(words, rng)
     shares(words, rng)
     late(words.folder)
+    many_roots()
+    rooms(words.folder)
+    forgotten()
     unwritten(words.folder)

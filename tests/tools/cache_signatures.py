@@ -9,9 +9,9 @@ import subprocess
 from pathlib import Path
 
 import parts
-from cache_store import CONFIG
-from ed25519 import VECTORS, coded
 from parts import check, paths, same
+from tests.tools.cache_store import CONFIG
+from tests.tools.ed25519 import VECTORS, coded
 
 
 def vectors():

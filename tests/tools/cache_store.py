@@ -2,12 +2,14 @@
 import contextlib
 import os
 import random
+import re
 import signal
 import socket
 import sqlite3
 import subprocess
 import threading
 import time
+import zlib
 from pathlib import Path
 
 import parts
@@ -225,6 +227,38 @@ def memory_limit(folder):
     # (docs/OPERATING.md, Growth: with 2 GiB no file of more than about 1.5 GiB is opened)
     part = cache_limit.usual() / (1.5 * (1 << 30))
     check("MemoryMax=2G opens about 1.5 GiB, of which 0.6 are accepted", 0.55 < part < 0.65, part)
+    had = [3 << 29]
+    limit = cache_limit.Limit(None, None, lambda: had[0])
+    limit.check(1)
+    had[0] += 1
+    try:
+        limit.check(1)
+        said = "nothing"
+    except cache_limit.Full as full:
+        said = str(full)
+    wanted = "failed: full the server has 1610612737 of 2147483648 bytes of memory: drop roots, collect, and start it"
+    same("a server with more than three quarters of the memory takes nothing more", said, f"{wanted} again\n")
+    had[0] = None
+    same("without a server nothing is refused for it", limit.check(1), None)
+
+
+def memory_had(words):
+    """How much memory a server has is known, so that many small rows don't fill it."""
+    import asyncio
+
+    from nixkeep_tools import cache_child
+
+    async def run():
+        child = cache_child.Child(words.program, f"{words.folder}/had.db", None)
+        before = child.memory()
+        await child.open()
+        said = Path(f"/proc/{child.process.pid}/status").read_text()
+        found = child.memory(), int(re.search(r"VmRSS:\s+(\d+)", said)[1])
+        await child.end()
+        return before, found, child.memory()
+
+    before, (had, shown), after = asyncio.run(run())
+    check("the memory of a server", before is after is None and 0.8 < had / (1024 * shown) < 1.2, (before, had, after))
 
 
 def sessions(words):
@@ -274,6 +308,13 @@ def kept_in_turns(words):
          [len(it) for it in exchanges], [100, 100, 52])
     asyncio.run(made.before(collect))
     same("and once", exchanges[3], ["/collect"])
+    made.asked(ann, "ann's")
+    for at in range(cache_sessions.MOST + 10):
+        made.asked(collect.caller, f"path{at}")
+    del exchanges[3:]
+    asyncio.run(made.before(collect))
+    kept = [cache_sessions.target("ann"), "/collect"]
+    same("another user who asks for many makes none forgotten", exchanges[3], kept)
 
 
 def unread(words):
@@ -451,6 +492,38 @@ def half_sent(words):
         store.running = None
 
 
+def held_up(words):
+    """Clients that send or take slowly hold up an end for less than a minute, and it ends well."""
+    with unit(words, "held-up") as store, contextlib.ExitStack() as held:
+        path = ask(store.place, "ann", "POST", "/text", text("long", bytes(8_000_000)))[1].decode().strip()
+        asked = ("POST /text HTTP/1.1\r\n{}content-length: 10000\r\n\r\n",
+                 f"PUT /nar/{'0' * 52}.nar HTTP/1.1\r\n{{}}content-length: 10000\r\n\r\n",
+                 f"GET /nar/{path[11:]} HTTP/1.1\r\n{{}}\r\n")
+        clients = [held.enter_context(socket.socket(socket.AF_UNIX)) for _ in asked]
+        for client, head in zip(clients, asked):
+            client.connect(store.place)
+            client.sendall(head.format("host: red\r\nstore-user: ann\r\n").encode())
+        time.sleep(1)
+        store.running.send_signal(signal.SIGTERM)
+        began, ended = time.monotonic(), threading.Event()
+
+        def move():
+            while not ended.wait(1):
+                with contextlib.suppress(OSError):
+                    clients[0].sendall(b"x")
+                    clients[1].sendall(b"x")
+                    clients[2].recv(1000)
+
+        moving = threading.Thread(target=move)
+        moving.start()
+        same("an end that slow clients hold up ends well", store.running.wait(), 0)
+        ended.set()
+        moving.join()
+        took = time.monotonic() - began
+        check("after less than a minute", 10 < took < 60, took)
+        store.running = None
+
+
 def patient():
     """A server that doesn't answer is given up and started again. A request waits for that as long as for any start,
     also where it waited for its turn or its first reply before."""
@@ -489,10 +562,28 @@ def patient():
     same("a server that hung is started again, and both requests are answered", asyncio.run(run()), [404, 404])
 
 
+def encoded(words):
+    """A body is what came, whatever it is said to be: none is unpacked, so a small one never fills the memory."""
+    with unit(words, "encoded") as store:
+        peak = lambda: int(re.search(r"VmHWM:\s+(\d+)", Path(f"/proc/{store.running.pid}/status").read_text())[1])
+        post = lambda given, *more: ask(store.place, "ann", "POST", "/text", given, *more)
+        given = text("packed", zlib.compress(b"hello"))
+        plain, before = post(given), peak()
+        same("a text", plain[0], 200)
+        for coding in ("deflate", "gzip", "br", "zstd"):
+            same(f"is the same with the coding {coding}", post(given, "-H", f"content-encoding: {coding}"), plain)
+        bomb = zlib.compress(text("bomb", bytes(30 << 20)), 9)
+        same(f"{len(bomb)} bytes that unpack to 30 MiB aren't unpacked",
+             post(bomb, "-H", "content-encoding: deflate"), (400, b"refused: 41 bad-body-head\n"))
+        check("and take no memory", peak() - before < 10_000, f"{peak() - before} KiB")
+        same("none of it is a fault", store.lines(), [])
+
+
 def all_of(words):
     for it in (child, refused, lost, limited, shared, sessions, kept_in_turns, unread, crowded, left, stopped,
-               half_sent):
+               half_sent, held_up, encoded):
         it(words)
     turns()
     patient()
+    memory_had(words)
     memory_limit(words.folder)

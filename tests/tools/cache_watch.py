@@ -7,8 +7,8 @@ import time
 from pathlib import Path
 
 import parts
-from cache_store import ask, text, unit
 from parts import body, check, curl, nar, paths, same
+from tests.tools.cache_store import ask, text, unit
 
 
 def figures(store, user="prometheus"):

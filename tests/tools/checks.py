@@ -14,10 +14,9 @@ import termios
 import threading
 from http.server import BaseHTTPRequestHandler, ThreadingHTTPServer
 
-from tests.lib import report
+from nixkeep_dev.testing import report
 from tests.tools import shim
 
-HERE = shim.HERE
 
 
 class Checks:

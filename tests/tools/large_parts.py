@@ -11,10 +11,10 @@ import subprocess
 import time
 from pathlib import Path
 
-import cache_store
 import parts
 from nixkeep_tools import blob_packing, blobs, blobs_folder, cache_records, pointers
 from parts import body, check, nar, paths, same, some_path
+from tests.tools import cache_store
 
 # An archive above this is large here.
 LEAST = 65_536
@@ -229,6 +229,7 @@ def serving(words):
         references = f"References: {path[11:]} {small[11:]}", f"Deriver: {some_path(rng, 'it.drv')[11:]}"
         same("and a large one", team.upload(path, archive, *references), (200, f"{path}\n".encode()))
         stored(team, path, archive, references)
+        copied(words.program, team, path)
         fetched(team, path, archive)
         own_requests(team, path, archive)
         trusted(team, rng)
@@ -254,6 +255,19 @@ def stored(team, path, archive, references):
     old = team.fields(path, "-A", "curl/7.74.0 Nix/2.3.16")
     same("Nix 2.3, which can't read zstd, gets it as it was",
          [old[it] for it in ("Compression", "FileHash", "FileSize")], ["none", wanted["NarHash"], wanted["NarSize"]])
+
+
+def copied(program, team, path):
+    """A copy through nixkeep-cache has the pointer itself, and nothing of the archive."""
+    os.makedirs(to := f"{team.folder}/copies")
+    config = "--config", f"{team.folder}/store.toml"
+    ran = subprocess.run([f"{parts.TOOLS}/nixkeep-backup", "fetch", *config, "--program", program, "--server",
+                          f"unix:{team.place}", "--to", to], capture_output=True, text=True)
+    if same("nixkeep-backup fetch, with a large archive", (ran.returncode, ran.stderr), (0, "")):
+        copy = "--db", f"{to}/{os.listdir(to)[0]}"
+        raw = subprocess.run([program, *config, *copy, "--user", "build", "cat-nar", path], capture_output=True).stdout
+        line = team("build", "GET", "/pointers")[1].decode().splitlines()[0]
+        same("has its pointer", pointers.read(raw, path), pointers.read_line(line))
 
 
 def fetched(team, path, archive):

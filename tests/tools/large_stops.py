@@ -13,9 +13,9 @@ import threading
 import time
 from pathlib import Path
 
-import large_parts
 import parts
 from parts import body, check, nar, paths, same, some_path
+from tests.tools import large_parts
 
 
 def archive_of(rng, size=400_000):
@@ -58,6 +58,12 @@ def damaged(team, rng):
     team.start()
     came = get(f"/{path[11:43]}.narinfo")
     check("its path isn't offered", came[0] == 404 and came[1].startswith(b"failed: blob-missing"), came)
+    file.parent.rename(f"{team.folder}/elsewhere")
+    file.parent.symlink_to(file.parent)
+    said = get(url)[1], came[1]
+    check("no reply says where the blobs are", not any(team.folder.encode() in it for it in said), said)
+    file.parent.unlink()
+    Path(f"{team.folder}/elsewhere").rename(file.parent)
     status, lines = team.verify()
     check("verify says that it is missing", (status, lines[0].split(" ")[0]) == (1, "missing") and path in lines[0],
           lines)
@@ -100,11 +106,11 @@ def at_once(team, rng):
     is_sound(team, "after uploads at once")
 
 
-def send_half(team, method, target, data, length):
+def send_half(team, method, target, data, length, user="build"):
     """A client that sends a part of its body: its connection."""
     client = socket.socket(socket.AF_UNIX)
     client.connect(team.place)
-    client.sendall(f"{method} {target} HTTP/1.1\r\nhost: red\r\nstore-user: build\r\ncontent-length: {length}\r\n\r\n"
+    client.sendall(f"{method} {target} HTTP/1.1\r\nhost: red\r\nstore-user: {user}\r\ncontent-length: {length}\r\n\r\n"
                    .encode() + data)
     return client
 
@@ -238,7 +244,8 @@ def full(words, rng):
         return
     with large_parts.Team(words, "full", before=[parts.found("prlimit"), "--fsize=1000000"]) as team:
         came = team.upload(some_path(rng, "full"), archive_of(rng, 3_000_000))
-        check("a full folder: its name", came[0] == 507 and came[1].startswith(b"failed: full "), came)
+        is_named = came[0] == 507 and came[1].startswith(b"failed: full blobs: ")
+        check("a full folder: its name, not its place", is_named and team.folder.encode() not in came[1], came)
         same("and a line", team.records()[-1]["status"], 507)
         is_sound(team, "on a full disk")
         same("what fits is uploaded", team.upload(some_path(rng, "fits"), archive_of(rng))[0], 200)
@@ -289,6 +296,17 @@ def buckets(words, rng):
             same("and no part", os.listdir(f"{team.folder}/waiting/incoming"), [])
 
 
+def no_bucket(words):
+    """What isn't a bucket's answer is an error by name, too."""
+    if parts.skipped("what is no bucket", "python3-boto3"):
+        return
+    with bucket(200, "&") as (url, _), large_parts.Team(words, "none", "--blobs-endpoint", url,
+                                                        blobs="s3://archives/here") as team:
+        status, text = team("build", "POST", "/sweep", b"\n")
+        check("a bucket whose answers are no XML", status == 503 and b"isn't that of a bucket" in text, (status, text))
+        check("is no fault", "Traceback" not in team.said(), team.said())
+
+
 def blob_key(archive):
     digits = paths.base32(hashlib.sha256(archive).digest())
     return f"{digits[:2]}/{digits}.nar.zst"
@@ -303,3 +321,4 @@ def all_of(words):
     each_step(words, rng)
     full(words, rng)
     buckets(words, rng)
+    no_bucket(words)

@@ -6,11 +6,10 @@ import random
 import time
 from pathlib import Path
 
-import cache_watch
-import large_parts
 import parts
-from large_stops import archive_of, bucket, send_half
 from parts import curl, nar, paths, same, some_path
+from tests.tools import cache_watch, large_parts
+from tests.tools.large_stops import archive_of, bucket, send_half
 
 WELL, NO_BLOBS = ({"store": "answers", "blobs": it} for it in ("answers", "doesn't answer"))
 

@@ -7,8 +7,8 @@ import subprocess
 import sys
 from pathlib import Path
 
-from tests.lib import layout, program
-from tests.lib.tracked import tracked
+from nixkeep_dev.build import layout, program
+from nixkeep_dev.testing.tracked import tracked
 
 HERE = layout.HERE
 # The folders of a machine that the scripts use, with those of a test, and the commands.

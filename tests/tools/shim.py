@@ -9,16 +9,13 @@ import os
 import socket
 import struct
 import subprocess
-import sys
 import tempfile
 import time
 import tomllib
 
-HERE = os.path.dirname(os.path.dirname(os.path.dirname(os.path.realpath(__file__))))
-sys.path.insert(0, f"{HERE}/tools")
+from nixkeep_dev.testing.http_messages import free_port
 from nixkeep_tools import paths, remote, streams, subcommands
 from nixkeep_tools.command_line import Told
-from tests.lib.http import free_port
 
 OPTIONS = ("db", "config", "user", "group")
 # What nixkeep-remote computes by itself.

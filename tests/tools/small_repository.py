@@ -3,8 +3,9 @@ import os
 import shutil
 import subprocess
 
-from tests.lib import program
-from tests.tools.checks import HERE, Checks
+from nixkeep_dev.build import program
+from nixkeep_dev.build.program import HERE
+from tests.tools.checks import Checks
 
 CRATES = {"low": [], "left": ["low"], "right": ["low"], "join": ["low", "left", "right"], "nixkeep": ["join"]}
 # One that the program doesn't need.
@@ -62,9 +63,8 @@ class Repository(Checks):
         self.write("crates.txt", "".join(f"{crate}: {' '.join(below)}\n" for crate, below in crates.items()))
         self.write("HANDLES", "Handles allowed: none.\n")
         self.write("VERSION", "1.2.3\n")
-        for folder in ("bin", "tests/lib"):
+        for folder in ("bin", "dev"):
             shutil.copytree(f"{HERE}/{folder}", f"{self.top}/{folder}", ignore=shutil.ignore_patterns("__pycache__"))
-        shutil.copy(f"{HERE}/tests/__init__.py", f"{self.top}/tests")
         for folder in (f"{self.kit}/bin", f"{room}/rooms"):
             os.makedirs(folder)
         for name, text in (("rt", RT), ("rattle", RATTLE), ("rattle-link", LINK)):

@@ -15,8 +15,9 @@ import subprocess
 import sys
 import traceback
 
-from tests.tools import shim
+from nixkeep_dev.build.program import HERE
 from nixkeep_tools import streams
+from tests.tools import shim
 
 SOURCE = os.path.join(os.path.dirname(os.path.realpath(__file__)), "stand_in.c")
 BY_THE_PROGRAM = 255
@@ -39,7 +40,7 @@ def answering(program, folder):
     with socket.socket(socket.AF_UNIX) as made, open(log, "wb"):
         made.bind(path)
         made.listen(100)
-        where = {"cwd": shim.HERE, "env": {**os.environ, "PYTHONPATH": f"{shim.HERE}:{shim.HERE}/tools"}}
+        where = {"cwd": HERE, "env": {**os.environ, "PYTHONPATH": f"{HERE}:{HERE}/dev:{HERE}/tools"}}
         how = {"stdin": subprocess.DEVNULL, "pass_fds": [made.fileno()], "start_new_session": True}
         words = [sys.executable, "-B", "-c", script, str(made.fileno()), program, log]
         listening = subprocess.Popen(words, **how, **where)
@@ -113,5 +114,5 @@ def done(connection, program, log):
     become(pid, is_open, found)
     if stat.S_ISDIR(os.fstat(0).st_mode):
         # (as a program of Python's, the client doesn't start there)
-        return subprocess.call([sys.executable, f"{shim.HERE}/tools/nixkeep-remote"])
+        return subprocess.call([sys.executable, f"{HERE}/tools/nixkeep-remote"])
     return shim.by_remote(program, os.path.basename(words[0]), *line)

@@ -2,8 +2,8 @@
 import re
 import subprocess
 
-from tests.lib import report
-from tests.tools.shim import HERE
+from nixkeep_dev.build.program import HERE
+from nixkeep_dev.testing import report
 
 OPTION = re.compile(r"(?<![\w-])--[a-z][a-z-]*[a-z]")
 SUBCOMMANDS = {"nixkeep-backup": ("check", "copy", "fetch", "restore", "before-migration"),

@@ -1,0 +1,82 @@
+"""Which figures docs/PERFORMANCE.md shows: those that users ask for. `bin/bench --print NAME` prints all of one."""
+import collections
+import re
+
+# What a figure is called there, and how it is found: the benchmark, a pattern of the section, what it is of, its peer.
+Chosen = collections.namedtuple("Chosen", "label bench section what peer", defaults=[None])
+KIB = "`list` on {} objects of 1,024 bytes with 3 references each"
+HUNDRED = "`list` on 100 objects of 1,048,576 bytes.*"
+FOLDER, BUCKET = ".* nixkeep-cache, in a folder", ".* nixkeep-cache, in a bucket of Swift"
+MANY = r"GET /info/{{path}} over 10,000 objects through nginx, {} clients?"
+FIGURES = [
+    Chosen("a command without a store (`who`)", "commands", "who, from the start.*", "time"),
+    Chosen("`text-path` of 16 MiB", "commands", "text-path, over 16 MiB.*", "time"),
+    Chosen("`list` of 10,000 objects of 1 KiB: reading and testing the file", "stores", KIB.format("10,000"), "time"),
+    Chosen("the same of 100,000 objects", "stores", KIB.format("100,000"), "time"),
+    Chosen("its memory", "stores", KIB.format("100,000"), "memory"),
+    Chosen("`list` of 100 objects of 1 MiB", "stores", HUNDRED, "time"),
+    Chosen("its memory", "stores", HUNDRED, "memory"),
+    Chosen("`gc` of 3,048 of 5,000 objects", "stores", "`gc` of .*", "time"),
+    Chosen("`add-source` of 16 MiB into a new file", "stores", "an archive of 16 MiB.*",
+           "`add-source` into a new file"),
+    Chosen("memory of an open store, for each object with 3 references", "counts", "memory of the index.*",
+           "for each object with 3 references"),
+    Chosen("1,000 small adds to a server, each with its sync", "requests", "1,000 adds of .*", "time"),
+    Chosen("`GET /live` of 5,000 objects", "requests", "5,000 objects .*", "GET /live"),
+    Chosen("an add of 16 MiB to a server", "requests", ".*archive of a file, to a store in a file", "time"),
+    Chosen("memory of a server after that", "requests", ".*archive of a file, to a store in a file",
+           "memory of the server, after the first"),
+    Chosen("100 archives of 1 MiB from a server", "requests", "100 archives of 1 MiB.*", "time"),
+    Chosen("a narinfo from a server of 10,000 objects", "over_http", ".*, one client", "next to a file of those bytes",
+           "nginx"),
+    Chosen("an archive of 16 MiB from a server", "over_http", "GET /nar/.*", "next to a file of those bytes", "nginx"),
+    Chosen("`POST /import` of 16 MiB, next to one SHA-256 of it", "over_http", "POST /import .* in a file",
+           "next to one SHA-256 of it by the same crate"),
+    Chosen("narinfos to 8 clients, kept connections of nginx", "over_http", MANY.format(8), "requests",
+           "nginx, a file"),
+    Chosen("narinfos to 64 clients, kept connections of nginx", "over_http", MANY.format(64), "requests",
+           "nginx, a file"),
+    Chosen("the slowest of a hundred of these", "over_http", MANY.format(64), "99th percentile", "nginx, a file"),
+    Chosen("narinfos a second to 64 clients through nginx, a connection for each", "readers", ".* over 1 copy .*",
+           "records, no cache: each second"),
+    Chosen("the slowest of a hundred of these", "readers", ".* over 1 copy .*", "records, no cache: 99th percentile"),
+    Chosen("narinfos a second from nginx's cache", "readers", ".* over 1 copy .*",
+           "records, all in nginx's cache: each second"),
+    Chosen("time without answers at a restart with 10,000 objects", "restarts", "a server of .*",
+           "time without answers, with RestartSec=1s"),
+    Chosen("a closure of over 2 GiB to `nixkeep-cache --blobs FOLDER`", "large", FOLDER,
+           "`nix copy` up, uncompressed"),
+    Chosen("the same, compressed by Nix", "large", FOLDER, "`nix copy` up, by zstd"),
+    Chosen("the same from there", "large", FOLDER, "a substituter"),
+    Chosen("memory of `nixkeep-cache` for the first of these", "large", FOLDER,
+           "memory of nixkeep-cache for the uncompressed upload"),
+    Chosen("memory for the last", "large", FOLDER, "memory of nixkeep-cache for the download"),
+    Chosen("records of these, without nginx's cache", "large", FOLDER, "records"),
+    Chosen("the closure to a bucket of Swift", "large", BUCKET, "`nix copy` up, uncompressed"),
+    Chosen("the closure from there", "large", BUCKET, "a substituter"),
+]
+# The rows and the columns of the table of growth: actions of bench/nix.py, and who does them over how many objects.
+ACTIONS = ["add a text", "query", "list", "why", "live", "delete", "gc", "open after a crash"]
+SIZES = [100, 1_000, 10_000, 100_000]
+WAYS = {"command": "by a command", "server": "by curl over a server",
+        "nixkeep-remote": "by nixkeep-remote over a server"}
+
+
+def found_in(found, bench, section, what, peer=None):
+    """The figure of a benchmark, or None."""
+    for it in found.get(bench, {"figures": []})["figures"]:
+        if "skipped" not in it and it["what"] == what and re.fullmatch(section, it["section"]) \
+                and (peer is None or it.get("peer") == peer):
+            return it
+    return None
+
+
+def action(found, way, what, size):
+    """The figure of an action of bench/nix.py; for the way `Nix`, that of Nix, which is kept with that of a command."""
+    return found_in(found, "nix", rf"{size:,} objects, {WAYS.get(way, WAYS['command'])}", what)
+
+
+def seconds(found, way, what, size):
+    """The seconds of an action, or None."""
+    it = action(found, way, what, size)
+    return it and (it["theirs"] if way == "Nix" else it["value"])

@@ -1,0 +1,193 @@
+"""How the programs of this folder are called, and how they report: each figure with its limit, where it has one."""
+import json
+import math
+import os
+import statistics
+import subprocess
+import sys
+import tempfile
+import time
+from pathlib import Path
+
+from nixkeep_dev.testing import report
+
+ROUNDS = 5
+MIB = 1_048_576
+# What the exponent of a growth may be: nothing is quadratic.
+EXPONENT = 1.2
+records = []
+section = None
+
+
+def title(text):
+    """Begins a section of figures."""
+    global section
+    section = text
+    report.tell(text)
+
+
+def note(text):
+    report.tell(f"  {text}")
+
+
+def shown(value, unit):
+    """A figure with its unit; seconds in the unit that suits them."""
+    if unit == "s":
+        value, unit = (value, "s") if value >= 1 else (value * 1e3, "ms") if value >= 1e-3 else (value * 1e6, "us")
+    return f"{value:,.3g} {unit}" if value < 1000 else f"{value:,.0f} {unit}"
+
+
+def spread(found):
+    """By how much the greatest of some rounds is above the least, as a part of it."""
+    return max(found) / min(found) - 1 if len(found) > 1 and min(found) else None
+
+
+def line_of(it):
+    """A figure that is kept, next to its peer's and its limit, as it is printed."""
+    if "skipped" in it:
+        return f"skipped: {it['skipped']}"
+    ratio, unit = it.get("ratio"), it["unit"]
+    peer = "" if ratio is None else f", {it['peer']} {shown(it['theirs'], unit)}: {ratio:.2f} times"
+    verdict = f"limit: {it['limit']}; {'ok' if it['is_met'] else 'MISSED'}" if it["limit"] else "no limit"
+    return f"{it['what']}: {shown(it['value'], unit)}{peer} ({verdict})"
+
+
+def put(what, value, unit, limit, more, is_least=False):
+    """Keeps a figure and prints it: its value, or its ratio to a peer's, next to its limit."""
+    ratio = more.get("ratio")
+    measured = value if ratio is None else ratio
+    is_met = None if limit is None else measured >= limit if is_least else measured <= limit
+    wanted = limit and f"{'at least' if is_least else 'at most'} {limit:g} {unit if ratio is None else 'times'}"
+    kept = {"section": section, "what": what, "value": value, "unit": unit, "limit": wanted, "is_met": is_met, **more}
+    records.append(kept)
+    note(line_of(kept))
+
+
+def beside(what, theirs, ours, most=None, peer="C SQLite", of=min, unit="s"):
+    """The figure of nixkeep next to that of a peer, in seconds if not otherwise said, round by round: the least of
+    each, since what else the machine does only adds to it, or what else is asked for."""
+    theirs, ours = [theirs] if isinstance(theirs, float) else theirs, [ours] if isinstance(ours, float) else ours
+    more = {"peer": peer, "theirs": of(theirs), "ratio": of(ours) / of(theirs), "spread": spread(ours)}
+    put(what, of(ours), unit, most, more)
+
+
+def limit(what, found, most, unit="s", is_least=False, of=min):
+    """A figure of nixkeep alone, of one or more rounds, and its limit."""
+    found = [found] if isinstance(found, (int, float)) else found
+    put(what, of(found), unit, most, {"spread": spread(found)}, is_least)
+
+
+def median(what, found, most, unit="s"):
+    limit(what, found, most, unit, of=statistics.median)
+
+
+def exponent(what, few, many, times, is_limited=True):
+    """The power by which the least time of some rounds grows with the work: 1 is in proportion, 2 is quadratic."""
+    power = math.log(min(many) / min(few)) / math.log(times)
+    what = f"{what}: {shown(min(few), 's')} and {shown(min(many), 's')}"
+    limit(what, power, EXPONENT if is_limited else None, "power")
+
+
+def skipped(*tools):
+    """Whether a peer isn't installed, which is printed and kept."""
+    why = report.missing(tools)
+    if why:
+        report.tell(f"skipped: {why}")
+        records.append({"section": section, "skipped": why})
+    return bool(why)
+
+
+def timed(call, *words):
+    """The seconds of a call."""
+    start = time.perf_counter()
+    call(*words)
+    return time.perf_counter() - start
+
+
+def rounds(call, *words):
+    return [timed(call, *words) for _ in range(ROUNDS)]
+
+
+class Runs:
+    """A program on a file, called by root: the time of each run, from the start of the process, and what it printed."""
+
+    def __init__(self, file):
+        self.file = file
+
+    def words(self, path, *words):
+        return [self.file, "--db", path, "--user", "root", *words]
+
+    def __call__(self, path, *words, given=b""):
+        start = time.perf_counter()
+        ran = subprocess.run(self.words(path, *words), input=given, capture_output=True)
+        took = time.perf_counter() - start
+        if ran.returncode:
+            sys.exit(f"{words}: {ran.stderr.decode()}")
+        return took, ran.stdout
+
+
+def command(words, given=None, env=None):
+    """Seconds and KiB of a run from the start of the process to its end, which has to be with 0; its input is a
+    file. So is what it says on standard error, of any length: Nix has a line for each object that it deletes."""
+    with open(given or os.devnull, "rb") as source, tempfile.TemporaryFile() as said:
+        start = time.perf_counter()
+        ran = subprocess.Popen(words, env=env, stdin=source, stdout=subprocess.DEVNULL, stderr=said)
+        _, status, usage = os.wait4(ran.pid, 0)
+        took = time.perf_counter() - start
+        ran.returncode = os.waitstatus_to_exitcode(status)
+        if ran.returncode:
+            said.seek(0)
+            sys.exit(f"{' '.join(words)[:200]}: status {ran.returncode}: {said.read().decode(errors='replace')}")
+    return took, usage.ru_maxrss
+
+
+def commands(each, count, given=None):
+    """The seconds and the most MiB of commands that run in turn, by name."""
+    found = {name: [] for name in each}
+    for _ in range(count):
+        for name, words in each.items():
+            found[name].append(command(words, given))
+    return {name: ([it[0] for it in ran], max(it[1] for it in ran) / 1024) for name, ran in found.items()}
+
+
+def memory_of(words):
+    """The most memory in MiB that a command held: what this process holds would count in what is measured of its
+    children."""
+    code = "import resource, subprocess, sys; subprocess.run(sys.argv[1:], stdout=subprocess.DEVNULL, check=True); "
+    code += "print(resource.getrusage(resource.RUSAGE_CHILDREN).ru_maxrss)"
+    return int(subprocess.check_output([sys.executable, "-c", code, *words])) / 1024
+
+
+def add_records(asked):
+    """Adds the option that each benchmark takes."""
+    asked.add_argument("--records", metavar="FILE", help="writes the figures, for bin/bench")
+
+
+def ended(words):
+    """Writes the figures where that is asked for, and ends with 1 where one misses its limit."""
+    if words.records:
+        Path(words.records).write_text(json.dumps(records))
+    sys.exit(1 if any(it.get("is_met") is False for it in records) else 0)
+
+
+def program(words):
+    return Runs(report.program_file(words))
+
+
+def main(doc, parts, begin=program, more=lambda asked: None):
+    """Runs the parts of a benchmark, or some: functions of what `begin` gives once, of the words and of a folder."""
+
+    def also(asked):
+        add_records(asked)
+        asked.add_argument("--quick", action="store_true", help="a tenth of the objects")
+        more(asked)
+
+    words = report.options(doc, also, parts)
+    with tempfile.TemporaryDirectory() as words.folder:
+        try:
+            begun = begin(words)
+            for part in words.parts:
+                part(begun, words, words.folder)
+        except report.Failed as why:
+            sys.exit(str(why))
+    ended(words)

@@ -1,0 +1,138 @@
+"""docs/PERFORMANCE.md of the stored figures, and the table of all figures of a benchmark."""
+import collections
+import itertools
+import math
+
+from nixkeep_dev.bench import chosen, remarks
+from nixkeep_dev.bench.figures import shown
+
+HEADING = "| What | nixkeep | Compared with | Ratio | Limit | Is it met? | Spread |\n|---|---|---|---|---|---|---|"
+INTRODUCTION = """# Performance
+
+`bin/bench --print` writes this page and its picture of the figures in `bench/figures.json`, and `bin/bench --print
+NAME` prints all figures of one benchmark. `bin/bench --table` measures anew, which needs a quiet machine.
+
+Each figure is the least of some rounds, since what else the machine does only adds to it; of short commands it is the
+median. Most are compared with a program that does the same work on the same machine in the same run. A limit was set
+before the figure was measured, and a figure that misses it is marked.
+"""
+GROWTH = """
+## Growth
+
+The time of an action from the start of a process to its end. A command opens the file and tests all of it first, so it
+takes as long as `list`, whatever it does. A server did that when it started; curl is its client here.
+
+![The times of a query and of why over the size of the store](performance.svg)
+"""
+BOUND = """
+The time of an action grows by the power in the last column, from 10,000 to 100,000 objects, by a command and by a
+server: 1 is in proportion, 2 is quadratic. No power of any benchmark may be above 1.2, also over references and roots
+(`bin/bench --print growth`).
+"""
+
+
+def cell(value, unit):
+    return "" if value is None else shown(value, unit)
+
+
+def peer_of(it):
+    return f"{it['peer']}: {shown(it['theirs'], it['unit'])}" if it.get("ratio") is not None else ""
+
+
+VERDICT = {None: "", True: "met", False: "**missed**"}
+
+
+# ---- all figures of a benchmark
+
+
+def row(it):
+    """A line of the table for a figure."""
+    ratio = it.get("ratio")
+    spread = "" if it.get("spread") is None else f"{100 * it['spread']:.0f} %"
+    cells = [it["what"], shown(it["value"], it["unit"]), peer_of(it), "" if ratio is None else f"{ratio:.2f}",
+             it["limit"] or "", VERDICT[it["is_met"]], spread]
+    return f"| {' | '.join(cells)} |"
+
+
+def heading(text):
+    """A line of the table that says what those below it are of."""
+    return f"| {text} |{' |' * 6}"
+
+
+def lines_of(name, found):
+    """The lines of a benchmark: what its figures depend on, and each figure."""
+    if name not in found:
+        yield f"bench/{name} isn't measured yet: bin/bench --table {name}"
+        return
+    yield from (f"- {word}: {text}" for word, text in found[name]["facts"].items())
+    yield f"\n{HEADING}"
+    of_section = lambda it: f"*skipped: {it['skipped']}*" if "skipped" in it else f"*{it['section']}*"
+    for section, figures in itertools.groupby(found[name]["figures"], of_section):
+        yield heading(section)
+        yield from (row(it) for it in figures if "skipped" not in it)
+
+
+# ---- the page
+
+
+def facts(found):
+    """What the figures depend on: the newest run, the newest version of each peer, and what other runs measured."""
+    runs = sorted((it["facts"] for it in found.values()), key=lambda it: it["Date"])
+    now = runs[-1] if runs else {}
+    tools = {word: text for run in runs for word, text in run.items() if text != "not installed"}
+    peers = [word for word in now if word not in ("Machine", "Date", "Commit")]
+    tools = ", ".join(version(word, tools.get(word, now[word])) for word in peers)
+    yield from (f"- {word}: {now[word]}" for word in ("Machine", "Date", "Commit") if word in now)
+    yield f"- Compared with: {tools}"
+    earlier = collections.defaultdict(list)
+    for name, it in found.items():
+        if (run := (it["facts"]["Date"], it["facts"]["Commit"])) != (now["Date"], now["Commit"]):
+            earlier[run].append(name)
+    for (date, commit), names in earlier.items():
+        yield f"- Measured earlier, at commit {commit} on {date}: {', '.join(sorted(names))}"
+
+
+def version(word, text):
+    """A tool with the number of its version alone."""
+    number = next((it for it in text.replace("-", " ").replace("/", " ").split() if it[:1].isdigit()), text)
+    return f"{word} {number}"
+
+
+def figures(found):
+    """The table of the figures that users ask for."""
+    yield "| What | nixkeep | Compared with | Limit | Is it met? |\n|---|---|---|---|---|"
+    for it in chosen.FIGURES:
+        figure = chosen.found_in(found, *it[1:])
+        if figure:
+            cells = [it.label, shown(figure["value"], figure["unit"]), peer_of(figure), figure["limit"] or "",
+                     VERDICT[figure["is_met"]]]
+            yield f"| {' | '.join(cells)} |"
+
+
+def power(found, way, what):
+    """The power by which the time grows over the last ten times as many objects."""
+    few, many = [chosen.seconds(found, way, what, size) for size in chosen.SIZES[-2:]]
+    return f"{math.log10(many / few):.2f}" if few and many else ""
+
+
+def growth(found):
+    """The table of growth."""
+    columns = [("command", 1_000), ("command", 10_000), ("command", 100_000), ("server", 10_000), ("server", 100_000),
+               ("Nix", 10_000), ("Nix", 100_000)]
+    yield "| Action | " + " | ".join(f"{way}, {size:,}" for way, size in columns) + " | power |"
+    yield "|---" * (len(columns) + 2) + "|"
+    for what in chosen.ACTIONS:
+        times = [cell(chosen.seconds(found, way, what, size), "s") for way, size in columns]
+        powers = ", ".join(filter(None, (power(found, way, what) for way in ("command", "server"))))
+        yield f"| {what} | {' | '.join(times)} | {powers} |"
+
+
+def page(found, names):
+    """The page of the benchmarks of these names."""
+    said = "\n".join(remarks.lines({name: found[name] for name in names if name in found}))
+    counted = collections.Counter(it["is_met"] for name in names if name in found for it in found[name]["figures"]
+                                  if it.get("is_met") is not None)
+    return "\n".join([INTRODUCTION, *facts(found), "\n## What users ask for\n", *figures(found), GROWTH, *growth(found),
+                      BOUND, "## Limits that are missed\n",
+                      f"Of {sum(counted.values())} limits {counted[False]} are missed, for these reasons:\n",
+                      said or "None is missed."]) + "\n"

@@ -1,0 +1,75 @@
+"""Why figures miss their limits: a remark for each, by a pattern of its names."""
+import collections
+import re
+import textwrap
+
+WIDTH = 118
+# A pattern of the benchmark, the section and the figure, joined by ": ", and the remark on those that miss a limit.
+Remark = collections.namedtuple("Remark", "pattern about text")
+REMARKS = [
+    Remark(r"stores: `list` on 100 objects .*: time", "`list` of 100 objects of 1 MiB, its time",
+           """`sqlite` tests a file when it opens it, and copies each row for these tests. `sha2` is scalar code, and
+           slower than C's. Each byte is hashed once, and no page is read twice."""),
+    Remark(r"stores: `list` on 100 objects .*: memory", "`list` of 100 objects of 1 MiB, its memory",
+           """The opening of `sqlite` copies all rows of a table into one list. The rest are the pages of the file:
+           nixkeep keeps all pages of a file of up to 255 MiB, since an opening reads them more than once."""),
+    Remark(r"stores: `list` on .*: (time|100,000 .*)|nix: .* by a command: .*", "actions by a command",
+           """A command opens the file, and tests all of it before it answers. Nix opens its database and trusts it.
+           Of 100 instructions, the opening of `sqlite` takes 56 and SHA-256 24. A server does this once."""),
+    Remark(r"(requests|over_http): .* 16 MiB.*: (time|next to one SHA-256 of it by the same crate)",
+           "adds of 16 MiB to a file",
+           """`sqlite` copies each byte of a value eight to fifteen times on its way into the file. No call of it takes
+           a value without a copy."""),
+    Remark(r"requests: 100 archives of 1 MiB .*: time", "archives of 1 MiB that a server sends",
+           """The server also sends each archive to a client, and C SQLite only reads the rows. A server that reads
+           them by C SQLite takes 0.8 of nixkeep's time."""),
+    Remark(r"nix: the exponent of .*", "growths of everyday actions", "As in bench/growth."),
+    Remark(r"nix: .*by nixkeep-remote over a server: .*", "actions by `nixkeep-remote`",
+           """Most of the time is the start of python3 and the loading of modules. The server takes less than a
+           millisecond for most requests."""),
+    Remark(r"nix: .*by curl over a server: .*", "actions by curl",
+           """A deletion looks for what keeps the path, and marks all that is live for that."""),
+    Remark(r"nix: `cat-nar` of 16 MiB: time", "`cat-nar`, next to a copy of the file by `cat`",
+           """A command reads and tests the file, and hashes the archive before it prints it. `cat` copies a file that
+           the kernel has in memory."""),
+    Remark(r"growth: .*", "growths",
+           """A file of more than 255 MiB is read with a place for 2,000 of its pages alone. So the opening of `sqlite`
+           reads pages again for the entries of its indexes."""),
+    Remark(r"libraries: .*in pieces of 100: what comes", "an archive in pieces of 100 bytes",
+           """There is a call for each 100 bytes."""),
+    Remark(r"commands: .*", "commands without a store",
+           """A process of nixkeep starts, reads its words and its configuration, and hashes its input. `sha2` is
+           scalar code."""),
+]
+
+
+def name_of(bench, it):
+    return f"{bench}: {it['section']}: {it['what']}"
+
+
+def remark_of(name):
+    """The remark on a figure; None where there is none."""
+    return next((it for it in REMARKS if re.fullmatch(it.pattern, name)), None)
+
+
+def missed(found):
+    """The names of the figures that miss their limit."""
+    return [name_of(bench, it) for bench, of in found.items() for it in of["figures"] if it.get("is_met") is False]
+
+
+def item(text):
+    """An item of a list, in lines of the page's width."""
+    return textwrap.fill(" ".join(text.split()), WIDTH, initial_indent="- ", subsequent_indent="  ",
+                         break_long_words=False, break_on_hyphens=False)
+
+
+def lines(found):
+    """The items of the page: each remark with its number of missed limits, then the missed figures without a remark."""
+    counted = collections.Counter(remark_of(name) for name in missed(found))
+    for remark in REMARKS:
+        if count := counted[remark]:
+            figures = "1 figure" if count == 1 else f"{count} figures"
+            yield item(f"**{remark.about}** ({figures}). {remark.text}")
+    for name in missed(found):
+        if remark_of(name) is None:
+            yield item(f"**{name}**. The reason isn't known.")

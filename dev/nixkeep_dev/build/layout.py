@@ -1,0 +1,92 @@
+"""What an installation of nixkeep has, and where: bin/install puts it below a prefix, bin/package below usr and etc."""
+import gzip
+import hashlib
+import os
+import re
+from pathlib import Path
+
+from nixkeep_dev.build import program
+
+HERE = program.HERE
+
+# Where shells look for completion, below a prefix, by how the file's name begins and ends.
+COMPLETION = {
+    ("", ".bash"): "share/bash-completion/completions",
+    ("_", ""): "share/zsh/vendor-completions",
+    ("", ".fish"): "share/fish/vendor_completions.d",
+}
+
+
+def version():
+    return Path(f"{HERE}/VERSION").read_text().strip()
+
+
+def names_in(folder):
+    """The names of the plain files in a folder of the repository, in order; none where the folder isn't there."""
+    at = f"{HERE}/{folder}"
+    return sorted(it for it in os.listdir(at) if os.path.isfile(f"{at}/{it}")) if os.path.isdir(at) else []
+
+
+def content(path):
+    return Path(path).read_bytes()
+
+
+def sum_of(path, kind="sha256"):
+    return hashlib.new(kind, content(path)).hexdigest()
+
+
+def tools():
+    """The places below a prefix of the programs next to nixkeep and of the Python package that they share, as files and
+    links. They lie in one folder, where each finds the package, and bin has a link to each."""
+    programs = [it for it in names_in("tools") if it.startswith("nixkeep-")]
+    modules = [f"nixkeep_tools/{it}" for it in names_in("tools/nixkeep_tools") if it.endswith(".py")]
+    files = [(f"lib/nixkeep/{it}", f"{HERE}/tools/{it}", 0o755) for it in programs]
+    files += [(f"lib/nixkeep/{it}", f"{HERE}/tools/{it}", 0o644) for it in modules]
+    files += [("lib/nixkeep/VERSION", f"{HERE}/VERSION", 0o644)]
+    return files, [(f"bin/{it}", f"../lib/nixkeep/{it}") for it in programs]
+
+
+def completion_of(name):
+    """The place of a file of completion below a prefix, or None where it is of no shell that is known."""
+    for (start, end), folder in COMPLETION.items():
+        if name.startswith(start) and name.endswith(end) and (start or end):
+            return f"{folder}/{name.removesuffix('.bash')}"
+    return None
+
+
+def parts(file):
+    """What lies below a prefix: files as triples of place, path and mode, and links as pairs of place and target."""
+    files, links = tools()
+    files = [(f"bin/{program.NAME}", file, 0o755), *files]
+    pages = [it for it in names_in("man") if re.search(r"\.[1-8]$", it)]
+    files += [(f"share/man/man{it[-1]}/{it}", f"{HERE}/man/{it}", 0o644) for it in pages]
+    shells = [(completion_of(it), f"{HERE}/completion/{it}", 0o644) for it in names_in("completion")]
+    return files + [it for it in shells if it[0]], links
+
+
+def documents():
+    """The documents of a package, below its folder of documents."""
+    pages = ["README.md", "CHANGELOG.md", "SECURITY.md"]
+    found = [*pages, *[f"docs/{it}" for it in names_in("docs")], *examples("examples")]
+    return [(it, f"{HERE}/{it}") for it in found if os.path.isfile(f"{HERE}/{it}")]
+
+
+def examples(folder):
+    """The files below a folder that git doesn't leave out."""
+    found = []
+    for at, folders, names in os.walk(f"{HERE}/{folder}"):
+        folders[:] = sorted(it for it in folders if it not in ("out", "__pycache__"))
+        found += [os.path.relpath(f"{at}/{it}", HERE) for it in sorted(names)]
+    return found
+
+
+def sources():
+    """The sums of all files that the proof of the program has read, as sha256sum writes and checks them."""
+    crates = program.with_below(program.NAME, program.listed())
+    paths = ["HANDLES", "crates.txt", *[it for crate in crates for it in program.files_of(crate)]]
+    return "".join(f"{sum_of(f'{HERE}/{it}')}  {it}\n" for it in paths)
+
+
+def packed(data):
+    """The bytes that gzip makes of these, the same each time."""
+    return gzip.compress(data, mtime=0)

@@ -1,0 +1,186 @@
+"""The released program: release/ has the proved program, packed, and in `made-of` what it was made of.
+
+bin/release writes both from a program that was proved, and nothing else writes them. So a checkout needs no toolchain
+to run: where `made-of` has the sum of the present sources, that program is unpacked into out/released, once, and its
+own sum is compared before each start.
+"""
+import hashlib
+import lzma
+import os
+import platform
+import subprocess
+import sys
+import tempfile
+from pathlib import Path
+
+from nixkeep_dev.build import program
+
+FOLDER = f"{program.HERE}/release"
+PACKED = f"{FOLDER}/{program.NAME}.xz"
+MADE_OF = f"{FOLDER}/made-of"
+UNPACKED = f"{program.HERE}/out/released/{program.NAME}"
+KEYS = ("version", "sources", "toolchain", "machine", "program", "packed")
+
+
+class Unusable(Exception):
+    """The released program can't be run; with the reason."""
+
+
+def shown(path):
+    return os.path.relpath(path, program.HERE)
+
+
+def sum_of(data):
+    return hashlib.sha256(data).hexdigest()
+
+
+def version():
+    return Path(f"{program.HERE}/VERSION").read_text().strip()
+
+
+def wanted():
+    """What `made-of` has to have in this checkout, next to the sum of the sources."""
+    return {"version": version(), "toolchain": program.TOOLCHAIN, "machine": program.MACHINE}
+
+
+def read(path):
+    """The bytes of a file of the release."""
+    try:
+        return Path(path).read_bytes()
+    except OSError as error:
+        raise Unusable(f"{shown(path)}: {error.strerror}") from None
+
+
+def made_of():
+    """What the released program was made of, by KEYS; None where there is no release."""
+    if not os.path.exists(FOLDER):
+        return None
+    pairs = [line.partition(": ") for line in read(MADE_OF).decode(errors="replace").splitlines()]
+    found = {key: value for key, _, value in pairs}
+    if tuple(found) != KEYS:
+        raise Unusable(f"{shown(MADE_OF)} is damaged: it hasn't the lines {', '.join(KEYS)}")
+    return found
+
+
+def packed(told):
+    """The bytes of the packed program, whose sum is that of `made-of`."""
+    data = read(PACKED)
+    if sum_of(data) != told["packed"]:
+        raise Unusable(f"{shown(PACKED)} is damaged: its sum isn't that of {shown(MADE_OF)}")
+    return data
+
+
+def unpack(data, told):
+    """The bytes of the released program, whose sum is that of `made-of`."""
+    try:
+        data = lzma.decompress(data)
+    except (lzma.LZMAError, EOFError, MemoryError) as error:
+        raise Unusable(f"{shown(PACKED)} is damaged: {error}") from None
+    if sum_of(data) != told["program"]:
+        raise Unusable(f"{shown(PACKED)} is damaged: the program's sum isn't that of {shown(MADE_OF)}")
+    return data
+
+
+def write(path, data, mode=0o644, test=lambda fresh: None):
+    """Puts a file at its place at once and durably, never a part of it, and only if it passes the test."""
+    os.makedirs(os.path.dirname(path), exist_ok=True)
+    with tempfile.TemporaryDirectory(prefix=".fresh-", dir=os.path.dirname(path)) as room:
+        with open(f"{room}/fresh", "wb") as file:
+            os.fchmod(file.fileno(), mode)
+            file.write(data)
+            file.flush()
+            os.fsync(file.fileno())
+        test(file.name)
+        os.replace(file.name, path)
+
+
+def unpacked(told):
+    """The file of the released program, which is unpacked where it isn't there, or isn't the released one."""
+    data = packed(told)
+    for line in differing(told, wanted()):
+        raise Unusable(line)
+    here = f"{platform.system()} on {platform.machine()}"
+    if here != f"Linux on {program.MACHINE}":
+        raise Unusable(f"the released program is for Linux on {program.MACHINE}, and this is {here}")
+    try:
+        if not os.access(UNPACKED, os.X_OK) or sum_of(Path(UNPACKED).read_bytes()) != told["program"]:
+            write(UNPACKED, unpack(data, told), 0o755, refuse_unless_it_runs)
+    except OSError as error:
+        raise Unusable(f"{shown(UNPACKED)}: {error.strerror}") from None
+    return UNPACKED
+
+
+def refuse_unless_it_runs(file):
+    """Starts the program once: an old C library, a processor of another level and a folder without programs show."""
+    try:
+        ran = subprocess.run([file, "help"], stdin=subprocess.DEVNULL, capture_output=True, text=True)
+        why = f"status {ran.returncode}: {ran.stderr.strip()}" if ran.returncode else None
+    except OSError as error:
+        why = error.strerror
+    if why:
+        raise Unusable(f"the released program doesn't run on this machine ({why})")
+
+
+def is_ready():
+    """Whether the program of the present sources is there, released or proved here."""
+    return program.is_built() or not faults()
+
+
+def ready():
+    """The file of the program for the present sources: what was proved here, else the released one. Where neither is of
+    these sources, or the released one can't be run, the program is proved and built first."""
+    if program.is_built():
+        return program.FILE
+    try:
+        told = made_of()
+        if told and told["sources"] == program.source():
+            return unpacked(told)
+        why = "the sources aren't those of the released program" if told else "there is no released program"
+    except Unusable as fault:
+        why = str(fault)
+        if program.fault_of_toolchain():
+            sys.exit(f"{program.NAME}: {why}; with the Rattle toolchain on the path this command proves and builds it")
+    program.prove([program.NAME], why)
+    program.say("built")
+    return program.FILE
+
+
+def differing(told, wanted):
+    """What `made-of` has otherwise than this checkout, a line for each."""
+    return [f"{shown(MADE_OF)} has {key} {told[key]}, and this checkout has {value}"
+            for key, value in wanted.items() if told[key] != value]
+
+
+def faults():
+    """What is wrong with the release, a line for each: that it isn't of the present sources, or is damaged."""
+    try:
+        told = made_of()
+        if not told:
+            return ["there is no release"]
+        unpack(packed(told), told)
+    except Unusable as fault:
+        return [str(fault)]
+    return differing(told, {**wanted(), "sources": program.source()})
+
+
+def make():
+    """Writes the release from the program that was proved and built here for the present sources, and returns what it
+    was made of."""
+    data = Path(program.FILE).read_bytes()
+    small = lzma.compress(data, preset=9 | lzma.PRESET_EXTREME)
+    told = {"version": version(), "sources": program.source(), "toolchain": program.toolchain_version(),
+            "machine": program.MACHINE, "program": sum_of(data), "packed": sum_of(small)}
+    write(PACKED, small)
+    write(MADE_OF, "".join(f"{key}: {told[key]}\n" for key in KEYS).encode())
+    return told
+
+
+def compare(file):
+    """Compares the bytes of a program that was proved and built just before with those of the release. Returns whether
+    they may differ or are the same, and what to print of it: another toolchain may build other bytes."""
+    told, here = made_of(), program.toolchain_version()
+    if here != told["toolchain"]:
+        return True, f"not compared: release/ was made by {told['toolchain']}, and rt here is {here}"
+    if Path(file).read_bytes() == unpack(packed(told), told):
+        return True, f"compared: what was proved and built is release/, byte for byte (sha256 {told['program']})"
+    return False, "what was proved and built has other bytes than release/: bin/release makes it anew"

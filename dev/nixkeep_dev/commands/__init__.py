@@ -1,0 +1,1 @@
+"""The commands of bin/: a module for each, with its words."""

@@ -1,0 +1,105 @@
+"""The one door to the tests of nixkeep. The last line is `N passed, M failed`, and what was skipped is listed above it.
+
+  bin/test                      all that needs no toolchain, on the program that bin/nixkeep runs: the checks of the
+                                repository, cases, comparisons and tests of the tools; of the faults, and of the cases
+                                over a server, a part that changes from day to day
+  bin/test all                  what .ci/run does: the checks of the repository, the proofs of all crates from scratch,
+                                their tests and programs, a comparison of the program with the released one, and then
+                                all of the above and wrong bodies on the program that was built
+  bin/test cases [CASE..]       the cases: command lines and what they print
+  bin/test compare [NAME..]     the program next to Nix, SQLite, curl, itself and a model of it
+  bin/test faults [NAME..]      refused memory, failing streams, stops at each write, cut heads, hostile clients: all
+  bin/test tools [NAME..]       the tests of the tools in tools/, the launcher and the release
+  bin/test team [NAME..]        a team's deployment in examples/team, its cache, its overview in a browser, hostile
+                                requests, and its units on a machine that is booted
+  bin/test package [NAME..]     the package, and a clean Debian on which it is installed, used and removed
+  bin/test bodies [CRATE..]     all wrong bodies of crates
+  bin/test gate [NAME..]        the checks of the repository, which prove nothing
+  bin/test sabotage [NAME..]    planted faults, each of which a part of the tests has to notice: all, or those of a name
+
+Without a name, each of a part is run. Part by part, a program that --program names is tried, else that of bin/nixkeep.
+tests/packages.txt lists the Debian packages that the tests use. With --no-skips what is skipped has failed, unless
+tests/gate/skips.txt names it; .ci/run sets that. `bin/run tests/compare/sqlite.py --help` prints the options of one
+script, and bin/run runs it with them.
+"""
+import os
+import sys
+
+from nixkeep_dev.testing import packages, parts, report, skips
+from nixkeep_dev.testing.runs import ALONE, TESTS, command, file_of, not_allowed, options_of, run, together
+
+# The processor minutes that all may take. Another number is a decision, which belongs into docs/DECISIONS.md.
+BUDGET = 300
+# Parts that are one script, to which names are given.
+BY_THEMSELVES = {"cases": "cases", "bodies": "wrong_bodies", "sabotage": "sabotage"}
+
+
+def say_what_is_missing():
+    if names := packages.missing():
+        report.tell(f"bin/test: not installed, and what needs it is skipped: {packages.install_line(names)}")
+
+
+def by_itself(part, known):
+    """What of a part runs without a name: of the gate, what proves nothing and needs no program."""
+    return [it for it in known if part != "gate" or it in parts.CHECKS]
+
+
+def run_part(words, asked):
+    program = words.program and os.path.abspath(words.program)
+    given = {"program": program, "seed": words.seed, "count": words.count}
+    if words.part in BY_THEMSELVES:
+        file = file_of(f"gate/{BY_THEMSELVES[words.part]}")
+        return together([run([file, *options_of(file, given), *words.names], limit=ALONE)],
+                        may_skip=not words.no_skips)
+    known = parts.by_name()[words.part]
+    if unknown := [it for it in words.names if it not in known]:
+        asked.error(f"no {' '.join(unknown)} in {words.part}: {', '.join(known)}")
+    found = []
+    for name in words.names or by_itself(words.part, known):
+        print(f"\n{words.part} {name}", flush=True)
+        more = ["--browser"] if (words.part, name) == ("team", "overview") else []
+        found.append(run([known[name], *options_of(known[name], given), *more], limit=ALONE))
+    return together(found, may_skip=not words.no_skips)
+
+
+def run_without_toolchain(words):
+    """All that needs no toolchain, side by side."""
+    file = report.program_file(words)
+    given = {"program": file, "seed": words.seed, "count": words.count}
+    tried = [parts.Part(f"gate/{it}", {}) for it in parts.CHECKS] + parts.of_program(given)
+    found = parts.side_by_side(tried)
+    names = ", ".join(it.name for it, ran in zip(tried, found) if not ran)
+    left_out = [f"proofs, wrong bodies, {names}: they need the Rattle toolchain, and `bin/test all` runs them",
+                "a clean Debian and a booted machine take minutes: `bin/test package` and `bin/test team units`"]
+    return together([it for it in found if it], left_out=left_out, may_skip=not words.no_skips)
+
+
+def run_all(words):
+    """The checks of the repository, and then the gate."""
+    os.chdir(os.path.dirname(TESTS))
+    for name in parts.CHECKS:
+        ran = run([file_of(f"gate/{name}")])
+        if not ran.is_good() or words.no_skips and not_allowed([ran]):
+            return 1
+    more = ["--no-skips"] if words.no_skips else []
+    words = command([file_of("gate/gate"), str(BUDGET), *more])
+    os.execv(words[0], words)
+
+
+def main():
+    asked = report.parser(__doc__)
+    asked.add_argument("part", nargs="?", choices=["all", *BY_THEMSELVES, *parts.by_name()], metavar="PART")
+    asked.add_argument("names", nargs="*", metavar="NAME")
+    asked.add_argument("--program", metavar="FILE", help="the program that is tried")
+    asked.add_argument("--seed", metavar="N", type=int, help="what chance begins with; else the day")
+    asked.add_argument("--count", metavar="N", type=int, help="how much of each is tried; else as each says")
+    asked.add_argument("--no-skips", action="store_true", help=f"what is skipped fails, unless {skips.NAME} names it")
+    words = asked.parse_args()
+    say_what_is_missing()
+    if words.part == "all":
+        return run_all(words)
+    return run_part(words, asked) if words.part else run_without_toolchain(words)
+
+
+if __name__ == "__main__":
+    sys.exit(main())

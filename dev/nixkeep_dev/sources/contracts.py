@@ -1,0 +1,125 @@
+"""The calls of the public crates with the clauses of their contracts, as the sources in Rattle have them.
+
+A call is a function that a public crate exports, or a public method of a type that it declares, by the path under which
+users reach it. A clause is the name after `ensures`; one without a name is a dash. The methods of a type that a public
+crate passes on from another crate are on the page of that crate.
+"""
+import functools
+import re
+from pathlib import Path
+
+from nixkeep_dev.build.program import HERE
+
+PUBLIC = ("nar", "paths", "drv", "policy", "live", "tables", "store", "report", "wire", "tool")
+FUNCTION = re.compile(r"( *)pub (?:const )?fn (\w+)")
+ENSURES = re.compile(r" *ensures(?: (\w+))? \{")
+METHODS = re.compile(r"impl(?:<[^{]*?>)? (\w+)(?:<[^{]*>)? \{")
+DASH = "–"
+
+
+@functools.cache
+def source(path):
+    return Path(HERE, path).read_text("utf-8")
+
+
+def exists(path):
+    return Path(HERE, path).exists()
+
+
+def fields(record):
+    """The fields of a record of the definitions, those of the record that its field `frame` is among them."""
+    for file in sorted(Path(HERE, "crates").glob("*/specs/*.antt")):
+        whole = rf"^( *)(?:pub )?record {record}\b.*?\bwhere\n(.*?)(?=^\1\S|^(?!\1)\S|\Z)"
+        found = re.search(whole, file.read_text("utf-8"), re.M | re.S)
+        if found:
+            names = re.findall(rf"^{found[1]}  (?:pub )?(\w+) :(.*)$", found[2], re.M)
+            below = [it for name, of in names if name == "frame" for it in fields(of.split()[0])]
+            return [*below, *(name for name, _ in names if name != "frame")]
+    return []
+
+
+def functions_in(path):
+    """The public functions of a file: the type of each method or None, the name, and the clauses."""
+    lines, owner = source(path).split("\n"), None
+    for at, line in enumerate(lines):
+        if line.startswith("impl"):
+            owner = (METHODS.match(line) or [None, None])[1]
+        if found := FUNCTION.match(line):
+            if found[1] and owner is None:
+                continue
+            yield owner if found[1] else None, found[2], contract(lines, at)
+
+
+def contract(lines, at):
+    """The clauses of the function that begins in a line."""
+    found, indent = [], len(lines[at]) - len(lines[at].lstrip())
+    for number in range(at + 1, len(lines)):
+        line = lines[number]
+        if line.strip() and len(line) - len(line.lstrip()) == indent and not line.lstrip().startswith((")", ">")):
+            break
+        if it := ENSURES.match(line):
+            found.append(it[1] or DASH)
+    return found
+
+
+def declared(crate, module, name, shown):
+    """The calls that a crate exports by a name, which one of its modules declares, or exports in turn."""
+    path = f"crates/{crate}/src/{module.replace('::', '/')}.rt"
+    if not exists(path):
+        return
+    for owner, function, clauses in functions_in(path):
+        if owner is None and function == name:
+            yield f"{shown}::{name}", clauses
+    if re.search(rf"^pub (?:struct|enum) {name}\b", source(path), re.M):
+        for file in sorted(Path(HERE, "crates", crate, "src").rglob("*.rt")):
+            for owner, function, clauses in functions_in(file.relative_to(HERE).as_posix()):
+                if owner == name:
+                    yield f"{shown}::{name}::{function}", clauses
+
+
+def functions_of(crate, module, name, shown):
+    """The functions alone among the calls of a name."""
+    yield from (it for it in declared(crate, module, name, shown) if it[0] == f"{shown}::{name}")
+
+
+def exports(crate):
+    """What the root file of a crate exports: pairs of a module or crate and a name, and the public modules."""
+    root = source(f"crates/{crate}/src/lib.rt")
+    for it in re.finditer(r"^pub use ([\w:]+)::(?:\{([^}]*)\}|(\w+));", root, re.M):
+        for name in re.split(r",\s*", (it[2] or it[3]).strip().rstrip(",")):
+            yield it[1], name.strip()
+    for module in re.findall(r"^pub mod (\w+);", root, re.M):
+        yield module, None
+
+
+def calls_of(crate, shown=None):
+    """The calls of a crate by name, each with its clauses, in the order of its root file."""
+    shown, found = shown or crate, {}
+    for module, name in exports(crate):
+        first = module.split("::")[0]
+        if name is None:
+            path = f"crates/{crate}/src/{module}.rt"
+            found |= {f"{shown}::{module}::{it}": clauses for owner, it, clauses in functions_in(path) if not owner}
+        elif exists(f"crates/{crate}/src/{first}.rt"):
+            found |= dict(declared(crate, module, name, shown))
+        elif first not in PUBLIC and exists(f"crates/{first}/src/lib.rt"):
+            found |= dict(passed_on(first, module.partition("::")[2], name, shown))
+    return {call: clauses for call, clauses in found.items() if clauses}
+
+
+def passed_on(crate, module, name, shown):
+    """The calls of a name that a public crate exports from another one."""
+    if module:
+        yield from functions_of(crate, module, name, shown)
+        return
+    for where, it in exports(crate):
+        first = where.split("::")[0]
+        if it == name and exists(f"crates/{crate}/src/{first}.rt"):
+            yield from functions_of(crate, where, name, shown)
+        elif it == name and first not in PUBLIC and exists(f"crates/{first}/src/lib.rt"):
+            yield from passed_on(first, where.partition("::")[2], name, shown)
+
+
+def laws():
+    """The laws of the definitions, each with its clauses."""
+    return calls_of("laws")

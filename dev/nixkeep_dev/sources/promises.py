@@ -1,0 +1,122 @@
+"""The columns `Call` and `Clauses` of docs/PROMISES.md, made of the sources, and what the page doesn't name of them."""
+import os
+import re
+
+from nixkeep_dev.sources import contracts
+from nixkeep_dev.sources.contracts import DASH
+
+ROW = re.compile(r"^\| (`[^|]*`) \| ([^|]*) \| (.*) \|$", re.M)
+SECTION = re.compile(r"^## `(\w+)`\n(.*?)(?=^## |\Z)", re.M | re.S)
+RECORD = re.compile(r"^[^\n]*\(`(\w+)`\):\n\n((?:- .*\n(?:  .*\n)*)+)", re.M)
+LAWS = re.compile(r"^## The model's laws\n(.*?)(?=^## )", re.M | re.S)
+LAW = re.compile(r"`laws::(\w+)::(\w+)`")
+# What a row says in place of clauses: all of them.
+ALL = "*"
+UNSAID = "?"
+
+
+def named(cell):
+    """The calls of a cell, `one::{a, b}` spelled out."""
+    for it in re.findall(r"`([^`]+)`", cell):
+        prefix, brace, last = it.partition("{")
+        yield from (prefix + name.strip() for name in last.rstrip("}").split(",")) if brace else [it]
+
+
+def cell(calls):
+    """The cell of some calls: what they begin with is written once."""
+    if len(calls) == 1:
+        return f"`{calls[0]}`"
+    prefix = os.path.commonprefix(calls).rpartition("::")[0] + "::"
+    return f"`{prefix}{{{', '.join(it.removeprefix(prefix) for it in calls)}}}`"
+
+
+def clause_cell(asked, calls, known):
+    """The clauses of some calls in the order of the source: those that the cell asks for and that there are."""
+    found = list(dict.fromkeys(it for call in calls for it in known[call]))
+    words = found if asked.strip() == ALL else asked.replace("`", "").replace(",", " ").split()
+    wanted = [it for it in found if it in words]
+    return spelled(wanted)
+
+
+def spelled(clauses):
+    return ", ".join(it if it == DASH else f"`{it}`" for it in clauses)
+
+
+def section_made(crate, text, known):
+    """A section with its columns anew: rows of calls that aren't there any more are gone, and what no row names has one
+    with a question mark as its promise."""
+    said = {}
+
+    def row(found):
+        calls = [it for it in named(found[1]) if it in known]
+        if not calls:
+            return ""
+        clauses = clause_cell(found[2], calls, known)
+        for it in calls:
+            said.setdefault(it, []).extend(clauses.replace("`", "").split(", "))
+        return f"| {cell(calls)} | {clauses} | {found[3]} |"
+
+    made, more = ROW.sub(row, text), []
+    for call, clauses in known.items():
+        if left := [it for it in clauses if it not in said.get(call, [])]:
+            more.append(f"| {cell([call])} | {spelled(left)} | {UNSAID} |\n")
+    last = [it.end() for it in ROW.finditer(made)]
+    at = last[-1] + 1 if last else len(made)
+    return f"## `{crate}`\n{made[:at]}{''.join(more)}{made[at:]}"
+
+
+def page_made(page):
+    """The page with the columns as the sources have them."""
+    return SECTION.sub(lambda it: section_made(it[1], it[2], contracts.calls_of(it[1])), page)
+
+
+def faults_of_records(page):
+    for it in RECORD.finditer(page):
+        fields = contracts.fields(it[1])
+        listed = [name for line in re.findall(r"^- ((?:`\w+`(?:, )?)+):", it[2], re.M)
+                  for name in re.findall(r"`(\w+)`", line)]
+        for name in sorted({*fields} ^ {*listed}):
+            yield f"the record {it[1]} " + (f"has {name}, and the page doesn't" if name in fields else f"has no {name}")
+
+
+def law_parts(text):
+    """The laws of the page, those of a paragraph or an item together, each part with the clauses that it names."""
+    starts = [it.start() for it in re.finditer(r"^(?:- )?`laws::", text, re.M)]
+    for begin, end in zip(starts, [*starts[1:], len(text)]):
+        part = re.split(r"^#", text[begin:end], flags=re.M)[0]
+        head = re.split(r"\n *- |: |\. ", part)[0]
+        items = re.findall(r"^ *- ((?:`\w+`(?:, )?)+):", part, re.M)
+        listed = re.findall(r"clauses ((?:`\w+`(?:, | and )?)+)", part.replace("\n", " "))
+        yield LAW.findall(head), {it for line in [*items, *listed] for it in re.findall(r"`(\w+)`", line)}
+
+
+def faults_of_laws(page):
+    known, said = contracts.calls_of("laws"), set()
+    for laws, clauses in law_parts(LAWS.search(page)[1]):
+        names = [f"laws::{module}::{name}" for module, name in laws]
+        said |= {*names}
+        wanted = {it for name in names for it in known.get(name, [])} - {DASH}
+        for it in sorted(wanted ^ clauses):
+            yield f"{', '.join(names)}: the clause {it} " + ("isn't named" if it in wanted else "doesn't exist")
+    for it in sorted(said - known.keys()):
+        yield f"there is no law {it}"
+    for it in sorted(known.keys() - said):
+        yield f"the law {it} isn't named"
+
+
+def faults(page):
+    """What is wrong with the page: a line for each."""
+    if page_made(page) != page:
+        yield "its columns aren't those of the sources: bin/run tests/gate/generated.py --write"
+    for it in ROW.finditer(page_made(page)):
+        if it[3] == UNSAID:
+            yield f"nothing says what {it[1]} promises by {it[2]}"
+    for crate in contracts.PUBLIC:
+        if crate not in [it[1] for it in SECTION.finditer(page)]:
+            yield f"there is no section of {crate}"
+    for it in re.findall(r"`((?:\w+::)+\w+)`", page):
+        crate = it.split("::")[0]
+        if crate in contracts.PUBLIC and it not in contracts.calls_of(crate):
+            yield f"there is no call {it}"
+    yield from faults_of_records(page)
+    yield from faults_of_laws(page)

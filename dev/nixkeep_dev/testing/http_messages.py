@@ -1,0 +1,82 @@
+"""Messages to the server of a store, and its replies."""
+import collections
+import contextlib
+import random
+import re
+import socket
+import time
+
+from nixkeep_dev.testing import report
+
+# The ports that `free_port` chooses from, and what holds the last of those that it chose. Cases choose from lower ones.
+PORTS, TAKEN = (10_000, 32_000), collections.deque(maxlen=100)
+
+# What a store says of itself.
+TOLD = [("root", "GET", f"/{it}") for it in ("paths", "roots", "live", "report")]
+
+
+def message(user, method, target, body=None):
+    length = "" if body is None else f"content-length: {len(body)}\r\n"
+    return f"{method} {target} HTTP/1.1\r\nstore-user: {user}\r\n{length}\r\n".encode() + (body or b"")
+
+
+def messages(asked):
+    return b"".join(message(*it) for it in asked)
+
+
+def lines(*pairs, payload=b""):
+    """A body: its entries, an empty line, and what follows."""
+    return "".join(f"{key}: {value}\n" for key, value in pairs).encode() + b"\n" + payload
+
+
+def replies(written):
+    """The whole replies one by one, each its head and its text; and what is left after them."""
+    found = []
+    while True:
+        head, end, rest = written.partition(b"\r\n\r\n")
+        length = re.search(rb"content-length: (\d+)", head)
+        if not end or not length or len(rest) < int(length[1]):
+            return found, written
+        found.append((head, rest[: int(length[1])]))
+        written = rest[int(length[1]) :]
+
+
+def all_replies(written, count):
+    """As many replies as there were messages, and nothing else."""
+    found, left = replies(written)
+    if left or len(found) != count:
+        report.fail(f"{len(found)} replies to {count} messages, and {left[:300]!r}")
+    return found
+
+
+def told(written):
+    """The replies to the messages of TOLD."""
+    return all_replies(written, len(TOLD))
+
+
+def connected(port, ran=None, timeout=None, within=150):
+    """A connection to a port of this machine, as soon as something listens there; None where the process has ended, or
+    nothing listens within `within` seconds."""
+    end = time.monotonic() + within
+    while time.monotonic() < end:
+        with contextlib.suppress(ConnectionRefusedError):
+            return socket.create_connection(("127.0.0.1", port), timeout)
+        if ran and ran.poll() is not None:
+            break
+        time.sleep(0.005)
+
+
+def free_port():
+    """A port of this machine where nobody listens, below those that the system gives to clients. Until this process
+    has chosen a hundred more, no other gets it from here: an abstract socket of its name is taken."""
+    while True:
+        port, taken = random.randrange(*PORTS), socket.socket(socket.AF_UNIX)
+        try:
+            taken.bind(f"\0nixkeep-test-port-{port}")
+        except OSError:
+            continue
+        # (nothing listens here to find that out: a program that is being started would hold it open for a while)
+        with socket.socket() as client:
+            if client.connect_ex(("127.0.0.1", port)):
+                TAKEN.append(taken)
+                return port

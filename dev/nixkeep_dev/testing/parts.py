@@ -1,0 +1,110 @@
+"""The parts of the tests: the scripts of each, and how much of each is tried where all run together."""
+import os
+from concurrent.futures import ThreadPoolExecutor
+
+from nixkeep_dev.testing import report, runs
+from nixkeep_dev.testing.runs import TESTS, file_of, options_of, run, scripts
+
+# This one tries some benchmarks without that program.
+BENCH = "tools/test_bench"
+# How much of each script is tried, where that isn't all: about a minute of one processor for each.
+BOUNDED = {
+    "compare/memory_and_files": ["--count", "10"],
+    "compare/model": ["--count", "2000", "--seed", str(report.today() * 100_000)],
+    "faults/refuse_memory": ["--count", "30"],
+    "faults/stop_writes": ["--count", "8"],
+    "faults/fail_streams": ["--count", "12"],
+    "faults/cut_heads": ["--count", "1500"],
+    "faults/hostile_clients": ["--count", "2"],
+    "tools/test_overview": ["--browser"],
+    BENCH: ["--count", "2"],
+}
+# The script that tries a team's deployment.
+TEAM = "../examples/team/try"
+# Those that take longest, the longest first: so at the end, when few are left, none of them goes on alone.
+LONGEST = [TEAM, "tools/test_cache", "gate/cases", "tools/test_remote", "tools/test_large", "faults/refuse_memory",
+           "faults/hostile_clients", "tools/test_closure", "faults/fail_streams", "faults/stop_writes",
+           "compare/nix_store", "compare/sqlite", "tools/test_explain", "tools/test_backup", "tools/test_overview"]
+# What more is tried in the gate, where the proofs take longer anyway.
+MORE = {"compare/model": ["--count", "20000"]}
+# What only the gate tries, since it takes minutes, or has itself what `rt ci` has built: whether it is given the
+# program, and its words.
+OF_GATE = {
+    "package/clean_machine": (True, []),
+    "gate/launched": (False, []),
+    "gate/by_rattle": (False, []),
+    "gate/refused": (False, []),
+}
+# What is tried of a script that takes minutes, where five minutes are to be taken for all.
+SHORT = {
+    "tools/test_remote": ["--count", "20"],
+    "compare/nix_store": ["--count", "3"],
+    "compare/sqlite": ["--count", "2"],
+    "tools/test_units": ["said"],
+    BENCH: ["commands"],
+    "compare/model": ["--count", "500"],
+    "faults/refuse_memory": ["--count", "8"],
+    "faults/stop_writes": ["--count", "2"],
+    "faults/fail_streams": ["--count", "6"],
+    "faults/cut_heads": ["--count", "500"],
+}
+# The checks of the repository, which need no program.
+CHECKS = ("checks", "documents", "generated", "started")
+
+
+def by_name():
+    """The scripts of each part by name."""
+    tools = [it.removeprefix("test_") for it in scripts("tools", "test_")]
+    return {
+        "compare": {it: file_of(f"compare/{it}") for it in scripts("compare")},
+        "faults": {it: file_of(f"faults/{it}") for it in scripts("faults")},
+        "tools": {it: file_of(f"tools/test_{it}") for it in tools},
+        "team": {"try": file_of(TEAM), "try_large": file_of(f"{TEAM}_large"), "swift": file_of("tools/try_swift"),
+                 **{it: file_of(f"tools/test_{it}") for it in ("cache", "overview", "hostile", "units")}},
+        "package": {"clean_machine": file_of("package/clean_machine"), "files": file_of("tools/test_package")},
+        "gate": {it: file_of(f"gate/{it}") for it in scripts("gate") if it != "gate"},
+    }
+
+
+class Part:
+    """A script of tests/ by name, what is given to it where it takes such an option, and further words."""
+
+    def __init__(self, name, given, more=()):
+        self.name, self.file, self.given, self.more = name, file_of(name), given, more
+
+    def run(self):
+        """Runs it; None where it needs the program of crates/bench, which isn't given: the toolchain has to build
+        that."""
+        if self.name != BENCH and "libraries" not in self.given and options_of(self.file, {"libraries": ""}):
+            return None
+        return run([self.file, *options_of(self.file, self.given), *self.more], False)
+
+
+def of_program(given, is_whole=False):
+    """The parts that try the program, those that take longest first. Where it isn't whole, less of some is tried, and
+    no machine is booted for the units."""
+    bounded, more = (BOUNDED, MORE) if is_whole else ({**BOUNDED, **SHORT}, {})
+    by_kind = {"faults": "", "compare": "", "tools": "test_"}
+    found = [f"{folder}/{it}" for folder, start in by_kind.items() for it in scripts(folder, start)]
+    found = [*LONGEST, *[it for it in found if it not in LONGEST]]
+    return [Part(it, given, [*bounded.get(it, []), *more.get(it, [])]) for it in found]
+
+
+def of_gate(given):
+    """The parts that only the gate runs: those that take longest first."""
+    return [Part(it, given if needs_program else {}, more) for it, (needs_program, more) in OF_GATE.items()]
+
+
+def side_by_side(found, begun=()):
+    """Runs parts side by side, and prints what each printed when it has ended; returns the runs. `begun` are more
+    calls, which begin first and are printed last."""
+    runs.compile_modules(os.path.dirname(TESTS))
+    processors = len(os.sched_getaffinity(0))
+    # (most of them wait now and then, but not the wrong bodies)
+    with ThreadPoolExecutor(len(begun) + processors if begun else 2 * processors) as pool:
+        first = [pool.submit(it) for it in begun]
+        others = [pool.submit(it.run) for it in found]
+        for it in [*others, *first]:
+            if ran := it.result():
+                runs.told(ran)
+        return [it.result() for it in [*first, *others]]

@@ -1,0 +1,41 @@
+"""What the tests may skip where a skip is a failure: a file of tests/gate/ names each, with the reason."""
+import fnmatch
+import re
+from pathlib import Path
+
+from nixkeep_dev.build import program
+
+NAME = "tests/gate/skips.txt"
+
+
+def allowed(text=None):
+    """The skips that are allowed, as pairs of a part and a pattern. Each has a reason: the indented lines after it."""
+    found, is_explained = [], True
+    for line in (Path(f"{program.HERE}/{NAME}").read_text() if text is None else text).splitlines():
+        if line.startswith("  "):
+            is_explained = True
+        elif line and not line.startswith("#"):
+            if not is_explained:
+                raise ValueError(f"{NAME}: {': '.join(found[-1])}: no reason")
+            part, _, what = line.partition(": ")
+            found, is_explained = [*found, (part, what)], False
+    if not is_explained:
+        raise ValueError(f"{NAME}: {': '.join(found[-1])}: no reason")
+    return found
+
+
+def is_like(pattern, text):
+    """Whether a text is a pattern, in which `*` is any text."""
+    return re.fullmatch(".*".join(map(re.escape, pattern.split("*"))), text, re.S) is not None
+
+
+def faults(ran, named):
+    """What a run skipped that isn't among these, a line each, and what it didn't do although nothing is said of it."""
+    said = ran.skips()
+    found = [f"{ran.name}: skipped: {it}" for it in said
+             if not any(fnmatch.fnmatchcase(ran.name, part) and is_like(what, it) for part, what in named)]
+    if ran.skipped and not said:
+        found.append(f"{ran.name}: {ran.skipped} skipped, and no line says what")
+    if not (ran.passed or ran.failed or ran.skipped):
+        found.append(f"{ran.name}: it ended well and tried nothing")
+    return found

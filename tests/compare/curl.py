@@ -1,0 +1,451 @@
+"""Asks a server on a port of this machine by curl, and compares what comes with what commands print.
+
+The same requests are made by curl over one connection, by curl over a connection for each, and by commands, over
+three files: each method of each route of the reference in docs/, what is denied and refused among them. Each reply
+has, byte by byte, the head that the reference describes, with the status of the command's answer, and the text that
+the command prints; and the three stores are the same at the end. Paths, archives and records are compared with what
+is computed here too. Then: methods that a route doesn't have, HEAD among them; bodies with a key of the reference
+left out, given twice or unknown to it; a connection that is kept, as curl says, and connections that end; bodies of
+16 MiB, in and out, for which curl sends `Expect: 100-continue` and goes on when nothing comes; a body that is too
+large; a client that closes in the middle of a reply, after which the next is served; and a store that has no room.
+Needs curl, and fails without it.
+"""
+import collections
+import contextlib
+import functools
+import glob
+import random
+import re
+import subprocess
+from pathlib import Path
+
+from nixkeep_dev.build import program
+from nixkeep_dev.testing import report
+from nixkeep_dev.testing.http_messages import lines
+from nixkeep_dev.testing.nar import STORE, archive, derivation, nar_hash, source_path, text_path
+from nixkeep_dev.testing.report import same, tell
+from nixkeep_dev.testing.requests import imported, path, text
+from nixkeep_dev.testing.store import Server, Store, small_files
+
+HERE = program.HERE
+PHRASES = {200: "OK", 400: "Bad Request", 403: "Forbidden", 404: "Not Found", 405: "Method Not Allowed",
+           503: "Service Unavailable"}
+NOT_FOUND = {23, 27, 28, 29}
+CONFIG = 'allowed-users = ["ann", "bob"]\n'
+RECORD = """StorePath: {store}/{path}
+URL: nar/{path}
+Compression: none
+FileHash: {digest}
+FileSize: 128
+NarHash: {digest}
+NarSize: 128
+References: {reference}
+CA: fixed:r:{digest}
+"""
+# The options of curl for each request.
+ALWAYS = """write-out = "%{num_connects} %{time_total}\\n"
+silent
+show-error
+verbose
+noproxy = "*"
+max-time = 60
+header = "store-group: users\""""
+MOST, MOST_OF_BODY = 16_777_216, 20_971_520
+
+
+# ---- what the reference says
+
+
+REFERENCE = Path(f"{HERE}/docs/REFERENCE.md").read_text()
+
+
+def routes():
+    """The methods of each route, by its pattern, as the table there has them."""
+    found, fixed = {}, []
+    for line in REFERENCE.splitlines():
+        row = re.match(r"\| ((?:GET|POST|DELETE)(?:, \w+)*) (?:\| )?(`/[^|]*`) \|", line)
+        for pattern in re.findall(r"`([^`]+)`", row[2]) if row else []:
+            found[pattern] = row[1].split(", ")
+    for name in glob.glob(f"{HERE}/crates/*/specs/Table.antt"):
+        fixed += re.findall(r'codes "(/[^"]+)"', Path(name).read_text())
+    same("the routes of the reference, next to those that are defined", sorted(found), sorted(fixed))
+    return found
+
+
+def fits(pattern, target):
+    return re.fullmatch(re.sub(r"\{\w+\}", "[^/]+", pattern), target)
+
+
+def head_of(status, length, media="text/plain", allow=None, closes=False):
+    fields = [f"content-type: {media}", *([f"allow: {', '.join(allow)}"] if allow else []),
+              *["connection: close"] * closes, f"content-length: {length}"]
+    return "\r\n".join([f"HTTP/1.1 {status} {PHRASES[status]}", *fields, "", ""]).encode()
+
+
+# ---- requests, and the commands that ask the same
+
+
+class Asked:
+    """A request over HTTP; its command and what that reads; and what is to come of both, where it is computed here."""
+
+    def __init__(self, user, route, command, wanted=None, body=b"", given=b""):
+        self.user, (self.method, self.target), self.words = user, route.split(), command.split()
+        self.wanted = wanted.encode() if isinstance(wanted, str) else wanted
+        self.body, self.given = body, given
+
+    def name(self):
+        return f"{self.user} {self.method} {self.target}"
+
+
+def requests():
+    """Requests one after another over one store, as those who are asked here find it."""
+    of_ann, of_root = functools.partial(Asked, "ann"), functools.partial(Asked, "root")
+    nar, drv = archive(b"mycontent\n"), archive(derivation({"out": "1" * 32 + "-o"}))
+    large, none, done = archive(random.Random(3).randbytes(200_000)), "7" * 32 + "-none", "done\n"
+    a, d = text_path("a", b"x"), "0" * 32 + "-d.drv"
+    f, o = source_path("myfile", nar, [a]), "1" * 32 + "-o"
+    full = lambda *paths: "".join(sorted(f"{STORE}/{it}\n" for it in paths))
+
+    def an_import(of_user, wanted, it, nar, *more):
+        body = imported(it, nar, *more)[3]
+        return of_user("POST /import", "import", wanted, body, body)
+
+    yield of_ann("GET /report", "report")
+    yield Asked("eve", "GET /report", "report", "denied: connect\n")
+    yield of_ann("POST /text", "add-text a", full(a), text("a", b"x"), b"x")
+    yield of_ann("POST /source", f"add-source myfile {a}", full(f), text("myfile", nar, a), nar)
+    yield of_ann("POST /source", "add-source cut", "refused: 1 truncated\n", text("cut", nar[:-1]), nar[:-1])
+    missing = "refused: 24 missing-reference\n"
+    yield of_ann("POST /text", f"add-text b {none}", missing, text("b", b"x", none), b"x")
+    yield an_import(of_ann, "denied: trusted-import\n", d, drv)
+    yield an_import(of_root, full(d), d, drv, ("reference", f))
+    yield an_import(of_root, full(o), o, large, ("reference", a), ("reference", o), ("deriver", d))
+    yield of_ann("GET /paths", "list", full(a, f, d, o))
+    yield of_ann(f"GET /info/{f}", f"info {f}", RECORD.format(store=STORE, path=f, digest=nar_hash(nar), reference=a))
+    yield of_ann(f"GET /info/{o}", f"info {o}")
+    yield of_ann(f"GET /info/{none}", f"info {none}", "refused: 23 not-valid\n")
+    yield of_ann(f"GET /nar/{f}", f"cat-nar {f}", nar)
+    yield of_ann(f"GET /nar/{o}", f"cat-nar {o}", large)
+    yield of_ann(f"GET /ls/{f}", "ls", "r 10 .\n", given=nar)
+    yield of_root("POST /root/permanent/ours", f"root --permanent ours {d}", done, path(d))
+    denied = "denied: trusted-permanent-root\n"
+    yield of_ann("POST /root/permanent/mine", f"root --permanent mine {d}", denied, path(d))
+    yield of_ann("POST /root/user/ann/mine", f"root mine {f}", done, path(f))
+    yield of_ann("POST /root/user/ann/mine", f"root mine {none}", "refused: 23 not-valid\n", path(none))
+    yield of_ann("POST /temp/ann/7", f"temp add 7 {o}", done, path(o))
+    yield of_ann("POST /temp/ann/0", f"temp add 0 {o}", "refused: 42 bad-session\n", path(o))
+    roots = lines(("root", f"/proc/1/exe {o}"), ("root", f"/proc/2/exe {none}"))
+    yield of_root("POST /runtime", "runtime", "runtime roots 1\n", roots, roots)
+    yield of_ann("POST /profile/ann/tools", f"profile set tools {a}", "generation 1\n", path(a))
+    yield of_ann("POST /profile/ann/tools", f"profile set tools {f}", "generation 2\n", path(f))
+    yield of_ann("POST /rollback/ann/tools", "profile rollback tools", "generation 1\n")
+    yield of_ann("POST /rollback/ann/tools", "profile rollback tools", "refused: 31 no-older-generation\n")
+    yield of_ann("POST /rollback/ann/play", "profile rollback play", "refused: 28 no-profile\n")
+    yield of_ann("POST /switch/ann/tools/2", "profile switch tools 2", "generation 2\n")
+    yield of_ann("POST /switch/ann/tools/007", "profile switch tools 007", "refused: 29 no-generation\n")
+    yield of_ann("DELETE /generation/ann/tools/2", "profile delete tools 2", "refused: 30 current-generation\n")
+    yield of_ann("DELETE /generation/ann/tools/1", "profile delete tools 1", done)
+    yield of_root("GET /roots", "roots")
+    yield of_ann("GET /roots", "roots")
+    yield of_ann(f"GET /roots-of/{a}", f"why {a}")
+    yield of_root(f"GET /roots-of/{a}", f"why {a}")
+    yield of_ann("GET /live", "live")
+    yield of_ann("GET /dead", "dead", "")
+    yield of_ann("POST /delete", f"delete {a}", f"denied: live gcroots/ours {STORE}/{d}\n", path(a))
+    yield of_root("DELETE /root/permanent/ours", "unroot --permanent ours", done)
+    yield of_ann("POST /delete", f"delete {d}", f"denied: live {{censored}} {STORE}/{o}\n", path(d))
+    yield of_root("POST /runtime", "runtime", "runtime roots 0\n", lines(), lines())
+    yield of_ann("DELETE /temp/ann/7", "temp end 7", "temporary roots 1\n")
+    yield of_ann("GET /dead", "dead", full(d, o))
+    ignoring = lines(("ignore-liveness", "true"))
+    yield of_ann("POST /collect", "gc --ignore-liveness", "denied: no-ignore-liveness\n", ignoring)
+    yield of_ann("POST /collect", "gc --max-freed 1", body=lines(("max-freed", 1)))
+    yield of_ann("GET /report", "report")
+    yield of_ann("POST /collect", "gc")
+    yield of_ann("DELETE /root/user/ann/mine", "unroot mine", done)
+    yield of_ann("DELETE /root/user/ann/mine", "unroot mine", "refused: 27 no-root\n")
+    kept = f"denied: live profiles/per-user/ann/tools-2-link {STORE}/{f}\n"
+    yield of_ann("POST /delete", f"delete {none} {f}", kept, lines(("path", none), ("path", f)))
+    yield of_ann("POST /delete", f"delete {none}", "refused: 23 not-valid\n", path(none))
+    yield of_ann("GET /paths", "list", full(a, f))
+
+
+def status_of(status, text):
+    """The status over HTTP for what a command says and ends with."""
+    if status in (0, 4):
+        return 403 if status else 200
+    return 404 if int(re.match(rb"refused: (\d+) ", text)[1]) in NOT_FOUND else 400
+
+
+# ---- servers, and curl
+
+
+@contextlib.contextmanager
+def serving(what, file, words, connections, ends=((0, b""),), prepare=None):
+    """A server on a port for some connections, which has to end with this status, and print this."""
+    # (one connection more finds out that it listens)
+    with Server(file, *words, connections=connections + 1, preexec_fn=prepare, restore_signals=not prepare) as server:
+        server.connect().close()
+        yield server.port
+        came = server.ended(30)
+        same(f"{what}: whether the server ends well, which ends with {came}", came in ends, True)
+
+
+Reply = collections.namedtuple("Reply", "head text connects seconds")
+
+
+class Curl:
+    """curl, with its files in a folder."""
+
+    def __init__(self, folder):
+        self.folder = folder
+
+    def __call__(self, port, asked, *more, output=None, status=0):
+        """Asks in one run of curl; gives the reply to each, and what curl says of its doing."""
+        config, files = [], []
+        for at, (user, method, target, body) in enumerate(asked):
+            head, text, sent = (Path(f"{self.folder}/{at}.{it}") for it in ("head", "text", "sent"))
+            files.append((head, text))
+            # (curl makes no file where nothing comes)
+            for it, data in ((head, b""), (text, b""), (sent, body)):
+                it.write_bytes(data)
+            config += [*["next"] * (at > 0), f'url = "http://127.0.0.1:{port}{target}"', f'request = "{method}"']
+            config += [f'header = "store-user: {user}"', f'output = "{output or text}"', f'dump-header = "{head}"']
+            config += [ALWAYS, *more, *[f'data-binary = "@{sent}"'] * bool(body)]
+        how = {"capture_output": True, "text": True, "errors": "replace"}
+        ran = subprocess.run(["curl", "-q", "-K", "-"], input="\n".join(config), **how)
+        if ran.returncode != status:
+            report.fail(f"curl ended with {ran.returncode}: {ran.stderr[-2000:]}")
+        told = [line.split() for line in ran.stdout.splitlines()]
+        found = [Reply(head.read_bytes(), text.read_bytes(), int(connects), float(seconds))
+                 for (head, text), (connects, seconds) in zip(files, told, strict=True)]
+        return found, ran.stderr
+
+
+def answers(what, reply, text, status=200, **head):
+    """A reply has this text, and the head for it."""
+    same(what, reply.head + reply.text, head_of(status, len(text), **head) + text)
+
+
+# ---- each route
+
+
+def try_routes(file, folder, curl):
+    """Each request over one connection, over one of its own, and by a command."""
+    asked, table, counts = list(requests()), routes(), collections.Counter()
+    for pattern, methods in table.items():
+        for method in methods:
+            if not any(it.method == method and fits(pattern, it.target) for it in asked):
+                report.fail(f"{method} {pattern} isn't asked here")
+    Path(config := f"{folder}/store.toml").write_text(CONFIG)
+    options, stores = ["--config", config], [Store(file, f"{folder}/{it}.db") for it in ("commands", "one", "each")]
+    over_one, over_each = ask_twice(file, options, folder, curl,
+                                    [(it.user, it.method, it.target, it.body) for it in asked])
+    options += ["--group", "users"]
+    for it, one, each in zip(asked, over_one, over_each):
+        ran = stores[0].run(*it.words, given=it.given, user=it.user, options=options)
+        counts[try_route(it, one, each, *ran)] += 1
+    for word in ("list", "roots", "live", "dead", "report"):
+        found = [it.run(word, options=options) for it in stores]
+        same(f"{word} over one connection", found[1], found[0])
+        same(f"{word} over a connection for each", found[2], found[0])
+    of_each = ", ".join(f"{count} with status {status}" for status, count in sorted(counts.items()))
+    tell(f"{len(asked)} requests, over one connection and over {len(asked)}, as commands answer them: {of_each}")
+
+
+def ask_twice(file, options, folder, curl, asked):
+    """The replies over one connection, and over a connection for each."""
+    with serving("one connection", file, [*options, "--db", f"{folder}/one.db"], 1) as port:
+        over_one, _ = curl(port, asked)
+    same("one connection: those that were made", [it.connects for it in over_one], [1] + [0] * (len(asked) - 1))
+    with serving("a connection for each", file, [*options, "--db", f"{folder}/each.db"], len(asked)) as port:
+        over_each = [curl(port, [it], 'header = "connection: close"')[0][0] for it in asked]
+    return over_one, over_each
+
+
+def try_route(it, one, each, printed, said, code):
+    """Compares replies with a command's outputs; returns their status."""
+    other, answer = (printed, said.encode()) if code else (said.encode(), printed)
+    same(f"{it.name()}: the other output of the command", other, b"")
+    if it.wanted is not None:
+        same(f"{it.name()}: the command", answer, it.wanted)
+    status = status_of(code, answer)
+    media = "application/octet-stream" if code == 0 and it.target.startswith("/nar/") else "text/plain"
+    for where, reply, closes in (("", one, False), (" over a connection of its own", each, True)):
+        same(f"{it.name()}: the text{where}", reply.text, answer)
+        same(f"{it.name()}: the head{where}", reply.head, head_of(status, len(answer), media, closes=closes))
+    return status
+
+
+def try_methods(file, _, curl):
+    """Methods that a route doesn't have; targets without a route."""
+    line = b"refused: 40 bad-method\n"
+    targets = {re.sub(r"\{\w+\}", "7", pattern): methods for pattern, methods in routes().items()}
+    asked = [(other, target, line, 405, methods) for target, methods in targets.items()
+             for other in ("GET", "POST", "DELETE", "PUT", "HEAD") if other not in methods]
+    none = ["/", "/path", "/paths/", "/paths?all=1", "/info/a/b", "/p%61ths", "/nix-cache-info"]
+    every = [*asked, *[("GET", target, b"refused: 39 no-route\n", 404, None) for target in none]]
+    with serving("methods", file, [], 1) as port:
+        found, _ = curl(port, [("ann", method, target, b"") for method, target, *_ in every])
+    for (method, target, wanted, status, allow), reply in zip(every, found):
+        answers(f"{method} {target}", reply, wanted, status, allow=allow)
+    # Asked for a head alone curl takes no text, and leaves it unread as it closes.
+    with serving("HEAD", file, [], 1, [(0, b""), (1, b"failed: input\n")]) as port:
+        (reply,), _ = curl(port, [("ann", "HEAD", "/paths", b"")], "head")
+    same("HEAD /paths", reply.head, head_of(405, len(line), allow=["GET"]))
+    tell(f"{len(asked)} methods that a route doesn't have, HEAD among them, and {len(none)} targets without a route")
+
+
+# ---- what the reference says of bodies
+
+
+def body_keys():
+    """The keys of each body as the table there has them: how often each may occur, by route; and whether a payload
+    follows."""
+    rooted = ["/root/permanent/{name}", "/root/user/{user}/{name}", "/profile/{user}/{name}", "/temp/{user}/{s}"]
+    table, found = REFERENCE.partition("| Body of |")[2].partition("\n\n")[0], {}
+    for of, keys, payload in re.findall(r"^\| (.*) \| (.*) \| (.*) \|$", table, re.M):
+        many = {}
+        for some, words in re.findall(r"((?:`[a-z-]+`(?:, )?)+) (at most once|once|any number of times)", keys):
+            many.update(dict.fromkeys(re.findall(r"`([a-z-]+)`", some), words))
+        for route in re.findall(r"`(/[^`]*)`", of) or (rooted if of.startswith("what sets") else []):
+            found[route] = many, payload != "none"
+    same("bodies of the reference", sorted(found),
+         sorted(["/text", "/source", "/import", "/runtime", "/collect", "/delete", *rooted]))
+    return found
+
+
+def some_bodies():
+    """Bodies that are read and such that aren't, each after its target: these lack a key, have one too often, or
+    another; or they have lines and payloads that aren't meant."""
+    nar, p = archive(b"x"), "0" * 32 + "-p"
+    values = {"name": "n", "path": p, "reference": p, "deriver": p, "nar-hash": nar_hash(nar),
+              "ca": f"fixed:r:{nar_hash(nar)}", "root": f"a {p}", "ignore-liveness": "false", "max-freed": "0"}
+    good, bad = [], []
+    for route, (keys, has_payload) in body_keys().items():
+        target = re.sub(r"\{\w+\}", "7", route)
+        payload = nar if has_payload else b""
+        body = lambda chosen, payload=payload: lines(*chosen, payload=payload)
+        once = [(key, values[key]) for key, words in keys.items() if words == "once"]
+        each = [(key, values[key]) for key in keys]
+        good += [(target, body(once)), (target, body(each)), (target, body(reversed(each)))]
+        good += [(target, body(each + [it])) for it in each if keys[it[0]] == "any number of times"]
+        bad += [(target, body([it for it in each if it != left])) for left in once]
+        bad += [(target, body(each + [it])) for it in each if keys[it[0]] != "any number of times"]
+        bad += [(target, body(each + [(key, "7")])) for key in [*values, "", "other"] if key not in keys]
+        bad += [(target, body([(key.upper(), value)] + [it for it in each if it[0] != key])) for key, value in each]
+        whole = body(each, b"")
+        bad += [(target, it) for it in (whole.replace(b": ", b":", 1), whole[:-1], b"\xff: 7\n" + body(each))]
+        if not has_payload:
+            bad.append((target, body(each, b"\n")))
+    bad += [("/rollback/7/7", it) for it in (b"7", b"path: " + p.encode() + b"\n\n", b"\n\n")]
+    return good, bad
+
+
+def try_bodies(file, _, curl):
+    good, bad = some_bodies()
+    with serving("bodies", file, [], 1) as port:
+        found, _ = curl(port, [("root", "POST", *it) for it in good + bad])
+    line = b"refused: 41 bad-body-head\n"
+    for (target, body), reply in zip(good + bad, found):
+        same(f"whether {target} is refused for its body {body[:300]!r}", reply.text == line, (target, body) in bad)
+    tell(f"{len(good)} bodies that are read, and {len(bad)} that aren't: keys left out, twice or unknown, other lines")
+
+
+def try_connections(file, _, curl):
+    """Connections that are kept, as curl reports it, and such that end."""
+    paths = [("ann", "GET", "/paths", b"")] * 3
+    with serving("connections", file, [], 1 + 3 + 3) as port:
+        kept, said = curl(port, paths)
+        closed, _ = curl(port, paths, 'header = "connection: close"')
+        old, _ = curl(port, paths, "http1.0")
+    same("a connection that is kept", [it.connects for it in kept], [1, 0, 0])
+    same("a connection that curl says to use again", len(re.findall(r"^\* Re-?using existing ", said, re.M | re.I)), 2)
+    same("connections that close", [it.connects for it in closed], [1, 1, 1])
+    same("connections of HTTP/1.0", [it.connects for it in old], [1, 1, 1])
+    for found, closes in ((kept, False), (closed, True), (old, True)):
+        for reply in found:
+            answers("GET /paths", reply, b"", closes=closes)
+    tell("a connection is kept for 3 requests, and ends after `connection: close` and HTTP/1.0")
+
+
+# ---- what is large
+
+
+class Large:
+    """Bodies of 16 MiB and more, and what their objects are."""
+
+    def __init__(self):
+        rng = random.Random(4)
+        self.nar, self.other = (archive(rng.randbytes(MOST - 112)) for _ in range(2))
+        self.path, self.p = source_path("large", self.nar), "0" * 32 + "-p"
+        self.add = "ann", "POST", "/source", text("large", self.nar)
+        self.imported = imported(self.p, self.other)
+        self.over = "ann", "POST", "/text", bytes(MOST_OF_BODY + 1)
+        self.long = "ann", "POST", "/source", text("long", archive(bytes(MOST - 104)))
+        self.gets = [("ann", "GET", f"/nar/{it}", b"") for it in (self.path, self.p)]
+
+
+def line_of(path):
+    return f"{STORE}/{path}\n".encode()
+
+
+def try_large(file, folder, curl):
+    large = Large()
+    at_once, waiting = 'header = "Expect:"', "Done waiting for 100-continue"
+    ends = [(1, b"failed: output\n")]
+    with serving("a client that goes away", file, ["--db", f"{folder}/large.db"], 7, ends) as port:
+        # curl asks whether it may go on, gets no answer, and sends the body when it has waited for a second
+        (added,), said = curl(port, [large.add])
+        came = ["Expect: 100-continue" in said, waiting in said, added.seconds >= 1]
+        same("a large body: what curl says", came, [True] * 3)
+        answers("a large body", added, line_of(large.path))
+        # both over one connection, at once
+        (taken, refused), said = curl(port, [large.imported, large.long], at_once)
+        same("a large body at once: what curl says", ["Expect" in said, waiting in said, refused.connects],
+             [False, False, 0])
+        answers("a large import", taken, line_of(large.p))
+        answers("an archive above 16 MiB", refused, b"refused: 8 too-large\n", 400)
+        # the reply comes while curl waits, or while it sends
+        for more in ([], [at_once]):
+            (reply,), _ = curl(port, [large.over], *more)
+            answers("a body that is too large", reply, b"refused: 38 too-large\n", 400, closes=True)
+        out = try_large_out(large, curl, port)
+    tell(f"16 MiB in by /source ({added.seconds:.1f} s, one for 100-continue), by /import ({taken.seconds:.1f} s), "
+         f"and out ({out:.2f} s); a body that is too large; a client that goes away")
+
+
+def try_large_out(large, curl, port):
+    """Both archives out, and a client that closes in the middle of one; returns the seconds of the first."""
+    found, _ = curl(port, large.gets)
+    for name, reply, nar in zip(("source", "import"), found, (large.nar, large.other)):
+        same(f"16 MiB out: the head of the {name}", reply.head, head_of(200, MOST, "application/octet-stream"))
+        same(f"16 MiB out: whether the bytes of the {name} are the same", reply.text == nar, True)
+    # curl can't write what comes, and closes in the middle of it
+    curl(port, large.gets[:1], output="/dev/full", status=23)
+    (next_one,), _ = curl(port, [("ann", "GET", "/paths", b"")])
+    same("after a client that went away", next_one.text, b"".join(sorted([line_of(large.path), line_of(large.p)])))
+    return found[0].seconds
+
+
+def try_no_room(file, folder, curl):
+    """A store whose file may not grow: what has failed has status 503, and the connection goes on."""
+    small, large = (("ann", "POST", "/text", text("a", it)) for it in (b"x", bytes(3_000_000)))
+    with serving("no room", file, ["--db", f"{folder}/limited.db"], 1, prepare=small_files) as port:
+        found, _ = curl(port, [small, large, ("ann", "GET", "/paths", b"")])
+    added, failed, listed = found
+    answers("room", added, line_of(text_path("a", b"x")))
+    same("why there is no room", failed.text in (b"failed: disk\n", b"failed: size\n"), True, failed.text)
+    answers("no room", failed, failed.text, 503)
+    answers("after what failed", listed, line_of(text_path("a", b"x")))
+    tell(f"no room: 503, {failed.text.decode().strip()}")
+
+
+def run(words):
+    file, curl = report.program_file(words), Curl(words.folder)
+    for tried in (try_routes, try_methods, try_bodies, try_connections, try_large, try_no_room):
+        tried(file, words.folder, curl)
+
+
+if __name__ == "__main__":
+    report.script(__doc__, run, need=["curl"])

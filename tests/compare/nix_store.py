@@ -1,0 +1,206 @@
+"""Compares stores of COUNT random graphs with stores of Nix that have the same objects.
+
+Nix makes the objects: folders, texts that refer to them, derivations over these, and outputs of some, which are
+registered with references and mostly a deriver. `nixkeep` gets their contents, texts and folders by an add and
+outputs by an import, and then roots. Compared are
+
+  - the path of each add, and the list of all;
+  - the archive, the record (Nix's as `nix copy` writes it, except the URL) and the listing (`nix store ls`) of each;
+  - the live and the dead under each of the four keep settings, and the roots that reach each path; Nix has each root
+    as a link of the same name under its folder of state;
+  - what is left after a collection.
+
+No object has a deriver that doesn't record it as its output, and roots of a path are compared where each output has its
+deriver: in any other case Nix's own walks differ from one another. Skipped where Nix isn't installed (Debian: nix-bin).
+"""
+import graphlib
+import itertools
+import json
+import os
+import subprocess
+from pathlib import Path
+
+from nixkeep_dev.testing import folders, nar, report
+from nixkeep_dev.testing.http_messages import lines
+from nixkeep_dev.testing.nix import NAME, TOOLS, Nix, apart
+from nixkeep_dev.testing.report import same
+from nixkeep_dev.testing.store import Store
+
+STORE = nar.STORE
+
+
+# ---- the objects, which Nix makes
+
+
+def name(rng, at):
+    return "n" + "".join(rng.choice(NAME + ".-") for _ in range(rng.randrange(12))) + str(at)
+
+
+def put_folder(rng, path):
+    folders.grow(rng, path, 2, lambda at: f"{rng.choice(['a', 'b c', 'é', '~', chr(92)])}{at}",
+                 lambda: rng.choice(["a", "/nowhere", "../b c"]),
+                 lambda: rng.randbytes(rng.choice([0, 1, 100, 70_000])), (4,), "folder")
+
+
+def expression(rng, folder, count):
+    """A Nix expression of `count` objects, each over some of those before: a list of their paths, and of the outputs
+    of derivations."""
+    kinds, bindings, told = {}, [], []
+    for at in range(count):
+        kind, before = rng.choice(["folder", "text", "text", "derivation", "derivation"]), list(kinds)
+        plain = [it for it in before if kinds[it] != "derivation"]
+        if kind == "folder":
+            put_folder(rng, f"{folder}/folder{at}")
+            bindings.append(f'o{at} = "${{builtins.path {{ path = ./folder{at}; name = "{name(rng, at)}"; }}}}";')
+        elif kind == "text":
+            refs = " ".join(f"${{{it}}}" for it in rng.sample(plain, min(len(plain), rng.randrange(4))))
+            bindings.append(f'o{at} = builtins.toFile "{name(rng, at)}" "text {at} {refs}\\n";')
+        else:
+            inputs = " ".join(f"${{{it}}}" for it in rng.sample(before, min(len(before), rng.randrange(4))))
+            outputs = " ".join(f'"{it}"' for it in ["out", "dev", "lib"][: rng.choice([1, 1, 2, 3])])
+            bindings.append(f'o{at} = derivation {{ name = "{name(rng, at)}"; system = "none"; builder = "/none"; '
+                            f'inputs = "{inputs}"; outputs = [ {outputs} ]; }};')
+        kinds[f"o{at}"] = kind
+        told.append(f"o{at}.drvPath" if kind == "derivation" else f"o{at}")
+    made = [it for it, kind in kinds.items() if kind == "derivation"]
+    outputs = " ".join(f'(map (it: [ {of}.drvPath "${{{of}.${{it}}}}" ]) {of}.outputs)' for of in made)
+    return f"let\n{chr(10).join(bindings)}\nin [ [ {' '.join(told)} ] (builtins.concatLists [ {outputs} ]) ]\n"
+
+
+def registered(rng, nix, outputs, has_derivers):
+    """Makes some of the outputs and registers them: with references to any path, and to themselves."""
+    paths, made = list(nix.objects()), []
+    for deriver, path in outputs:
+        if rng.random() < 0.3:
+            continue
+        Path(nix.place(path)).write_bytes(rng.randbytes(rng.choice([0, 10, 100_000])))
+        dump = nix("nix-store", "--dump", nix.place(path))
+        refs = sorted({*rng.sample(paths, min(len(paths), rng.randrange(4))), *([path] if rng.random() < 0.2 else [])})
+        if not has_derivers and rng.random() < 0.4:
+            deriver = rng.choice(["", f"{STORE}/{'0' * 32}-gone.drv"])
+        made.append((path, dump, deriver, refs))
+        paths.append(path)
+    nix.register(made)
+
+
+def made(rng, folder, count):
+    """A store of Nix, and whether each output in it has its deriver."""
+    nix, has_derivers = Nix(folder), rng.random() < 0.6
+    Path(f"{folder}/objects.nix").write_text(expression(rng, folder, count))
+    told = nix.value("--read-write-mode", f"{folder}/objects.nix")
+    registered(rng, nix, told[1], has_derivers)
+    return nix, has_derivers
+
+
+# ---- the same objects in a store of nixkeep
+
+
+def put_one(nix, kept, path, digest, deriver, refs, is_output):
+    _, _, of_name = path.rpartition("/")[2].partition("-")
+    dump = nix.archive(path)
+    if is_output:
+        digits = nix("nix-hash", "--type", "sha256", "--to-base32", digest).decode().strip()
+        pairs = [("path", path), ("nar-hash", f"sha256:{digits}"), *(("reference", it) for it in refs)]
+        came = kept("import", given=lines(*pairs, *[("deriver", deriver)] * bool(deriver), payload=dump))
+    elif os.path.isdir(nix.place(path)):
+        came = kept("add-source", of_name, *refs, given=dump)
+    else:
+        came = kept("add-text", of_name, *refs, given=nix.contents(path))
+    same(f"the path of {of_name}", came.decode(), f"{path}\n")
+
+
+def copied(nix, kept, objects, outputs):
+    """Puts each object after those that it refers to."""
+    refs_of = {path: {*refs} - {path} for path, (_, _, _, refs) in objects.items()}
+    for path in graphlib.TopologicalSorter(refs_of).static_order():
+        digest, _, deriver, refs = objects[path]
+        put_one(nix, kept, path, digest, deriver, refs, path in outputs)
+
+
+# ---- what is compared
+
+
+def compare_objects(nix, kept, objects, folder):
+    same("the list of all paths", kept.lines("list"), sorted(objects))
+    nix("nix", "copy", "--all", "--no-check-sigs", "--to", f"file://{folder}/cache?compression=none")
+    for path in objects:
+        theirs = Path(f"{folder}/cache/{path[len(STORE) + 1:][:32]}.narinfo").read_text().splitlines()
+        records = [[line for line in it if not line.startswith("URL: ")] for it in (kept.lines("info", path), theirs)]
+        same(f"the record of {path}", *records)
+        dump = kept("cat-nar", path)
+        same(f"the archive of {path}", dump, nix.archive(path))
+        tree = json.loads(nix("nix", "store", "ls", "--json", "--recursive", path))
+        ours = subprocess.run([kept.file, "ls"], input=dump, capture_output=True, check=True).stdout
+        same(f"the listing of {path}", ours.decode().splitlines(), nar.listing(tree))
+
+
+def put_roots(rng, nix, kept, paths):
+    """Sets roots of each kind, and a link of the same name for each under Nix's folder of state."""
+    for at in range(rng.randrange(3)):
+        kept("root", "--permanent", f"permanent{at}", rng.choice(paths))
+        kept("root", f"own{at}", rng.choice(paths), user=rng.choice(["ann", "bob"]))
+        for _ in range(rng.randrange(3)):
+            kept("profile", "set", f"profile{at}", rng.choice(paths), user=rng.choice(["ann", "bob"]))
+    for line in kept.lines("roots"):
+        label, target = line.split(" ")
+        os.makedirs(os.path.dirname(f"{nix.state}/{label}"), exist_ok=True)
+        os.symlink(target, f"{nix.state}/{label}")
+
+
+def settings(folder, outputs, derivations):
+    """The options of both for keep settings."""
+    found = {"keep-outputs": str(outputs).lower(), "keep-derivations": str(derivations).lower()}
+    Path(path := f"{folder}/keep.toml").write_text("".join(f"{key} = {it}\n" for key, it in found.items()))
+    return ["--config", path], [word for pair in found.items() for word in ("--option", *pair)]
+
+
+def compare_liveness(nix, kept, objects, folder, has_derivers):
+    for outputs, derivations in itertools.product((False, True), repeat=2):
+        ours, theirs = settings(folder, outputs, derivations)
+        what = f"with keep-outputs {outputs} and keep-derivations {derivations}"
+        for word in ("live", "dead"):
+            same(f"what is {word} {what}", kept.lines(word, options=ours),
+                 sorted(nix.lines(*apart(), "nix-store", "--gc", f"--print-{word}", *theirs)))
+        for path in objects if has_derivers else []:
+            lines = nix.lines(*apart(), "nix-store", "--query", "--roots", path, *theirs)
+            links = {line.partition(" -> ")[0] for line in lines}
+            same(f"the roots of {path} {what}",
+                 sorted(line.partition(" ")[0] for line in kept.lines("why", path, options=ours)),
+                 sorted(os.path.relpath(it, nix.state) for it in links))
+
+
+def compare_collection(rng, nix, kept, objects, folder):
+    ours, theirs = settings(folder, rng.random() < 0.5, rng.random() < 0.5)
+    gone = sorted(nix.lines("nix-store", "--gc", "--print-dead", *theirs))
+    nix("nix-store", "--gc", *theirs)
+    same("what a collection deletes", kept.lines("gc", options=ours),
+         [*gone, f"freed {len(gone)} paths {sum(objects[it][1] for it in gone)} bytes"])
+    same("what a collection leaves", kept.lines("list"), sorted(nix.objects()))
+
+
+def compare(rng, file, folder):
+    nix, has_derivers = made(rng, folder, rng.choice([0, 1, 10, 25]))
+    objects, kept = nix.objects(), Store(file, f"{folder}/store.db")
+    derivations = {path for path in objects if path.endswith(".drv")}
+    outputs = {it for path in derivations for it in nix.lines("nix-store", "--query", "--outputs", path)}
+    copied(nix, kept, objects, outputs)
+    compare_objects(nix, kept, objects, folder)
+    if objects:
+        put_roots(rng, nix, kept, sorted(objects))
+    compare_liveness(nix, kept, objects, folder, has_derivers)
+    compare_collection(rng, nix, kept, objects, folder)
+    nix.clear()
+    return len(objects)
+
+
+def run(words):
+    count, file = 0, report.program_file(words)
+    for at in range(words.count):
+        os.mkdir(folder := f"{words.folder}/{at}")
+        count += compare(words.rng, file, folder)
+    graphs = f"{words.count} graphs of {count} objects, their records, listings, roots, and what lives"
+    report.tell(f"seed {words.seed}: {graphs}")
+
+
+if __name__ == "__main__":
+    report.script(__doc__, run, 5, skip=TOOLS)

@@ -1,0 +1,163 @@
+"""Asks two servers at once, each by several clients, and compares every reply with the model.
+
+The servers have different stores with one store directory, so a path may be valid in one of them alone, or have other
+contents there. The clients of both begin together. Each makes connection after connection, and asks one request after
+another on each, of every kind, by trusted and allowed callers and strangers, as `nixkeep_dev.model` draws them. A
+server takes one connection at a time, so its connections have an order. The model answers them in this order, for
+each store alone, and each reply has to be the model's, byte for byte. In the end each file has to have the rows of its
+own model.
+COUNT pairs of servers are tried, and each server has to have done each kind of request.
+"""
+import collections
+import contextlib
+import os
+import socket
+import threading
+from concurrent.futures import ThreadPoolExecutor
+from pathlib import Path
+
+from nixkeep_dev.model import policy, runs, server, tables
+from nixkeep_dev.model.forms import TARGET
+from nixkeep_dev.model.scenarios import Scenarios
+from nixkeep_dev.model.store import Store
+from nixkeep_dev.model.worlds import World
+from nixkeep_dev.testing import report
+from nixkeep_dev.testing.http_messages import TOLD, message, replies
+from nixkeep_dev.testing.requests import kept, requests
+from nixkeep_dev.testing.store import Server
+
+CLIENTS, CONNECTIONS, MESSAGES = 4, 8, 6
+SIDES = "the first server", "the second server"
+CONFIG = """trusted-users = ["root", "@wheel"]
+allowed-users = ["ann", "bob"]
+keep-outputs = {}
+keep-derivations = {}
+"""
+
+
+class Side:
+    """One of the two stores: its configuration, and for each client what it asks on each of its connections."""
+
+    def __init__(self, name, seed):
+        self.name, scenarios = name, Scenarios(f"{seed} {name}")
+        self.config = CONFIG.format(*[scenarios.pick(["true", "false"]) for _ in range(2)]).encode()
+        scenarios.set_config(self.config, World())
+        # (a list of each kind comes on one connection, so nothing that others ask comes between)
+        self.clients = [[[message(*it) for it in [*requests(), *kept()]]], *[[] for _ in range(1, CLIENTS)]]
+        for asked in [it for _ in range(CONNECTIONS) for it in self.clients]:
+            asked.append(self.connection(scenarios))
+        # The connections in the order in which they were served: a client, which of its own it was, and its replies.
+        self.served = []
+
+    def connection(self, scenarios):
+        """What is asked on a connection, most of which fits what is there by then. The first closes no connection: the
+        order is written down when its reply has come."""
+        asked = [message(*scenarios.pick(TOLD))]
+        for _ in range(scenarios.rng.randint(1, MESSAGES)):
+            asked.append(scenarios.message())
+            if server.serve(scenarios.store, asked[-1])[1]:
+                break
+        return asked
+
+    def wanted(self):
+        """The replies of the model, connection by connection as they were served, and the rows that it has then."""
+        store, found = Store(policy.config_of(self.config), World()), []
+        for client, number, _ in self.served:
+            found.append([b"".join(server.serve(store, it)[0]) for it in self.clients[client][number]])
+        return found, tables.rows_of(store.world, store.dir)
+
+
+def reply(connection):
+    """The next reply, or what came of it before the end."""
+    came = b""
+    while not replies(came)[0]:
+        try:
+            more = connection.recv(1_048_576)
+        except ConnectionResetError:
+            more = b""
+        if not more:
+            break
+        came += more
+    return came
+
+
+def ask(running, side, client, both, start):
+    """Makes the connections of a client one after another, and writes down each in the order of those of its server,
+    and its server in the order of both."""
+    start.wait()
+    for number, asked in enumerate(side.clients[client]):
+        with running.connect() as connection:
+            came = []
+            for it in asked:
+                with contextlib.suppress(OSError):
+                    connection.sendall(it)
+                    if len(came) == len(asked) - 1:
+                        # (so what is no whole head is answered, and not waited for)
+                        connection.shutdown(socket.SHUT_WR)
+                came.append(reply(connection))
+                if len(came) == 1:
+                    # (until this client ends the connection, the server takes no other)
+                    side.served.append((client, number, came))
+                    both.append(side.name)
+
+
+def try_both(file, folder, sides):
+    """Has the clients of both ask, and returns how often the one server was served after the other."""
+    running, both, start = [], [], threading.Barrier(2 * CLIENTS)
+    with contextlib.ExitStack() as stack, ThreadPoolExecutor(2 * CLIENTS) as pool:
+        for at, side in enumerate(sides):
+            Path(f"{folder}/{at}.toml").write_bytes(side.config)
+            words = [file, "--config", f"{folder}/{at}.toml", "--db", f"{folder}/{at}.db"]
+            running.append(stack.enter_context(Server(*words)))
+        pairs = [(one, side, client) for one, side in zip(running, sides) for client in range(CLIENTS)]
+        for it in [pool.submit(ask, *pair, both, start) for pair in pairs]:
+            it.result()
+    return sum(one != other for one, other in zip(both, both[1:]))
+
+
+def compare(what, side, path):
+    """Compares each reply with the model's, and the rows; counts what came, by kind and answer."""
+    found, (wanted, rows) = collections.Counter(), side.wanted()
+    report.same(f"{what}: the connections", len(side.served), sum(map(len, side.clients)))
+    for at, ((client, number, came), meant) in enumerate(zip(side.served, wanted)):
+        for asked, one, other in zip(side.clients[client][number], came, meant):
+            report.same(f"{what}, connection {at}, of client {client}: the reply to {asked[:300]!r}", one, other)
+            found[kind_of(asked), answer_of(one)] += 1
+    report.same(f"{what}: the rows in the end", runs.rows_in(path), rows)
+    return found
+
+
+def kind_of(asked):
+    """The kind of a request; None where it has none."""
+    with contextlib.suppress(ValueError, server.Refused):
+        method, target, *_ = server.head_of(asked)
+        return server.route_of(target)[0].get(method)
+    return None
+
+
+def answer_of(came):
+    """What was answered, without what it is about."""
+    head, _, text = came.partition(b"\r\n\r\n")
+    words = text.decode("latin-1").split()
+    return "done" if b" 200 " in head.split(b"\r\n")[0] else " ".join(words[: 3 if "refused:" in words[:1] else 2])
+
+
+def run(words):
+    file, found, turns = report.program_file(words), [collections.Counter(), collections.Counter()], 0
+    for at in range(words.count):
+        sides = [Side(name, f"{words.seed} {at}") for name in SIDES]
+        os.mkdir(folder := f"{words.folder}/{at}")
+        turns += try_both(file, folder, sides)
+        for number, side in enumerate(sides):
+            found[number] += compare(f"pair {at}, {side.name}", side, f"{folder}/{number}.db")
+    for name, counted in zip(SIDES, found):
+        report.same(f"the kinds that {name} has never done",
+                    sorted({*TARGET} - {kind for kind, answer in counted if answer == "done"}), [])
+        answers = {answer for _, answer in counted}
+        report.tell(f"{name}: {sum(counted.values())} requests of {len(TARGET)} kinds with {len(answers)} answers")
+    report.right("the servers", not turns and "they were served one after the other, never at once")
+    report.tell(f"seed {words.seed}: {words.count} pairs, served in turns {turns} times")
+
+
+if __name__ == "__main__":
+    report.script(__doc__, run, 20)

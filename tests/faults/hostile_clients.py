@@ -1,0 +1,265 @@
+"""Serves an honest client while others are hostile, one kind of them after another.
+
+Hostile are: heads and bodies that come byte by byte, bodies that never end, replies that nobody reads, 1,000
+connections that say nothing, bodies of tiny lines, large bodies that can only be refused, whole and in small pieces,
+and connections that are reset in a head, a body or a reply. Each kind goes on for --count seconds, and lets go of the
+server then, since it serves one connection after another. Meanwhile an honest client opens one connection after
+another and asks for the paths of the store: each time it has to get them. A client that is never silent keeps the
+server as long as it likes, so an honest one may wait for the end of the attack; its answer has to come within 10
+seconds of that or, on a machine that is slow or busy, within the time of ten large bodies. What the slowest answer to
+it took is printed for each kind, and at the end how much memory the server had at most, which has to be below 96 MiB.
+
+With the part `limits`, servers are left alone with a client that stops within a head, within a body, between two
+messages or before reading a reply, or who reads a byte of it a second: they have to end by themselves when the limit
+of 60 seconds is over, at the latest in twice that time, and say what they should.
+"""
+import contextlib
+import functools
+import socket
+import struct
+import subprocess
+import tempfile
+import threading
+import time
+from concurrent.futures import ThreadPoolExecutor
+from pathlib import Path
+
+from nixkeep_dev.testing import report
+from nixkeep_dev.testing.http_messages import message, replies
+from nixkeep_dev.testing.nar import archive
+from nixkeep_dev.testing.requests import imported
+from nixkeep_dev.testing.store import Server
+
+MOST, LIMIT, GRANTED, SECONDS, AFTER, BODIES = 96, 60, 4, 6, 10, 10
+LARGE = 20_971_520
+CONFIG = 'trusted-users = ["root"]\nallowed-users = ["ann"]\n'
+CONTENTS = bytes(1_048_576)
+LISTED = f"/nix/store/{'0' * 32}-large\n".encode()
+
+
+class Target(Server):
+    """A server of a new store in a file."""
+
+    def __init__(self, file, folder, **how):
+        room = tempfile.mkdtemp(dir=folder)
+        Path(config := f"{room}/store.toml").write_text(CONFIG)
+        super().__init__(file, "--config", config, "--db", f"{room}/store.db", **how)
+        self.large, self.wrong = "0" * 32 + "-large", []
+
+    def asks(self, *asked):
+        """What comes on a connection of its own for a message, up to its end."""
+        with self.connect() as it:
+            it.sendall(message(*asked).replace(b"\r\n\r\n", b"\r\nconnection: close\r\n\r\n", 1))
+            return b"".join(iter(lambda: it.recv(65_536), b""))
+
+    def memory(self):
+        """The MiB of memory that it had at most."""
+        return int(Path(f"/proc/{self.ran.pid}/status").read_text().partition("VmHWM:")[2].split()[0]) / 1024
+
+
+# ---- hostile clients: each is given a server and a time to end at
+
+
+POST = b"POST /text HTTP/1.1\r\nstore-user: ann\r\ncontent-length: %d\r\n\r\n"
+
+
+def wait(until):
+    time.sleep(max(0, until - time.monotonic()))
+
+
+def trickle(front, server, until):
+    """One byte of a head or a body at a time."""
+    with server.connect() as it:
+        it.sendall(front)
+        while time.monotonic() < until:
+            it.sendall(b"x")
+            time.sleep(0.05)
+
+
+def pour(front, piece, server, until):
+    """Bytes without an end, as many as are taken."""
+    with server.connect() as it:
+        it.sendall(front)
+        it.settimeout(0.2)
+        while time.monotonic() < until:
+            with contextlib.suppress(TimeoutError):
+                it.sendall(piece)
+
+
+def bodies_never_ended(server, until):
+    with server.connect() as it:
+        it.sendall(message("ann", "POST", "/text", b"name: a\n\n" + bytes(LARGE - 9))[:-1])
+        wait(until)
+
+
+def bodies_too_large(server, until):
+    """A body that is refused for its length, sent whole in small pieces. Its sender hears so where it is sent in
+    the time that the server grants."""
+    since, came = time.monotonic(), b""
+    with server.connect() as it, contextlib.suppress(OSError):
+        since = time.monotonic()
+        it.sendall(POST % (LARGE + 1))
+        for _ in range((LARGE + 1) // 1024):
+            it.sendall(bytes(1024))
+        it.sendall(bytes(1))
+        came = b"".join(iter(lambda: it.recv(65_536), b""))
+    if not came.endswith(b"refused: 38 too-large\n") and time.monotonic() - since < GRANTED:
+        server.wrong.append(f"the sender of a body that is too large gets {came!r}")
+
+
+def replies_never_read(server, until):
+    with server.connect() as it:
+        it.setsockopt(socket.SOL_SOCKET, socket.SO_RCVBUF, 4096)
+        it.sendall(message("ann", "GET", f"/nar/{server.large}") * 32)
+        wait(until)
+
+
+def silent(server, until):
+    """1,000 connections at once. More wait than the system queues, so some are only asked for."""
+    with contextlib.ExitStack() as held:
+        for _ in range(1000):
+            it = held.enter_context(socket.socket())
+            it.setblocking(False)
+            it.connect_ex(("127.0.0.1", server.port))
+        wait(until)
+
+
+def answered(asked, server, until):
+    """Large bodies, each of one piece again and again, which have to be answered so."""
+    for user, target, piece, wanted in asked:
+        if time.monotonic() < until:
+            came = server.asks(user, "POST", target, piece * (LARGE // len(piece)))
+            if wanted not in came:
+                server.wrong.append(f"a body of {piece!r} to {target} is answered {came!r}")
+
+
+def resets(server, until):
+    """Connections that are reset within a head, a body and a reply."""
+    asked = [b"GET /pa", message("ann", "POST", "/text", bytes(9999))[:-99],
+             message("ann", "GET", f"/nar/{server.large}")]
+    while time.monotonic() < until:
+        for given in asked:
+            with server.connect() as it:
+                it.setsockopt(socket.SOL_SOCKET, socket.SO_LINGER, struct.pack("ii", 1, 0))
+                it.sendall(given)
+        time.sleep(0.01)
+
+
+TINY = [("ann", "/source", it, b"refused: 41 bad-body-head") for it in (b"a: \n", b"reference: \n", b"name: a\n")]
+TINY += [("ann", "/source", b"\n", b"")]
+REFUSED = [(*it, b"\0", b"HTTP/1.1 40") for it in (("eve", "/text"), ("ann", "/nowhere"), ("ann", "/paths"))]
+KINDS = {
+    "slow heads": functools.partial(trickle, b"GET /paths HTTP/1.1\r\nstore-user: "),
+    "slow bodies": functools.partial(trickle, POST % 1000 + b"name: "),
+    "bodies never ended": bodies_never_ended,
+    "bodies too large, in small pieces": bodies_too_large,
+    "bodies too large, without an end": functools.partial(pour, POST % 99_999_999_999, bytes(1024)),
+    "replies never read": replies_never_read,
+    "1,000 connections that say nothing": silent,
+    "bodies of tiny lines": functools.partial(answered, TINY),
+    "bodies that can only be refused": functools.partial(answered, REFUSED),
+    "resets": resets,
+}
+
+
+def attack(kind, server, until):
+    """One hostile client after another. That the server closes a connection is no fault of it."""
+    while time.monotonic() < until:
+        with contextlib.suppress(OSError):
+            kind(server, until)
+
+
+def granted(server):
+    """The seconds that an answer may take after an attack: those of some large bodies on this machine now, at least
+    10, and at most those after which a client is let go."""
+    since = time.monotonic()
+    server.asks("eve", "POST", "/text", bytes(LARGE))
+    return min(max(AFTER, BODIES * (time.monotonic() - since)), 2 * LIMIT)
+
+
+def try_kind(name, kind, server, seconds):
+    """What the honest client waited for the slowest answer, and how many came."""
+    until, count, slowest = time.monotonic() + seconds, 0, 0
+    with ThreadPoolExecutor(1) as pool:
+        hostile = pool.submit(attack, kind, server, until)
+        while time.monotonic() < until or not count:
+            since = time.monotonic()
+            came = replies(server.asks("ann", "GET", "/paths"))
+            if [it[1] for it in came[0]] != [LISTED]:
+                report.fail(f"{name}: the honest client gets {came!r}")
+            count, slowest = count + 1, max(slowest, time.monotonic() - since)
+            time.sleep(0.05)
+        hostile.result()
+    what = f"{name}: the honest client's answers"
+    is_late = slowest > seconds + AFTER and slowest > seconds + granted(server)
+    report.right(what, is_late and f"one took {slowest:.1f} s, and the attack {seconds} s")
+    if server.wrong:
+        report.fail(f"{name}: {server.wrong[0]}")
+    report.tell(f"  {name}: {count} answers, the slowest after {slowest:.2f} s; memory {server.memory():.1f} MiB")
+
+
+def crowd(words, file, folder):
+    with Target(file, folder, stderr=subprocess.DEVNULL) as server:
+        added = replies(server.asks(*imported(server.large, archive(CONTENTS))))
+        report.same("the answer to an import", [it[1] for it in added[0]], [LISTED])
+        for name, kind in KINDS.items():
+            try_kind(name, kind, server, words.count)
+        most = server.memory()
+        report.right("the memory of the server", most >= MOST and f"{most:.1f} MiB, and it may have {MOST}")
+        report.tell(f"the server had at most {most:.1f} MiB of memory")
+
+
+# ---- the time limits
+
+
+SIPS = "reads a byte of a reply each second"
+STOPS = {
+    "stops within a head": (b"GET /pa", (1, b"failed: input\n")),
+    "stops within a body": (message("ann", "POST", "/text", bytes(9))[:-1], (1, b"failed: input\n")),
+    "sends nothing": (b"", (1, b"failed: input\n")),
+    "stops between two messages": (message("ann", "GET", "/paths"), (1, b"failed: input\n")),
+    "reads nothing of a reply": (None, (1, b"failed: output\n")),
+    SIPS: (None, (1, b"failed: output\n")),
+}
+
+
+def sip(it):
+    with contextlib.suppress(OSError):
+        while it.recv(1):
+            time.sleep(1)
+
+
+def stop_at(file, folder, name):
+    """Leaves a server alone with such a client, and waits for its end."""
+    given, wanted = STOPS[name]
+    with Target(file, folder, connections=2 if given is None else 1) as server:
+        if given is None:
+            server.asks(*imported(server.large, archive(CONTENTS)))
+            given = message("ann", "GET", f"/nar/{server.large}") * 32
+        with server.connect() as it:
+            it.setsockopt(socket.SOL_SOCKET, socket.SO_RCVBUF, 4096)
+            since = time.monotonic()
+            it.sendall(given)
+            if name == SIPS:
+                threading.Thread(target=sip, args=[it], daemon=True).start()
+            return name, server.ended(2 * LIMIT + 20), wanted, time.monotonic() - since
+
+
+def limits(words, file, folder):
+    with ThreadPoolExecutor(len(STOPS)) as pool:
+        for name, came, wanted, seconds in pool.map(lambda it: stop_at(file, folder, it), STOPS):
+            report.same(f"a client that {name}", came, wanted)
+            what = f"a client that {name} is let go after {seconds:.1f} s"
+            report.right(what, not LIMIT - 1 < seconds < 2 * LIMIT + 10 and f"{LIMIT} s is the limit")
+            report.tell(f"  {what}")
+
+
+def run(words):
+    file = report.program_file(words)
+    for part in words.parts:
+        report.tell(part.__name__)
+        part(words, file, words.folder)
+
+
+if __name__ == "__main__":
+    report.script(__doc__, run, SECONDS, parts=[crowd, limits])

@@ -1,0 +1,137 @@
+"""Asks a server again and again, and compares its end with its beginning: descriptors, memory and time.
+
+Each connection adds a text, reads it, lists roots, asks for what isn't there, and is refused for a bad body, so each
+kind of reply is sent. After --count connections the server has to have the descriptors that it had after a tenth of
+them, at most 2 MiB more memory, and requests take at most four times as long: the store stays small, so nothing grows.
+A request is also compared with a round trip on loopback between two Python programs, which says how fast this machine
+is: it takes at most 100 times that, and 10 milliseconds where that is more. Times are the least of a tenth of the
+connections. Where other programs take the processors, that is asked for again, some times: a server that has become
+slow stays so, and a machine that is busy doesn't. With --minutes it goes on in between for so long, as `soak --minutes
+60` does by hand.
+"""
+import os
+import socket
+import statistics
+import threading
+import time
+from pathlib import Path
+
+from nixkeep_dev.testing import report
+from nixkeep_dev.testing.http_messages import message, replies
+from nixkeep_dev.testing.store import Server
+
+CONNECTIONS, MORE, SLOWER, ROUND_TRIPS, LEAST = 1000, 2048, 4, 100, 0.01
+# How many more tenths of the connections measure a time that is above its limit, and the seconds within which those
+# that have ended are closed.
+TIMES, SETTLED = 10, 30
+# What counts as no growth of a time, in seconds: other programs take the processors, too.
+LITTLE = 0.0005
+TEXT = b"name: soaked\n\nthe same each time\n"
+ASKED = [("POST", "/text", TEXT, 200), ("GET", "/roots", None, 200), ("GET", "/nothing", None, 404),
+         ("POST", "/text", b"name: a/b\n\nrefused\n", 400), ("GET", "/report", None, 200)]
+
+
+def round_trip():
+    """The median seconds in which a byte comes back on loopback."""
+    listener, seconds = socket.create_server(("127.0.0.1", 0)), []
+
+    def echo():
+        with listener.accept()[0] as it:
+            while data := it.recv(64):
+                it.sendall(data)
+
+    threading.Thread(target=echo, daemon=True).start()
+    with listener, socket.create_connection(listener.getsockname()) as it:
+        for _ in range(300):
+            since = time.monotonic()
+            it.sendall(b"x")
+            it.recv(64)
+            seconds.append(time.monotonic() - since)
+    return statistics.median(seconds)
+
+
+class Soaked(Server):
+    """A server, what it has at a time, and what a connection of all requests takes."""
+
+    def descriptors(self, most=None):
+        """How many it has open; the least of some looks, since it may still be closing a connection: of more looks as
+        long as there are more than `most`."""
+        looks, until = [], time.monotonic() + SETTLED
+        while len(looks) < 20 or most is not None and min(looks) > most and time.monotonic() < until:
+            looks.append(len(os.listdir(f"/proc/{self.ran.pid}/fd")))
+            time.sleep(0.02)
+        return min(looks)
+
+    def memory(self):
+        """The KiB that it has in memory now."""
+        return int(Path(f"/proc/{self.ran.pid}/status").read_text().partition("VmRSS:")[2].split()[0])
+
+    def ask_all(self):
+        """The seconds that a request took on a connection of all; their statuses have to be those that are meant."""
+        since = time.monotonic()
+        with self.connect() as it:
+            for method, target, body, _ in ASKED[:-1]:
+                it.sendall(message("ann", method, target, *[body] if body else []))
+            last = message("ann", *ASKED[-1][:2]).replace(b"\r\n\r\n", b"\r\nconnection: close\r\n\r\n", 1)
+            it.sendall(last)
+            came = b"".join(iter(lambda: it.recv(65_536), b""))
+        statuses = [int(head.split()[1]) for head, _ in replies(came)[0]]
+        if statuses != [it[3] for it in ASKED]:
+            report.fail(f"the statuses are {statuses}")
+        return (time.monotonic() - since) / len(ASKED)
+
+
+def least(server, count, most):
+    """The least seconds that a request took, of `count` connections, which says what the server takes, whatever else
+    this machine does; of more connections as long as that is above `most`."""
+    found = [server.ask_all() for _ in range(count)]
+    for _ in range(TIMES * count // 10):
+        if min(found) <= most:
+            break
+        found.append(server.ask_all())
+    return min(found)
+
+
+def in_time(seconds, most):
+    report.right("time", seconds > most and f"{seconds:.5f} s for a request, and at most {most:.5f} s are meant")
+
+
+def soak(server, count, minutes, most):
+    """Asks that often, and for so long: descriptors, memory and the least seconds, in the first tenth and in the last,
+    and how many connections there were."""
+    tenth, until, between = max(count // 10, 1), time.monotonic() + 60 * minutes, 0
+    first = least(server, tenth, most)
+    in_time(first, most)
+    files, before = server.descriptors(), server.memory()
+    while between < count - 2 * tenth or time.monotonic() < until:
+        server.ask_all()
+        between += 1
+    last = least(server, tenth, min(most, max(SLOWER * first, LITTLE)))
+    in_time(last, most)
+    return (files, before, first), (server.descriptors(files), server.memory(), last), between + 2 * tenth
+
+
+def more(asked):
+    asked.add_argument("--minutes", metavar="N", type=float, default=0, help="how long at least (0)")
+
+
+def run(words):
+    config = Path(words.folder, "store.toml")
+    config.write_text('allowed-users = ["ann"]\n')
+    trip = round_trip()
+    most = max(ROUND_TRIPS * trip, LEAST)
+    with Soaked(report.program_file(words), "--config", str(config), "--db", f"{words.folder}/store.db") as server:
+        (files, before, first), (files_after, after, last), count = soak(server, words.count, words.minutes, most)
+    # (how many more there were depends on this machine, so they aren't counted)
+    report.passes(words.count)
+    report.same("the open descriptors at the end", files_after, files)
+    report.right("memory", after > before + MORE and f"{before} KiB grew to {after} KiB in {count} connections")
+    is_slower = last > max(SLOWER * first, LITTLE)
+    report.right("time", is_slower and f"{first:.5f} s for a request grew to {last:.5f} s")
+    report.tell(f"{count} connections, {len(ASKED) * count} requests: {files} descriptors, {before} KiB and"
+                f" {1e6 * first:.0f} us at first, {files_after}, {after} KiB and {1e6 * last:.0f} us at last; a round"
+                f" trip takes {1e6 * trip:.0f} us")
+
+
+if __name__ == "__main__":
+    report.script(__doc__, run, CONNECTIONS, more)

@@ -1,0 +1,95 @@
+"""Measures which lines of the tools in Python their tests run.
+
+Runs the tests of the tools and of the deployment, with each Python process that they start measured by coverage
+(Debian: python3-coverage), and prints for each module the part of its lines that ran, the least first. The part of all
+lines may only rise: tests/gate/coverage.txt has the number, and --raise writes a higher one there. Tests that fail
+fail here too. The gate doesn't run it, since the tests take longer under it.
+"""
+import os
+import re
+import subprocess
+from concurrent.futures import ThreadPoolExecutor
+from pathlib import Path
+
+from nixkeep_dev.testing import parts, report, sabotage
+from nixkeep_dev.testing.lowered import Raised
+from nixkeep_dev.testing.runs import command, options_of, scripts
+
+NAME = "percent of the lines of tools"
+# The first line of a tool that reads nothing of its environment.
+ALONE = "#!/usr/bin/python3 -ES\n"
+# Where Debian has it. A Python of the same version that isn't Debian's is measured by it, too.
+COVERAGE = "/usr/lib/python3/dist-packages/coverage"
+NO_TOOL = ("test_launcher", "test_package", "test_release", "test_bench", "test_units")
+
+
+def copied(top):
+    """A copy of the repository in which each tool has a Python that reads its environment: else it isn't measured."""
+    sabotage.base(top)
+    for path in [it for it in Path(f"{top}/tools").glob("nixkeep-*") if it.read_text().startswith(ALONE)]:
+        path.write_text(path.read_text().replace(ALONE, "#!/usr/bin/python3\n", 1))
+    return top
+
+
+def prepare(folder, top):
+    """The environment in which each process of Python is measured."""
+    os.makedirs(f"{folder}/path")
+    os.symlink(COVERAGE, f"{folder}/path/coverage")
+    Path(f"{folder}/path/sitecustomize.py").write_text("import coverage\ncoverage.process_startup()\n")
+    Path(f"{folder}/settings").write_text(f"[run]\nsource = {top}/tools\nparallel = true\nsigterm = true\n"
+                                          f"data_file = {folder}/data\n")
+    return {**os.environ, "PYTHONPATH": f"{folder}/path", "COVERAGE_PROCESS_START": f"{folder}/settings"}
+
+
+def run_tests(file, environment, top):
+    """Runs the tests of a copy side by side: the names of those that fail."""
+    names = [f"{top}/tests/tools/{it}.py" for it in scripts("tools", "test_") if it not in NO_TOOL]
+    names.append(os.path.normpath(f"{top}/tests/{parts.TEAM}"))
+
+    def one(name):
+        words = command([name, *options_of(name, {"program": file})])
+        how = {"stdin": subprocess.DEVNULL, "stdout": subprocess.PIPE, "stderr": subprocess.STDOUT, "text": True}
+        ran = subprocess.run(words, env=environment, errors="replace", **how)
+        return f"{os.path.basename(name)}:\n{ran.stdout[-1500:]}" if ran.returncode else None
+
+    with ThreadPoolExecutor(len(os.sched_getaffinity(0))) as pool:
+        return [it for it in pool.map(one, names) if it]
+
+
+def measured(folder, top):
+    """The percent of the lines that ran, of all and of each module, the least first."""
+    words = ["/usr/bin/python3", "-m", "coverage"]
+    how = {"cwd": top, "stdout": subprocess.PIPE, "stderr": subprocess.STDOUT, "text": True}
+    subprocess.run([*words, "combine", f"--rcfile={folder}/settings", folder], **how)
+    told = subprocess.run([*words, "report", f"--rcfile={folder}/settings"], **how).stdout
+    rows = re.findall(r"^(\S+) +(\d+) +(\d+) +(\d+)%", told, re.M)
+    if not rows:
+        report.fail(f"coverage measured nothing: {told[-1000:]}")
+    found = {name: 100 * (1 - int(missed) / max(int(lines), 1)) for name, lines, missed, _ in rows}
+    # (a whole number: some lines run only if something takes its time)
+    return int(found.pop("TOTAL")), sorted(found.items(), key=lambda it: it[1])
+
+
+def more(asked):
+    asked.add_argument("--raise", action="store_true", dest="is_raised", help="write a higher number to coverage.txt")
+
+
+def run(words):
+    file, kept = report.program_file(words), Raised("coverage.txt")
+    folder, top = f"{words.folder}/coverage", copied(f"{words.folder}/copy")
+    failed = run_tests(file, prepare(folder, top), top)
+    for text in failed:
+        report.goes_wrong(f"a test fails where it is measured: {text}")
+    percent, modules = measured(folder, top)
+    for name, part in modules:
+        report.tell(f"{part:5.1f} % of {name.removeprefix(top + '/')}")
+    if words.is_raised:
+        kept.raise_to({NAME: percent})
+    is_kept, lines = kept.check(NAME, percent)
+    report.tell("\n".join([f"{percent} % of the lines of the tools ran", *lines]))
+    report.passes(is_kept)
+    return len(failed) + (not is_kept)
+
+
+if __name__ == "__main__":
+    report.script(__doc__, run, more=more, skip=["python3-coverage"])

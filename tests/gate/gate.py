@@ -1,0 +1,133 @@
+"""Runs `rt ci`, then all that tries the program that it built, and prints what took how long: `gate MINUTES`.
+
+After `rt ci` it compares the bytes of the program with those of release/. Then come, side by side: the wrong bodies
+that are always tried; the program as `bin/nixkeep` builds it, and as Rattle's own compiler does; the cases,
+comparisons, the tests of the tools, a clean Debian with the package, and a part of each fault script, chosen by the
+day. At the end is a table of processor minutes: for each crate its proof, its tests (proved and run) and its edits;
+then one of the parts, with the minutes of the clock too. Both begin with what took most. It fails where a part does,
+and where all took more than MINUTES. The whole is what the system counts; what each crate took is seen by looking at
+the running processes, so the row `else` has what no look has caught. The last lines are what was skipped, the
+comparison with the release, and `N passed, M failed`: those of `rt ci` and of each part and, where it is exceeded, the
+budget. The program stays, and bin/nixkeep runs it. bin/test calls this.
+"""
+import collections
+import os
+import re
+import shutil
+import sys
+import time
+from pathlib import Path
+
+from nixkeep_dev.build import program, release
+from nixkeep_dev.testing import parts, report, skips
+from nixkeep_dev.testing.libraries import BUILT
+from nixkeep_dev.testing.processes import children, processes
+from nixkeep_dev.testing.runs import file_of, run, spent, together
+
+TICKS = os.sysconf("SC_CLK_TCK")
+# The minutes that `rt ci` may take, and wrong bodies: on two processors each takes more than an hour.
+PROOFS, EDITS = 360, 120
+KINDS = ("proof", "tests", "edits")
+
+
+def work_of(pid):
+    """The crate for which a process of rt works, and which kind of work it does; None where it doesn't say."""
+    try:
+        words = Path(f"/proc/{pid}/cmdline").read_bytes().decode(errors="replace").split("\0")
+        room = os.readlink(f"/proc/{pid}/cwd")
+    except OSError:
+        return None
+    crate, of_tests = None, "--test" in words
+    in_crate = re.search(r"/crates/([a-z0-9_]+)$", room)
+    ran = re.search(r"/rt-run-[^/\0]*/bin/([a-z0-9_]+?)(_tests)?(?:\0|$)", "\0".join(words))
+    if "--crate-name" in words:
+        crate = words[words.index("--crate-name") + 1]
+    elif in_crate or ran:
+        crate = in_crate[1] if in_crate else ran[1]
+        of_tests = f"out/{crate}_tests.o" in words or bool(ran and ran[2])
+    return crate and (crate, "edits" if "/rt-edit-" in room else "tests" if of_tests else "proof")
+
+
+class Watch:
+    """The ticks of each process that a script has started, with all that this has started in turn."""
+
+    def __init__(self):
+        self.ticks, self.work = {}, {}
+
+    def look(self, top):
+        now = processes()
+        above = children(now)
+        for pid in above.get(top, []):
+            key, below, ticks = (pid, now[pid][1]), [pid], 0
+            while below:
+                at = below.pop()
+                ticks += now[at][2]
+                below += above[at]
+            self.ticks[key] = max(ticks, self.ticks.get(key, 0))
+            self.work[key] = self.work.get(key) or work_of(pid)
+
+    def minutes(self):
+        """Minutes by crate and kind."""
+        found = collections.defaultdict(collections.Counter)
+        for crate, kind, ticks in [(*self.work[key], it) for key, it in self.ticks.items() if self.work[key]]:
+            found[crate][kind] += ticks / TICKS / 60
+        return found
+
+
+def clear_libraries():
+    """Takes away the libraries of earlier checks, so that those of `rt ci` stay where it makes them."""
+    for crate in program.listed():
+        shutil.rmtree(f"{program.HERE}/crates/{crate}/out/rlib", ignore_errors=True)
+
+
+def try_parts():
+    """Runs wrong bodies and all parts side by side; returns the runs, and what was seen of the wrong bodies."""
+    watch, given = Watch(), {"program": program.FILE, "libraries": BUILT}
+    bodies = [file_of("gate/wrong_bodies"), "--gate"]
+    tried = [*parts.of_gate(given), *parts.of_program(given, is_whole=True)]
+    return parts.side_by_side(tried, [lambda: run(bodies, False, watch.look, EDITS)]), watch.minutes()
+
+
+def show_table(found, cases, whole, since):
+    rows = sorted(found.items(), key=lambda it: -sum(it[1].values()))
+    print(f"\n{'processor minutes':22}" + "".join(f"{it:>8}" for it in (*KINDS, "all")))
+    for crate, row in rows:
+        print(f"{crate:22}" + "".join(f"{row[it]:8.1f}" for it in KINDS) + f"{sum(row.values()):8.1f}")
+    other = whole - cases - sum(sum(row.values()) for row in found.values())
+    print(f"{'what tries the program':46}{cases:8.1f}\n{'else':46}{other:8.1f}")
+    columns = "".join(f"{sum(row[it] for _, row in rows):8.1f}" for it in KINDS)
+    print(f"{'together':22}{columns}{whole:8.1f}")
+    print(f"in {(time.monotonic() - since) / 60:.1f} minutes on {len(os.sched_getaffinity(0))} processors")
+
+
+def main():
+    asked = report.parser(__doc__)
+    asked.add_argument("budget", metavar="MINUTES", type=float, help="the processor minutes that all may take")
+    asked.add_argument("--no-skips", action="store_true", help=f"what is skipped fails, unless {skips.NAME} names it")
+    words = asked.parse_args()
+    budget, since, watch = words.budget, time.monotonic(), Watch()
+    clear_libraries()
+    runs = [run(["rt", "ci"], each_second=watch.look, limit=PROOFS)]
+    before, found, cases = spent() / 60, watch.minutes(), 0
+    is_same, compared = True, "not compared with release/: no program was built"
+    if runs[0].is_good():
+        is_same, compared = release.compare(program.FILE)
+        # (`launched` takes the libraries from there)
+        program.keep_built()
+        more, edits = try_parts()
+        runs += more
+        for crate, row in edits.items():
+            found[crate]["edits"] += row["edits"]
+        cases = max(spent() / 60 - before - sum(row["edits"] for row in edits.values()), 0)
+    whole = spent() / 60
+    show_table(found, cases, whole, since)
+    if whole > budget:
+        print(f"bin/test: {whole:.1f} processor minutes are more than its budget of {budget:g}")
+    anew = {*re.findall(r"^rt: (\w+) proved$", runs[0].output, re.M)}
+    said = f"proved anew: {len(anew)} of {len(program.listed())} crates; the others passed here before\n{compared}"
+    failed = int(whole > budget) + int(not is_same)
+    return together(runs, failed, say=lambda: report.tell(f"\n{said}"), may_skip=not words.no_skips)
+
+
+if __name__ == "__main__":
+    sys.exit(main())

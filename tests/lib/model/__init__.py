@@ -1,5 +1,0 @@
-"""A model of the whole store, written apart from the program: worlds are dictionaries, and reach is a search.
-
-It says what the program prints for a command line and what its server answers to a stream. `tests/compare/model
---self-test` tests the model itself on known values.
-"""
