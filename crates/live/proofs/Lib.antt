@@ -17,9 +17,11 @@ pub mod Heads
 pub mod Removals
 pub mod Listings
 pub mod Live
+pub mod Inward
 pub mod Looks
 pub mod Makings
 pub mod Members
+pub mod Named
 pub mod Nexts
 pub mod Numberings
 pub mod Order
@@ -33,6 +35,7 @@ pub mod Searching
 pub mod Visited
 pub mod UniqueGroups
 pub mod Texts
+pub mod Times
 pub mod Turned
 pub mod Turns
 pub mod Walked

@@ -13,7 +13,7 @@ range_push a (suc n) =
     let f : suc n + 1 ≡ suc (n + 1) = omega arith in
     ap (range_with_len a) f ∙ ap (λ xs. a ∷ xs) (range_push (a + 1) n ∙ ap (λ k. range_with_len (a + 1) n ++ k ∷ []) e)
 
-at_or_after : (a k : ℕ) → a ≤ k → (a ≡ k) ⊎ (a < k)
+pub at_or_after : (a k : ℕ) → a ≤ k → (a ≡ k) ⊎ (a < k)
 at_or_after a k h = elim (cases_eq a k) as (λ _. (a ≡ k) ⊎ (a < k)) [ inl same ↦ inl same | inr other ↦ inr (omega arith) ]
 
 -- ---- places that pass a test, and what they stand for

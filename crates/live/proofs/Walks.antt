@@ -52,7 +52,7 @@ further keep rows a m z r c = record { steps = r.steps ++ z ∷ []; walks = on a
     on a [] h = (subst (λ x. Contains (edges_at keep rows x) z) (sym h) c, refl)
     on a (b ∷ bs) h = (h.0, on b bs h.1)
 
-marked_none : (none : ℕ) (ws : List ℕ) (n : ℕ) → marked_cost none ws (replicate n none) ≡ 0
+pub marked_none : (none : ℕ) (ws : List ℕ) (n : ℕ) → marked_cost none ws (replicate n none) ≡ 0
 marked_none none [] n = refl
 marked_none none (w ∷ ws) zero = refl
 marked_none none (w ∷ ws) (suc n) =

@@ -15,4 +15,6 @@ pub mod Marking
 pub mod Numbering
 pub mod Places
 pub mod Reach
+pub mod Reaching
 pub mod Searched
+pub mod Sources

@@ -4,8 +4,8 @@ ghost use Rattle.live.specs.Keeping.{keep_view};
 ghost use Rattle.live.specs.Backward.{IsBackward};
 
 use crate::keeping::Keep;
-use crate::numbered::Graph;
-use crate::turning::turned;
+use crate::numbered::{Graph, Walker};
+use crate::turning::{Kinds, turned};
 use crate::walk::Walk;
 use std::alloc::{AllocError, Global};
 
@@ -19,11 +19,17 @@ pub(crate) fn backward(
     requires { All (λ t. t < length graph.now) named.now }
     ensures { IfOk result (λ v. IsBackward (keep_view keep) graph.now named.now v.items) }
 {
-    let into = turned(alloc, graph, keep)?;
+    let kinds = Kinds {
+        references: true,
+        outputs: keep.outputs,
+        derivers: keep.derivations,
+    };
+    let into = turned(alloc, graph, kinds)?;
+    let mut walker = Walker::new();
     let mut walk = Walk::new(alloc, 1, graph.len())?;
     walk.reach_all(1, 0, named)?;
     'work: while let Some(place) = walk.next() {
-        walk.reach_all(1, 0, into.sources_of(place))?;
+        walk.reach_sources(&mut walker, into.sources_of(place), true)?;
     }
     let Walk { first, .. } = walk;
     Ok(first)

@@ -2,6 +2,7 @@
 #![tactic(auto)]
 
 mod asking;
+mod asking_back;
 mod backward;
 mod collecting;
 mod expanding;
@@ -14,16 +15,19 @@ mod numbered;
 mod referring;
 mod remaining;
 mod room;
+mod turned_links;
 mod turning;
 mod waiting;
 mod walk;
+mod walking_back;
 
 pub use asking::{referrers, roots_of};
+pub use asking_back::{first_root_back, referrers_back, roots_back};
 pub use keeping::Keep;
 pub use laws::{
     closures_are_decided, edges_are_decided, first_roots_are_least, live_and_dead_part_the_paths,
-    liveness_is_decided, more_roots_keep_more, reach_is_closed, reach_is_decided,
-    references_always_keep,
+    liveness_is_decided, more_roots_keep_more, places_are_numbers, reach_is_closed,
+    reach_is_decided, references_always_keep,
 };
 pub use limited_laws::{
     a_limit_beyond_all_removes_all, a_limit_of_nothing_removes_nothing,
@@ -33,3 +37,5 @@ pub use limited_laws::{
 pub use limiting::limited;
 pub use marking::{Marks, mark};
 pub use numbered::{Graph, Root, Roots, Row, are_valid, do_rise, place_of};
+pub use turned_links::{Sources, TurnedLinks};
+pub use walking_back::{Reaching, walk_back};

@@ -126,6 +126,22 @@ impl Walker {
         roots.targets[root]
     }
 
+    /// A place is visited.
+    pub(crate) fn count_place(&mut self)
+        ensures { self.new ≡ reported (self.old + 1) }
+    {
+        self.steps = self.steps.saturating_add(1);
+    }
+
+    /// A source of a place.
+    pub(crate) fn read(&mut self, sources: &[u32], index: usize) -> usize
+        requires { index < length sources.now }
+        ensures { IsRead sources.now index self.old self.new result }
+    {
+        self.steps = self.steps.saturating_add(1);
+        sources[index] as usize
+    }
+
     /// An object's numbers of entries.
     pub(crate) fn object(&mut self, graph: &Graph, place: usize) -> Counts
         requires { place < length graph.now }
