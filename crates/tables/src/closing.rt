@@ -1,11 +1,13 @@
 //! Closing the connection of a store.
 
 ghost use Rattle.std.specs.Prelude.{⊤, MatchResult};
+ghost use Rattle.sqlite_store.specs.FileStore.{view};
+ghost use Rattle.sqlite_trees.specs.View.{IsClean};
 ghost use Rattle.sqlite_wal.specs.Reads.{AreClean};
 ghost use Rattle.sqlite.specs.Closing.{IsCopied};
-ghost use Rattle.sqlite.specs.Files.{IsClosed};
+ghost use Rattle.sqlite.specs.Files.{FailsToClose, IsClosed};
 
-use sqlite::{Connection, FileStore, Files, MemStore};
+use sqlite::{Connection, Error, FileStore, Files, MemStore};
 use tables_open::Disk;
 
 /// A storage whose connections, of type `C`, can be closed.
@@ -33,17 +35,14 @@ impl Close<Connection<MemStore>> for MemStore {
 }
 
 impl<D: Disk + Drop> Close<Connection<FileStore<D>>> for FileStore<D> {
-    type Left = Result<Files<D>, FileStore<D>>;
+    type Left = Result<Files<D>, (Error, FileStore<D>)>;
 
-    // The last commit is in the database file alone, as it reads now and after a crash. A failure gives no crash a new
-    // outcome.
+    // The last commit is in the database file alone, as it reads now and after a crash. A failure has its cause, and
+    // gives no crash a new outcome.
     ghost closes = { λ conn left. MatchResult left (λ files. AreClean D.Disk files.log files.db → IsCopied conn files)
-        (λ store. IsClosed conn store) };
+        (λ e. IsClosed conn e.1 × (IsClean (view e.1) → FailsToClose conn e.1 e.0)) };
 
-    fn close(conn: Connection<FileStore<D>>) -> Result<Files<D>, FileStore<D>> {
-        match conn.close_files() {
-            Ok(files) => Ok(files),
-            Err((_, store)) => Err(store),
-        }
+    fn close(conn: Connection<FileStore<D>>) -> Result<Files<D>, (Error, FileStore<D>)> {
+        conn.close_files()
     }
 }
