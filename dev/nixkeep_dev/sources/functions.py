@@ -64,15 +64,15 @@ def owner_of_type(found, module, texts):
 
 def owner_in(line, lines):
     """What a check calls an impl of a trait: its type, with its trait, and with what the trait is of where the type
-    has several of them, or where a parameter of the impl is in it."""
+    has several of them, or where that has arguments or a parameter of the impl in it."""
     of_trait, _, of_type = HEAD.sub("", line).rpartition(" for ")
     trait, _, argument = of_trait.partition("<")
-    parameters = re.findall(r"\w+", HEAD.match(line)[1] or "")
+    words, parameters = re.findall(r"\w+", argument), re.findall(r"\w+", HEAD.match(line)[1] or "")
     others = [it for it in lines if HEAD.sub("", it).startswith(trait + "<") and it.rpartition(" for ")[2] == of_type]
-    is_alone = len(others) < 2 and not {*parameters} & {*re.findall(r"\w+", argument)}
+    is_alone = len(others) < 2 and not {*parameters} & {*words} and "<" not in argument
     plain = lambda text: re.match(r"\w*", text.rpartition("::")[2])[0]
     # (io::Error is IoError there)
-    joined = "".join(it[:1].upper() + it[1:] for it in re.match(r"[\w:]*", argument)[0].split("::"))
+    joined = "".join(it[:1].upper() + it[1:] for it in words if it not in parameters)
     return plain(of_type) + plain(trait) + ("" if is_alone else joined)
 
 
