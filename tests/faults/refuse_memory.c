@@ -1,5 +1,6 @@
 /* Refuses the allocation REFUSE of a run: of all, or of those after the first byte of standard input was asked for
-   (REFUSE_FROM_INPUT), or after a file was opened (REFUSE_FROM_FILE). With REFUSE_BLOCKS each one of that many bytes or more. */
+   (REFUSE_FROM_INPUT), or after a file was opened (REFUSE_FROM_FILE). With REFUSE_BLOCKS each one of that many bytes or more.
+   Next to the allocations, the blocks are counted that were given and not freed. */
 #include "preload.h"
 #include <stdarg.h>
 #include <string.h>
@@ -34,12 +35,30 @@ int open(const char *path, int how, ...) {
   return next(path, how, mode);
 }
 
-#define ALLOCATES(call, ...) \
-  NEXT(call); \
-  return refuse(size) ? 0 : next(__VA_ARGS__)
+/* A block that was given, if it was. */
+static void *held(void *block) {
+  if (block) counts()->taken++;
+  return block;
+}
 
-void *malloc(size_t size) { ALLOCATES(malloc, size); }
+void *malloc(size_t size) {
+  NEXT(malloc);
+  return refuse(size) ? 0 : held(next(size));
+}
 
-void *realloc(void *old, size_t size) { ALLOCATES(realloc, old, size); }
+void *aligned_alloc(size_t to, size_t size) {
+  NEXT(aligned_alloc);
+  return refuse(size) ? 0 : held(next(to, size));
+}
 
-void *aligned_alloc(size_t to, size_t size) { ALLOCATES(aligned_alloc, to, size); }
+void *realloc(void *old, size_t size) {
+  NEXT(realloc);
+  if (refuse(size)) return 0;
+  return old ? next(old, size) : held(next(old, size));
+}
+
+void free(void *block) {
+  NEXT(free);
+  if (block) counts()->taken--;
+  next(block);
+}

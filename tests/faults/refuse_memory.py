@@ -10,11 +10,14 @@
             end, and answered that memory is wanting, or with what its head, its lines or a rule refuses or denies; one
             whose body isn't kept is answered as with ample memory; and so is the next one. A body that ends early is a
             bad length. Any other body that wants such a block ends the connection, without a reply
+  again     the worked rows of a collection up to a limit, of an import and of an archive that is served: after each
+            refusal the request is made once more, and succeeds
   openings  a command that opens files of each of the three schemas, which SQLite made: one that fails has left the rows
             as they were, or all those of the third schema. And files that are refused, or hold what a request is
             refused for
 
-With --count N, N allocations of each run are refused, chosen by the seed. Needs cc.
+Each run has to free all that it was given, whatever was refused. With --count N, N allocations of each run are refused,
+chosen by the seed. Needs cc.
 """
 import functools
 import itertools
@@ -27,9 +30,9 @@ from nixkeep_dev.testing.http_messages import lines as lines_of
 from nixkeep_dev.testing.nar import archive, text_path
 from nixkeep_dev.testing.preload import Loaded
 from nixkeep_dev.testing.refusals import all_refused
-from nixkeep_dev.testing.requests import LISTS, some_store
+from nixkeep_dev.testing.requests import LISTS, imported, some_store
 from nixkeep_dev.testing.store import copy, remove
-from nixkeep_dev.testing.tables import made_by, put
+from nixkeep_dev.testing.tables import Built, made_by, put
 
 FAILED = b"failed: memory\n"
 # How a message is answered that has failed: the head and the text.
@@ -42,7 +45,8 @@ class Refusing(Loaded):
     """Runs the program with an allocation refused, or none."""
 
     def run(self, words, given=b"", refused=0, **where):
-        return super().run(words, given, REFUSE=refused, **where)
+        came, (_, held) = super().run(words, given, REFUSE=refused, **where), self.counted()
+        return report.fail(f"nixkeep {' '.join(words)}: {held} blocks aren't freed", refused) if held else came
 
     def each(self, name, fault):
         """Refuses as many allocations in turn as the last run has asked for, or some: what is wrong with a run, or
@@ -190,6 +194,84 @@ def ask(served, request, before):
     return ample[1:]
 
 
+# ---- the request once more
+
+
+def freed(size, *paths):
+    """The text of a collection that deletes these paths, which have as many bytes each."""
+    lost = "".join(f"/nix/store/{it}\n" for it in paths)
+    return f"{lost}freed {len(paths)} paths {size * len(paths)} bytes\n".encode()
+
+
+def worked():
+    """Worked rows: the requests that make a store, or a store of the model; the request of which each allocation is
+    refused; and the text of the reply."""
+    p, x, y = "0" * 32 + "-p", "1" * 32 + "-x", "2" * 32 + "-y"
+    empty, small, long = archive(b""), archive(b"mycontent\n"), archive(b"x" * 65_432)
+    three = [imported(p, empty), *[imported(it, empty, ("reference", p)) for it in (x, y)]]
+    collect = lambda limit: ("ann", "POST", "/collect", lines_of(("max-freed", limit)))
+    yield three, collect(0), freed(112)
+    yield three, collect(1), freed(112, x)
+    yield [*three, collect(1)], collect(113), freed(112, p, y)
+    yield three, collect(2**64 - 1), freed(112, p, x, y)
+    yield cycle(p, x), collect(1), freed(112, p, x)
+    source, hashed = "xv2iccirbrvklck36f1g7vldn5v58vck-myfile", "1qwy7y49hyqd7kdpkyjfclz5fkfqalqapzc4v18lbibkx1yzdzib"
+    address = lines_of(("path", source), ("nar-hash", f"sha256:{hashed}"), ("ca", f"fixed:r:sha256:{hashed}"))
+    yield [], ("ann", "POST", "/import", address + small), f"/nix/store/{source}\n".encode()
+    yield [imported(p, long)], ("ann", "GET", f"/nar/{p}"), long
+
+
+def cycle(one, other):
+    """A store in which two objects refer to each other, as no requests make one."""
+    made = Built()
+    made.put(one, archive(b""))
+    made.put(other, archive(b""), [one])
+    made.world.objects[one] = made.world.objects[one]._replace(references=frozenset([other]))
+    return made
+
+
+def again(refusing):
+    served = Served(refusing)
+    served.where = {"REFUSE_FROM_INPUT": "1"}
+    refusing.put("settings.toml", "")
+    for made, request, text in worked():
+        remove(served.path)
+        if isinstance(made, Built):
+            put(served.path, made.rows(), made_by(3))
+        else:
+            served.over(served.path, made)
+        once_more(served, request, text)
+
+
+def once_more(served, request, text):
+    """Refuses each allocation of a request over a copy of the file, and makes the request once more."""
+    name = f"{' '.join(request[:3])}, once more"
+    over = lambda asked, refused=0: served.over(copy(served.path, served.spare), asked, refused)
+    ample, twice = [all_replies(over([*it, *TOLD])[1], len(it) + len(TOLD)) for it in ([request], [request] * 2)]
+    report.same(name, ample[0][1], text)
+    over([request])
+    total, _ = served.refusing.counted()
+    chosen = report.some(served.refusing.words, total, name)
+    for refused in chosen:
+        why = fault_of_both(served, request, over([request, request, *TOLD], refused), ample, twice)
+        report.right(f"{name}: allocation {refused} refused", why)
+    report.tell(f"{name}: {total} allocations, {len(chosen)} of them refused")
+
+
+def fault_of_both(served, request, ran, ample, twice):
+    """What is wrong with a run that was asked twice, or None: a request that failed is done the second time."""
+    status, written, errors = ran
+    came, left = replies(written)
+    if (status, errors) == (1, FAILED) and len(came) < 2:
+        # the connection has ended, and the request is made on the next one: it was done before, or wasn't
+        ran = served.over(served.spare, [request, *TOLD])
+        return None if all_replies(ran[1], 1 + len(TOLD)) in (ample, twice[1:]) else f"{came}, and then {ran}"
+    if [status, errors, left, len(came)] != [0, b"", b"", len(twice)]:
+        return f"status {status}, {len(came)} replies, {errors!r}"
+    wanted = [[FAILED_REPLY, *ample], [ample[0], FAILED_REPLY, *ample[1:]], twice]
+    return None if came in wanted else f"other replies: {came}"
+
+
 # ---- bodies that find no memory
 
 FAR = b"x" * 100_000
@@ -312,4 +394,4 @@ def run(words):
 
 
 if __name__ == "__main__":
-    report.script(__doc__, run, parts=[lines, store, bodies, openings], need=["cc"])
+    report.script(__doc__, run, parts=[lines, store, again, bodies, openings], need=["cc"])

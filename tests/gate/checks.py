@@ -7,7 +7,7 @@
   crates     each crate has a README.md, an edit that must fail where there is code, and the tactic in its root file
   selected   each edit that the gate always tries is there
   mistakes   each mistake of tests/gate/mistakes.txt has a wrong body that the gate always tries, or a wrong definition,
-             or a case
+             or a case, or a test in crates
   by_day     what the gate tries a part of each day, eight days try all of, and nothing of it twice
   counted    there are as many cases, steps, parts, tests in crates, wrong bodies and planted faults as
              tests/gate/counts.txt says; these numbers may only be raised, and --raise writes higher ones there
@@ -112,13 +112,15 @@ def selected():
 def mistakes():
     """What the table of mistakes names that the gate doesn't try."""
     tried = {*bodies.selected(), *(it for together in bodies.definitions() for it in together)}
+    tried |= {("case", Path(it).stem) for it in tracked("tests/cases/*.txt")}
+    tried |= {("test", it) for file in tracked("crates/tests/src/*.rt")
+              for it in re.findall(r"^#\[test\]\nfn (\w+)\(", text_of(file), re.M)}
     for line in text_of(MISTAKES).splitlines():
         if not line or line.startswith("#"):
             continue
         mistake, _, edits = line.rpartition(": ")
         for crate, edit in map(str.split, edits.split(", ")):
-            is_there = os.path.exists(f"{HERE}/tests/cases/{edit}.txt") if crate == "case" else (crate, edit) in tried
-            if not is_there:
+            if (crate, edit) not in tried:
                 yield f"{mistake}: the gate doesn't always try {crate} {edit}"
 
 

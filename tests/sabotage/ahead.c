@@ -114,6 +114,15 @@ int accept4(int fd, struct sockaddr *from, socklen_t *size, int how) {
 }
 #endif
 
+#ifdef FAULT_BLOCK_LOST
+static char *volatile block;
+ssize_t read(int fd, void *to, size_t size) {
+  NEXT(read);
+  if (fd == 0 && (block = malloc(9))) *block = 1;
+  return next(fd, to, size);
+}
+#endif
+
 #ifdef FAULT_SLOW_SENDS
 ssize_t send(int fd, const void *from, size_t size, int how) {
   NEXT(send);

@@ -34,6 +34,7 @@ OF_GATE = {
     "gate/launched": (False, []),
     "gate/by_rattle": (False, []),
     "gate/refused": (False, []),
+    "faults/refuse_memory": (True, ["again"]),
 }
 # What is tried of a script that takes minutes, where five minutes are to be taken for all.
 SHORT = {

@@ -39,5 +39,5 @@ class Loaded:
 
     def counted(self, counts=None):
         """How many calls were counted, and how many bytes had been taken when the fault came, one too many so that 0 is
-        none."""
+        none. Of allocations, how many blocks were given and not freed."""
         return struct.unpack("<QQ", Path(counts or self.counts).read_bytes())
