@@ -32,4 +32,6 @@ mod settings;
 #[cfg(test)]
 mod spent;
 #[cfg(test)]
+mod steps;
+#[cfg(test)]
 mod texts;

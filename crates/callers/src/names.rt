@@ -1,5 +1,7 @@
 //! A caller of `paths`: digits, names, paths and roots.
 use crate::fixtures::store_dir;
+use paths::labels::is_runtime_label;
+use paths::numbers::{MAX_GENERATION, MAX_SESSION, decimal, generation, is_session, session};
 use paths::{
     Base32Error, Name, NameError, Root, RootKind, StoreDir, StoreDirError, StorePath,
     StorePathError, base32, fold20, is_plain_name, unbase32,
@@ -78,6 +80,84 @@ fn plain_names(rt: HostRuntime) {
     assert!(rt; is_plain("ann"));
     assert!(rt; !is_plain("-ann"));
     assert!(rt; !is_plain(""));
+}
+
+fn is_label(text: &str) -> bool {
+    is_runtime_label(text)
+}
+
+// A label has 1 to 256 bytes, each from `!` to `~`.
+#[test]
+fn labels_of_runtime_roots(rt: HostRuntime) -> Result<(), Fail> {
+    let alloc = rt.alloc();
+    let longest = letters(alloc, 256)?;
+    let longer = letters(alloc, 257)?;
+    for (label, is) in [
+        ("/proc/1/exe", true),
+        ("!~", true),
+        (longest.as_str(), true),
+        (longer.as_str(), false),
+        ("a b", false),
+        ("a\x7f", false),
+        ("é", false),
+        ("", false),
+    ] {
+        assert!(rt; is_label(label) == is, "{label}");
+    }
+    Ok(())
+}
+
+fn number_of(text: &str) -> Option<u64> {
+    decimal(text)
+}
+
+#[test]
+fn decimal_numbers(rt: HostRuntime) {
+    for (text, number) in [
+        ("0", Some(0)),
+        ("18446744073709551615", Some(u64::MAX)),
+        ("18446744073709551616", None),
+        ("007", None),
+        ("+7", None),
+        ("-7", None),
+        ("", None),
+    ] {
+        assert_eq!(rt; number_of(text), number, "{text}");
+    }
+}
+
+/// The numbers of a generation and of a session that a text gives.
+fn numbers_of(text: &str) -> (u32, u64) {
+    (generation(text), session(text))
+}
+
+// Any other text gives 0, which no profile and no session has.
+#[test]
+fn numbers_of_generations_and_sessions(rt: HostRuntime) {
+    for (text, numbers) in [
+        ("1", (1, 1)),
+        ("9999", (9_999, 9_999)),
+        ("10000", (0, 10_000)),
+        ("4194304", (0, 4_194_304)),
+        ("4194305", (0, 0)),
+        ("01", (0, 0)),
+        ("0", (0, 0)),
+    ] {
+        assert_eq!(rt; numbers_of(text), numbers, "{text}");
+    }
+    assert!(rt; MAX_GENERATION == 9_999 && MAX_SESSION == 4_194_304);
+}
+
+/// Whether a session may have a number.
+fn may_be_session(number: u64) -> bool {
+    is_session(number)
+}
+
+#[test]
+fn numbers_of_sessions(rt: HostRuntime) {
+    for (number, is) in [(0, false), (1, true), (4_194_304, true), (4_194_305, false)] {
+        assert!(rt; may_be_session(number) == is, "{number}");
+    }
 }
 
 /// Whether a text is a name.
