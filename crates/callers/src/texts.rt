@@ -3,12 +3,14 @@ use crate::fixtures::{ADDRESS, MY_HASH, SOURCE, TEXT, path, store_dir};
 use paths::{Ca, StoreDir};
 use policy::Rule;
 use report::{
-    Failure, Refusal, denial_line, narinfo, path_line, paths_text, print_failure, push_denial,
-    refusal_line, refusal_text, reply_text, roots_text, usage_text,
+    Failure, Refusal, denial_line, failure_line, narinfo, path_line, paths_text, print,
+    print_failure, push_denial, refusal_line, refusal_text, reply_pieces, reply_text, roots_text,
+    usage_text,
 };
 use std::alloc::{AllocError, Global};
 use std::test::Fail;
 use store::{Answer, Failed, Info, Reply, Usage};
+use tables::Pieces;
 
 /// The record of the source of one file.
 const RECORD: &str = "StorePath: /nix/store/xv2iccirbrvklck36f1g7vldn5v58vck-myfile
@@ -128,6 +130,37 @@ fn lines_of_refusals(rt: HostRuntime) -> Result<(), Fail> {
     Ok(())
 }
 
+/// What a text prints, and the status.
+fn printed(alloc: Global, text: &str, status: u8) -> (Vec<u8>, u8) {
+    let mut writer = Vec::new(alloc);
+    let found = print(text, status, &mut writer);
+    (writer, found)
+}
+
+/// Whether a text is printed as it is, and the status is returned.
+fn is_printed(alloc: Global, text: &str, status: u8) -> bool {
+    let (writer, found) = printed(alloc, text, status);
+    found == status && writer.as_slice() == text.as_bytes()
+}
+
+#[test]
+fn texts_printed(rt: HostRuntime) {
+    for (text, status) in [("generation 2\n", 0), ("denied: own-root\n", 4), ("", 3)] {
+        assert!(rt; is_printed(rt.alloc(), text, status), "{text}");
+    }
+}
+
+#[test]
+fn lines_of_failures(rt: HostRuntime) {
+    for (failed, line) in [
+        (Failed::Memory, "failed: memory\n"),
+        (Failed::Size, "failed: size\n"),
+        (Failed::Disk, "failed: disk\n"),
+    ] {
+        assert!(rt; failure_line(failed) == line, "{line}");
+    }
+}
+
 #[test]
 fn line_of_a_failure(rt: HostRuntime) {
     let mut text = Vec::new(rt.alloc());
@@ -158,5 +191,57 @@ fn texts_of_replies(rt: HostRuntime) -> Result<(), Fail> {
     let text = texts_of(alloc, &dir, &replies)?;
     let wanted = b"done\ngeneration 2\ndenied: own-root\nrefused: 23 not-valid\nfailed: memory\n";
     assert!(rt; text.as_slice() == wanted.as_slice());
+    Ok(())
+}
+
+/// The number of pieces of the text of a reply, and the bytes of the first.
+fn first_piece(
+    alloc: Global,
+    dir: &StoreDir,
+    reply: Reply,
+) -> Result<(usize, Vec<u8>), AllocError> {
+    let pieces = reply_pieces(alloc, dir, reply)?;
+    let first = Vec::from_slice(alloc, pieces.first())?;
+    Ok((pieces.count(), first))
+}
+
+/// Whether the text of a reply is one piece, with these bytes.
+fn is_one_piece(
+    alloc: Global,
+    dir: &StoreDir,
+    reply: Reply,
+    bytes: &[u8],
+) -> Result<bool, AllocError> {
+    let (count, first) = first_piece(alloc, dir, reply)?;
+    Ok(count == 1 && first.as_slice() == bytes)
+}
+
+#[test]
+fn pieces_of_lines(rt: HostRuntime) -> Result<(), Fail> {
+    let alloc = rt.alloc();
+    let dir = store_dir(alloc)?;
+    let done = Reply::Done(Answer::Generation(2));
+    assert!(rt; is_one_piece(alloc, &dir, done, b"generation 2\n")?);
+    let denied = Reply::Denied(Rule::OwnRoot, None);
+    assert!(rt; is_one_piece(alloc, &dir, denied, b"denied: own-root\n")?);
+    let failed = Reply::Failed(Failed::Disk);
+    assert!(rt; is_one_piece(alloc, &dir, failed, b"failed: disk\n")?);
+    Ok(())
+}
+
+/// The answer of an archive that is a byte longer than a piece.
+fn two_pieces(alloc: Global) -> Result<Reply, AllocError> {
+    let mut nar = Pieces::new(alloc);
+    nar.push(&[7; 65_536])?;
+    nar.push(b"8")?;
+    Ok(Reply::Done(Answer::Archive(nar)))
+}
+
+#[test]
+fn pieces_of_an_archive(rt: HostRuntime) -> Result<(), Fail> {
+    let alloc = rt.alloc();
+    let dir = store_dir(alloc)?;
+    let (count, first) = first_piece(alloc, &dir, two_pieces(alloc)?)?;
+    assert!(rt; count == 2 && first.as_slice() == [7; 65_536].as_slice());
     Ok(())
 }
