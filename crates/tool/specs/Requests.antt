@@ -1,5 +1,5 @@
 -- The request that a subcommand makes to a store.
-use Rattle.std.specs.Prelude.{◌≡◌, ⊤, ℕ, Bool, true, false, is_ok, if◌then◌else◌, List, map, Option, Some, None, Result, Ok, Err}
+use Rattle.std.specs.Prelude.{◌≡◌, ⊤, ℕ, Bool, true, false, not, ◌||◌, is_ok, if◌then◌else◌, List, map, Option, Some, None, Result, Ok, Err}
 use Rattle.std.specs.List.{list_all}
 use Rattle.std.specs.Option.{option_map_or}
 use Rattle.clap.specs.Walk.{Text}
@@ -7,6 +7,7 @@ use Rattle.paths.specs.StorePath.{base_of}
 use Rattle.model.specs.World.{Path, World}
 use Rattle.policy.specs.Settings.{Settings}
 use Rattle.policy.specs.Caller.{Caller}
+use Rattle.model.specs.Disk.{reads_disk, touches_disk}
 use Rattle.model.specs.Request as request
 use Rattle.model.specs.Request.{Request}
 use Rattle.model.specs.Reply.{Reply}
@@ -134,6 +135,10 @@ reads_all import_object = true
 reads_all runtime = true
 reads_all (serve a) = true
 reads_all _ = false
+
+-- whether a request only reads: it is answered from the disk, or doesn't touch it
+abbrev pub only_reads : Request → Bool
+only_reads q = reads_disk q || not (touches_disk q)
 
 -- An answer was given. Unless `whole` is true, no more of the input was read than decides whether it is an archive.
 pub record AnswersReading (whole : Bool) (answers : Console → Type 0) (console : Console) : Type 0 where

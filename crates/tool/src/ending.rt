@@ -4,6 +4,7 @@ ghost use Rattle.policy.specs.Settings.{Settings};
 ghost use Rattle.model.specs.World.{World};
 ghost use Rattle.model.specs.Effects.{effect};
 ghost use Rattle.store_types.specs.View.{request_view};
+ghost use Rattle.tool.specs.Requests.{only_reads};
 
 use sqlite::{Alter, Connection};
 use store_types::Request;
@@ -11,7 +12,9 @@ use tables::Close;
 
 /// Whether a request only reads: it has no effect, whatever the store holds.
 pub(crate) fn reads(request: &Request) -> bool
-    ensures { result ≡ true → (settings : Settings) (w : World) → effect settings w (request_view request.now) ≡ w }
+    ensures exact { result ≡ only_reads (request_view request.now) }
+    ensures still { result ≡ true → (settings : Settings) (w : World)
+        → effect settings w (request_view request.now) ≡ w }
 {
     match request {
         Request::Info(_) | Request::Nar(_) | Request::Ls(_) => true,
