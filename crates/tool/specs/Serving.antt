@@ -1,19 +1,35 @@
 -- What `serve` does: the store is served over HTTP.
-use Rattle.std.specs.Prelude.{List, ℕ}
+use Rattle.std.specs.Prelude.{List, ℕ, Option}
 use Rattle.std.specs.Io.KnownBytes.{Keeps}
-use Rattle.httparse.specs.Grammar.{RequestHead}
+use Rattle.sqlite_trees.specs.declared.store.Store.{Ghosts}
+use Rattle.policy.specs.Settings.{Settings}
+use Rattle.model.specs.World.{World}
 use Rattle.report.specs.Outputs.{Console}
-use Rattle.wire_server.specs.Responses.{Replied}
-use Rattle.wire.specs.Ends.{ServesPort, ServesStreams}
+use Rattle.store.specs.View.{StoreView}
+use Rattle.wire.specs.Ends.{EndsPort, EndsStreams, ServedByWorlds, ServesByWorlds, ServesPort, ServesStreams}
+use Rattle.wire.specs.Worlds.{AnswersFrom}
 use Rattle.tool_words.specs.declared.line.ServeArguments.{ServeArguments}
 use Rattle.tool_words.specs.declared.line.ServeArguments.TheVariants.{Streams, Port}
 
--- on the two streams; or on a port, and then nothing goes to the streams
-abbrev pub ServesBy : {S : Type 0} → (S → RequestHead → List ℕ → Replied → S → Type 0) → ServeArguments → Console → S
-    → Type 0
-ServesBy answers Streams c old =
-    ServesStreams answers c.input.old c.written.output.old c.written.output.new c.written.errors.old
-    c.written.errors.new old c.written.status
-ServesBy answers (Port port n) c old =
-    Keeps c.written.output.old c.written.output.new
-    × ServesPort answers n c.written.errors.old c.written.errors.new old c.written.status
+module _ {S : Type 0}
+    (streams : Option (List ℕ) → Option (List ℕ) → Option (List ℕ) → Option (List ℕ) → Option (List ℕ) → S → ℕ → Type 0)
+    (port : ℕ → Option (List ℕ) → Option (List ℕ) → S → ℕ → Type 0) where
+  -- on the two streams; or on a port, and then nothing goes to the streams
+  abbrev pub ServesBy : ServeArguments → Console → S → Type 0
+  ServesBy Streams c old =
+      streams c.input.old c.written.output.old c.written.output.new c.written.errors.old c.written.errors.new old
+      c.written.status
+  ServesBy (Port number n) c old =
+      Keeps c.written.output.old c.written.output.new
+      × port n c.written.errors.old c.written.errors.new old c.written.status
+
+-- a world is served: each message that makes a request is answered by a step, from the world that the previous one left
+abbrev pub ServesWorld : Settings → ServeArguments → Console → World → Type 0
+ServesWorld s = ServesBy (ServesStreams (AnswersFrom s)) (ServesPort (AnswersFrom s))
+
+-- A store is served: each message that makes a request is answered by a call, from the store that the previous one
+-- left. From each world of the store before, these calls are steps to one of the store afterwards, if the disk is clean
+-- then.
+abbrev pub ServesStore : {S : Type 0} → Ghosts S → ServeArguments → Console → StoreView S → Type 0
+ServesStore g = ServesBy (λ known out out'. EndsStreams (ServedByWorlds g known out out') out out')
+    (λ n err. EndsPort (ServesByWorlds g n err) err)

@@ -10,8 +10,6 @@ use Rattle.policy.specs.Settings.{Settings}
 use Rattle.policy.specs.Caller.{Caller}
 use Rattle.tables.specs.TablesValue.{TablesValue, HasWorld}
 use Rattle.report.specs.Outputs.{Console}
-use Rattle.wire.specs.Answers as message
-use Rattle.wire.specs.Worlds.{AnswersFrom}
 use Rattle.tool_pure.specs.Printing.{IsPrinted}
 use Rattle.tool_words.specs.Asked.{asked_view}
 use Rattle.tool_words.specs.declared.line.ServeArguments.{ServeArguments}
@@ -19,7 +17,7 @@ use Rattle.tool.specs.declared.work.Work.{Work}
 use Rattle.tool.specs.declared.work.Work.TheVariants as work
 use Rattle.tool.specs.Calls.{AnswersIn, AnswersStep, Serves}
 use Rattle.tool.specs.Requests.{Ask, asks, reads_all}
-use Rattle.tool.specs.Serving.{ServesBy}
+use Rattle.tool.specs.Serving.{ServesStore, ServesWorld}
 
 -- what is done with a store
 pub data OnStore : Type 0 where
@@ -42,13 +40,13 @@ reads_whole (work.Serve a) = true
 abbrev pub DoesOver : {S : Type 0} → Ghosts S → Settings → TablesValue S → OnStore → Console → Type 0
 DoesOver g s t (calls c ask) console =
     AnswersIn (Serves g s t c console.written) ask s.store_dir c console.input console.written
-DoesOver g s t (serves a) console = ServesBy (message.Answers g) a console (record { tables = t; settings = s })
+DoesOver g s t (serves a) console = ServesStore g a console (record { tables = t; settings = s })
 
 -- work that is done in a world
 abbrev pub DoesIn : Settings → World → OnStore → Console → Type 0
 DoesIn s w (calls c ask) console =
     AnswersIn (AnswersStep s w c console.written) ask s.store_dir c console.input console.written
-DoesIn s w (serves a) console = ServesBy (AnswersFrom s) a console w
+DoesIn s w (serves a) console = ServesWorld s a console w
 
 -- how work is done with some store, under settings
 abbrev pub Doing : Type 1

@@ -5,12 +5,10 @@ ghost use Rattle.sqlite.specs.Held.{Held, state};
 ghost use Rattle.tool_words.specs.Asked.{optional_text};
 ghost use Rattle.model.specs.World.{World};
 ghost use Rattle.tables.specs.TablesValue.{HasWorld};
-ghost use Rattle.wire.specs.Answers as message;
-ghost use Rattle.wire.specs.Worlds.{AnswersFrom};
 ghost use Rattle.report.specs.Outputs.{change_of};
 ghost use Rattle.tool.specs.Answer.{AnswersServing};
 ghost use Rattle.tool.specs.Files.{DoesFile};
-ghost use Rattle.tool.specs.Serving.{ServesBy};
+ghost use Rattle.tool.specs.Serving.{ServesStore, ServesWorld};
 
 use crate::stores::with_tables;
 use crate::work::Work;
@@ -35,7 +33,7 @@ pub(crate) fn serve_over<S: Alter + Drop + Close<Connection<S>>, R: Read, W: Wri
 ) -> u8
     requires { tables.dir ≡ config.store_dir }
     ensures worlds { ((h : Held S) → HasCleanDisk (state S.Store h)) → (w : World) → HasWorld S.Store tables w
-        → ServesBy (AnswersFrom config) arguments
+        → ServesWorld config arguments
         (record {
           input = change_of R.remaining input.old input.new;
           written = record {
@@ -44,7 +42,7 @@ pub(crate) fn serve_over<S: Alter + Drop + Close<Connection<S>>, R: Read, W: Wri
             status = result;
           };
         }) w }
-    ensures served { ServesBy (message.Answers S.Store) arguments
+    ensures served { ServesStore S.Store arguments
         (record {
           input = change_of R.remaining input.old input.new;
           written = record {
