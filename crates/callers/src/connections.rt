@@ -33,6 +33,15 @@ fn served_on_streams(rt: HostRuntime) -> Result<(), Fail> {
     Ok(())
 }
 
+// A stream that ends before a message is none.
+#[test]
+fn served_without_a_message(rt: HostRuntime) -> Result<(), Fail> {
+    let (end, output) = served(rt.alloc(), b"")?;
+    assert_eq!(rt; end, Ok(0));
+    assert!(rt; output.is_empty());
+    Ok(())
+}
+
 /// Serves a new store on one connection, of which all faults are written. What is replied, and the faults.
 fn replied(alloc: Global, messages: &[u8]) -> Result<(u8, Vec<u8>, Vec<u8>), Fail> {
     let mut input = messages;
