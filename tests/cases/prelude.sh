@@ -55,11 +55,8 @@ without() {
 
 # ---- HTTP
 
-# `free_port`: a port where nobody listens. The fixed ports of pages are above 8,000, and scripts choose from 10,000 on.
-free_port() {
-  while port=$((2000 + RANDOM % 6000)) && (exec 3<>"/dev/tcp/127.0.0.1/$port") 2>/dev/null; do :; done
-  echo "$port"
-}
+# `free_port`: a port where nobody listens, which the case runner has chosen: a case has one, and scripts have others.
+free_port() { echo "$FREE_PORT"; }
 
 # `message LINE..`: the head of a message.
 message() { printf '%s\r\n' "$@" ''; }

@@ -1,5 +1,6 @@
 """Tests of nixkeep-cache and its server: a server as a child, servers that die, the limit of the file, sessions."""
 import contextlib
+import fcntl
 import os
 import random
 import re
@@ -7,6 +8,8 @@ import signal
 import socket
 import sqlite3
 import subprocess
+import sys
+import termios
 import threading
 import time
 import zlib
@@ -451,6 +454,12 @@ def left(words):
          (True, [True], 0))
 
 
+def not_read_by(pid):
+    """How many bytes of its standard input, a pipe, a process hasn't read."""
+    with open(f"/proc/{pid}/fd/0", "rb", buffering=0) as pipe:
+        return int.from_bytes(fcntl.ioctl(pipe, termios.FIONREAD, bytes(4)), sys.byteorder)
+
+
 def stopped(words):
     """A request that is under way when the cache has to end is answered."""
     with unit(words, "stopped") as store:
@@ -461,8 +470,8 @@ def stopped(words):
         os.kill(store.server(), signal.SIGSTOP)
         process.stdin.write(body(("name", "late"), payload=nar.regular_file(b"late")))
         process.stdin.close()
-        time.sleep(1)
         pid = store.server()
+        parts.until("the request has come to the server", lambda: not_read_by(pid))
         store.running.send_signal(signal.SIGTERM)
         time.sleep(0.5)
         os.kill(pid, signal.SIGCONT)
@@ -503,7 +512,7 @@ def held_up(words):
         for client, head in zip(clients, asked):
             client.connect(store.place)
             client.sendall(head.format("host: red\r\nstore-user: ann\r\n").encode())
-        time.sleep(1)
+        parts.until("the heads are read", lambda: ask(store.place, "ann", "GET", "/paths")[0] == 200)
         store.running.send_signal(signal.SIGTERM)
         began, ended = time.monotonic(), threading.Event()
 

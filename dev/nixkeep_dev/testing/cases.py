@@ -10,6 +10,7 @@ import tempfile
 from pathlib import Path
 
 from nixkeep_dev.build.program import HERE
+from nixkeep_dev.testing.http_messages import free_port
 
 CASES = f"{HERE}/tests/cases"
 # What a case may take.
@@ -132,10 +133,11 @@ def shown(output, errors, status):
 
 
 def environment(room):
-    """What the steps see: the program and the tools of the cases, before those of the system."""
+    """What the steps see: the program and the tools of the cases, before those of the system, and a port that no other
+    case or script chooses meanwhile."""
     tools = [f"{room}/bin", f"{CASES}/tools", "/usr/local/bin", "/usr/bin", "/bin", os.path.dirname(sys.executable)]
     places = {"HOME": f"{room}/work", "STEPS": f"{room}/steps", "PRELUDE": f"{CASES}/prelude.sh"}
-    return {**places, "PATH": ":".join(tools), "LANG": "C.UTF-8"}
+    return {**places, "PATH": ":".join(tools), "LANG": "C.UTF-8", "FREE_PORT": str(free_port())}
 
 
 def run_steps(steps, room, programs, seconds):

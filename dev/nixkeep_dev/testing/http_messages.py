@@ -8,7 +8,7 @@ import time
 
 from nixkeep_dev.testing import report
 
-# The ports that `free_port` chooses from, and what holds the last of those that it chose. Cases choose from lower ones.
+# The ports that `free_port` chooses from, and what holds the last of those that it chose. Pages have lower ones.
 PORTS, TAKEN = (10_000, 32_000), collections.deque(maxlen=100)
 
 # What a store says of itself.
