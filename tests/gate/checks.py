@@ -136,6 +136,11 @@ def by_day():
         came = collections.Counter(it for day in range(days.DAYS) for it in of_day(report.today() + day))
         if came != collections.Counter(meant):
             yield f"{days.DAYS} days try {came.total()} {what}, of {len(meant)}"
+    for day in range(days.DAYS * days.ROUNDS):
+        if sorted(days.in_turn(every, day)) != sorted(every):
+            yield f"in its turn day {day} has other edits"
+    if days.Bound(10_000).leaves_out(every):
+        yield "a bound leaves out all, although its minutes aren't spent"
     if sorted(every) != sorted([*bodies.selected(), *bodies.others(), *definitions]):
         yield f"of {len(every)} further edits some are tried on no day, or twice"
 

@@ -9,7 +9,8 @@ beneath are those that lie in the folders out/, as `rt ci` leaves them, or `rt l
 
 A NAME is a crate, whose edits of bodies are tried too, or CRATE/EDIT. With --today it tries those of a day, by --seed:
 each has one of eight days, so all are tried within eight days. With --minutes no further edit is tried once these
-processor minutes are spent, and then it fails.
+processor minutes are spent: the last lines say how many are left out, which counts as skipped. Each eight days begin
+with other edits than the eight days before, so what is left out then is tried later.
 """
 import os
 import re
@@ -80,7 +81,7 @@ def judged(status, said, changed):
     return f"NOT REFUSED for what it says:\n{said[-600:]}"
 
 
-def tried(crate, edit, named, kept):
+def why_not(crate, edit, named, kept):
     """Tries an edit alone, over what was kept of each crate: why it isn't refused, or None."""
     changed = changes_of(crate, edit)
     among = [it for it in program.with_below(crate, named) if {*program.with_below(it, named)} & {*changed}]
@@ -96,16 +97,15 @@ def tried(crate, edit, named, kept):
     return "NOT REFUSED"
 
 
-def try_crate(crate, edits, named, minutes):
+def try_crate(crate, edits, named, bound):
     """Tries edits of a crate one after another: how many were refused."""
     refused = 0
     with tempfile.TemporaryDirectory(prefix="rt-edits-") as kept:
         for at, edit in enumerate(edits):
-            if minutes and spent() > 60 * minutes:
-                report.goes_wrong(f"{crate}: {len(edits) - at} edits aren't tried, since {minutes:g} minutes are spent")
+            if bound.leaves_out(edits[at:]):
                 break
             since = time.monotonic()
-            why = tried(crate, edit, named, kept)
+            why = why_not(crate, edit, named, kept)
             refused += why is None
             told = f"{crate}/{edit.name}: {why or 'refused'} ({time.monotonic() - since:.0f} s)"
             (report.goes_wrong if why else report.tell)(told)
@@ -124,22 +124,23 @@ def chosen(words):
 
 
 def more(asked):
-    asked.add_argument("--today", action="store_true", help=f"those of a day, by --seed: all in {days.DAYS} days")
-    asked.add_argument("--minutes", metavar="N", type=float, help="the processor minutes that may be spent")
+    days.add_to(asked)
     asked.add_argument("names", nargs="*", metavar="NAME", help="a crate that has further edits, or CRATE/EDIT")
 
 
 def run(words):
-    (found, count), named = chosen(words), program.listed()
+    (found, count), named, bound = chosen(words), program.listed(), days.Bound(words.minutes)
     if not found:
         report.fail("no edit has this name")
-    by_crate = {crate: [it for it in bodies.further(crate) if (crate, it.name) in found]
-                for crate in dict.fromkeys(crate for crate, _ in found)}
+    edits = {(crate, it.name): it for crate in {crate for crate, _ in found} for it in bodies.further(crate)}
+    by_crate = {crate: [edits[it] for it in found if it[0] == crate] for crate in dict.fromkeys(it[0] for it in found)}
     lanes = max(1, min(len(os.sched_getaffinity(0)), int(program.free() / MEMORY)))
     with ThreadPoolExecutor(lanes) as pool:
-        refused = sum(pool.map(lambda it: try_crate(*it, named, words.minutes), by_crate.items()))
+        refused = sum(pool.map(lambda it: try_crate(*it, named, bound), by_crate.items()))
     report.passes(refused)
-    report.tell(f"{refused} of {len(found)} edits refused, of {count}, in {spent() / 60:.1f} processor minutes")
+    tried = len(found) - len(bound.left_out)
+    report.tell(f"{refused} of {tried} edits refused, of {count}, in {spent() / 60:.1f} processor minutes")
+    bound.tell("wrong definitions", tried)
     return len(report.wrong)
 
 

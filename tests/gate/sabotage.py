@@ -8,8 +8,10 @@ reason there, and must not be noticed: an excuse ends with its reason. A NAME is
 words of its part. It needs cc, git and what the parts need.
 
 With --today it tries those of a day, by --seed: each fault has one of eight days, so all are tried within eight days.
-The days take about as long as one another, by the processor seconds of each part in tests/sabotage/costs.txt. --costs
-plants nothing: it runs the parts, and writes this file.
+The days take about as long as one another, by the processor seconds of each part in tests/sabotage/costs.txt. With
+--minutes no further one is planted once these processor minutes are spent: the last lines say how many are left out,
+which counts as skipped. Each eight days begin with other faults than the eight days before. --costs plants nothing: it
+runs the parts, and writes that file.
 """
 import contextlib
 import os
@@ -21,7 +23,7 @@ import time
 from concurrent.futures import ThreadPoolExecutor
 
 from nixkeep_dev.testing import days, report, sabotage
-from nixkeep_dev.testing.runs import command, options_of
+from nixkeep_dev.testing.runs import command, options_of, spent
 
 # What a part may take. One that doesn't end has noticed the fault.
 SECONDS = 900
@@ -77,14 +79,18 @@ def copied(base, room):
     return f"{room}/nixkeep"
 
 
-def without_fault(base, part, program):
-    """A run of a part where nothing is wrong."""
+def without_fault(base, part, program, bound):
+    """A run of a part where nothing is wrong; None where the bound leaves it out."""
+    if bound.is_spent():
+        return None
     with tempfile.TemporaryDirectory(prefix="sabotage-") as room:
         return Run(copied(base, room), part, program)
 
 
-def with_fault(base, fault, program):
-    """A run of the part that has to notice a fault, with it."""
+def with_fault(base, fault, program, bound):
+    """A run of the part that has to notice a fault, with it; None where the bound leaves it out."""
+    if bound.leaves_out([fault]):
+        return None
     with tempfile.TemporaryDirectory(prefix="sabotage-") as room:
         top = copied(base, room)
         if fault.is_of_program():
@@ -98,12 +104,12 @@ def chosen(words):
     found = sabotage.table()
     if words.names:
         return [it for it in found if any(name in f"{it.name} {' '.join(it.part)}" for name in words.names)]
-    return sabotage.of_day(words.seed) if words.today else found
+    return days.in_turn(sabotage.of_day(words.seed), words.seed) if words.today else found
 
 
 def judge(fault, plain, ran):
     """Counts a fault, and prints how it was noticed."""
-    part = f"{' '.join(fault.part)}, {ran.seconds:.0f} s" if ran else " ".join(fault.part)
+    part = f"{' '.join(fault.part)}, {ran.seconds:.0f} s"
     if plain.status != 0:
         report.goes_wrong(f"{fault.name}: {part}: the part fails without a fault:\n{plain.last()}")
     elif plain.is_empty():
@@ -122,7 +128,7 @@ def judge(fault, plain, ran):
 
 
 def more(asked):
-    asked.add_argument("--today", action="store_true", help=f"those of a day, by --seed: all in {days.DAYS} days")
+    days.add_to(asked)
     asked.add_argument("--costs", action="store_true", help="only measure the parts, and write what they take")
     asked.add_argument("--jobs", metavar="N", type=int, default=2, help="how many at a time (2)")
     asked.add_argument("names", nargs="*", metavar="NAME")
@@ -132,7 +138,7 @@ def measure(faults, base, file):
     """Runs the parts of these faults without a fault, and writes what each takes."""
     found = {}
     for part in dict.fromkeys(tuple(it.part) for it in faults):
-        ran = without_fault(base, part, file)
+        ran = without_fault(base, part, file, days.Bound(None))
         report.tell(f"{ran.work:.1f} processor seconds: {' '.join(part)}")
         if ran.status == 0:
             report.passes()
@@ -149,16 +155,19 @@ def run(words):
     if words.costs:
         measure(faults, base, file)
         return len(report.wrong)
+    bound = days.Bound(words.minutes)
     with ThreadPoolExecutor(words.jobs) as pool:
         plain, ran = {}, []
         for it in faults:
             if tuple(it.part) not in plain:
-                plain[tuple(it.part)] = pool.submit(without_fault, base, it.part, file)
-            ran.append(pool.submit(with_fault, base, it, file))
+                plain[tuple(it.part)] = pool.submit(without_fault, base, it.part, file, bound)
+            ran.append(pool.submit(with_fault, base, it, file, bound))
         for fault, running in zip(faults, ran):
-            judge(fault, plain[tuple(fault.part)].result(), running.result())
-    work = sum(it.result().work for it in [*plain.values(), *ran])
-    report.tell(f"{len(faults)} of {len(sabotage.table())} faults tried, in {work / 60:.1f} processor minutes")
+            if came := running.result():
+                judge(fault, plain[tuple(fault.part)].result(), came)
+    count = len(faults) - len(bound.left_out)
+    report.tell(f"{count} of {len(sabotage.table())} faults tried, in {spent() / 60:.1f} processor minutes")
+    bound.tell("planted faults", count)
     return len(report.wrong)
 
 

@@ -20,7 +20,9 @@ Without an option each crate is checked first without its edits: every function 
 
 With --gate it tries the edits that tests/gate/bodies.txt lists, and with --today an eighth of the others and of the
 crates that have a control, by --seed, which is the day: all within eight days. With both it tries both, in the same
-checks. With --minutes no further check begins once these processor minutes are spent, and then it fails.
+checks. With --minutes those of the list are all tried, but once these processor minutes are spent none of the others is
+tried any more: the last lines say how many are left out, which counts as skipped. Each eight days begin with other
+crates than the eight days before, so what is left out then is tried later.
 """
 import os
 import shutil
@@ -74,12 +76,12 @@ def together(edits, texts):
 
 class Tried:
     """The wrong bodies of a crate: how many there are, how many are tried and were refused, which of them by a search
-    alone, and what is to be said of the others. Where pairs of a crate and a name are given, only these are tried, and
-    no check begins once these processor minutes are spent."""
+    alone, and what is to be said of the others. Where pairs of a crate and a name are given as `asked`, only these are
+    tried. Once the bound is spent, only those of `always` are."""
 
-    def __init__(self, crate, named, asked, minutes):
+    def __init__(self, crate, named, asked, always, bound):
         self.crate, self.named, self.refused, self.wrong, self.searched, self.survived = crate, named, 0, [], [], 0
-        self.minutes = minutes
+        self.always, self.bound = always, bound
         self.texts = bodies.sources(crate)
         found = [it for it in bodies.further(crate) if it.is_of_bodies()]
         self.edits = [it for it in found if asked is None or (crate, it.name) in asked]
@@ -91,7 +93,7 @@ class Tried:
                 checked = check(self.crate, self.named, self.texts, self.edits, kept)
                 self.wrong += [f"not proved without its edit: {checked.why_not(it)}" for edit in self.edits
                                for it in edit.functions if not checked.is_proved(it)]
-            while self.edits and self.has_time(self.edits):
+            while self.edits_now():
                 taken, changed, left = together(self.edits, self.texts)
                 if not taken:
                     self.wrong += [f"{it.name}: its text doesn't stand once in the sources" for it in left]
@@ -103,18 +105,19 @@ class Tried:
                     self.edits = left
         return self
 
-    def has_time(self, edits):
-        """Whether another check may begin; where none may, these edits aren't tried, and that is wrong."""
-        is_over = self.minutes is not None and spent() > 60 * self.minutes
-        if is_over:
-            self.wrong.append(f"{len(edits)} edits aren't tried, since {self.minutes:g} processor minutes are spent")
-        return not is_over
+    def edits_now(self):
+        """The edits that are still to be tried: once the bound is spent, those that are always tried."""
+        others = [it for it in self.edits if (self.crate, it.name) not in self.always]
+        if self.bound.leaves_out(others):
+            self.count -= len(others)
+            self.edits = [it for it in self.edits if it not in others]
+        return self.edits
 
     def try_equal(self):
         """Tries the edits that change nothing, in one check: each has to survive, but for those that are excused."""
         edits = bodies.further(self.crate, bodies.EQUAL)
         with tempfile.TemporaryDirectory(prefix="rt-edits-") as kept:
-            while edits and self.has_time(edits):
+            while edits and not self.bound.leaves_out(edits):
                 taken, changed, edits = together(edits, self.texts)
                 if not taken:
                     self.wrong += [f"{it.name}: its text doesn't stand once in the sources" for it in edits]
@@ -162,25 +165,22 @@ def show(tried, seconds):
 
 def more(asked):
     asked.add_argument("--gate", action="store_true", help=f"those that {bodies.SELECTION} lists")
-    asked.add_argument("--today", action="store_true", help=f"an eighth of the others: all in {days.DAYS} days")
-    asked.add_argument("--minutes", metavar="N", type=float, help="the processor minutes that may be spent")
+    days.add_to(asked)
     asked.add_argument("names", nargs="*", metavar="NAME")
 
 
 def run(words):
     named, names, done = program.listed(), words.names or bodies.having(words.names), []
-    asked, with_equal, is_part = set(), [], words.gate or words.today
-    if words.gate:
-        asked |= {*bodies.selected()}
+    always, asked, is_part = {*bodies.selected()} if words.gate else set(), None, words.gate or words.today
+    with_equal, bound = [] if is_part else bodies.having_equal(), days.Bound(words.minutes)
+    if is_part:
+        asked = always | {*(bodies.of_day(words.seed) if words.today else ())}
     if words.today:
-        asked |= {*bodies.of_day(words.seed)}
-        with_equal = bodies.equal_of_day(words.seed)
-    if not is_part:
-        with_equal = bodies.having_equal()
+        names, with_equal = days.in_turn(names, words.seed), bodies.equal_of_day(words.seed)
 
     def one(crate):
         since = time.monotonic()
-        tried = Tried(crate, named, asked if is_part else None, words.minutes).try_all(not is_part)
+        tried = Tried(crate, named, asked, always, bound).try_all(not is_part)
         return tried.try_equal() if crate in with_equal else tried, time.monotonic() - since
 
     lanes = max(1, min(len(os.sched_getaffinity(0)), int(program.free() / MEMORY)))
@@ -189,9 +189,11 @@ def run(words):
             show(tried, seconds)
             done.append(tried)
     searched = sum(len(it.searched) for it in done)
-    report.tell(f"{sum(it.count for it in done)} of {sum(it.total for it in done)} wrong bodies tried, and"
+    count = sum(it.count for it in done)
+    report.tell(f"{count} of {sum(it.total for it in done)} wrong bodies tried, and"
                 f" {sum(it.refused for it in done) - searched} of them refused for a goal that is wrong, {searched} by"
                 f" a search alone, in {spent() / 60:.1f} processor minutes")
+    bound.tell("wrong bodies", count)
     return sum(len(it.wrong) for it in done)
 
 

@@ -85,8 +85,8 @@ def crates_below(edit):
 
 
 def definitions_of_day(day):
-    """Those that the gate tries on a day: pairs of a crate and a name."""
-    return [it for together in days.of_day(definitions(), day) for it in together]
+    """Those that the gate tries on a day, in their turn: pairs of a crate and a name."""
+    return [it for together in days.in_turn(days.of_day(definitions(), day), day) for it in together]
 
 
 def having_equal():

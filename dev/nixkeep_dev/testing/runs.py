@@ -16,7 +16,7 @@ from nixkeep_dev.testing import processes, report, skips
 TESTS = f"{program.HERE}/tests"
 # The minutes after which a script hangs, where all run together: many times what it takes on a machine that is busy.
 # The second number is for those that take minutes; one that is run alone may try each place there is, for hours.
-LIMIT, LONG, ALONE = 30, 60, 24 * 60
+LIMIT, LONG, ALONE = 30, 120, 24 * 60
 LONG_ONES = ("examples/team/try", "gate/by_rattle", "gate/cases", "gate/launched", "gate/sabotage", "gate/started",
              "package/clean_machine", "compare/model", "compare/nix_store", "compare/sqlite", "faults/stop_writes",
              "tools/test_cache", "tools/test_large", "tools/test_remote", "tools/test_units")
