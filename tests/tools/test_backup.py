@@ -59,8 +59,10 @@ esac
 """
 
 
-def backup(*words, env=None):
-    status, output, errors = ran([BACKUP, *words], env={**os.environ, **(env or {})})
+def backup(*words, env=None, most=None):
+    """Runs nixkeep-backup, which writes no file above `most` KiB."""
+    limited = ["bash", "-c", f'ulimit -f {most}; exec "$@"', "-"] if most else []
+    status, output, errors = ran([*limited, BACKUP, *words], env={**os.environ, **(env or {})})
     return status, output.decode(), errors.decode()
 
 
@@ -438,6 +440,10 @@ def try_restore(program, folder, check):
             status, _, errors = backup(*words, file, env=env)
             check.true(f"a restore from {file}", status == 1 and line in errors and errors.count("\n") == 1, errors)
         check.true("stops nothing", not os.path.exists(f"{notes}/asked"))
+        try_restore_without_room(check, store, [*words, f"{store.to}/{name}"], env, units)
+        os.unlink(f"{notes}/asked")
+        owner = (4321, 4321) if os.geteuid() == 0 else (os.geteuid(), os.getegid())
+        os.chown(store.folder, *owner)
         os.symlink(store.config, f"{store.folder}/store.new")
         status, output, errors = backup(*words, f"{store.to}/{name}", env=env)
         check.same("a link in the place of the new file isn't followed", Path(store.config).read_text(), CONFIG)
@@ -449,9 +455,21 @@ def try_restore(program, folder, check):
         check.same("what is started, in order", started, [*units[1:], units[0]])
     asides = [it for it in os.listdir(store.folder) if it.startswith("aside-")]
     check.same("the files before", sorted(os.listdir(f"{store.folder}/{asides[0]}")), ["store.db", "store.db-wal"])
-    check.same("the mode", os.stat(store.file).st_mode & 0o777, 0o600)
+    seen = os.stat(store.file)
+    check.same("the mode, and the owner of the folder", (seen.st_mode & 0o777, seen.st_uid, seen.st_gid), (0o600, *owner))
     with store.opened() as ask:
         check.same("the store is as it was", all_of(ask), before)
+
+
+def try_restore_without_room(check, store, words, env, units):
+    """A restore that can't write leaves the store as it is, and starts again what ran."""
+    before = store.bytes()
+    status, _, errors = backup(*words, env=env, most=8)
+    check.true("a restore without room", status == 1 and "failed: restore: " in errors and errors.count("\n") == 1, errors)
+    check.same("leaves the store", store.bytes(), before)
+    found = [it for it in os.listdir(store.folder) if it.startswith(("aside-", "store.new"))]
+    check.same("and nothing else", found, [])
+    check.true("whose units run again", all(os.path.exists(f"{env['UNITS']}/{it}") for it in units))
 
 
 def try_migrating(program, folder, check):
