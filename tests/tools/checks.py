@@ -123,7 +123,7 @@ class Handler(BaseHTTPRequestHandler):
         if not user:
             return self.answer(401, b"<html>who are you?</html>", **{"www-authenticate": "Basic"})
         try:
-            with contextlib.closing(http.client.HTTPConnection("127.0.0.1", behind.port, timeout=60)) as connection:
+            with contextlib.closing(http.client.HTTPConnection("127.0.0.1", behind.port, timeout=600)) as connection:
                 connection.request(self.command, self.path.removeprefix(behind.prefix), body, {"store-user": user})
                 reply = connection.getresponse()
                 text = reply.read()
