@@ -14,8 +14,9 @@ from concurrent.futures import ThreadPoolExecutor
 from pathlib import Path
 
 import parts
+from nixkeep_dev.testing import nar
 from nixkeep_tools import cache_blobs, cache_http, cache_overview, cache_records, cache_shares, cache_waiting
-from parts import body, check, paths, same, some_path
+from parts import body, check, same, some_path
 from tests.tools import cache_store, large_parts
 from tests.tools.large_stops import archive_of, is_sound, send_half
 
@@ -30,8 +31,7 @@ class Team(large_parts.Team):
         Path(f"{self.folder}/store.toml").write_text(TRUSTED)
 
     def import_(self, user, archive, *more):
-        digest = hashlib.sha256(archive).digest()
-        given = body(("path", self.path(archive)), ("nar-hash", paths.nar_hash(digest)), payload=archive)
+        given = body(("path", self.path(archive)), ("nar-hash", nar.nar_hash(archive)), payload=archive)
         return self(user, "POST", "/import", given, *more)
 
     def path(self, archive):
@@ -183,7 +183,7 @@ def slow_uploads(words, rng):
         for user, other, count in (("build", "carl", 8), ("carl", "dora", 10)):
             for _ in range(12):
                 archive = archive_of(rng)
-                name = paths.base32(hashlib.sha256(archive).digest())
+                name = nar.digest(archive)
                 half = send_half(team, "PUT", f"/nar/{name}.nar", archive[:1000], len(archive), user)
                 held.enter_context(half)
             parts.until("uploads come", lambda: len(team.incoming()) >= count)
@@ -275,7 +275,7 @@ def rooms(folder):
 
     def put(owner, number):
         data = number.to_bytes(8, "little")
-        name = f"{paths.base32(hashlib.sha256(data).digest())}.nar"
+        name = f"{nar.digest(data)}.nar"
         asyncio.run(waiting.take(owner, name, len(data), pieces(data)))
         return name
 

@@ -9,7 +9,8 @@ import subprocess
 from pathlib import Path
 
 import parts
-from parts import check, paths, same
+from nixkeep_dev.testing import nar
+from parts import check, same
 from tests.tools.cache_store import CONFIG
 from tests.tools.ed25519 import VECTORS, coded
 
@@ -32,7 +33,7 @@ def bad_keys(words):
     def run(*more, **env):
         command = [f"{parts.TOOLS}/nixkeep-cache", "--user", "ann", "--db", f"{folder}/store.db", "--waiting",
                    f"{folder}/waiting", "--nixkeep", words.program, "--listen", f"{folder}/socket", *more]
-        return subprocess.run(command, capture_output=True, text=True, timeout=60, env={**os.environ, **env})
+        return subprocess.run(command, capture_output=True, text=True, timeout=600, env={**os.environ, **env})
 
     def refused(what, word, *more, **env):
         ran = run(*more, **env)
@@ -138,7 +139,7 @@ def forged(url, path, host):
     ask = lambda *words, given=None: parts.curl(*words, given=given)
     text = ask(record)[1].decode()
     archive = host.archive(path)
-    name = f"{paths.base32(paths.sha256([archive]))}.nar"
+    name = f"{nar.digest(archive)}.nar"
     bad = base64.b64encode(bytes(64)).decode()
     for what, more in [("of other bytes", f"Sig: builder-1:{bad}\n"), ("too short", "Sig: builder-1:AAAA\n"),
                        ("not base 64", "Sig: builder-1:====\n"), ("without a name", f"Sig: :{bad}\n"),

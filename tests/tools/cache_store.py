@@ -16,7 +16,8 @@ import zlib
 from pathlib import Path
 
 import parts
-from parts import body, check, curl, nar, paths, same, some_path
+from nixkeep_dev.testing import nar
+from parts import body, check, curl, same, some_path
 
 CONFIG = 'allowed-users = ["ann", "bob"]\ntrusted-users = ["build"]\n'
 
@@ -269,8 +270,8 @@ def sessions(words):
     rng = random.Random(10)
     with unit(words, "sessions") as store:
         as_of = lambda user: lambda *asked: ask(store.place, user, *asked)
-        path, archive = some_path(rng, "uploaded"), nar.regular_file(b"uploaded")
-        digest = paths.base32(paths.sha256([archive]))
+        path, archive = some_path(rng, "uploaded"), nar.archive(b"uploaded")
+        digest = nar.digest(archive)
         build = as_of("build")
         build("PUT", f"/nar/{digest}.nar", archive)
         record = f"StorePath: {path}\nURL: nar/{digest}.nar\nCompression: none\nNarHash: sha256:{digest}\n"
@@ -468,7 +469,7 @@ def stopped(words):
                                     "--data-binary", "@-", "http://red/source"], stdin=subprocess.PIPE,
                                    stdout=subprocess.PIPE)
         os.kill(store.server(), signal.SIGSTOP)
-        process.stdin.write(body(("name", "late"), payload=nar.regular_file(b"late")))
+        process.stdin.write(body(("name", "late"), payload=nar.archive(b"late")))
         process.stdin.close()
         pid = store.server()
         parts.until("the request has come to the server", lambda: not_read_by(pid))

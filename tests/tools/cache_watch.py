@@ -7,7 +7,8 @@ import time
 from pathlib import Path
 
 import parts
-from parts import body, check, curl, nar, paths, same
+from nixkeep_dev.testing import nar
+from parts import body, check, curl, same
 from tests.tools.cache_store import ask, text, unit
 
 
@@ -97,8 +98,8 @@ def changes(words):
         asked("bob", "POST", "/delete", body(("path", path)))
         asked("build", "POST", "/runtime", body(("root", f"/proc/1/exe {path}")))
         asked("bob", "POST", '/x","user":"root')
-        archive = nar.regular_file(b"uploaded")
-        digest, made = paths.base32(paths.sha256([archive])), f"/nix/store/{'3' * 32}-uploaded"
+        archive = nar.archive(b"uploaded")
+        digest, made = nar.digest(archive), f"/nix/store/{'3' * 32}-uploaded"
         asked("build", "PUT", f"/nar/{digest}.nar", archive)
         record = f"StorePath: {made}\nURL: nar/{digest}.nar\nCompression: none\nNarHash: sha256:{digest}\n"
         for user in ("ann", "build"):

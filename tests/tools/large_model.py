@@ -6,12 +6,13 @@ after each step every pointer has to name a blob that is there. States that were
 import collections
 
 import parts
+from nixkeep_dev.testing import nar
 from nixkeep_tools import blob_reading, blobs, cache_blobs, cache_counts, cache_large, cache_server, cache_shares
-from nixkeep_tools import cache_sweep, paths
+from nixkeep_tools import cache_sweep
 from nixkeep_tools.blob_packing import Packed
 
 MADE = Packed(None, bytes(32), 5_000, bytes(32), 4_000)
-NAME = paths.base32(MADE.nar_hash)
+NAME = nar.base32(MADE.nar_hash)
 ANN = cache_server.Caller("ann", None)
 
 

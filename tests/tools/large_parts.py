@@ -12,8 +12,9 @@ import time
 from pathlib import Path
 
 import parts
+from nixkeep_dev.testing import nar
 from nixkeep_tools import blob_packing, blobs, blobs_folder, cache_records, pointers
-from parts import body, check, nar, paths, same, some_path
+from parts import body, check, same, some_path
 from tests.tools import cache_store
 
 # An archive above this is large here.
@@ -71,7 +72,7 @@ def packing(rng):
     """Archives become blobs, as they are or compressed, and what is broken is refused."""
     import zstandard
 
-    archive = nar.regular_file(rng.randbytes(3_000_000) + bytes(9_000_000))
+    archive = nar.archive(rng.randbytes(3_000_000) + bytes(9_000_000))
     as_zstd = zstandard.ZstdCompressor(level=3).compress(archive)
     for compression, sent in [("none", archive), ("xz", lzma.compress(archive, preset=0)), ("zstd", as_zstd)]:
         out = io.BytesIO()
@@ -141,7 +142,7 @@ def synced(folder):
     import zstandard
 
     real, usual, calls = os.fdatasync, blob_packing.Synced.EACH, []
-    sent = zstandard.ZstdCompressor().compress(nar.regular_file(random.Random(9).randbytes(4_000_000)))
+    sent = zstandard.ZstdCompressor().compress(nar.archive(random.Random(9).randbytes(4_000_000)))
 
     def failing(number):
         calls.append(os.fstat(number).st_size)
@@ -182,12 +183,12 @@ class Team(parts.Unit):
 
     def put(self, archive, user="build"):
         """Uploads an archive as Nix does, without its record: the reply."""
-        name = paths.base32(hashlib.sha256(archive).digest())
+        name = nar.digest(archive)
         return self(user, "PUT", f"/nar/{name}.nar", archive)
 
     def record(self, path, archive, *more, user="build"):
         """Uploads a record: the reply."""
-        digest = paths.base32(hashlib.sha256(archive).digest())
+        digest = nar.digest(archive)
         lines = [f"StorePath: {path}", f"URL: nar/{digest}.nar", "Compression: none", f"NarHash: sha256:{digest}",
                  f"NarSize: {len(archive)}", *more]
         return self(user, "PUT", f"/{path[11:43]}.narinfo", "".join(f"{it}\n" for it in lines).encode())
@@ -203,7 +204,7 @@ class Team(parts.Unit):
 
     def file(self, archive):
         """The file of an archive's blob."""
-        return Path(self.blobs, blobs.key_of(paths.base32(hashlib.sha256(archive).digest())))
+        return Path(self.blobs, blobs.key_of(nar.digest(archive)))
 
     def tool(self, *words):
         """The status and the lines of a command of nixkeep-cache, such as sweep."""
@@ -224,8 +225,8 @@ class Team(parts.Unit):
 def serving(words):
     rng = random.Random(2)
     with Team(words, "serving") as team:
-        archive, path, small = nar.regular_file(rng.randbytes(300_000)), some_path(rng, "large"), some_path(rng, "low")
-        same("a small archive is uploaded", team.upload(small, nar.regular_file(b"low"))[0], 200)
+        archive, path, small = nar.archive(rng.randbytes(300_000)), some_path(rng, "large"), some_path(rng, "low")
+        same("a small archive is uploaded", team.upload(small, nar.archive(b"low"))[0], 200)
         references = f"References: {path[11:]} {small[11:]}", f"Deriver: {some_path(rng, 'it.drv')[11:]}"
         same("and a large one", team.upload(path, archive, *references), (200, f"{path}\n".encode()))
         stored(team, path, archive, references)
@@ -249,7 +250,7 @@ def stored(team, path, archive, references):
     check("the store's file has a pointer, and no content address", pointers.archive(pointer) in made and
           made[-1] is None, made)
     wanted = {"StorePath": path, "Compression": "zstd", "NarSize": str(len(archive)), "FileSize": str(len(file)),
-              "NarHash": paths.nar_hash(pointer.nar_hash), "FileHash": paths.nar_hash(pointer.file_hash),
+              "NarHash": f"sha256:{nar.base32(pointer.nar_hash)}", "FileHash": f"sha256:{nar.base32(pointer.file_hash)}",
               "References": " ".join(sorted(references[0].split()[1:])), "Deriver": references[1][9:]}
     same("the record has the hashes and sizes of the archive", {it: fields.get(it) for it in wanted}, wanted)
     old = team.fields(path, "-A", "curl/7.74.0 Nix/2.3.16")
@@ -283,7 +284,7 @@ def fetched(team, path, archive):
             came = get(form, "-H", f"range: bytes={given}")
             same(f"range {given}: its bytes", (came[0], came[1] == part), (200 if given == "0-" else 206, True))
         same("a range beyond the end", get(form, "-H", f"range: bytes={len(whole)}-")[0], 416)
-    tag = paths.base32(hashlib.sha256(archive).digest())
+    tag = nar.digest(archive)
     same("who has it is told so", get(plain, "-H", f'if-none-match: "{tag}"')[0], 304)
     same("a range of another archive is answered whole",
          get(plain, "-H", "range: bytes=5-", "-H", 'if-range: "x"'), (200, archive))
@@ -299,14 +300,14 @@ def own_requests(team, path, archive):
     record = team("bob", "GET", f"/info/{path[11:]}")[1].decode()
     check("info has the real size", f"\nNarSize: {len(archive)}\n" in record, record)
     same("nar has the archive", team("bob", "GET", f"/nar/{path[11:]}"), (200, archive))
-    name = paths.base32(hashlib.sha256(archive).digest())
+    name = nar.digest(archive)
     same("who has kept the record of an upload gets its file", team("bob", "GET", f"/nar/{name}.nar"), (200, archive))
-    packed = lzma.compress(other := nar.regular_file(random.Random(8).randbytes(100_000)), preset=0)
-    file, path = paths.base32(hashlib.sha256(packed).digest()), some_path(random.Random(8), "xz")
+    packed = lzma.compress(other := nar.archive(random.Random(8).randbytes(100_000)), preset=0)
+    file, path = nar.digest(packed), some_path(random.Random(8), "xz")
     same("an upload by xz", team("build", "PUT", f"/nar/{file}.nar.xz", packed)[0], 201)
     same("is there for the next", team("build", "HEAD", f"/nar/{file}.nar.xz", None, "-I")[0], 200)
     lines = [f"StorePath: {path}", f"URL: nar/{file}.nar.xz", "Compression: xz", f"NarSize: {len(other)}",
-             f"NarHash: {paths.nar_hash(hashlib.sha256(other).digest())}"]
+             f"NarHash: {nar.nar_hash(other)}"]
     text = "".join(f"{it}\n" for it in lines).encode()
     same("its record", team("build", "PUT", f"/{path[11:43]}.narinfo", text)[0], 200)
     same("its file", lzma.decompress(team("bob", "GET", f"/nar/{file}.nar.xz")[1]), other)
@@ -314,10 +315,10 @@ def own_requests(team, path, archive):
 
 def trusted(team, rng):
     """Who may put pointers there, and what only looks like one."""
-    archive, path = nar.regular_file(rng.randbytes(200_000)), some_path(rng, "theirs")
+    archive, path = nar.archive(rng.randbytes(200_000)), some_path(rng, "theirs")
     same("who isn't trusted uploads no large archive", team.put(archive, "ann"), (403, b"denied: trusted-import\n"))
     check("and nothing of it is kept", not team.file(archive).exists() and not team.incoming())
-    given = [("path", path), ("nar-hash", paths.nar_hash(hashlib.sha256(archive).digest()))]
+    given = [("path", path), ("nar-hash", nar.nar_hash(archive))]
     same("nor imports one", team("ann", "POST", "/import", body(*given, payload=archive)),
          (403, b"denied: trusted-import\n"))
     same("who is trusted does", team("build", "POST", "/import", body(*given, payload=archive)),
@@ -325,24 +326,24 @@ def trusted(team, rng):
     same("and it is read", team("ann", "GET", f"/nar/{path[11:]}"), (200, archive))
     fake = lambda of: pointers.contents(pointers.Pointer(of, hashlib.sha256(archive).digest(), len(archive),
                                                          hashlib.sha256(b"").digest(), 5))
-    digits = paths.path_of("text", hashlib.sha256(b"x").digest(), "fake")
+    digits = nar.text_path("fake", b"x")
     text = team("ann", "POST", "/text", body(("name", "fake"), payload=fake(f"/nix/store/{digits}")))[1]
     text = text.decode().strip()
     same("a text that looks like a pointer is a text", team("bob", "GET", f"/nar/{text[11:]}")[1],
-         nar.regular_file(fake(f"/nix/store/{digits}")))
+         nar.archive(fake(f"/nix/store/{digits}")))
     mine = some_path(rng, "mine")
-    data = nar.regular_file(fake(mine))
-    given = [("path", mine), ("nar-hash", paths.nar_hash(hashlib.sha256(data).digest()))]
+    data = nar.archive(fake(mine))
+    given = [("path", mine), ("nar-hash", nar.nar_hash(data))]
     same("nobody imports a pointer", team("build", "POST", "/import", body(*given, payload=data)),
          (403, b"denied: pointer\n"))
     same("nor uploads one", team.upload(mine, data), (403, b"denied: pointer\n"))
-    other = nar.regular_file(fake(path))
+    other = nar.archive(fake(path))
     same("the pointer of another path is a file like any other", team.upload(some_path(rng, "other"), other)[0], 200)
 
 
 def swept(team, path, archive, rng):
     """A sweep deletes what no object names any more and is old enough."""
-    unused = nar.regular_file(rng.randbytes(150_000))
+    unused = nar.archive(rng.randbytes(150_000))
     same("an archive whose record never comes", team.put(unused)[0], 201)
     same("stays for the time of grace", team.tool("sweep")[1][-1].split(",")[0], "swept 0 blobs 0 bytes")
     same("all blobs are whole", team.verify()[0], 0)
@@ -423,8 +424,8 @@ def by_tools(folder, url, rng):
                                                     *words], capture_output=True, **more).stdout
     same("nixkeep-remote cat-nar", remote("cat-nar", made[2]) == here.archive(made[2]), True)
     check("and info", f"NarSize: {len(here.archive(made[2]))}\n".encode() in remote("info", made[2]))
-    archive, path = nar.regular_file(rng.randbytes(30_000_000)), some_path(rng, "remote")
-    given = body(("path", path), ("nar-hash", paths.nar_hash(hashlib.sha256(archive).digest())), payload=archive)
+    archive, path = nar.archive(rng.randbytes(30_000_000)), some_path(rng, "remote")
+    given = body(("path", path), ("nar-hash", nar.nar_hash(archive)), payload=archive)
     same("and import, of a body above 20 MiB", remote("import", input=given), f"{path}\n".encode())
 
 

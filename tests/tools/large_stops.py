@@ -1,7 +1,6 @@
 """Tests of what goes wrong with large archives: after each there is no pointer, or a pointer whose blob is whole."""
 import concurrent.futures
 import contextlib
-import hashlib
 import http.server
 import os
 import random
@@ -14,12 +13,13 @@ import time
 from pathlib import Path
 
 import parts
-from parts import body, check, nar, paths, same, some_path
+from nixkeep_dev.testing import nar
+from parts import body, check, same, some_path
 from tests.tools import large_parts
 
 
 def archive_of(rng, size=400_000):
-    return nar.regular_file(rng.randbytes(size))
+    return nar.archive(rng.randbytes(size))
 
 
 def is_sound(team, what):
@@ -75,19 +75,19 @@ def damaged(team, rng):
 def differs(team, rng):
     """Uploads whose digests differ."""
     archive, other, path = archive_of(rng), archive_of(rng), some_path(rng, "differs")
-    name = paths.base32(hashlib.sha256(archive).digest())
+    name = nar.digest(archive)
     came = team("build", "PUT", f"/nar/{name}.nar", other)
     check("another archive than its name says", came[0] == 400 and b"another SHA-256" in came[1], came)
     same("an archive", team.put(archive)[0], 201)
     came = team.record(path, archive, f"NarHash: sha256:{'0' * 52}")
     same("whose record has another hash", came, (400, b"refused: 25 nar-hash-mismatch\n"))
-    low = nar.regular_file(b"low")
+    low = nar.archive(b"low")
     same("a small archive", team.put(low)[0], 201)
     came = team.record(path, low, "NarSize: many")
     check("whose record has no number as its size", came[0] == 400 and b"NarSize: many" in came[1], came)
     came = team.record(path, archive, "References: " + "1" * 32 + "-a")
     same("or a reference that isn't there", came, (400, b"refused: 24 missing-reference\n"))
-    given = [("path", path), ("nar-hash", paths.nar_hash(hashlib.sha256(other).digest()))]
+    given = [("path", path), ("nar-hash", nar.nar_hash(other))]
     same("an import with another hash", team("build", "POST", "/import", body(*given, payload=archive))[0], 400)
     same("none of them is there", team.fields(path)[0], 404)
     same("each has a line with its status", [it["status"] for it in team.records()[-7:]],
@@ -118,8 +118,8 @@ def send_half(team, method, target, data, length, user="build"):
 def leaving(team, rng):
     """Clients that leave in the middle."""
     archive, path = archive_of(rng, 5_000_000), some_path(rng, "left")
-    name = paths.base32(hashlib.sha256(archive).digest())
-    given = body(("path", path), ("nar-hash", paths.nar_hash(hashlib.sha256(archive).digest())), payload=archive)
+    name = nar.digest(archive)
+    given = body(("path", path), ("nar-hash", nar.nar_hash(archive)), payload=archive)
     for method, target, data in (("PUT", f"/nar/{name}.nar", archive), ("POST", "/import", given * 5)):
         client = send_half(team, method, target, data[:1_000_000], 1 << 30)
         parts.until("a part of 1 GiB has come", team.incoming)
@@ -140,7 +140,7 @@ def leaving(team, rng):
 def killed(team, rng):
     """The cache is killed in the middle of an upload, and between an archive and its record."""
     archive, path = archive_of(rng), some_path(rng, "killed")
-    name = paths.base32(hashlib.sha256(archive).digest())
+    name = nar.digest(archive)
     client = send_half(team, "PUT", f"/nar/{name}.nar", archive[:200_000], len(archive))
     parts.until("a part has come", team.incoming)
     team.end(signal.SIGKILL)
@@ -287,7 +287,7 @@ def buckets(words, rng):
         with bucket(status, code) as (url, asked), large_parts.Team(words, code, "--blobs-endpoint", url,
                                                                      blobs="s3://archives/here") as team:
             check(f"a bucket with {code}: a line at the start", "s3://archives/here" in team.said(), team.said())
-            same("small objects are served", team.upload(some_path(rng, "low"), nar.regular_file(b"low"))[0], 200)
+            same("small objects are served", team.upload(some_path(rng, "low"), nar.archive(b"low"))[0], 200)
             came = team.upload(path, archive)
             check(f"a bucket with {code}: its name", came[0] == 503 and code.encode() in came[1], came)
             name = blob_key(archive)
@@ -308,7 +308,7 @@ def no_bucket(words):
 
 
 def blob_key(archive):
-    digits = paths.base32(hashlib.sha256(archive).digest())
+    digits = nar.digest(archive)
     return f"{digits[:2]}/{digits}.nar.zst"
 
 

@@ -1,5 +1,4 @@
 """Tests of what is watched of large archives: figures of blobs and sweeps in /metrics, and blobs in /health."""
-import hashlib
 import json
 import os
 import random
@@ -7,7 +6,8 @@ import time
 from pathlib import Path
 
 import parts
-from parts import curl, nar, paths, same, some_path
+from nixkeep_dev.testing import nar
+from parts import curl, same, some_path
 from tests.tools import cache_watch, large_parts
 from tests.tools.large_stops import archive_of, bucket, send_half
 
@@ -34,8 +34,8 @@ def counted(team, rng):
     made = [(archive_of(rng), some_path(rng, f"counted{at}")) for at in range(2)]
     for archive, path in made:
         same("an upload", team.upload(path, archive)[0], 200)
-    same("a small one", team.upload(some_path(rng, "small"), nar.regular_file(b"small"))[0], 200)
-    name = paths.base32(hashlib.sha256(made[0][0]).digest())
+    same("a small one", team.upload(some_path(rng, "small"), nar.archive(b"small"))[0], 200)
+    name = nar.digest(made[0][0])
     same("one of another digest", team("build", "PUT", f"/nar/{name}.nar", archive_of(rng))[0], 400)
     client = send_half(team, "PUT", f"/nar/{name}.nar", made[0][0][:100_000], len(made[0][0]))
     parts.until("a part has come", team.incoming)

@@ -9,7 +9,6 @@ passed, M failed`.
 usage: bin/run tests/tools/test_cache.py [--program FILE]
 """
 import concurrent.futures
-import hashlib
 import http.client
 import lzma
 import os
@@ -22,7 +21,8 @@ import time
 from pathlib import Path
 
 import parts
-from parts import body, check, curl, nar, paths, same, some_path
+from nixkeep_dev.testing import nar
+from parts import body, check, curl, same, some_path
 from tests.tools import cache_signatures, cache_store, cache_watch
 
 CONFIG = 'allowed-users = ["ann", "bob"]\ntrusted-users = ["build"]\n'
@@ -31,7 +31,7 @@ NOWHERE = "1" * 32
 
 def file_name(data, suffix=""):
     """The name by which a client uploads a file."""
-    return f"{paths.base32(hashlib.sha256(data).digest())}.nar{suffix}"
+    return f"{nar.digest(data)}.nar{suffix}"
 
 
 def record(path, archive, name, *more, compression="none"):
@@ -40,7 +40,7 @@ def record(path, archive, name, *more, compression="none"):
         ("StorePath", path),
         ("URL", f"nar/{name}"),
         ("Compression", compression),
-        ("NarHash", paths.nar_hash(hashlib.sha256(archive).digest())),
+        ("NarHash", nar.nar_hash(archive)),
         ("NarSize", len(archive)),
         *more,
     ]
@@ -73,8 +73,8 @@ def replies(port, ann):
     """GET and HEAD of what is there and what isn't; who may ask; the store's own requests."""
     status, added = ann("POST", "/text", body(("name", "greeting?a=b+c"), payload=b"hello\n"))
     path = added.decode().strip()
-    digits, base, contents = path[11:43], path[11:], nar.regular_file(b"hello\n")
-    digest = paths.base32(hashlib.sha256(contents).digest())
+    digits, base, contents = path[11:43], path[11:], nar.archive(b"hello\n")
+    digest = nar.digest(contents)
     for target, wanted in [
         ("/nix-cache-info", 200),
         (f"/{digits}.narinfo", 200),
@@ -136,8 +136,8 @@ def compressed(ann):
     sizes = {}
     for name, given in contents.items():
         path = ann("POST", "/text", body(("name", name), payload=given))[1].decode().strip()
-        archive = nar.regular_file(given)
-        target = f"/nar/{paths.base32(paths.sha256([archive]))}/{path[11:]}"
+        archive = nar.archive(given)
+        target = f"/nar/{nar.digest(archive)}/{path[11:]}"
         for accepted in ("zstd", "br, ZSTD ;q=0.5", "gzip", "zstd;q=0", "zstd; q=0.000", "xzstd", ""):
             status, came = ann("GET", target, None, "-H", f"accept-encoding: {accepted}", "--raw", "-D", "-")
             head, _, data = came.partition(b"\r\n\r\n")
@@ -173,10 +173,9 @@ def foreign(port, ann):
 
 def uploads(ann, build, rng):
     """What is uploaded, by whom, and what is refused."""
-    archive, output = nar.regular_file(b"contents"), some_path(rng, "output")
-    digest = hashlib.sha256(archive).digest()
-    source = f"/nix/store/{paths.path_of('source', digest, 'source')}"
-    address = ("CA", paths.address("source", digest))
+    archive, output = nar.archive(b"contents"), some_path(rng, "output")
+    source = f"/nix/store/{nar.source_path('source', archive)}"
+    address = ("CA", f"fixed:r:{nar.nar_hash(archive)}")
     same("an allowed user uploads what has a content address", ann.upload(source, archive, address),
          (200, f"{source}\n".encode()))
     same("not what has none", ann.upload(output, archive), (403, b"denied: trusted-import\n"))
@@ -188,10 +187,10 @@ def uploads(ann, build, rng):
     check("its record has the references", f"References: {' '.join(sorted([output[11:], source[11:]]))}\n" in got, got)
     flat = some_path(rng, "flat")
     same("a content address that the store doesn't know is left out",
-         build.upload(flat, archive, ("CA", f"fixed:sha256:{paths.base32(digest)}"))[0], 200)
+         build.upload(flat, archive, ("CA", f"fixed:{nar.nar_hash(archive)}"))[0], 200)
     same("so only a trusted user uploads it",
-         ann.upload(some_path(rng, "flat"), archive, ("CA", f"fixed:sha256:{paths.base32(digest)}"))[0], 403)
-    other = nar.regular_file(rng.randbytes(100_000))
+         ann.upload(some_path(rng, "flat"), archive, ("CA", f"fixed:{nar.nar_hash(archive)}"))[0], 403)
+    other = nar.archive(rng.randbytes(100_000))
     sent = lzma.compress(other)
     same("xz is unpacked", build.upload(some_path(rng, "xz"), other, compression="xz", data=sent)[0], 200)
     status, got = build("GET", f"/nar/{file_name(sent, '.xz')}")
@@ -209,7 +208,7 @@ def refusals(build, rng, archive):
     def refused(what, came, word, status=400):
         check(what, came[0] == status and word in came[1], came)
 
-    path, large = some_path(rng, "a"), nar.regular_file(bytes(nar.LIMIT))
+    path, large = some_path(rng, "a"), nar.archive(bytes(nar.LIMIT))
     refused("another compression is refused at once", build("PUT", f"/nar/{file_name(b'x', '.bz2')}", b"x"),
             b"compression=none")
     refused("so is another name", build("PUT", "/nar/x", b"x"), b"SHA-256 of its file")
@@ -247,7 +246,7 @@ def bounds(folder, port):
         rng = random.Random("bounds")
         same(
             "one user alone uploads more objects than may wait",
-            [build.upload(some_path(rng, f"alone{at}"), nar.regular_file(bytes([at, at])))[0] for at in range(6)],
+            [build.upload(some_path(rng, f"alone{at}"), nar.archive(bytes([at, at])))[0] for at in range(6)],
             [200] * 6,
         )
         same("two archives of one user wait", [put(ann, b"1"), put(ann, b"2")], [201, 201])
@@ -264,7 +263,7 @@ def bounds(folder, port):
         same("and the old ones are gone", waiting(), 2)
         same(
             "what is in the store makes room",
-            [build.upload(some_path(rng, f"n{at}"), nar.regular_file(bytes([at])))[0] for at in range(6)],
+            [build.upload(some_path(rng, f"n{at}"), nar.archive(bytes([at])))[0] for at in range(6)],
             [200] * 6,
         )
         same("and has half of what another user leaves", waiting(), 3)
@@ -280,7 +279,7 @@ def bounds(folder, port):
 
 def together(store, cache, ann, build, rng):
     """Several clients at once; one that reads nothing; and a server that is killed and starts again meanwhile."""
-    archive = nar.regular_file(rng.randbytes(300_000))
+    archive = nar.archive(rng.randbytes(300_000))
     large = some_path(rng, "large")
     same("an archive of 300 KB is uploaded", build.upload(large, archive)[0], 200)
     slow = [socket.create_connection(("127.0.0.1", cache.place)) for _ in range(3)]

@@ -23,7 +23,8 @@ import time
 from pathlib import Path
 
 import parts
-from parts import body, check, paths, same
+from nixkeep_dev.testing import nar
+from parts import body, check, same
 
 COMMAND = f"{parts.ROOT}/tools/nixkeep-overview"
 # What figures of 10,000 objects may take, as a multiple of a few million steps of Python on this machine, now.
@@ -49,7 +50,7 @@ def figures():
 
     for seed in range(20):
         rng = random.Random(seed)
-        bases = [f"{paths.base32(rng.randbytes(20))}-n{at}" for at in range(30)]
+        bases = [f"{nar.base32(rng.randbytes(20))}-n{at}" for at in range(30)]
         pick = lambda most: rng.sample(bases, rng.randrange(most))
         objects = {
             it: store_file.Object(rng.randrange(1000), None, rng.choice([None, *bases]), None, pick(3),

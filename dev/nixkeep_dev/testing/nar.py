@@ -4,15 +4,20 @@ import os
 
 from nixkeep_dev.model import archives, texts
 
-STORE = "/nix/store"
+STORE, LIMIT = "/nix/store", archives.LIMIT
 DIGITS, base32, folded, sha256 = texts.DIGITS, texts.base32, texts.folded, texts.sha256
 # The archive of a node, as the model has nodes; that of a regular file; and strings as an archive has them.
 of_node, archive, strings = archives.write, archives.file_archive, archives.spell
 
 
+def digest(data):
+    """The digest of an archive, or of other bytes, in base 32."""
+    return base32(sha256(data))
+
+
 def nar_hash(data):
     """The digest of an archive, or of other bytes, as records and addresses have it."""
-    return f"sha256:{base32(sha256(data))}"
+    return f"sha256:{digest(data)}"
 
 
 def listing(tree, path="."):
