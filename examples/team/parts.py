@@ -29,7 +29,8 @@ from nixkeep_tools import nar, paths, store_file
 
 # The Debian package of a tool that has another name.
 PACKAGES = {"nginx": "nginx-light", "nix": "nix-bin", "nix-store": "nix-bin", "htpasswd": "apache2-utils",
-            "ab": "apache2-utils", "dot": "graphviz"}
+            "ab": "apache2-utils", "dot": "graphviz", "nft": "nftables", "fail2ban-server": "fail2ban",
+            "fail2ban-regex": "fail2ban"}
 counts = {"passed": 0, "failed": 0, "skipped": 0}
 # A script that is ended ends its parts, too.
 signal.signal(signal.SIGTERM, lambda *_: sys.exit(1))

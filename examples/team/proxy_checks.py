@@ -11,6 +11,7 @@ import time
 from concurrent.futures import ThreadPoolExecutor
 from pathlib import Path
 
+import ban_checks
 import entry_checks
 import parts
 from parts import body, check, nar, paths, same
@@ -170,17 +171,9 @@ def logged(site):
          [(401, "failed", ""), (401, "", ""), (200, "", "carol"), (403, "", ""), (404, "", "ann"), (403, "", "eve")])
     same("and the subject of a certificate", [it["subject"] for it in lines if it["subject"]], ["CN=carol,O=red"])
     same("a target is logged as it came", lines[4]["target"], forged)
-    banned(file, len([it for it in Path(file).read_text().splitlines() if json.loads(it)["login"] == "failed"]))
-
-
-def banned(file, count):
-    """fail2ban finds exactly the logins that failed."""
-    if parts.skipped("fail2ban's filter", "fail2ban-regex"):
-        return
-    words = ["fail2ban-regex", "-v", file, f"{parts.HERE}/fail2ban/filter.conf"]
-    ran = subprocess.run(words, capture_output=True, text=True)
-    found = re.search(r"^Failregex: (\d+) total", ran.stdout, re.M)
-    check(f"fail2ban counts the {count} logins that failed", found and int(found[1]) == count, ran.stdout + ran.stderr)
+    failed = [it for it in Path(file).read_text().splitlines(True) if json.loads(it)["login"] == "failed"]
+    ban_checks.found(file, len(failed))
+    ban_checks.banned(site, failed[-1])
 
 
 def restarted(site):

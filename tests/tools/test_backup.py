@@ -184,6 +184,9 @@ def try_failures(program, folder, check):
     fails(check, "a damaged file", store.copy("--state", store.state, file=damaged), "hash isn't", store, good)
     state = json.loads(Path(store.state).read_text())
     check.true("its state", "hash isn't" in state["reason"] and "succeeded" not in state, state)
+    status, output, errors = store.copy("--state", f"{damaged}/state", file=damaged)
+    lines = [it.removeprefix("nixkeep-backup: failed: ").partition(":")[0] for it in errors.splitlines()]
+    check.same("a state that can't be written hides no reason", (status, lines), (1, ["state", "test"]))
     pipe = f"{folder}/failures/pipe.db"
     os.mkfifo(pipe)
     fails(check, "a file that hangs", store.copy("--seconds", "1", file=pipe), "more than 1 seconds", store, good)
@@ -271,7 +274,7 @@ def systemctl(folder, *active, memory="infinity"):
 
 def try_check(program, folder, check):
     store = Store(program, f"{folder}/check")
-    note, unit = f"{folder}/check/note", "nixkeep@red.service"
+    note, unit, later = f"{folder}/check/note", "nixkeep@red.service", of_later_schema(store)
     with checks.server(program, "--config", store.config, "--db", store.file) as port:
         words = [*store.options("check"), "--db", store.file, "--server", f"http://127.0.0.1:{port}", "--note", note]
         for memory in ("infinity", str(1 << 30)):
@@ -295,6 +298,8 @@ def try_check(program, folder, check):
         came = backup(*words)
         check.true("a wrong configuration", came[0] == 1 and "bad-config" in came[2], came)
         Path(store.config).write_text(CONFIG)
+        came = backup(*[later if it == store.file else it for it in words])
+        check.true("a file of a later schema", came[0] == 1 and "failed: schema" in came[2], came)
     came = backup(*words)
     check.true("no server", came[0] == 1 and "failed: unreachable" in came[2], came)
     with store.opened() as ask:
@@ -302,6 +307,15 @@ def try_check(program, folder, check):
         running = store_file.version(store.file)
     check.same("the version after a server has ended", store_file.version(store.file), running)
     check.true("which isn't that before a change", running and running != noted, running)
+
+
+def of_later_schema(store):
+    """A copy of a store's file of a schema that this program doesn't know."""
+    store.copy()
+    later = shutil.copy(f"{store.to}/{store.copies()[-1]}", f"{store.folder}/later.db")
+    with contextlib.closing(sqlite3.connect(later)) as conn, conn:
+        conn.execute("UPDATE meta SET val = '4' WHERE word = 'schema'")
+    return later
 
 
 def fetched(store, url, *words):

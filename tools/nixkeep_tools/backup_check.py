@@ -1,6 +1,7 @@
 """What is tested before a server is stopped, for a copy or an upgrade: that it runs, and could start again."""
 import json
 import os
+import sqlite3
 import subprocess
 
 from . import backup_file, store_file
@@ -40,12 +41,25 @@ def refuse_large(text, unit):
                    "the server isn't stopped")
 
 
+def refuse_newer(path):
+    """Raises Stop for a file of a later schema, as after a downgrade of the program: this one doesn't open it."""
+    try:
+        number = backup_file.schema_of(path, despite_lock=True)
+    except (OSError, sqlite3.Error):
+        # (it is being written)
+        return
+    if number is not None and number > max(store_file.LACKS):
+        raise Stop(f"failed: schema: {path} is of schema {number}, which this program doesn't open: the server isn't "
+                   "stopped")
+
+
 def check(words):
     """Asks the server for its report, and notes it with the version of the store. Raises Stop if the server may not
     start again: then it has to go on as it is."""
     if words.unit and not is_active(words.unit):
         raise Stop(f"failed: unit: {words.unit} doesn't run, so nothing is copied")
     backup_file.ran(backup_file.words_of(backup_file.program_of(words), words.config, "who"), "configuration")
+    refuse_newer(words.db)
     before = store_file.version(words.db)
     text = report_of(words.server, words.config)
     if not backup_file.TOTAL.search(text):

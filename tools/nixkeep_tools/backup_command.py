@@ -140,8 +140,8 @@ def add_copy_by(words, make):
     limit(words.seconds)
     try:
         name, deleted = backup_folder.add(words.to, lambda path: counted.extend(make(words, path)))
-    except Stop as stop:
-        note_failure(words.state, stop)
+    except (Stop, OSError) as error:
+        note_failure(words.state, line_of(error))
         raise
     finally:
         signal.alarm(0)
@@ -153,10 +153,22 @@ def add_copy_by(words, make):
     return f"{words.to}/{name}: {count_of(count, 'object')}, {size} bytes, in {time.time() - began:.1f} seconds{gone}"
 
 
-def note_failure(path, stop):
-    """A failure is in the state, and the last success stays there."""
-    if path:
-        backup_folder.write_state(path, failed=int(time.time()), reason=stop.line)
+def line_of(error):
+    """The line of a failure."""
+    if isinstance(error, Stop):
+        return error.line
+    return f"failed: file: {error}" if isinstance(error, store_file.Locked) else (
+        f"failed: {error.filename or 'file'}: {reason(error)}")
+
+
+def note_failure(path, line):
+    """A failure is in the state, and the last success stays there. Where that can't be written, a line says so, and
+    the failure itself is another line."""
+    try:
+        if path:
+            backup_folder.write_state(path, failed=int(time.time()), reason=line)
+    except OSError as error:
+        streams.say(f"nixkeep-backup: failed: state: {path}: {reason(error)}")
 
 
 def run(words):
@@ -180,10 +192,8 @@ def main(words):
     except Stop as stop:
         streams.say(f"nixkeep-backup: {stop.line}")
         return stop.status
-    except store_file.Locked as error:
-        streams.say(f"nixkeep-backup: failed: file: {error}")
     except OSError as error:
-        streams.say(f"nixkeep-backup: failed: {error.filename or 'file'}: {reason(error)}")
+        streams.say(f"nixkeep-backup: {line_of(error)}")
     except KeyboardInterrupt:
         return 130
     except MemoryError:

@@ -148,11 +148,11 @@ def test(path, config, program, wanted=None):
 # ---- an earlier schema
 
 
-def schema_of(path):
+def schema_of(path, despite_lock=False):
     """The number of a file's schema, or None if there is no file, or no store in it."""
     if not os.path.exists(path) or not os.path.getsize(path):
         return None
-    with store_file.open_store(path) as conn:
+    with store_file.open_store(path, despite_lock) as conn:
         if "meta" not in store_file.tables_of(conn):
             return None
         found = conn.execute("SELECT val FROM meta WHERE word = 'schema'").fetchone()

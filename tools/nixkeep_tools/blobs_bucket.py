@@ -88,7 +88,11 @@ class Bucket:
     def open(self, name, at=0):
         more = {"Range": f"bytes={at}-"} if at else {}
         with answered(self.where):
-            return Opened(self.where, self.client.get_object(**self.key(name), **more)["Body"])
+            found = self.client.get_object(**self.key(name), **more)
+        if at and not found.get("ContentRange", "").startswith(f"bytes {at}-"):
+            found["Body"].close()
+            raise blobs.Failed(f"{self.where}: it has sent another part than from byte {at} on")
+        return Opened(self.where, found["Body"])
 
     def list(self):
         with answered(self.where):

@@ -47,7 +47,7 @@ def sweep(said):
     """Asks for a sweep. It fails if a blob couldn't be deleted."""
     lines = [f"grace: {said.grace}"] * (said.grace is not None) + ["dry-run: true"] * said.dry_run
     text = asked(server_of(said), "POST", "/sweep", "".join(f"{it}\n" for it in [*lines, ""]).encode()).text()
-    streams.write([text.encode()])
+    streams.write(streams.shown([text.encode()]))
     return FAILED if any(it.startswith("failed ") for it in text.splitlines()) else DONE
 
 

@@ -7,6 +7,7 @@ from aiohttp import web
 from . import cache_encoding, cache_records, pointers
 from .cache_http import READ, Route, passed, reply
 from .cache_server import Request
+from .cache_turns import Turns
 
 DIGITS = "[0-9abcdfghijklmnpqrsvwxyz]"
 INFO = re.compile(r"/nix-cache-info")
@@ -47,7 +48,7 @@ class Archives:
     def __init__(self, server, names, stored, waiting, sessions, signing, sending, store, large=None):
         self.server, self.names, self.stored, self.waiting = server, names, stored, waiting
         self.sessions, self.signing, self.sending, self.store = sessions, signing, sending, store
-        self.large = large
+        self.large, self.packing = large, Turns()
 
     def routes(self):
         handlers = [(INFO, self.info), (RECORD, self.record), (FILE, self.file), (ARCHIVE, self.archive)]
@@ -112,7 +113,9 @@ class Archives:
                 sent = await self.large.uploaded(request, name, base)
                 if sent is not None:
                     return sent
-            packed = await asyncio.get_running_loop().run_in_executor(None, cache_records.packed, name, answer.text)
+            # (one at a time, so that a user with many has no more than one thread)
+            async with self.packing.turn(request["caller"].user):
+                packed = await asyncio.get_running_loop().run_in_executor(None, cache_records.packed, name, answer.text)
             answer = reply(200, packed, BYTES)
             await self.sending.room(request, answer)
             return await self.sending.send(request, answer)

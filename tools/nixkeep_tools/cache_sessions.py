@@ -31,7 +31,8 @@ class Sessions:
         os.makedirs(folder, mode=0o700, exist_ok=True)
 
     def is_fresh(self, since):
-        return time.time() - since < self.seconds
+        # (a file of a clock that was ahead isn't fresh for years)
+        return abs(time.time() - since) < self.seconds
 
     def keeping(self, caller, base):
         """The request that keeps an uploaded path. It goes to the server right after the import."""

@@ -41,7 +41,8 @@ class Waiting:
     def expire(self):
         """Deletes what has waited too long."""
         for name, file in [*self.files.items()]:
-            if time.time() - file.since > self.seconds:
+            # (a clock may have been ahead)
+            if abs(time.time() - file.since) > self.seconds:
                 self.delete(name)
 
     def file(self, name):

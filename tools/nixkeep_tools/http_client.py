@@ -15,6 +15,8 @@ from .http_place import Place
 
 CHUNK = 65_536
 MOST_OF_BODY = 20_971_520
+# The bytes of a reply that is read whole: a listing of millions of paths has fewer. And the digits of a refusal's number.
+MOST_OF_REPLY, DIGITS = 1 << 28, 9
 _TYPES = ("text/plain", "application/octet-stream", "text/x-nix-cache-info")
 _NAME = frozenset("abcdefghijklmnopqrstuvwxyz-")
 
@@ -24,7 +26,8 @@ _NAME = frozenset("abcdefghijklmnopqrstuvwxyz-")
 
 def _is_refusal(line):
     number, _, name = line.removeprefix("refused: ").partition(" ")
-    return line.startswith("refused: ") and number.isascii() and number.isdigit() and _is_name(name)
+    is_number = number.isascii() and number.isdigit() and len(number) <= DIGITS
+    return line.startswith("refused: ") and is_number and _is_name(name)
 
 
 def _is_denial(line):
@@ -97,9 +100,18 @@ class Reply:
             if left:
                 raise self.server.gone(f"the connection ended {left} bytes before the end of the answer")
 
+    def bounded(self):
+        """Yields the bytes of a text that is read whole. Raises Stop for one that doesn't end."""
+        size = 0
+        for part in self.parts():
+            size += len(part)
+            if size > MOST_OF_REPLY:
+                raise Stop(f"failed: answer: {self.server.place.url}: it has more than {MOST_OF_REPLY} bytes")
+            yield part
+
     def text(self):
         """The text whole."""
-        return b"".join(self.parts()).decode("utf-8", "backslashreplace")
+        return b"".join(self.bounded()).decode("utf-8", "backslashreplace")
 
     def refusal(self):
         """The number of the refusal, or None."""

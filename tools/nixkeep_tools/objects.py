@@ -10,7 +10,7 @@ import socket
 import subprocess
 import tempfile
 
-from . import nar, paths
+from . import nar, paths, streams
 from .failures import DONE, REFUSED, Stop
 from .http_client import Foreign, Lost, Server, SocketConnection
 
@@ -18,8 +18,8 @@ from .http_client import Foreign, Lost, Server, SocketConnection
 Record = collections.namedtuple("Record", "base nar_hash nar_size refs deriver ca")
 NOT_VALID, MISSING_REFERENCE, BAD_BODY, BAD_NAME, NO_ROUTE = 23, 24, 41, 34, 39
 TRIES = 10
-# The bytes of a reply that is read whole: a listing of millions of paths has fewer.
-MOST = 1 << 28
+# The references of an object, and the objects of a closure, at most: a server may name one after another without an end.
+REFERENCES, CLOSURE = 4_096, 1_000_000
 
 
 def lines(*pairs):
@@ -34,6 +34,13 @@ def read_record(text):
     digest = paths.unbase32(fields["NarHash"].removeprefix("sha256:"), 32)
     refs = fields["References"].split()
     return Record(base, digest, int(fields["NarSize"]), refs, fields.get("Deriver"), fields.get("CA"))
+
+
+def is_sound(record):
+    """Whether a Record of a server may be one of a store."""
+    named = [*record.refs, *([record.deriver] if record.deriver is not None else [])]
+    is_size = 0 <= record.nar_size < 1 << 63
+    return is_size and len(record.refs) <= REFERENCES and all(map(paths.is_base_name, named))
 
 
 def source_address(record, folder):
@@ -132,7 +139,7 @@ class Store:
         """
         try:
             reply = self.server.ask(method, target, body, length, is_repeated=length is None)
-            text = b"".join(self.bounded(reply))
+            text = b"".join(reply.bounded())
         except Lost:
             # A child that ended has printed why.
             said, status = self.child.end() if self.child else ("", 0)
@@ -144,15 +151,6 @@ class Store:
             line = text.decode("utf-8", "backslashreplace").rstrip("\n")
             raise Stop(f"{line} {about}" if about else line, reply.status)
         return number, text
-
-    def bounded(self, reply):
-        """Yields the bytes of a reply. Raises Stop for one that doesn't end."""
-        size = 0
-        for part in reply.parts():
-            size += len(part)
-            if size > MOST:
-                raise Stop(f"failed: answer: {self}: it has more than {MOST} bytes")
-            yield part
 
     def full(self, base):
         return f"{self.folder}/{base}"
@@ -189,7 +187,7 @@ class Store:
             found = read_record(text.decode())
         except (KeyError, ValueError):
             found = None
-        if not found or found.base != base or found.nar_size < 0 or not all(map(paths.is_base_name, found.refs)):
+        if not found or found.base != base or not is_sound(found):
             raise Stop(f"failed: answer: {self}: it isn't the record of {self.full(base)}")
         return found
 
@@ -198,18 +196,21 @@ class Store:
         for base in tops:
             if not self.keep(base):
                 raise Stop(f"refused: {NOT_VALID} not-valid {self.full(base)}", REFUSED)
-        found, left = {}, list(tops)
+        found, left, seen = {}, list(tops), {*tops}
         while left:
             base = left.pop()
-            if base not in found:
-                found[base] = self.record(base)
-                left += found[base].refs
+            found[base] = self.record(base)
+            fresh = {*found[base].refs} - seen
+            seen |= fresh
+            left += fresh
+            if len(seen) > CLOSURE:
+                raise Stop(f"failed: answer: {self}: the closure has more than {CLOSURE} objects")
         return found
 
     def valid(self, bases):
         """The valid ones of these paths, as a set."""
         _, text = self.ask("GET", "/paths")
-        return {line.rpartition("/")[2] for line in text.decode().splitlines()} & set(bases)
+        return {line.rpartition("/")[2] for line in text.decode("ascii", "replace").splitlines()} & set(bases)
 
     def archive(self, record):
         return self.ask("GET", f"/nar/{record.base}", about=self.full(record.base))[1]
@@ -259,7 +260,8 @@ class Store:
             "root": f"/root/user/{self.me}/{name}",
             "profile": f"/profile/{self.me}/{name}",
         }
-        return self.ask("POST", targets[kind], lines(("path", base)), self.full(base))[1].decode()
+        text = self.ask("POST", targets[kind], lines(("path", base)), self.full(base))[1]
+        return streams.printable(text.decode("utf-8", "backslashreplace"))
 
     def end_session(self):
         self.ask("DELETE", f"/temp/{self.me}/{self.session}")

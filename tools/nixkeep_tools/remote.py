@@ -229,12 +229,12 @@ def _sent(asked, request):
     return asked.server().ask(request.method, request.target, body(), len(request.head) + given.length)
 
 
-def _print(reply):
+def _print(reply, is_text):
     """Prints a reply, and returns the exit status. Raises Stop if the request wasn't done."""
     if reply.status != DONE:
         raise Stop(reply.text().rstrip("\n"), reply.status)
-    progress = Progress("received", reply.length or 0)
-    streams.write(progress.over(reply.parts()))
+    parts = Progress("received", reply.length or 0).over(reply.parts())
+    streams.write(streams.shown(parts) if is_text else parts)
     return DONE
 
 
@@ -246,7 +246,7 @@ def store_command(asked):
     if reply.refusal() == 41 and asked.line.name not in ("import", "runtime"):
         # Everything else in the body is tested before it is sent.
         raise refused(14, "bad-store-path")
-    return _print(reply)
+    return _print(reply, asked.line.name != "cat-nar")
 
 
 def who(asked):

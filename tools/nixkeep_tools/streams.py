@@ -36,6 +36,16 @@ def printable(text):
     return "".join(it if it.isprintable() or it == "\n" else ascii(it)[1:-1] for it in text)
 
 
+def shown(parts):
+    """Yields the bytes of a text of a server, which is ASCII, with each byte that doesn't print as an escape: others
+    may be meant for a terminal."""
+    import re
+
+    odd = re.compile(rb"[^\n -~]")
+    for part in parts:
+        yield odd.sub(lambda it: b"\\x%02x" % it[0][0], part)
+
+
 def say(line):
     """Writes a line to standard error, and returns whether that was possible."""
     try:
