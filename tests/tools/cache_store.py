@@ -231,6 +231,15 @@ def memory_limit(folder):
     # (docs/OPERATING.md, Growth: with 2 GiB no file of more than about 1.5 GiB is opened)
     part = cache_limit.usual() / (1.5 * (1 << 30))
     check("MemoryMax=2G opens about 1.5 GiB, of which 0.6 are accepted", 0.55 < part < 0.65, part)
+    Path(f"{folder}/own").write_text("0::/\n")
+    same("a group without a file of limits has none", store_size.memory(), None)
+    Path(f"{folder}/cgroup/memory.max").write_text(f"{1 << 30}\n")
+    same("the limit of a container is that of its first group", store_size.memory(), 1 << 30)
+    for own in ("/system.slice/store.service", "/../other/x", "/system.slice/"):
+        Path(f"{folder}/own").write_text(f"1:name=x:/\n0::{own}\n")
+        same(f"the least limit counts: {own}", store_size.memory(), 1 << 30)
+    Path(f"{folder}/cgroup/memory.max").unlink()
+    Path(f"{folder}/own").write_text("0::/system.slice/store.service\n")
     had = [3 << 29]
     limit = cache_limit.Limit(None, None, lambda: had[0])
     limit.check(1)

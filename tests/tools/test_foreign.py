@@ -5,7 +5,7 @@ PART is one of closures, replies, shown, buckets; all where none is named.
   closures  references without an end, records of other sizes and names than a store has
   replies   a refusal with a long number, and a reply without an end
   shown     what a terminal would take for a command is printed as an escape; an archive is printed as it is
-  buckets   a bucket that ignores which part of a blob is asked for, or sends another one
+  buckets   a bucket that ignores which part of a blob is asked for, or sends another one, or doesn't answer
 
 The last line is 'N passed, M failed'.
 """
@@ -14,6 +14,7 @@ import hashlib
 import http.server
 import os
 import threading
+import time
 
 from nixkeep_dev.build.program import HERE
 from nixkeep_dev.testing import report
@@ -162,6 +163,15 @@ def try_buckets(_program, check):
             except blobs.Failed as failed:
                 came = None if "another part" in str(failed) else str(failed)
             check.same(what, came, wanted)
+    blobs_bucket.TRIES, blobs_bucket.SECONDS = 1, 0.5
+    with server(lambda *_: time.sleep(2) or text(200, b"")) as url:
+        place = blobs_bucket.Bucket("b", "p", "parts", url)
+        for what, tried in (("size", place.size), ("put", lambda name: place.put(__file__, name))):
+            try:
+                came = tried("0" * 52)
+            except blobs.Failed as failed:
+                came = str(failed)
+            check.true(f"a bucket that doesn't answer: {what}", "timeout" in str(came), came)
 
 
 if __name__ == "__main__":

@@ -80,8 +80,9 @@ class Bucket:
             with answered(self.where):
                 return self.client.head_object(**self.key(name))["ContentLength"]
         except blobs.Failed as failed:
-            cause = failed.__cause__
-            if getattr(cause, "response", {}).get("Error", {}).get("Code") in ("404", "NoSuchKey", "NotFound"):
+            # (a bucket that doesn't answer has None there)
+            answer = getattr(failed.__cause__, "response", None) or {}
+            if answer.get("Error", {}).get("Code") in ("404", "NoSuchKey", "NotFound"):
                 return None
             raise
 

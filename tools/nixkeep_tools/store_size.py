@@ -42,11 +42,12 @@ def memory():
     found = []
     with contextlib.suppress(OSError):
         with open(OWN, encoding="ascii") as file:
-            own = next((it[3:].strip() for it in file if it.startswith("0::")), "/")
-        while own not in ("/", ""):
-            with contextlib.suppress(FileNotFoundError), open(f"{CGROUPS}{own}/memory.max", encoding="ascii") as file:
+            own = next((it[3:].strip() for it in file if it.startswith("0::")), "/").rstrip("/")
+        groups = [own[:at] for at in range(len(own) + 1) if own[at:at + 1] in ("/", "")]
+        # (a container sees its own group as the first one, "")
+        for group in groups:
+            with contextlib.suppress(FileNotFoundError), open(f"{CGROUPS}{group}/memory.max", encoding="ascii") as file:
                 found += [int(it) for it in file.read().split() if it.isdigit()]
-            own = os.path.dirname(own)
     return min(found, default=None)
 
 
