@@ -4,7 +4,6 @@ import contextlib
 import json
 import os
 import random
-import re
 import subprocess
 import threading
 import time

@@ -266,6 +266,37 @@ def many_roots():
     same("larger ones are refused", refused, (503, text))
 
 
+def many_pages():
+    """The many overviews of one user delay that of another by the page that is being made."""
+    overviews = cache_overview.Overviews(None, "/nix/store", (False, True), cache_http.Sending(1 << 20, 1), "red")
+    made, order = cache_overview.overview_page.page, []
+
+    async def figures(_):
+        return None
+
+    async def ask(user):
+        caller = types.SimpleNamespace(user=user)
+        await overviews.page({"caller": caller, "room": None}, None)
+        order.append(user)
+
+    async def run():
+        overviews.figures = figures
+        many = [asyncio.ensure_future(ask("ann")) for _ in range(20)]
+        await asyncio.sleep(0.2)
+        await asyncio.gather(ask("bob"), *many)
+
+    def page(*_):
+        time.sleep(0.1)
+        return "page"
+
+    try:
+        cache_overview.overview_page.page = page
+        asyncio.run(run())
+    finally:
+        cache_overview.overview_page.page = made
+    check("another user's page comes before the many of one", order.index("bob") <= 5, order)
+
+
 def rooms(folder):
     """What one user, or two, upload without records leaves room for others. What is in the store makes room."""
     waiting = cache_waiting.Waiting(f"{folder}/rooms", 16, 10_000, 3600)
@@ -330,6 +361,8 @@ def all_of(words):
     shares(words, rng)
     late(words.folder)
     many_roots()
+    if not parts.skipped("pages of overviews", "python3-jinja2"):
+        many_pages()
     rooms(words.folder)
     forgotten()
     unwritten(words.folder)

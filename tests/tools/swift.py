@@ -14,6 +14,7 @@ TOOLS = [f"swift-{it}-server" for it in ("proxy", "account", "container", "objec
 FILTERS = ("catch_errors gatekeeper healthcheck memcache listing_formats bulk s3api tempauth copy slo dlo symlink "
            "versioned_writes")
 RINGS = """
+import sys
 from swift.common.ring import RingBuilder
 for kind, port in (it.split("=") for it in sys.argv[2:]):
     made, port = RingBuilder(4, 1, 0), int(port)

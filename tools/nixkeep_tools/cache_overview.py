@@ -6,6 +6,7 @@ from concurrent.futures import ThreadPoolExecutor
 
 from . import overview, overview_source
 from .cache_http import READ, Answered, Route, passed, reply
+from .cache_turns import Turns
 
 try:
     from . import overview_page, overview_style
@@ -28,8 +29,8 @@ class Overviews:
     def __init__(self, server, store, keeps, sending, name, longest=60):
         self.store, self.keeps, self.sending, self.name, self.longest = store, keeps, sending, name, longest
         self.records, self.turn, self.made = overview_source.Records(server, keeps[0]), asyncio.Lock(), {}
-        # (threads of its own, since archives need the others)
-        self.threads = ThreadPoolExecutor(THREADS, "overview")
+        # (threads of its own, since archives need the others; and one page at a time, for which users take turns)
+        self.threads, self.pages = ThreadPoolExecutor(THREADS, "overview"), Turns()
 
     def routes(self):
         return [Route(READ, PAGE, self.page)]
@@ -42,7 +43,8 @@ class Overviews:
         try:
             async with asyncio.timeout(self.longest):
                 found = await asyncio.shield(self.figures(request["caller"]))
-                text = await self.apart(overview_page.page, found, self.name, "/overview", why)
+                async with self.pages.turn(request["caller"].user):
+                    text = await self.apart(overview_page.page, found, self.name, "/overview", why)
         except overview_source.Denied as denied:
             return passed(denied.reply)
         except TimeoutError:

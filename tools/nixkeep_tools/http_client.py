@@ -15,7 +15,7 @@ from .http_place import Place
 
 CHUNK = 65_536
 MOST_OF_BODY = 20_971_520
-# The bytes of a reply that is read whole: a listing of millions of paths has fewer. And the digits of a refusal's number.
+# The bytes of a reply that is read whole: a listing of millions of paths has fewer. The digits of a refusal's number.
 MOST_OF_REPLY, DIGITS = 1 << 28, 9
 _TYPES = ("text/plain", "application/octet-stream", "text/x-nix-cache-info")
 _NAME = frozenset("abcdefghijklmnopqrstuvwxyz-")

@@ -18,7 +18,8 @@ from .http_client import Foreign, Lost, Server, SocketConnection
 Record = collections.namedtuple("Record", "base nar_hash nar_size refs deriver ca")
 NOT_VALID, MISSING_REFERENCE, BAD_BODY, BAD_NAME, NO_ROUTE = 23, 24, 41, 34, 39
 TRIES = 10
-# The references of an object, and the objects of a closure, at most: a server may name one after another without an end.
+# The references of an object and the objects of a closure, at most: a server may name one after another without an
+# end.
 REFERENCES, CLOSURE = 4_096, 1_000_000
 
 
