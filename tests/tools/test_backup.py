@@ -33,7 +33,7 @@ from pathlib import Path
 import parts
 from nixkeep_dev.build.program import HERE
 from nixkeep_dev.testing.store import killed
-from nixkeep_tools import backup_folder, http_client, objects, store_file
+from nixkeep_tools import backup_folder, backup_restore, http_client, objects, store_file
 from tests.tools import checks
 from tests.tools.checks import ran
 
@@ -473,6 +473,29 @@ def try_restore(program, folder, check):
     check.same("the mode, and the owner of the folder", (seen.st_mode & 0o777, seen.st_uid, seen.st_gid), (0o600, *owner))
     with store.opened() as ask:
         check.same("the store is as it was", all_of(ask), before)
+    try_stopped_restore(check, store, f"{store.to}/{name}")
+
+
+def try_stopped_restore(check, store, copy):
+    """A restore that is stopped before the copy has its place leaves the store there: no server begins a new one."""
+    was, moved = store.bytes(), os.rename
+    before = {*os.listdir(store.folder)}
+
+    def stopped(*_):
+        raise KeyboardInterrupt
+
+    with contextlib.suppress(KeyboardInterrupt):
+        try:
+            os.rename = stopped
+            # (the name of the folder has the second)
+            time.sleep(1.1)
+            backup_restore.put(copy, store.folder)
+        finally:
+            os.rename = moved
+    check.same("the store of a restore that was stopped", Path(store.file).read_bytes(), was["store.db"])
+    aside = next(it for it in os.listdir(store.folder) if it.startswith("aside-") and it not in before)
+    found = {it: Path(store.folder, aside, it).read_bytes() for it in os.listdir(f"{store.folder}/{aside}")}
+    check.same("what it has moved aside", found, was)
 
 
 def try_restore_without_room(check, store, words, env, units):

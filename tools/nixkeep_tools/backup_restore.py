@@ -45,6 +45,17 @@ def files_of(folder):
     return sorted(it for it in os.listdir(folder) if it == "store.db" or it.startswith("store.db-"))
 
 
+def move_aside(folder, aside):
+    """Moves the files of a store into another folder, but for the name of `store.db`, which the copy takes over: if the
+    machine stops before that, no server begins a new store there."""
+    for it in files_of(folder):
+        os.link(f"{folder}/{it}", f"{aside}/{it}", follow_symlinks=False)
+    backup_folder.sync(aside)
+    for it in files_of(folder):
+        if it != "store.db":
+            os.unlink(f"{folder}/{it}")
+
+
 def put(copy, folder):
     """Puts a copy in the place of a store, whose files are moved into a new folder. Returns that folder's name."""
     seen = os.stat(folder)
@@ -58,8 +69,7 @@ def put(copy, folder):
             os.fchown(target.fileno(), seen.st_uid, seen.st_gid)
         backup_folder.sync(fresh)
         os.mkdir(aside, 0o700)
-        for it in files_of(folder):
-            os.rename(f"{folder}/{it}", f"{aside}/{it}")
+        move_aside(folder, aside)
         os.rename(fresh, f"{folder}/store.db")
         backup_folder.sync(folder)
     except OSError as error:
