@@ -1,22 +1,78 @@
-"""What pytest collects here: the cases. Each file of tests/cases is run once, and each of its steps is a test.
+"""What pytest collects here, the options and the fixtures: `pytest` runs all of it, and bin/run one module.
 
-`pytest tests/cases/who.txt` runs one file, and `pytest` all. A step whose tools aren't installed is skipped, and the
-summary (`-rs`) says what isn't here. `--program=FILE` tries another program than the one that bin/nixkeep runs. With
-xdist, `-n auto --dist loadfile` runs files side by side. `bin/test cases` does the same without pytest.
+Each file of tests/cases is run once, and each of its steps is a test: `pytest tests/cases/who.txt`. `bin/test cases`
+does the same without pytest. What is marked `needs("curl", ..)` is skipped where one of these isn't installed, and the
+summary (`-rs`) says what. With xdist, `-n auto --dist loadfile` runs files side by side.
 """
+import os
+import random
+import tempfile
 from pathlib import Path
 
 import pytest
 
 from nixkeep_dev.build import release
-from nixkeep_dev.testing import cases
+from nixkeep_dev.testing import by_pytest, cases, minutes, report
 
 # What bin/test runs: these are no tests of pytest yet.
-collect_ignore = ["compare", "faults", "gate", "package", "sabotage", "stores", "tools"]
+collect_ignore = ["compare", "faults", "gate", "package", "sabotage", "stores"]
+collect_ignore += [str(it) for it in Path(__file__).parent.glob("tools/*.py") if not by_pytest.is_module(it)]
 
 
 def pytest_addoption(parser):
-    parser.addoption("--program", metavar="FILE", help="the program; else the one that bin/nixkeep runs")
+    add = parser.addoption
+    add("--program", metavar="FILE", help="the program; else the one that bin/nixkeep runs")
+    add("--seed", metavar="N", type=int, default=report.today(), help="what chance begins with; else the day")
+    add("--count", metavar="N", type=int, help="how much is tried; else as much as each test says")
+
+
+def pytest_configure(config):
+    config.pluginmanager.register(minutes.Minutes())
+
+
+@pytest.hookimpl(tryfirst=True)
+def pytest_runtest_setup(item):
+    tools = [tool for it in item.iter_markers("needs") for tool in it.args]
+    if why := report.missing(tools):
+        pytest.skip(why)
+
+
+# ---- what tests are given
+
+
+def program_file(config):
+    file = os.path.abspath(config.getoption("--program") or release.ready())
+    if not os.access(file, os.X_OK):
+        pytest.fail(f"there is no program {file}", pytrace=False)
+    return file
+
+
+@pytest.fixture(scope="session")
+def program(pytestconfig):
+    """The file of the program that is tried."""
+    return program_file(pytestconfig)
+
+
+@pytest.fixture
+def rng(pytestconfig):
+    """What chance gives, by the seed."""
+    return random.Random(pytestconfig.getoption("--seed"))
+
+
+@pytest.fixture(scope="session")
+def count(pytestconfig):
+    """How much is tried, where a command line says it."""
+    return pytestconfig.getoption("--count")
+
+
+@pytest.fixture
+def folder():
+    """A folder of a test's own, with a short path, which is gone after it."""
+    with tempfile.TemporaryDirectory() as made:
+        yield made
+
+
+# ---- cases
 
 
 def pytest_collect_file(file_path, parent):
@@ -37,8 +93,7 @@ class Case(pytest.File):
     def ran(self):
         """The run of the whole file."""
         if self.came is None:
-            program = self.config.getoption("--program") or release.ready()
-            self.came = cases.run_case(str(self.path), {"nixkeep": str(Path(program).resolve())})
+            self.came = cases.run_case(str(self.path), {"nixkeep": program_file(self.config)})
         return self.came
 
 

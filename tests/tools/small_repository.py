@@ -5,7 +5,6 @@ import subprocess
 
 from nixkeep_dev.build import program
 from nixkeep_dev.build.program import HERE
-from tests.tools.checks import Checks
 
 CRATES = {"low": [], "left": ["low"], "right": ["low"], "join": ["low", "left", "right"], "nixkeep": ["join"]}
 # One that the program doesn't need.
@@ -51,11 +50,10 @@ def put_program(path, text):
     os.chmod(path, 0o755)
 
 
-class Repository(Checks):
+class Repository:
     """A repository of a few crates, and the stand-in for the toolchain."""
 
     def __init__(self, room):
-        super().__init__()
         self.top, self.kit, self.room = f"{room}/repository", f"{room}/kit", room
         crates = {**CRATES, **ASIDE}
         for crate in crates:

@@ -6,10 +6,12 @@ those of other programs that a manual page mentions. What nixkeep itself has is 
 import re
 from pathlib import Path
 
+import pytest
+
 from nixkeep_dev.build import layout
-from nixkeep_dev.testing import report
 from tests.tools.words import options_in, options_of, options_of_program
 
+TOOLS = [it for it in layout.names_in("tools") if it.startswith("nixkeep-")]
 # Options of other programs that a help or a manual page mentions.
 MENTIONED = {"nixkeep-cache": {"--from", "--generate-binary-cache-key", "--no-check-sigs", "--to"},
              "nixkeep-explain": {"--db"}, "nixkeep-closure": {"--blobs", "--serve", "--store", "--write"}}
@@ -19,21 +21,24 @@ def text_of(path):
     return Path(layout.HERE, path).read_text()
 
 
-def run(words):
-    file = report.program_file(words)
-    for tool in [it for it in layout.names_in("tools") if it.startswith("nixkeep-")]:
-        found, mentioned = options_of(tool), MENTIONED.get(tool, set())
-        if found is None:
-            report.skip(f"{tool}: a module of Python that it needs isn't installed")
-            continue
-        found = found - mentioned | (options_of_program(file) if tool == "nixkeep-remote" else set())
-        page = re.sub(r"\\f[BIRP]", " ", text_of(f"man/{tool}.1").replace("\\-", "-"))
-        completed = text_of(f"completion/{tool}.bash")
-        for what, text, excused in (("manual page", page, {"--help"}), ("completion", completed, set())):
-            has = options_in(text) - mentioned
-            report.same(f"the options that the {what} of {tool} hasn't", sorted(found - has - excused), [])
-            report.same(f"the options that the {what} of {tool} has for itself", sorted(has - found), [])
+@pytest.fixture(scope="module", params=TOOLS)
+def tool(request):
+    return request.param
 
 
-if __name__ == "__main__":
-    report.script(__doc__, run)
+@pytest.fixture(scope="module")
+def options(tool, program):
+    """The options of a tool."""
+    found = options_of(tool)
+    if found is None:
+        pytest.skip(f"{tool}: a module of Python that it needs isn't installed")
+    return found - MENTIONED.get(tool, set()) | (options_of_program(program) if tool == "nixkeep-remote" else set())
+
+
+def test_the_manual_page_has_the_options(tool, options):
+    page = re.sub(r"\\f[BIRP]", " ", text_of(f"man/{tool}.1").replace("\\-", "-"))
+    assert options_in(page) - MENTIONED.get(tool, set()) | {"--help"} == options | {"--help"}
+
+
+def test_the_completion_has_the_options(tool, options):
+    assert options_in(text_of(f"completion/{tool}.bash")) - MENTIONED.get(tool, set()) == options
