@@ -24,6 +24,7 @@ def pytest_addoption(parser):
     add("--program", metavar="FILE", help="the program; else the one that bin/nixkeep runs")
     add("--seed", metavar="N", type=int, default=report.today(), help="what chance begins with; else the day")
     add("--count", metavar="N", type=int, help="how much is tried; else as much as each test says")
+    add("--libraries", metavar="FILE", help="the program of crates/bench; else what needs it is skipped")
 
 
 def pytest_configure(config):

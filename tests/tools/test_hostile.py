@@ -1,10 +1,7 @@
 """Sends the hostile requests of hostile_requests.txt through nginx, as examples/team sets it up, and to nixkeep-cache
 without it. Each has to be answered as the table says, and none may do what it tries: to set a root as another user.
 
-Needs what examples/team/try needs, and is skipped without it. Each check is a line; the last line is `N passed, M
-failed`.
-
-usage: bin/run tests/tools/test_hostile.py [--program FILE]
+Needs what examples/team/try needs, and is skipped without it.
 """
 import base64
 import contextlib
@@ -13,15 +10,19 @@ import importlib.util
 import re
 import socket
 import ssl
+import tempfile
 from concurrent.futures import ThreadPoolExecutor
 from pathlib import Path
 
+import pytest
+
 import parts
 from nixkeep_dev.build.program import HERE
-from parts import check, same
 
 TABLE = f"{HERE}/tests/tools/hostile_requests.txt"
 LAST = b"GET /last HTTP/1.1\r\n%sconnection: close\r\n\r\n"
+HOST = b"host: red.localhost\r\n"
+LOGIN = b"authorization: Basic %s\r\n" % base64.b64encode(b"ann:ann-secret")
 
 
 def deployment():
@@ -33,10 +34,15 @@ def deployment():
 
 
 def rows():
-    for line in Path(TABLE).read_text().splitlines():
+    """The rows by their lines: the statuses through nginx, those without it, and what is sent."""
+    for number, line in enumerate(Path(TABLE).read_text().splitlines(), 1):
         if line and not line.startswith("#"):
             through, straight, sent = line.split(" | ", 2)
-            yield through.split("/"), straight.split("/"), sent
+            yield number, (through.split("/"), straight.split("/"), sent)
+
+
+TEAM, ROWS = deployment(), dict(rows())
+pytestmark = pytest.mark.needs(*TEAM.TOOLS)
 
 
 def bytes_of(sent, fields, path):
@@ -82,13 +88,80 @@ def asked(connect, data):
         return ",".join(replies(stream)) or "close"
 
 
-def sent_to(what, connect, fields, wanted, path):
-    """Sends all rows at once on a few connections, and compares their replies."""
-    table = [(want, sent) for want, sent in wanted]
+def answers(connect, fields, path):
+    """Sends all rows at once on a few connections: what comes to each, by its line."""
     with ThreadPoolExecutor(8) as pool:
-        came = list(pool.map(lambda it: asked(connect, bytes_of(it[1], fields, path)), table))
-    for (want, sent), it in zip(table, came):
-        check(f"{what}: {'/'.join(want)} for {sent[:100]}", it in want, it)
+        return dict(zip(ROWS, pool.map(lambda it: asked(connect, bytes_of(it[2], fields, path)), ROWS.values())))
+
+
+# ---- what runs
+
+
+@pytest.fixture(scope="module")
+def site(program):
+    with tempfile.TemporaryDirectory() as folder, contextlib.ExitStack() as running:
+        made = TEAM.Deployment(program, folder)
+        for it in (made.servers["red"], made.nginx):
+            running.enter_context(it)
+        yield made
+
+
+@pytest.fixture(scope="module")
+def path(site):
+    """The path of an object."""
+    return site.user("ann").add("target", b"x")
+
+
+@pytest.fixture(scope="module")
+def by_nginx(site, path):
+    """What comes to all rows through nginx, and the roots and the objects of the store afterwards."""
+    tls = ssl.create_default_context(cafile=f"{site.etc}/tls/ca.pem")
+
+    def connect():
+        plain = socket.create_connection(("127.0.0.1", site.port))
+        return tls.wrap_socket(plain, server_hostname="red.localhost", suppress_ragged_eofs=True)
+
+    came, build = answers(connect, HOST + LOGIN, path), site.user("build")
+    return came, build("GET", "/roots"), sorted(it.rpartition("-")[2] for it in build.listed())
+
+
+@pytest.fixture(scope="module")
+def by_cache(site, path, by_nginx):
+    """What comes to all rows from nixkeep-cache, after those through nginx."""
+    def connect():
+        connected = socket.socket(socket.AF_UNIX)
+        connected.connect(site.servers["red"].place)
+        return connected
+
+    return answers(connect, HOST + b"store-user: ann\r\n", path)
+
+
+# ---- what comes
+
+
+def test_there_are_rows():
+    assert len(ROWS) >= 169
+
+
+@pytest.mark.parametrize("line", ROWS)
+def test_through_nginx(line, by_nginx):
+    wanted, _, sent = ROWS[line]
+    assert by_nginx[0][line] in wanted, sent
+
+
+def test_no_root_was_forged(by_nginx):
+    _, (status, roots), _ = by_nginx
+    assert status == 200 and b"forged" not in roots
+
+
+def test_nothing_was_added_but_what_rows_add(by_nginx):
+    assert by_nginx[2] == ["chunk", "target"]
+
+
+@pytest.mark.parametrize("line", ROWS)
+def test_to_the_cache(line, by_cache):
+    _, wanted, sent = ROWS[line]
+    assert by_cache[line] in wanted, sent
 
 
 # Conditions by which a stranger could learn of what nginx keeps, or get it.
@@ -99,48 +172,18 @@ CONDITIONS = ["if-none-match: *", "if-none-match: %s", 'if-match: "none"', "rang
               "connection: authorization"]
 
 
-def strangers(site, path):
-    """Nothing of what nginx keeps for others comes to one who may not connect, however it is asked for."""
+@pytest.mark.parametrize("what", ["an archive", "a record"])
+def test_a_stranger_gets_nothing_that_nginx_keeps(what, site, path):
     ann, eve = site.user("ann"), site.user("eve")
-    archive, record = ann.archive(path), f"/{path[11:43]}.narinfo"
-    same("nginx keeps an archive and its record", [ann("GET", it)[0] for it in (archive, record) * 2], [200] * 4)
+    archive = ann.archive(path)
+    target = archive if what == "an archive" else f"/{path[11:43]}.narinfo"
+    assert [ann("GET", target)[0] for _ in range(2)] == [200] * 2, "nginx keeps it"
     tag = f'"{archive.split("/")[2]}"'
-    for target in (archive, record):
-        asked = [eve("GET", target, None, "-H", it.replace("%s", tag)) for it in CONDITIONS]
-        same(f"{target[:20]}: a stranger gets none of it by a condition", {*asked}, {(403, b"denied: connect\n")})
-        asked = [eve(it, target, b"")[0] for it in ("POST", "PUT", "DELETE", "PURGE", "PROPFIND")]
-        same("nor by another method", asked, [403] * 5)
+    for it in CONDITIONS:
+        assert eve("GET", target, None, "-H", it.replace("%s", tag)) == (403, b"denied: connect\n"), it
+    for it in ("POST", "PUT", "DELETE", "PURGE", "PROPFIND"):
+        assert eve(it, target, b"")[0] == 403, it
 
 
-def main(words):
-    team = deployment()
-    site = team.Deployment(words.program, words.folder)
-    with contextlib.ExitStack() as running:
-        for it in (site.servers["red"], site.nginx):
-            running.enter_context(it)
-        build, path = site.user("build"), site.user("ann").add("target", b"x")
-        table, tls = list(rows()), ssl.create_default_context(cafile=f"{site.etc}/tls/ca.pem")
-        check("there are 169 rows at least", len(table) >= 169, len(table))
-        login = base64.b64encode(b"ann:ann-secret")
-        host = b"host: red.localhost\r\n"
-
-        def through():
-            plain = socket.create_connection(("127.0.0.1", site.port))
-            return tls.wrap_socket(plain, server_hostname="red.localhost", suppress_ragged_eofs=True)
-
-        def straight():
-            connected = socket.socket(socket.AF_UNIX)
-            connected.connect(site.servers["red"].place)
-            return connected
-
-        sent_to("nginx", through, host + b"authorization: Basic %s\r\n" % login, [(it[0], it[2]) for it in table], path)
-        roots, listed = build("GET", "/roots"), sorted(it.rpartition("-")[2] for it in build.listed())
-        same("no root was forged", (roots[0], b"forged" in roots[1]), (200, False))
-        same("and nothing was added but what rows add", listed, ["chunk", "target"])
-        sent_to("cache", straight, host + b"store-user: ann\r\n", [(it[1], it[2]) for it in table], path)
-        strangers(site, path)
-        same("no request has harmed the server", site.servers["red"].lines(), [])
-
-
-if __name__ == "__main__":
-    parts.script(__doc__, "the hostile requests", main, *deployment().TOOLS)
+def test_no_request_has_harmed_the_server(site, by_nginx, by_cache):
+    assert site.servers["red"].lines() == []

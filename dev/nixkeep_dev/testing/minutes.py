@@ -31,11 +31,10 @@ class Minutes:
         self.clock[report.nodeid] = self.clock.get(report.nodeid, 0) + report.duration
 
     def pytest_terminal_summary(self, terminalreporter):
-        rows = [(work, self.clock[it], it.rpartition("/")[2]) for it, work in self.work.items()]
-        longest = sorted((it for it in rows if it[0] >= LEAST), reverse=True)
-        if longest:
-            others = [it for it in rows if it[0] < LEAST]
+        rows = sorted(((work, self.clock[it], it.rpartition("/")[2]) for it, work in self.work.items()), reverse=True)
+        longest, others = [it for it in rows if it[0] >= LEAST], [it for it in rows if it[0] < LEAST]
+        if others:
             longest.append((sum(it[0] for it in others), sum(it[1] for it in others), f"{len(others)} others"))
-            terminalreporter.section("seconds of processors, and of the clock")
-            for work, clock, name in longest:
-                terminalreporter.write_line(f"{work:8.1f} {clock:8.1f}  {name}")
+        terminalreporter.section("seconds of processors, and of the clock")
+        for work, clock, name in longest:
+            terminalreporter.write_line(f"{work:8.1f} {clock:8.1f}  {name}")

@@ -43,7 +43,7 @@ SHORT = {
     "compare/nix_store": ["--count", "3"],
     "compare/sqlite": ["--count", "2"],
     "tools/test_units": ["said"],
-    BENCH: ["commands"],
+    BENCH: ["-k", "commands or warning"],
     "compare/model": ["--count", "500"],
     "faults/refuse_memory": ["--count", "8"],
     "faults/stop_writes": ["--count", "2"],
