@@ -1,31 +1,31 @@
 """Tries the examples for NixOS, containers and logins by another program, as far as a machine without these can.
 
-  module     Nix evaluates the module over options and packages in place of those of nixpkgs: the files, groups
-             and units that it makes of two stores; the program takes the configuration that it writes
-  package    what package.nix does in its phase of installation, on the files of an archive: the units name no program
-             below /usr, and the tools run
-  container  each instruction is one that there is, what is copied is what bin/package makes, and the commands of the
-             image serve a store, whose check of health succeeds while it runs and fails after
-  logins     nginx with auth-request.conf and a program in place of the one that knows the users: who each of them is to
-             the store, and what forged fields, other domains and a missing login come to
+NixOS: Nix evaluates the module over options and packages in place of those of nixpkgs: the files, groups and units that
+it makes of two stores; the program takes the configuration that it writes. What package.nix does in its phase of
+installation is done on the files of an archive: the units name no program below /usr, and the tools run.
 
-Needs nix-bin, python3-aiohttp and dpkg-deb, and is skipped without them; logins needs nginx, openssl
-and curl.
+Containers: each instruction is one that there is, what is copied is what bin/package makes, and the commands of the
+image serve a store, whose check of health succeeds while it runs and fails after.
+
+Logins: nginx with auth-request.conf and a program in place of the one that knows the users: who each of them is to the
+store, and what forged fields, other domains and a missing login come to.
 """
 import base64
 import http.server
 import json
 import os
 import re
-import shlex
 import subprocess
+import tempfile
 import threading
 import time
 from pathlib import Path
 
+import pytest
+
+import parts
 from nixkeep_dev.build.layout import version
 from nixkeep_dev.build.program import HERE
-from nixkeep_dev.testing import report
 
 MODULE, PACKAGE = f"{HERE}/examples/nixos/module.nix", f"{HERE}/examples/nixos/package.nix"
 CONTAINER = f"{HERE}/examples/container/Containerfile"
@@ -39,129 +39,161 @@ LIB = """{
   types = { package = "package"; lines = "lines"; str = "str"; listOf = it: it; attrsOf = it: it; submodule = it: it; };
   licenses = { mit = "mit"; asl20 = "asl20"; };
 }"""
-INSTRUCTIONS = {"FROM", "COPY", "RUN", "USER", "VOLUME", "EXPOSE", "CMD", "HEALTHCHECK"}
 
 
-def evaluated(folder, expression):
+def evaluated(expression):
     """The value of an expression of Nix, which needs no store."""
-    environment = {**os.environ, "HOME": folder, "NIX_STATE_DIR": f"{folder}/state", "NIX_STORE_DIR": f"{folder}/store"}
-    words = ["nix-instantiate", "--eval", "--strict", "--json", "--readonly-mode", "--expr", expression]
-    ran = subprocess.run(words, env=environment, capture_output=True, text=True)
-    if ran.returncode:
-        report.fail(f"{expression}: {ran.stderr}")
+    with tempfile.TemporaryDirectory() as folder:
+        environment = {"HOME": folder, "NIX_STATE_DIR": f"{folder}/state", "NIX_STORE_DIR": f"{folder}/store"}
+        words = ["nix-instantiate", "--eval", "--strict", "--json", "--readonly-mode", "--expr", expression]
+        ran = subprocess.run(words, env={**os.environ, **environment}, capture_output=True, text=True)
+    assert ran.returncode == 0, f"{expression}: {ran.stderr}"
     return json.loads(ran.stdout)
 
 
 # ---- NixOS
 
+needs_nix = pytest.mark.needs("nix-instantiate", "dpkg-deb", "python3-aiohttp")
 
-def module(words):
+
+@pytest.fixture(scope="module")
+def machine():
+    """What the module makes of two stores."""
     stores = f"{{ red = {{ configuration = {json.dumps(CONFIGURATION)}; proxies = [ \"nginx\" ]; }}; " \
              "blue = { configuration = \"\"; proxies = [ \"caddy\" \"ops\" ]; }; }"
     config = f"{{ services.nixkeep = {{ package = \"/nixkeep\"; stores = {stores}; }}; }}"
-    found = evaluated(words.folder, f"(import {MODULE} {{ lib = {LIB}; config = {config}; }}).config")
-    report.same("the groups", found["users"]["groups"],
-                {"nixkeep-blue": {"members": ["caddy", "ops"]}, "nixkeep-red": {"members": ["nginx"]}})
-    report.same("the packages of systemd", found["systemd"]["packages"], ["/nixkeep"])
-    report.same("the packages of users", found["environment"]["systemPackages"], ["/nixkeep"])
-    for kind, target in (("sockets", "sockets.target"), ("services", "multi-user.target")):
-        units = found["systemd"][kind]
-        report.same(f"the {kind}", [*units], ["nixkeep@blue", "nixkeep@red"])
-        report.same(f"when they start: {kind}", {it["wantedBy"][0] for it in units.values()}, {target})
-        # (without it NixOS would make a unit of its own in place of the package's)
-        report.same(f"{kind} add to the package's", {it["overrideStrategy"] for it in units.values()}, {"asDropin"})
-        unit = f"nixkeep@.{kind.removesuffix('s')}"
-        report.same(f"the unit {unit} of the package", os.path.exists(f"{HERE}/packaging/{unit}"), True)
-    socket = Path(f"{HERE}/packaging/nixkeep@.socket").read_text()
-    report.same("the group is the socket's", "SocketGroup=nixkeep-%i" in socket, True)
-    file = f"{words.folder}/red.toml"
-    Path(file).write_text(found["environment"]["etc"]["nixkeep/red.toml"]["text"])
-    ran = subprocess.run([words.program, "--config", file, "--user", "build", "who"], capture_output=True)
-    report.same("what the program says of the configuration", ran.stdout, b"class: trusted\nconnect: yes\n")
-    empty = f"(import {MODULE} {{ lib = {LIB}; config.services.nixkeep.stores = {{ }}; }}).config"
-    report.same("without a store nothing is made", evaluated(words.folder, empty), {})
+    return evaluated(f"(import {MODULE} {{ lib = {LIB}; config = {config}; }}).config")
 
 
-def package(words):
-    room, out = f"{words.folder}/package", f"{words.folder}/out"
-    os.makedirs(room)
-    program = ["--program", words.program]
-    ran = subprocess.run([f"{HERE}/bin/package", "--to", room, *program], capture_output=True, text=True)
-    archive = ran.stdout.splitlines()[1]
-    stand_in = f"{{ lib = {LIB}; stdenv.mkDerivation = it: it; autoPatchelfHook = 1; " \
-               "python3.withPackages = f: f { aiohttp = 1; zstandard = 1; jinja2 = 1; }; " \
-               f"src = {archive}; }}"
-    found = evaluated(words.folder, f"removeAttrs (import {PACKAGE} {stand_in}) [ \"src\" ]")
-    report.same("the version", found["version"], version())
-    subprocess.run(["tar", "-xf", archive, "--strip-components=1", "-C", room], check=True)
-    ran = subprocess.run(["bash", "-ec", found["installPhase"]], cwd=room, env={**os.environ, "out": out},
-                         capture_output=True, text=True)
-    report.same("the phase of installation", (ran.returncode, ran.stderr), (0, ""))
-    for unit in Path(f"{out}/lib/systemd/system").iterdir():
+@needs_nix
+def test_the_groups_of_the_module(machine):
+    assert machine["users"]["groups"] == {"nixkeep-blue": {"members": ["caddy", "ops"]},
+                                          "nixkeep-red": {"members": ["nginx"]}}
+    assert "SocketGroup=nixkeep-%i" in Path(f"{HERE}/packaging/nixkeep@.socket").read_text()
+
+
+@needs_nix
+def test_the_packages_of_the_module(machine):
+    assert machine["systemd"]["packages"] == ["/nixkeep"]
+    assert machine["environment"]["systemPackages"] == ["/nixkeep"]
+
+
+@needs_nix
+@pytest.mark.parametrize("kind, target", [("sockets", "sockets.target"), ("services", "multi-user.target")])
+def test_the_units_of_the_module(machine, kind, target):
+    units = machine["systemd"][kind]
+    assert [*units] == ["nixkeep@blue", "nixkeep@red"]
+    assert {it["wantedBy"][0] for it in units.values()} == {target}
+    # (without it NixOS would make a unit of its own in place of the package's)
+    assert {it["overrideStrategy"] for it in units.values()} == {"asDropin"}
+    assert os.path.exists(f"{HERE}/packaging/nixkeep@.{kind.removesuffix('s')}")
+
+
+@needs_nix
+def test_the_program_takes_the_configuration_of_the_module(machine, program, folder):
+    file = f"{folder}/red.toml"
+    Path(file).write_text(machine["environment"]["etc"]["nixkeep/red.toml"]["text"])
+    ran = subprocess.run([program, "--config", file, "--user", "build", "who"], capture_output=True)
+    assert ran.stdout == b"class: trusted\nconnect: yes\n"
+
+
+@needs_nix
+def test_without_a_store_the_module_makes_nothing():
+    assert evaluated(f"(import {MODULE} {{ lib = {LIB}; config.services.nixkeep.stores = {{ }}; }}).config") == {}
+
+
+@pytest.fixture(scope="module")
+def installed(program):
+    """What the phase of installation of package.nix makes of an archive, and the version that it has."""
+    with tempfile.TemporaryDirectory() as folder:
+        room, out = f"{folder}/package", f"{folder}/out"
+        os.makedirs(room)
+        words = [f"{HERE}/bin/package", "--to", room, "--program", program]
+        ran = subprocess.run(words, capture_output=True, text=True)
+        archive = ran.stdout.splitlines()[1]
+        stand_in = f"{{ lib = {LIB}; stdenv.mkDerivation = it: it; autoPatchelfHook = 1; " \
+                   "python3.withPackages = f: f { aiohttp = 1; zstandard = 1; jinja2 = 1; }; " \
+                   f"src = {archive}; }}"
+        found = evaluated(f"removeAttrs (import {PACKAGE} {stand_in}) [ \"src\" ]")
+        subprocess.run(["tar", "-xf", archive, "--strip-components=1", "-C", room], check=True)
+        ran = subprocess.run(["bash", "-ec", found["installPhase"]], cwd=room, env={**os.environ, "out": out},
+                             capture_output=True, text=True)
+        assert (ran.returncode, ran.stderr) == (0, "")
+        yield out, found["version"]
+
+
+@needs_nix
+def test_the_version_of_the_package(installed):
+    assert installed[1] == version()
+    ran = subprocess.run([f"{installed[0]}/bin/nixkeep-explain", "--version"], capture_output=True, text=True)
+    assert ran.stdout == f"nixkeep-explain {version()}\n"
+
+
+@needs_nix
+def test_the_units_of_the_package(installed):
+    units = [*Path(f"{installed[0]}/lib/systemd/system").iterdir()]
+    assert units
+    for unit in units:
         lines = [it for it in unit.read_text().splitlines() if not it.startswith("#")]
-        report.same(f"programs below /usr in {unit.name}", [it for it in lines if "/usr/" in it], [])
+        assert [it for it in lines if "/usr/" in it] == [], unit.name
         for line in (it for it in lines if it.startswith("Exec")):
-            named = line.partition("=")[2].lstrip("-+").split()[0]
-            report.same(f"the program of {line[:60]}", os.access(named, os.X_OK), True)
-    ran = subprocess.run([f"{out}/bin/nixkeep-explain", "--version"], capture_output=True, text=True)
-    report.same("a tool", ran.stdout, f"nixkeep-explain {version()}\n")
+            assert os.access(line.partition("=")[2].lstrip("-+").split()[0], os.X_OK), line
 
 
 # ---- containers
 
+INSTRUCTIONS = {"FROM", "COPY", "RUN", "USER", "VOLUME", "EXPOSE", "CMD", "HEALTHCHECK"}
 
-def instructions():
+
+@pytest.fixture
+def container():
     """The instructions of the file, each with its words as one text."""
     lines = re.sub(r"\\\n", " ", Path(CONTAINER).read_text()).splitlines()
-    return [tuple(it.split(" ", 1)) for it in lines if it and not it.startswith("#")]
+    found = [tuple(it.split(" ", 1)) for it in lines if it and not it.startswith("#")]
+    assert {it for it, _ in found} <= INSTRUCTIONS
+    return dict(found)
 
 
-def command_of(text):
-    """The words of a command in the form of a list, after the options of a check of health."""
-    return json.loads(text[text.index("[") :])
+def test_what_is_copied_is_what_bin_package_makes(container):
+    assert container["COPY"].split()[0] == "nixkeep_*_amd64.deb"
+    named = 'f"{program.NAME}_{layout.version()}_amd64"'
+    assert named in Path(f"{HERE}/dev/nixkeep_dev/commands/package.py").read_text()
 
 
-def here(words, folder, port):
-    """A command of the image, in this checkout: its folders and its port are others."""
+def test_who_runs_the_image(container):
+    ran = subprocess.run(["sh", "-n", "-c", container["RUN"]], capture_output=True)
+    assert ran.returncode == 0, ran.stderr
+    assert "useradd" in container["RUN"]
+    assert (container["USER"], container["VOLUME"]) == ("keeper", "/store")
+
+
+def here(text, folder, port):
+    """A command of the image in the form of a list, after the options of a check of health, as it runs in this
+    checkout: its folders and its port are others."""
     found = []
-    for it in words:
+    for it in json.loads(text[text.index("[") :]):
         it = it.replace("/etc/nixkeep/store.toml", f"{folder}/store.toml").replace("/store/", f"{folder}/")
         found.append(it.replace("0.0.0.0:8081", f"127.0.0.1:{port}").replace(":8081", f":{port}"))
     return found
 
 
-def container(words):
-    from parts import free_port
-
-    found = instructions()
-    report.same("instructions that there aren't", {it for it, _ in found} - INSTRUCTIONS, set())
-    by_name = dict(found)
-    report.same("what is copied is what bin/package makes", by_name["COPY"].split()[0], "nixkeep_*_amd64.deb")
-    named = 'f"{program.NAME}_{layout.version()}_amd64"'
-    text = Path(f"{HERE}/dev/nixkeep_dev/commands/package.py").read_text()
-    report.same("what bin/package makes", named in text, True)
-    ran = subprocess.run(["sh", "-n", "-c", by_name["RUN"]], capture_output=True)
-    report.same("the shell of RUN", ran.returncode, 0)
-    report.same("who runs it, over which folder", ("useradd" in by_name["RUN"] and by_name["USER"], by_name["VOLUME"]),
-                ("keeper", "/store"))
-    os.makedirs(folder := f"{words.folder}/served")
+@pytest.mark.needs("python3-aiohttp")
+def test_the_check_of_health(container, program, folder):
     Path(f"{folder}/store.toml").write_text(CONFIGURATION)
     environment = {**os.environ, "PATH": f"{HERE}/tools:{os.environ['PATH']}"}
-    port = free_port()
-    served = here(command_of(by_name["CMD"]), folder, port)
-    health = here(command_of(by_name["HEALTHCHECK"]), folder, port)
-    with subprocess.Popen([*served, "--nixkeep", words.program], env=environment) as running:
+    port = parts.free_port()
+    served, health = (here(container[it], folder, port) for it in ("CMD", "HEALTHCHECK"))
+    with subprocess.Popen([*served, "--nixkeep", program], env=environment) as running:
         try:
             for _ in range(300):
                 ran = subprocess.run(health, env=environment, capture_output=True, text=True)
                 if ran.returncode == 0 or running.poll() is not None:
                     break
                 time.sleep(0.2)
-            report.same(f"the check of health ({shlex.join(health)})", (ran.returncode, ran.stderr), (0, ""))
         finally:
             running.terminate()
-    ran = subprocess.run(health, env=environment, capture_output=True, text=True)
-    report.same("the check of health after the end", ran.returncode != 0, True)
+    assert (ran.returncode, ran.stderr) == (0, ""), health
+    assert subprocess.run(health, env=environment, capture_output=True).returncode != 0, "after the end"
 
 
 # ---- logins
@@ -169,6 +201,9 @@ def container(words):
 # Who the stand-in knows: the name and password of a login, and the user that it says.
 KNOWN = {"ann:secret": "ann@example.org", "bob:secret": "bob", "eve:secret": "ann@evil.example", "odd:secret": "a b",
          "none:secret": None}
+ALLOWED = (200, b"class: allowed\nconnect: yes\n")
+NOBODY = (400, b"refused: 20 bad-caller\n")
+needs_nginx = pytest.mark.needs("nginx", "openssl", "curl", "python3-aiohttp")
 
 
 class Knows(http.server.BaseHTTPRequestHandler):
@@ -191,8 +226,7 @@ def nginx_conf(folder, port, login):
     text = Path(f"{HERE}/examples/team/auth-request.conf").read_text()
     for here, there in {"/etc/nixkeep/tls": folder, "/run/nixkeep/red.socket": f"{folder}/red.socket",
                         "127.0.0.1:4180": f"127.0.0.1:{login}", "listen      443": f"listen 127.0.0.1:{port}"}.items():
-        if here not in text:
-            report.fail(f"auth-request.conf hasn't {here}")
+        assert here in text
         text = text.replace(here, there)
     kinds = "client_body", "proxy", "fastcgi", "uwsgi", "scgi"
     rooms = "".join(f"{it}_temp_path {folder}/{it}; " for it in kinds)
@@ -202,46 +236,42 @@ def nginx_conf(folder, port, login):
     return file
 
 
-def logins(words):
-    import parts
-
-    if report.skips("nginx", "openssl", "curl", what="logins"):
-        return
-    os.makedirs(folder := f"{words.folder}/logins")
-    port, knows = parts.free_port(), http.server.ThreadingHTTPServer(("127.0.0.1", 0), Knows)
-    threading.Thread(target=knows.serve_forever, daemon=True).start()
-    made = "openssl req -x509 -newkey rsa:2048 -nodes -days 1 -subj /CN=red.example.org " \
-           "-addext subjectAltName=DNS:red.example.org -keyout server.key -out server.pem"
-    subprocess.run(made.split(), cwd=folder, check=True, capture_output=True)
-    config = f"{folder}/red.toml"
-    Path(config).write_text('allowed-users = ["ann", "bob"]\ntrusted-users = ["build"]\n')
-    nginx = [parts.found("nginx"), "-p", folder, "-e", "nginx.log", "-c", nginx_conf(folder, port, knows.server_port)]
-    site = ["--cacert", f"{folder}/server.pem", "--resolve", f"red.example.org:{port}:127.0.0.1"]
-    asked = lambda *more: parts.curl(*site, *more, f"https://red.example.org:{port}/who")
-    unit = parts.Unit(words.program, folder, config, f"{folder}/store.db", f"{folder}/red.socket")
-    with unit, parts.Part("nginx", nginx, port, f"{folder}/nginx.log"):
-        is_allowed = (200, b"class: allowed\nconnect: yes\n")
-        bad_caller = (400, b"refused: 20 bad-caller\n")
-        report.same("a user of the team's domain", asked("-u", "ann:secret"), is_allowed)
-        report.same("a user without a domain", asked("-u", "bob:secret"), is_allowed)
-        report.same("the same name of another domain is nobody", asked("-u", "eve:secret"), bad_caller)
-        report.same("a name that isn't plain is nobody", asked("-u", "odd:secret"), bad_caller)
-        report.same("a login without a name is nobody", asked("-u", "none:secret"), bad_caller)
-        report.same("a wrong password", asked("-u", "ann:wrong")[0], 401)
-        report.same("no login", asked()[0], 401)
-        for field in ("store-user: build", "x-auth-request-user: build", "store_user: build"):
-            report.same(f"the forged field {field}", asked("-u", "ann:secret", "-H", field), is_allowed)
-            report.same(f"the forged field {field} without a login", asked("-H", field)[0], 401)
-    knows.shutdown()
+@pytest.fixture(scope="module")
+def asked(program):
+    """What nginx answers to a request with these words of curl."""
+    with tempfile.TemporaryDirectory() as folder, http.server.ThreadingHTTPServer(("127.0.0.1", 0), Knows) as knows:
+        port = parts.free_port()
+        threading.Thread(target=knows.serve_forever, daemon=True).start()
+        made = "openssl req -x509 -newkey rsa:2048 -nodes -days 1 -subj /CN=red.example.org " \
+               "-addext subjectAltName=DNS:red.example.org -keyout server.key -out server.pem"
+        subprocess.run(made.split(), cwd=folder, check=True, capture_output=True)
+        config = f"{folder}/red.toml"
+        Path(config).write_text('allowed-users = ["ann", "bob"]\ntrusted-users = ["build"]\n')
+        conf = nginx_conf(folder, port, knows.server_port)
+        nginx = [parts.found("nginx"), "-p", folder, "-e", "nginx.log", "-c", conf]
+        site = ["--cacert", f"{folder}/server.pem", "--resolve", f"red.example.org:{port}:127.0.0.1"]
+        unit = parts.Unit(program, folder, config, f"{folder}/store.db", f"{folder}/red.socket")
+        with unit, parts.Part("nginx", nginx, port, f"{folder}/nginx.log"):
+            yield lambda *more: parts.curl(*site, *more, f"https://red.example.org:{port}/who")
+        knows.shutdown()
 
 
-def run(words):
-    words.program = report.program_file(words)
-    if report.skips("nix-instantiate", "dpkg-deb", "python3-aiohttp"):
-        return
-    for part in words.parts:
-        part(words)
+@needs_nginx
+@pytest.mark.parametrize("login, wanted", [("ann:secret", ALLOWED), ("bob:secret", ALLOWED), ("eve:secret", NOBODY),
+                                           ("odd:secret", NOBODY), ("none:secret", NOBODY)],
+                         ids=["of the team's domain", "without a domain", "of another domain", "not plain", "no name"])
+def test_who_a_login_is(asked, login, wanted):
+    assert asked("-u", login) == wanted
 
 
-if __name__ == "__main__":
-    report.script(__doc__, run, parts=[module, package, container, logins])
+@needs_nginx
+@pytest.mark.parametrize("words", [["-u", "ann:wrong"], []], ids=["a wrong password", "no login"])
+def test_no_login(asked, words):
+    assert asked(*words)[0] == 401
+
+
+@needs_nginx
+@pytest.mark.parametrize("field", ["store-user: build", "x-auth-request-user: build", "store_user: build"])
+def test_a_forged_field(asked, field):
+    assert asked("-u", "ann:secret", "-H", field) == ALLOWED
+    assert asked("-H", field)[0] == 401
