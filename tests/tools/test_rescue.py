@@ -1,0 +1,208 @@
+"""Tests what nixkeep-explain rescues of a damaged file, and what it says of the use of a sound one and of archives.
+
+Of 50 objects one is damaged, and a rescue has the others and their roots; damaged pages lose no sound object. What
+roots, owners and generations keep is compared with a model, and with `nixkeep report`; each fault of an archive is
+compared with `nixkeep ls`. `--count` is how many random files are tried (40).
+"""
+import contextlib
+import os
+import random
+import shutil
+import sqlite3
+import subprocess
+from pathlib import Path
+
+import pytest
+
+from nixkeep_dev.model.policy import config_of
+from nixkeep_dev.model.worlds import Profile
+from nixkeep_dev.testing import report
+from nixkeep_dev.testing.nar import STORE, archive, derivation, hidden, sha256
+from nixkeep_dev.testing.tables import ALL, Built, put
+from nixkeep_tools import nar, store_file
+from tests.tools.explained import change_bytes, explained, some_store
+# ---- rescue
+
+
+def fifty(rng):
+    """A store of 50 objects, and the path of one that others refer to in no way."""
+    built, paths = Built(), []
+    for at in range(50):
+        refs = rng.sample([it for it in paths if not it.endswith("-object20")], min(at, 2) if at != 20 else 0)
+        contents = rng.randbytes(rng.choice([20, 300, 70_000]))
+        if at % 3:
+            paths.append(built.put_source(f"object{at}", archive(contents), refs))
+        else:
+            paths.append(built.put(hidden(f"object{at}"), archive(contents), [*refs, hidden(f"object{at}")]))
+    kept = [it for it in paths if not it.endswith("-object20")]
+    world = built.world
+    world.permanent["base"], world.user["ann", "mine"], world.user["bob", "lost"] = kept[0], kept[1], paths[20]
+    world.profiles["ann", "tools"] = Profile({1: kept[2], 2: kept[3], 4: paths[20], 7: kept[4], 8: kept[4]}, 2)
+    world.runtime |= {("/proc/1/exe", kept[5]), ("it's", kept[6])}
+    world.temporary |= {("ann", 3, kept[7]), ("bob", 9, kept[8])}
+    return built, paths[20]
+
+
+def damage(path, contents):
+    """Changes a byte of these contents where they are in the file, as with a hex editor."""
+    with open(path, "rb") as file:
+        data = bytearray(file.read())
+    data[data.index(contents) + len(contents) // 2] ^= 1
+    with open(path, "wb") as file:
+        file.write(data)
+
+
+class Rescue:
+    """A store of which one object is damaged, what was rescued of it, and a new store of that."""
+
+    def __init__(self, nixkeep, folder, rng):
+        built, self.lost = fifty(rng)
+        self.world, self.path, self.out = built.world, os.path.join(folder, "fifty.db"), os.path.join(folder, "rescued")
+        put(self.path, built.rows(), ALL)
+        damage(self.path, self.world.objects[self.lost].archive[100:116])
+        self.said = nixkeep.agrees(self.path, "a damaged object")
+        self.status, self.new = explained("--rescue", self.out, self.path)[1], os.path.join(folder, "new.db")
+        ran = subprocess.run(["sh", f"{self.out}/restore", self.new], env={**os.environ, "NIXKEEP": nixkeep.file},
+                             capture_output=True, text=True)
+        assert ran.returncode == 0, f"restore: {ran.stdout} {ran.stderr}"
+        with store_file.open_store(self.new) as conn:
+            self.store = store_file.read(conn)
+
+
+@pytest.fixture
+def rescue(nixkeep, folder, rng):
+    return Rescue(nixkeep, folder, rng)
+
+
+def test_a_rescue_of_the_others(nixkeep, rescue):
+    assert f"object ({rescue.lost}): hash isn't the SHA-256" in rescue.said
+    assert rescue.status == 3
+    wanted = "".join(f"{STORE}/{it}\n" for it in sorted(rescue.world.objects) if it != rescue.lost)
+    assert nixkeep(rescue.new, "list")[0] == wanted
+    assert explained(rescue.new)[1] == 0, "the new store is sound"
+    modes = [os.stat(it).st_mode & 0o777 for it in (rescue.out, f"{rescue.out}/restore", rescue.new)]
+    assert modes == [0o700, 0o700, 0o600], "who may read what was rescued"
+    for base, it in rescue.store.objects.items():
+        was = rescue.world.objects[base]
+        assert (it.size, it.digest) == (len(was.archive), sha256(was.archive)), base
+        assert (set(it.references), it.deriver, it.address) == (was.references, was.deriver, was.address), base
+
+
+def test_a_rescue_of_the_roots(rescue):
+    # (generations are numbered anew, and neighbours of one path become one)
+    number = {1: 1, 2: 2, 7: 3}
+    labels = {(target, label) for kind, target, label in rescue.world.roots() if kind != 2 and target != rescue.lost}
+    tools = rescue.world.profiles["ann", "tools"].generations
+    labels |= {(tools[was], f"profiles/per-user/ann/tools-{now}-link") for was, now in number.items()}
+    assert {(it.target, it.label) for it in rescue.store.roots} == labels
+    assert rescue.store.current == {("ann", "tools"): 2}
+
+
+@pytest.mark.parametrize("name", ["full", "empty", "link"])
+def test_a_rescue_into_a_folder_that_is_there(folder, path, name):
+    place = Path(folder, name)
+    if name == "link":
+        place.symlink_to(f"{folder}/elsewhere")
+    else:
+        place.mkdir()
+    if name == "full":
+        Path(place, "restore").touch()
+    _, status, errors = explained("--rescue", str(place), path)
+    assert (status, errors) == (1, f"failed: File exists: {place}\n")
+    assert not os.path.lexists(f"{folder}/elsewhere"), "nothing is made through a link"
+
+
+def test_what_a_terminal_obeys(folder):
+    """Names in a file of other programs are printed without it."""
+    path = os.path.join(folder, "foreign.db")
+    with contextlib.closing(sqlite3.connect(path)) as conn:
+        for at, name in enumerate(("\x1b]0;title\x07", "\x1b[2J", "two\nlines", "\u202eright", "plain", "\x9b2J")):
+            conn.execute(f'CREATE TABLE "{name}" (a)')
+            conn.execute(f'CREATE INDEX "index{at}{name}" ON "{name}" (a)')
+    output, _, errors = explained(path)
+    with contextlib.closing(sqlite3.connect(path)) as conn:
+        conn.execute('CREATE TABLE object ("\x1b[31m" TEXT)')
+    output = "".join([output, errors, *explained(path, "--usage")[::2]])
+    assert [it for it in output if not it.isprintable() and it != "\n"] == []
+    assert all(it in output for it in ("are \\x1b", "two\\nlines")), "it is printed as an escape"
+
+
+def test_rescues_by_chance(rng, folder, many):
+    """Whatever is damaged, a body that is written has an object of the store as it was. Some damage is found, and some
+    bodies are written: else nothing was tried."""
+    written, statuses = 0, set()
+    for at in range(many):
+        path, out = os.path.join(folder, f"pages{at}.db"), os.path.join(folder, f"pages{at}")
+        world = some_store(rng, path, 3)
+        change_bytes(rng, path)
+        output, status, errors = explained("--rescue", out, path)
+        is_told = status in (0, 3) or status == 1 and "failed: " in errors and errors.count("\n") == 1
+        if not is_told:
+            report.fail(f"a rescue: status {status}, {errors!r}", path)
+        statuses.add(status)
+        if status == 3 and os.path.isdir(os.path.join(out, "objects")):
+            for name in os.listdir(os.path.join(out, "objects")):
+                with open(os.path.join(out, "objects", name), "rb") as file:
+                    head, _, body = file.read().partition(b"\n\n")
+                was = world.objects[name.split("-", 1)[1]]
+                lines = head.decode().split("\n")
+                refs = {it.split("/")[-1] for it in lines if it.startswith("reference: ")}
+                report.same(name, (body, refs), (was.archive, was.references), path)
+                written += 1
+        os.remove(path)
+        shutil.rmtree(out, ignore_errors=True)
+    assert written and 3 in statuses, "some bodies are written, and some damage is found"
+
+
+# ---- usage
+
+
+def sizes(world, roots, everything):
+    """The bytes that these roots reach, and those that no other root reaches, by the model alone."""
+    config = config_of(b"")
+    reach = lambda some: {base for it in some for base in world.reached(it[1], config)}
+    mine, rest = reach(roots), reach([it for it in everything if it not in roots])
+    return world.size(mine), world.size(mine - rest)
+
+
+@pytest.mark.parametrize("at", range(3))
+def test_usage(nixkeep, folder, pytestconfig, at):
+    rng, path = random.Random(f"{pytestconfig.getoption('--seed')} {at}"), os.path.join(folder, "usage.db")
+    world = some_store(rng, path, 3)
+    output, status, _ = explained("--usage", path)
+    assert status == 0
+    lines = [it.split() for it in output.split("\n")]
+    told = {words[0]: words[2] for words in (it.split() for it in nixkeep(path, "report")[0].split("\n")[1:4])}
+    assert {it[1]: it[0] for it in lines if it[1:] in (["live"], ["dead"], ["total"])} == told
+    with store_file.open_store(path) as conn:
+        store = store_file.read(conn)
+    roots = [(it.kind, it.target, it.label, it.owner) for it in store.roots]
+    for root, found in store_file.usage_of_roots(store, store_file.edges(store)):
+        mine = [(root.kind, root.target, root.label, root.owner)]
+        assert tuple(found) == sizes(world, mine, roots), root.label
+    for owner, found in store_file.usage_of_owners(store, store_file.edges(store)):
+        mine = [it for it in roots if (it[3] or f"({it[0]})") == owner]
+        assert tuple(found) == sizes(world, mine, roots), owner
+    for (owner, name), it in world.profiles.items():
+        row = [line for line in lines if line[1:4] == [owner, name, str(it.current)]]
+        assert [it[0] for it in row] == ["current"]
+
+
+# ---- archives
+
+
+def some_input(rng, data):
+    """An archive with a byte changed, cut off, or more."""
+    data = bytearray(data)
+    for _ in range(rng.choice([1, 2])):
+        data[rng.randrange(len(data))] = rng.choice([0, 1, 40, 41, 255])
+    return bytes(data[:rng.randrange(len(data))] if rng.random() < 0.3 else data + bytes(rng.choice([0, 0, 8])))
+
+
+def test_archives(nixkeep, rng, many):
+    whole = [archive(b"mycontent\n"), archive(b"x", True), archive(derivation({"out": hidden("out")}))]
+    for data in [*whole, *(some_input(rng, rng.choice(whole)) for _ in range(many))]:
+        fault = nar.check([data[at:at + 7] for at in range(0, len(data), 7)])
+        output, errors, _ = nixkeep("none.db", "ls", given=data)
+        assert errors == (f"refused: {fault.number} {fault.name}\n" if fault else ""), data.hex()
+        assert output == ("" if fault else "".join(it + "\n" for it in nar.listing([data])))
