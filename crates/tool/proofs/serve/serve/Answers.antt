@@ -1,14 +1,24 @@
-use Rattle.std.proofs.Common.{Err, inl, inr, refl, ◌⊎◌}
+use Rattle.std.proofs.Common.{Err, List, Ok, Option, inl, inr, refl, ℕ, ◌≡◌, ◌⊎◌}
+use Rattle.policy.specs.Settings.{Settings}
 use Rattle.policy.specs.Toml.{config_of}
+use Rattle.clap.specs.Walk.{Text}
 use Rattle.report.specs.Outputs.{Console, Printed, change_of}
 use Rattle.report.specs.declared.failures.Failure.TheVariants.{Memory}
 use Rattle.tool_pure.specs.Stream.{Answers}
 use Rattle.tool_pure.specs.declared.stops.Stop.TheVariants.{Failed}
 use Rattle.tool_words.specs.Asked.{optional_text}
-use Rattle.tool.specs.Works.{DoesWith, serves}
+use Rattle.tool_words.specs.declared.line.ServeArguments.{ServeArguments}
+use Rattle.tool.specs.Answer.{AnswersServing}
+use Rattle.tool.specs.Works.{DoesWith, Doing, serves}
 use Rattle.tool.proofs.Answered.{stopped_under}
 use Rattle.tool.proofs.Called.{under}
 use Rattle.tool.proofs.serve.serve.Goals as goal
+
+-- what is done with a store under the settings of a configuration is the answer
+serving : (of_file : Doing) (config : List ℕ) (s : Settings) (db : Option Text) (a : ServeArguments) (console : Console) → config_of config ≡ Ok s → DoesWith of_file db s (serves a) console → AnswersServing of_file config db a console
+serving of_file config s db a console is does =
+    under (config_of config) s (λ s. Answers (Err (Failed Memory)) console.written ⊎ DoesWith of_file db s (serves a) console)
+    console.written is (inr does)
 
 pub returns-in-Ok : goal.returns-in-Ok
 returns-in-Ok g c =
@@ -20,9 +30,8 @@ returns-in-Ok g c =
         status = c.with_tables.result;
       };
     } in
-    let serving = serves c.args.arguments in
-    under (config_of c.args.config.now) c.in-Ok.config (λ s. Answers (Err (Failed Memory)) console.written ⊎ DoesWith _ (optional_text c.args.db) s serving console)
-    console.written c.in-Ok.ensures.ok (inr (c.with_tables.ensures.answer serving refl))
+    serving _ c.args.config.now c.in-Ok.config (optional_text c.args.db) c.args.arguments console c.in-Ok.ensures.ok
+    (c.with_tables.ensures.answer (serves c.args.arguments) refl)
 
 pub returns-in-Err : goal.returns-in-Err
 returns-in-Err g c =
