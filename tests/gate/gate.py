@@ -30,8 +30,8 @@ from nixkeep_dev.testing.runs import file_of, run, spent, together
 TICKS = os.sysconf("SC_CLK_TCK")
 # The minutes that `rt ci` may take, and wrong bodies or definitions: on two processors each may take an hour.
 PROOFS, EDITS = 360, 240
-# The processor minutes of all but the proofs and what is tried a part of each day, and of them those of the wrong bodies
-# that are always tried.
+# The processor minutes of all but the proofs and what is tried a part of each day, and of them those of the wrong
+# bodies that are always tried.
 ALWAYS, BODIES = 95, 35
 # Those within which the day's may begin: its wrong bodies, next to those that are always tried, its wrong definitions
 # and its planted faults. Where the proofs leave less of the budget, each has the same part of its minutes.

@@ -250,7 +250,7 @@ def stored(team, path, archive, references):
     check("the store's file has a pointer, and no content address", pointers.archive(pointer) in made and
           made[-1] is None, made)
     wanted = {"StorePath": path, "Compression": "zstd", "NarSize": str(len(archive)), "FileSize": str(len(file)),
-              "NarHash": f"sha256:{nar.base32(pointer.nar_hash)}", "FileHash": f"sha256:{nar.base32(pointer.file_hash)}",
+              "NarHash": nar.nar_hash(archive), "FileHash": nar.nar_hash(file),
               "References": " ".join(sorted(references[0].split()[1:])), "Deriver": references[1][9:]}
     same("the record has the hashes and sizes of the archive", {it: fields.get(it) for it in wanted}, wanted)
     old = team.fields(path, "-A", "curl/7.74.0 Nix/2.3.16")
