@@ -117,6 +117,8 @@ def asked(words):
 
 def main(words):
     prefix, found = asked(words)
+    # (the folders are for every user, as the files)
+    os.umask(0o022)
     try:
         if found.remove:
             return remove(prefix)
