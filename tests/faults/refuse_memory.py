@@ -262,10 +262,11 @@ def fault_of_both(served, request, ran, ample, twice):
     """What is wrong with a run that was asked twice, or None: a request that failed is done the second time."""
     status, written, errors = ran
     came, left = replies(written)
-    if (status, errors) == (1, FAILED) and len(came) < 2:
-        # the connection has ended, and the request is made on the next one: it was done before, or wasn't
+    if (status, errors) == (1, FAILED) and came in ([], [ample[0]]):
+        # the connection has ended, and the request is made on the next one; without a reply it may have been done
         ran = served.over(served.spare, [request, *TOLD])
-        return None if all_replies(ran[1], 1 + len(TOLD)) in (ample, twice[1:]) else f"{came}, and then {ran}"
+        wanted = [twice[1:]] if came else [ample, twice[1:]]
+        return None if all_replies(ran[1], 1 + len(TOLD)) in wanted else f"{came}, and then {ran}"
     if [status, errors, left, len(came)] != [0, b"", b"", len(twice)]:
         return f"status {status}, {len(came)} replies, {errors!r}"
     wanted = [[FAILED_REPLY, *ample], [ample[0], FAILED_REPLY, *ample[1:]], twice]
