@@ -37,6 +37,8 @@ STEPS = f"{HERE}/tests/tools/remote_steps.txt"
 # More than the cases have with the program: each command starts a server and a client.
 SECONDS = 1200
 MIB16 = 16_777_216
+# (of an archive each byte is printed as it comes)
+BASE = f"{'0' * 32}-x"
 
 # Words that are no command line, or ask for help; each with `|` between words.
 FAULTS = [
@@ -444,7 +446,7 @@ def asked(client, what, words, given, connections, **where):
 
 def try_table(check, client, pool, kind, where, table=replies.TABLE):
     """Each reply of the table, for a server in a place of this kind."""
-    running = [pool.submit(asked, client, what, ["list"], b"", [[pieces]], **where(at))
+    running = [pool.submit(asked, client, what, ["cat-nar", BASE], b"", [[pieces]], **where(at))
                for at, (what, (pieces, _)) in enumerate(table.items())]
     for it in running:
         what, came = it.result()
