@@ -1,9 +1,9 @@
 """The subcommands of `nixkeep` over HTTP: the request of each, and what is printed of the reply.
 
 The words are tested in the order of `nixkeep`. What only the server can test, it tests, and its reply is printed, with
-an escape for each byte that no store's text has. No route of a server returns the class of a caller, or whether a full path is in the store directory. Where
-nixkeep-cache doesn't answer that, both are found out by requests that are always denied or refused, so they change
-nothing.
+an escape for each byte that no store's text has. No route of a server returns the class of a caller, or whether a full
+path is in the store directory. Where nixkeep-cache doesn't answer that, both are found out by requests that are always
+denied or refused, so they change nothing.
 """
 import os
 
