@@ -25,10 +25,11 @@ import tempfile
 import threading
 import time
 from concurrent.futures import ThreadPoolExecutor
+from unittest import mock
 
 from nixkeep_dev.build.program import HERE
 from nixkeep_dev.testing import cases, nar, report
-from nixkeep_tools import failures, http_client, http_connection, subcommands
+from nixkeep_tools import credentials, failures, http_client, http_connection, http_place, subcommands
 from tests.tools import checks, replies, shim, stand_in
 from tests.tools.checks import ran
 
@@ -317,6 +318,17 @@ def trusted(folder, file):
             "folder": {"SSL_CERT_FILE": f"{folder}/empty/file", "SSL_CERT_DIR": f"{folder}/trusted"}}
 
 
+def try_netrc(check, folder):
+    """The credentials that ~/.netrc has for a host go there by https, and never in the clear."""
+    found = lambda url: credentials.found(http_place.Place(url))
+    file = file_of(folder, ".netrc", "machine store.example login bob password b\n")
+    with mock.patch.dict(os.environ, {"HOME": folder, credentials.VARIABLE: ""}):
+        by_https, in_the_clear = found("https://store.example"), found("http://store.example")
+    os.remove(file)
+    check.same("~/.netrc names a user for https", by_https and by_https.user, "bob")
+    check.same("but nothing is sent in the clear", in_the_clear, None)
+
+
 def try_tls(check, client, folder, port):
     if report.skips("openssl"):
         return
@@ -356,6 +368,12 @@ def try_tls(check, client, folder, port):
         fails(check, "a ~/.netrc that others may read", client(at, "--ca", pair[0], "list"),
               r"failed: credentials: \S+/\.netrc: .*")
         os.remove(f"{folder}/.netrc")
+        try_netrc(check, folder)
+        if os.geteuid() == 0:
+            os.chown(named, 4321, 4321)
+            fails(check, "a file of credentials of a foreign user", client(at, *own, "list"),
+                  r"failed: credentials: \S+: it belongs to another user")
+            os.chown(named, 0, 0)
         os.chmod(named, 0o640)
         fails(check, "a file of credentials that others may read", client(at, *own, "list"),
               r"failed: credentials: \S+: others may read it; run chmod 600 on it")
