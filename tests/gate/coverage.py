@@ -20,7 +20,7 @@ NAME = "percent of the lines of tools"
 ALONE = "#!/usr/bin/python3 -ES\n"
 # Where Debian has it. A Python of the same version that isn't Debian's is measured by it, too.
 COVERAGE = "/usr/lib/python3/dist-packages/coverage"
-NO_TOOL = ("test_launcher", "test_package", "test_release", "test_bench", "test_units")
+NO_TOOL = ("test_launcher", "test_package", "test_package_scripts", "test_release", "test_bench", "test_units")
 
 
 def copied(top):

@@ -1,191 +1,143 @@
 """Packs nixkeep, and installs, uses, upgrades and removes the package in a folder that stands for the root of a
 machine.
 
-    bin/run tests/tools/test_package.py [--program FILE]
-
 That root has nothing but the package and the C library of this machine, so the program is tried as on a machine
-without the toolchain. Also compares the archive with the package, has its scripts run over folders of the test, looks
-at what it depends on, and tries bin/install below two prefixes. Without
---program the program is proved and built first. Needs dpkg, dpkg-deb and root; says so and skips what needs what
-isn't there. The last line is `N passed, M failed`.
+without the toolchain. Also compares the archive with the package, looks at what it depends on, and tries bin/install
+below two prefixes. test_package_scripts.py has the package's scripts run. Without --program the program is proved and
+built first.
 """
 import glob
 import os
 import re
 import shutil
-import subprocess
-import sys
 import tarfile
 import tempfile
+from pathlib import Path
 
-from nixkeep_dev.build import layout, program, release
+import pytest
+
+from nixkeep_dev.build import layout, release
+from nixkeep_dev.build import program as built
 from nixkeep_dev.build.program import HERE
-from nixkeep_dev.testing import report
-from tests.tools import package_checks
-from tests.tools.checks import Checks
+from tests.tools import packed
+from tests.tools.packed import pack, ran
 
 # What the program answers to a text, where no store is named.
 GREETING = "/nix/store/ybf7by4xvcgjhwilsg87rqz9di79bify-greeting"
 CONFIGURATION = "etc/nixkeep/store.toml"
 LIBRARIES = ("/lib64/ld-linux-x86-64.so.2", "/lib/x86_64-linux-gnu/libc.so.6")
-
-
-def run(words, text=""):
-    """The status of a command, and what it printed."""
-    how = {"stdout": subprocess.PIPE, "stderr": subprocess.STDOUT, "text": True, "errors": "replace"}
-    ran = subprocess.run(words, input=text, **how)
-    return ran.returncode, ran.stdout
+TOOLS = [it for it in layout.names_in("tools") if it.startswith("nixkeep-")]
+needs_dpkg = pytest.mark.needs("dpkg-deb", "dpkg")
 
 
 def greets(words):
-    return run([*words, "--user", "root", "add-text", "greeting"], "hello\n")
+    return ran([*words, "--user", "root", "add-text", "greeting"], "hello\n")
 
 
-def pack(to, words):
-    status, said = run([f"{HERE}/bin/package", "--to", to, *words])
-    if status:
-        sys.exit(f"test_package: bin/package failed:\n{said}")
-    return said.split()
+@pytest.fixture(scope="module")
+def given(pytestconfig):
+    """The words that name the program, where it isn't that of this checkout."""
+    file = pytestconfig.getoption("--program")
+    return ["--program", os.path.abspath(file)] if file else []
 
 
-def dpkg(root, *words):
-    """Runs dpkg on the files of a root, which has no shell for the package's scripts, and no other package."""
-    force = ["--force-script-chrootless", "--force-depends", "--force-unsafe-io", "--force-confold"]
-    return run(["dpkg", f"--root={root}", "--log=/dev/null", *force, *words])
+@pytest.fixture(scope="module")
+def both(given):
+    """The package, and the archive of its files."""
+    with tempfile.TemporaryDirectory(prefix="nixkeep-package-test-") as room:
+        yield pack(room, given)
 
 
-def new_root(root):
-    """A root with the C library of this machine and an empty list of packages."""
-    for folder in ("var/lib/dpkg/info", "var/lib/dpkg/updates", "var/lib/dpkg/triggers", "tmp", "dev"):
-        os.makedirs(f"{root}/{folder}")
-    for name in ("status", "available"):
-        open(f"{root}/var/lib/dpkg/{name}", "w").close()
-    for path in LIBRARIES:
-        os.makedirs(os.path.dirname(f"{root}{path}"), exist_ok=True)
-        shutil.copyfile(os.path.realpath(path), f"{root}{path}")
-        os.chmod(f"{root}{path}", 0o755)
+@pytest.fixture(scope="module")
+def deb(both):
+    return both[0]
 
 
-def files_in(root):
-    """The files and links of a root below usr and etc."""
-    tops = [f"{root}/{it}" for it in ("usr", "etc")]
-    found = [f"{at}/{it}" for top in tops for at, _, names in os.walk(top) for it in names]
-    return sorted(os.path.relpath(it, root) for it in found)
+@pytest.fixture(scope="module")
+def files(deb):
+    """The folder with the files of the package."""
+    with tempfile.TemporaryDirectory() as room:
+        ran(["dpkg-deb", "-x", deb, room])
+        yield room
 
 
-def try_unpacked(counted, archive, room):
-    """What the archive has runs where it is unpacked."""
-    run(["tar", "-xf", archive, "--strip-components=1", "-C", room])
-    counted.same("the unpacked program's answer", greets([f"{room}/usr/bin/nixkeep"]), (0, f"{GREETING}\n"))
-    status, said = run([f"{room}/usr/bin/nixkeep-remote", "--version"])
-    counted.same("an unpacked tool", (status, said), (0, f"nixkeep-remote {layout.version()}\n"))
+# ---- the files
 
 
-def try_archive(counted, deb, archive):
-    """The package and the archive have the same files, all of root's, and only programs can be run."""
+@needs_dpkg
+def test_two_packages_have_the_same_bytes(both, given, folder):
+    assert [layout.sum_of(it) for it in pack(folder, given)] == [layout.sum_of(it) for it in both]
+
+
+@needs_dpkg
+def test_the_archive_has_the_files_of_the_package(both):
+    """All are root's, and only programs can be run."""
+    deb, archive = both
     with tarfile.open(archive) as file:
         entries = file.getmembers()
     top = entries[0].name
-    lines = run(["dpkg-deb", "-c", deb])[1].splitlines()
+    lines = ran(["dpkg-deb", "-c", deb])[1].splitlines()
     in_deb = sorted(it.split(maxsplit=5)[5].partition(" -> ")[0].removeprefix("./") for it in lines if it[0] != "d")
-    in_archive = sorted(it.name.removeprefix(f"{top}/") for it in entries if not it.isdir())
-    counted.same("the archive's files", in_archive, in_deb)
-    counted.true("all files are root's", all(it.uid == it.gid == 0 for it in entries))
+    assert sorted(it.name.removeprefix(f"{top}/") for it in entries if not it.isdir()) == in_deb
+    assert all(it.uid == it.gid == 0 for it in entries)
     run_by = [it.split()[5] for it in lines if it[0] == "-" and "x" in it[:10] and "/examples/" not in it]
-    counted.same("what else can be run", [it for it in run_by if not it.startswith(("./usr/bin/", "./usr/lib/"))], [])
+    assert [it for it in run_by if not it.startswith(("./usr/bin/", "./usr/lib/"))] == []
 
 
-def try_program(counted, root, kit):
-    """The installed program runs where there is the C library alone, and names nothing of the toolchain."""
-    if os.geteuid():
-        report.skip("the program in a root of its own needs root; it runs in this machine's")
-        counted.same("the program's answer", greets([f"{root}/usr/bin/nixkeep"]), (0, f"{GREETING}\n"))
-    else:
-        words = ["chroot", root, "/usr/bin/nixkeep"]
-        counted.same("the program's answer in its root", greets(words), (0, f"{GREETING}\n"))
-        words += ["--db", "/tmp/store.db", "--config", f"/{CONFIGURATION}", "--user", "root"]
-        counted.same("an add to a file", run([*words, "add-text", "greeting"], "hello\n"), (0, f"{GREETING}\n"))
-        counted.same("the list of that file", run([*words, "list"]), (0, f"{GREETING}\n"))
-    if kit:
-        is_named = kit.encode() in layout.content(f"{root}/usr/bin/nixkeep")
-        counted.true("the program names no file of the toolchain", not is_named)
+@needs_dpkg
+def test_what_the_archive_has_runs_where_it_is_unpacked(both, folder):
+    ran(["tar", "-xf", both[1], "--strip-components=1", "-C", folder])
+    assert greets([f"{folder}/usr/bin/nixkeep"]) == (0, f"{GREETING}\n")
+    assert ran([f"{folder}/usr/bin/nixkeep-remote", "--version"]) == (0, f"nixkeep-remote {layout.version()}\n")
 
 
-def try_tools(counted, root):
-    names = [it for it in layout.names_in("tools") if it.startswith("nixkeep-")]
-    if not names:
-        report.skip("there are no tools")
-    for name in names:
-        status, said = run([f"{root}/usr/bin/{name}", "--help"])
-        if "python3-" in said and status:
-            report.skip(f"{name}: {said.strip()}")
-        else:
-            counted.true(f"{name} --help", status == 0 and "usage" in said.lower(), said)
+@needs_dpkg
+def test_sums_of_the_sources_are_there_where_they_were_proved(files, given):
+    """A package of a program that is given has none."""
+    assert os.path.exists(f"{files}/usr/share/doc/nixkeep/sources.sha256") != bool(given)
 
 
-def try_compiled(counted, folder):
-    """Each module of an installation is compiled, by Debian's Python or by the one that there is."""
-    modules = {it.removesuffix(".py") for it in os.listdir(f"{folder}/nixkeep_tools") if it.endswith(".py")}
-    made = {os.path.basename(it).split(".")[0] for it in glob.glob(f"{folder}/nixkeep_tools/__pycache__/*.pyc")}
-    counted.same("modules that aren't compiled", sorted(modules - made), [])
+@needs_dpkg
+def test_the_sums_of_the_sources(deb, given, folder):
+    if not release.is_ready():
+        pytest.skip("the sums of the sources: neither release/ nor what was proved here is of these sources")
+    deb = pack(f"{folder}/proved", [])[0] if given else deb
+    wrong, named, read = packed.sums(deb, folder)
+    assert wrong == ""
+    assert sorted(named) == sorted(read)
 
 
-def try_upgrade(counted, root, deb):
-    """An upgrade leaves a configuration that was changed, and puts the rest anew."""
-    with open(f"{root}/{CONFIGURATION}", "a") as file:
-        file.write("# changed\n")
-    os.remove(f"{root}/usr/bin/nixkeep")
-    status, said = dpkg(root, "--install", deb)
-    counted.true("an upgrade", status == 0, said)
-    with open(f"{root}/{CONFIGURATION}") as file:
-        counted.true("the changed configuration stays", file.read().endswith("# changed\n"))
-    counted.true("the program is there again", os.access(f"{root}/usr/bin/nixkeep", os.X_OK))
+# ---- what it depends on
 
 
-def try_removal(counted, root):
-    status, said = dpkg(root, "--remove", "nixkeep")
-    counted.true("a removal", status == 0, said)
-    counted.same("what a removal leaves", files_in(root), [CONFIGURATION])
-    status, said = dpkg(root, "--purge", "nixkeep")
-    counted.true("a purge", status == 0, said)
-    counted.same("what a purge leaves", files_in(root), [])
+@needs_dpkg
+def test_the_package_needs_the_c_library_of_the_program(deb, files):
+    """It is the one of which the program names a function."""
+    depends = packed.depends(deb)
+    assert f"libc6 (>= {packed.libc_of(f'{files}/usr/bin/nixkeep')})" in depends
+    assert "python3 (>= 3.11)" in depends
 
 
-def try_package(counted, deb, room):
-    root = f"{room}/root"
-    new_root(root)
-    status, said = dpkg(root, "--install", deb)
-    counted.true("an installation", status == 0, said)
-    if status:
-        return
-    asked = ["dpkg-query", f"--admindir={root}/var/lib/dpkg", "-W", "-f", "${Status} ${Version}${Conffiles}", "nixkeep"]
-    _, told = run(asked)
-    counted.true("the state", told.startswith(f"install ok installed {layout.version()}"), told)
-    counted.true("the configuration is one that dpkg keeps", f" /{CONFIGURATION} " in told, told)
-    try_program(counted, root, program.toolchain())
-    if shutil.which("py3compile"):
-        try_compiled(counted, f"{root}/usr/lib/nixkeep")
-    try_tools(counted, root)
-    try_upgrade(counted, root, deb)
-    try_removal(counted, root)
+@needs_dpkg
+def test_the_package_needs_what_the_tools_import(deb):
+    assert packed.python_packages(deb) == packed.imported()
 
 
-def try_unit(counted, deb, room):
-    """systemd finds no fault in the unit, but that its program isn't installed on this machine."""
-    if not shutil.which("systemd-analyze"):
-        return report.skip("the unit needs systemd-analyze")
-    run(["dpkg-deb", "-x", deb, f"{room}/files"])
-    unit = f"{room}/files/usr/lib/systemd/system/nixkeep@.service"
-    said = run(["systemd-analyze", "verify", unit])[1].splitlines()
-    faults = [it for it in said if "nixkeep" in it and "is not executable" not in it and "'man " not in it]
-    counted.same("what systemd says of the unit", faults, [])
+# ---- the unit
+
+
+@pytest.mark.needs("dpkg-deb", "systemd-analyze")
+def test_systemd_finds_no_fault_in_the_unit(files):
+    """But that its program isn't installed on this machine."""
+    said = ran(["systemd-analyze", "verify", f"{files}/usr/lib/systemd/system/nixkeep@.service"])[1].splitlines()
+    assert [it for it in said if "nixkeep" in it and "is not executable" not in it and "'man " not in it] == []
 
 
 def calls_in(name):
     """The system calls of a set that systemd knows, or the one call of that name."""
     if not name.startswith("@"):
         return {name}
-    lines = run(["systemd-analyze", "syscall-filter", name])[1].splitlines()[1:]
+    lines = ran(["systemd-analyze", "syscall-filter", name])[1].splitlines()[1:]
     return set().union(*[calls_in(it.strip()) for it in lines if it.strip() and "#" not in it])
 
 
@@ -200,101 +152,183 @@ def calls_allowed(unit):
     return found
 
 
-def calls_made(room, words, text):
-    """The system calls that a command makes."""
-    run(["strace", "-f", "-qq", "-o", f"{room}/calls", *words], text)
-    return set(re.findall(r"^\d+ +(\w+)\(", layout.content(f"{room}/calls").decode(errors="replace"), re.M))
-
-
-def try_filter(counted, room):
-    """The unit allows each system call that the server makes for a few messages on its standard streams."""
-    if not shutil.which("strace") or not shutil.which("systemd-analyze"):
-        return report.skip("the unit's filter of system calls needs strace and systemd-analyze")
+@pytest.mark.needs("dpkg-deb", "strace", "systemd-analyze")
+def test_the_unit_allows_the_system_calls_of_the_server(files, folder):
+    """Those that it makes for a few messages on its standard streams."""
     message = "POST /text HTTP/1.1\r\nstore-user: root\r\ncontent-length: 21\r\n\r\nname: greeting\n\nhello\n"
-    words = [f"{room}/files/usr/bin/nixkeep", "--db", f"{room}/filtered.db", "serve"]
-    made = calls_made(room, words, message + message.replace("hello", "other"))
-    allowed = calls_allowed(f"{room}/files/usr/lib/systemd/system/nixkeep@.service")
-    counted.true("system calls are seen", {"pwrite64", "fdatasync"} <= made, made)
-    counted.same("system calls that the unit forbids", sorted(made - allowed), [])
+    words = ["strace", "-f", "-qq", "-o", f"{folder}/calls", f"{files}/usr/bin/nixkeep", "--db", f"{folder}/store.db"]
+    ran([*words, "serve"], message + message.replace("hello", "other"))
+    text = layout.content(f"{folder}/calls").decode(errors="replace")
+    made = set(re.findall(r"^\d+ +(\w+)\(", text, re.M))
+    assert {"pwrite64", "fdatasync"} <= made
+    assert made <= calls_allowed(f"{files}/usr/lib/systemd/system/nixkeep@.service")
 
 
-def try_sums(counted, deb, room, is_given):
-    """A package of a program that is given has no sums of the sources, and one of the proved program has them."""
-    run(["dpkg-deb", "-x", deb, f"{room}/files"])
-    told = f"{room}/files/usr/share/doc/nixkeep/sources.sha256"
-    counted.same("sums of the sources are there where they were proved", os.path.exists(told), not is_given)
-    if not release.is_ready():
-        return report.skip("the sums of the sources: neither release/ nor what was proved here is of these sources")
-    package_checks.try_sums(counted, pack(f"{room}/proved-package", [])[0] if is_given else deb, room)
+# ---- an installation
 
 
-def try_install(counted, words, room):
-    """bin/install takes a prefix in two ways."""
-    for at, prefix in enumerate((["--prefix", f"{room}/one"], [f"{room}/two"])):
-        status, said = run([f"{HERE}/bin/install", *prefix, *words])
-        folder = f"{prefix[-1]}/bin"
-        counted.true(f"bin/install {prefix[0]}", status == 0 and said.startswith(f"{folder}/nixkeep\n"), said)
-        counted.same("the installed program's answer", greets([f"{folder}/nixkeep"]), (0, f"{GREETING}\n"))
-        try_compiled(counted, f"{prefix[-1]}/lib/nixkeep")
-    status, _ = run([f"{HERE}/bin/install", "--prefix", f"{room}/one", f"{room}/two"])
-    counted.same("two prefixes are refused", status, 2)
-    for name in os.listdir(f"{room}/two/bin"):
+class Root:
+    """A root with the C library of this machine and an empty list of packages."""
+
+    def __init__(self, root):
+        self.root = root
+        for folder in ("var/lib/dpkg/info", "var/lib/dpkg/updates", "var/lib/dpkg/triggers", "tmp", "dev"):
+            os.makedirs(f"{root}/{folder}")
+        for name in ("status", "available"):
+            open(f"{root}/var/lib/dpkg/{name}", "w").close()
+        for path in LIBRARIES:
+            os.makedirs(os.path.dirname(f"{root}{path}"), exist_ok=True)
+            shutil.copyfile(os.path.realpath(path), f"{root}{path}")
+            os.chmod(f"{root}{path}", 0o755)
+
+    def dpkg(self, *words):
+        """Runs dpkg on the files, where there is no shell for the package's scripts, and no other package."""
+        force = ["--force-script-chrootless", "--force-depends", "--force-unsafe-io", "--force-confold"]
+        status, said = ran(["dpkg", f"--root={self.root}", "--log=/dev/null", *force, *words])
+        assert status == 0, said
+
+    def files(self):
+        """The files and links below usr and etc."""
+        tops = [f"{self.root}/{it}" for it in ("usr", "etc")]
+        found = [f"{at}/{it}" for top in tops for at, _, names in os.walk(top) for it in names]
+        return sorted(os.path.relpath(it, self.root) for it in found)
+
+
+@pytest.fixture(scope="module")
+def installed(deb):
+    """A root in which the package is installed."""
+    with tempfile.TemporaryDirectory() as root:
+        made = Root(root)
+        made.dpkg("--install", deb)
+        yield made
+
+
+@pytest.fixture
+def fresh(deb, folder):
+    """Another one, which a test changes."""
+    made = Root(f"{folder}/root")
+    made.dpkg("--install", deb)
+    return made
+
+
+@needs_dpkg
+def test_dpkg_lists_the_package(installed):
+    asked = ["dpkg-query", f"--admindir={installed.root}/var/lib/dpkg", "-W"]
+    _, told = ran([*asked, "-f", "${Status} ${Version}${Conffiles}", "nixkeep"])
+    assert told.startswith(f"install ok installed {layout.version()}")
+    assert f" /{CONFIGURATION} " in told, "the configuration is one that dpkg keeps"
+
+
+@needs_dpkg
+def test_the_program_runs_with_the_c_library_alone(fresh):
+    if os.geteuid():
+        pytest.skip("the program in a root of its own needs root")
+    words = ["chroot", fresh.root, "/usr/bin/nixkeep"]
+    assert greets(words) == (0, f"{GREETING}\n")
+    words += ["--db", "/tmp/store.db", "--config", f"/{CONFIGURATION}", "--user", "root"]
+    assert ran([*words, "add-text", "greeting"], "hello\n") == (0, f"{GREETING}\n")
+    assert ran([*words, "list"]) == (0, f"{GREETING}\n")
+
+
+@needs_dpkg
+def test_the_program_names_no_file_of_the_toolchain(installed):
+    if kit := built.toolchain():
+        assert kit.encode() not in layout.content(f"{installed.root}/usr/bin/nixkeep")
+
+
+def not_compiled(folder):
+    """The modules of an installation that aren't compiled, by Debian's Python or by the one that there is."""
+    modules = {it.removesuffix(".py") for it in os.listdir(f"{folder}/nixkeep_tools") if it.endswith(".py")}
+    made = {os.path.basename(it).split(".")[0] for it in glob.glob(f"{folder}/nixkeep_tools/__pycache__/*.pyc")}
+    return sorted(modules - made)
+
+
+@pytest.mark.needs("dpkg-deb", "dpkg", "py3compile")
+def test_an_installation_compiles_the_modules(installed):
+    assert not_compiled(f"{installed.root}/usr/lib/nixkeep") == []
+
+
+@needs_dpkg
+@pytest.mark.parametrize("name", TOOLS)
+def test_a_tool_is_installed(installed, name):
+    status, said = ran([f"{installed.root}/usr/bin/{name}", "--help"])
+    if "python3-" in said and status:
+        pytest.skip(f"{name}: {said.strip()}")
+    assert status == 0 and "usage" in said.lower(), said
+
+
+@needs_dpkg
+def test_an_upgrade(fresh, deb):
+    """It leaves a configuration that was changed, and puts the rest anew."""
+    configuration = Path(fresh.root, CONFIGURATION)
+    configuration.write_text(configuration.read_text() + "# changed\n")
+    os.remove(f"{fresh.root}/usr/bin/nixkeep")
+    fresh.dpkg("--install", deb)
+    assert configuration.read_text().endswith("# changed\n")
+    assert os.access(f"{fresh.root}/usr/bin/nixkeep", os.X_OK)
+
+
+@needs_dpkg
+def test_a_removal_leaves_the_configuration_and_a_purge_nothing(fresh):
+    fresh.dpkg("--remove", "nixkeep")
+    assert fresh.files() == [CONFIGURATION]
+    fresh.dpkg("--purge", "nixkeep")
+    assert fresh.files() == []
+
+
+# ---- bin/install
+
+
+def install(*words):
+    return ran([f"{HERE}/bin/install", *words])
+
+
+@pytest.mark.parametrize("option", [["--prefix"], []], ids=["--prefix", "a word"])
+def test_bin_install(given, folder, option):
+    status, said = install(*option, folder, *given)
+    assert status == 0 and said.startswith(f"{folder}/bin/nixkeep\n"), said
+    assert greets([f"{folder}/bin/nixkeep"]) == (0, f"{GREETING}\n")
+    assert not_compiled(f"{folder}/lib/nixkeep") == []
+    for name in os.listdir(f"{folder}/bin"):
         if name != "nixkeep":
-            status, said = run([f"{room}/two/bin/{name}", "--version"])
-            counted.same(f"{name} --version", (status, said), (0, f"{name} {layout.version()}\n"))
-    try_uninstall(counted, f"{room}/two", words)
+            assert ran([f"{folder}/bin/{name}", "--version"]) == (0, f"{name} {layout.version()}\n")
 
 
-def try_uninstall(counted, prefix, words):
-    """--remove leaves what others have put there, and an installation takes away what only the one before it had."""
-    others = [f"{prefix}/bin/other", f"{prefix}/share/man/man1/other.1"]
-    for it in others:
-        open(it, "w").close()
+def test_two_prefixes_are_refused(folder):
+    assert install("--prefix", f"{folder}/one", f"{folder}/two")[0] == 2
+
+
+@pytest.fixture
+def prefix(given, folder):
+    """A prefix below which nixkeep is installed."""
+    assert install("--prefix", folder, *given)[0] == 0
+    return folder
+
+
+def test_another_installation_takes_away_what_only_the_one_before_had(given, prefix):
     old = f"{prefix}/lib/nixkeep/nixkeep_tools/old.py"
     open(old, "w").close()
     with open(f"{prefix}/lib/nixkeep/installed", "a") as file:
         file.write("lib/nixkeep/nixkeep_tools/old.py\n")
-    counted.same("another installation", run([f"{HERE}/bin/install", "--prefix", prefix, *words])[0], 0)
-    counted.true("what only the earlier one had is gone", not os.path.exists(old))
-    counted.same("a removal", run([f"{HERE}/bin/install", "--remove", "--prefix", prefix]), (0, ""))
-    left = sorted(f"{at}/{it}" for at, _, names in os.walk(prefix) for it in names)
-    counted.same("what it leaves", left, sorted(others))
+    assert install("--prefix", prefix, *given)[0] == 0
+    assert not os.path.exists(old)
+
+
+def test_bin_install_removes_what_it_has_installed(prefix):
+    """What others have put there stays."""
+    others = [f"{prefix}/bin/other", f"{prefix}/share/man/man1/other.1"]
+    for it in others:
+        open(it, "w").close()
+    assert install("--remove", "--prefix", prefix) == (0, "")
+    assert sorted(f"{at}/{it}" for at, _, names in os.walk(prefix) for it in names) == sorted(others)
     folders = sorted(os.path.relpath(at, prefix) for at, _, _ in os.walk(prefix))
-    counted.same("no empty folder", folders, [".", "bin", "share", "share/man", "share/man/man1"])
-    status, said = run([f"{HERE}/bin/install", "--remove", "--prefix", prefix])
-    counted.true("a second one is one line", status == 1 and said.count("\n") == 1 and "nothing" in said, said)
-    with open(others[0] + ".kept", "w"):
-        os.makedirs(f"{prefix}/lib/nixkeep")
-    with open(f"{prefix}/lib/nixkeep/installed", "w") as file:
-        file.write("../other\n")
-    status, said = run([f"{HERE}/bin/install", "--remove", "--prefix", prefix])
-    counted.true("nothing outside of the prefix is removed", status == 1 and "../other" in said, said)
+    assert folders == [".", "bin", "share", "share/man", "share/man/man1"], "no empty folder"
+    status, said = install("--remove", "--prefix", prefix)
+    assert status == 1 and said.count("\n") == 1 and "nothing" in said, "a second one is one line"
 
 
-def main():
-    asked = report.options(__doc__)
-    words = ["--program", os.path.abspath(asked.program)] if asked.program else []
-    counted = Checks()
-    if not shutil.which("dpkg-deb"):
-        report.skip("the package needs dpkg-deb")
-    with tempfile.TemporaryDirectory(prefix="nixkeep-package-test-") as room:
-        if shutil.which("dpkg-deb"):
-            deb, archive = pack(f"{room}/first", words)
-            again = pack(f"{room}/second", words)
-            sums = [[layout.sum_of(it) for it in pair] for pair in ((deb, archive), again)]
-            counted.same("the sums of two packages", *sums)
-            try_archive(counted, deb, archive)
-            try_sums(counted, deb, room, bool(words))
-            package_checks.try_fields(counted, deb, f"{room}/files/usr/bin/nixkeep")
-            package_checks.try_scripts(counted, deb, room)
-            os.makedirs(f"{room}/unpacked")
-            try_unpacked(counted, archive, f"{room}/unpacked")
-            try_unit(counted, deb, room)
-            try_filter(counted, room)
-            try_package(counted, deb, room) if shutil.which("dpkg") else report.skip("an installation needs dpkg")
-        try_install(counted, words, room)
-    return counted.failed
-
-
-if __name__ == "__main__":
-    report.main(main)
+def test_nothing_outside_of_the_prefix_is_removed(folder):
+    os.makedirs(f"{folder}/lib/nixkeep")
+    Path(f"{folder}/lib/nixkeep/installed").write_text("../other\n")
+    status, said = install("--remove", "--prefix", folder)
+    assert status == 1 and "../other" in said, said

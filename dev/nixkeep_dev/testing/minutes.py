@@ -31,6 +31,8 @@ class Minutes:
         self.clock[report.nodeid] = self.clock.get(report.nodeid, 0) + report.duration
 
     def pytest_terminal_summary(self, terminalreporter):
+        if not self.work:
+            return
         rows = sorted(((work, self.clock[it], it.rpartition("/")[2]) for it, work in self.work.items()), reverse=True)
         longest, others = [it for it in rows if it[0] >= LEAST], [it for it in rows if it[0] < LEAST]
         if others:

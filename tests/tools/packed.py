@@ -1,0 +1,73 @@
+"""What the tests of the package share: making one, and what it says that it depends on."""
+import ast
+import re
+import subprocess
+import sys
+from pathlib import Path
+
+from nixkeep_dev.build import program
+from nixkeep_dev.build.program import HERE
+from nixkeep_dev.testing.tracked import tracked
+
+
+def ran(words, text=""):
+    """The status of a command, and what it printed."""
+    how = {"stdout": subprocess.PIPE, "stderr": subprocess.STDOUT, "text": True, "errors": "replace"}
+    done = subprocess.run(words, input=text, **how)
+    return done.returncode, done.stdout
+
+
+def told(*words):
+    return subprocess.run(words, stdout=subprocess.PIPE, check=True, text=True).stdout
+
+
+def pack(to, words):
+    """The files that bin/package makes in a folder: the package, and the archive."""
+    status, said = ran([f"{HERE}/bin/package", "--to", to, *words])
+    assert status == 0, f"bin/package failed:\n{said}"
+    return said.split()
+
+
+# ---- what it depends on
+
+
+def depends(deb):
+    return [it.strip() for it in told("dpkg-deb", "-f", deb, "Depends").split(",")]
+
+
+def libc_of(file):
+    """The latest version of the C library of which a program names a function."""
+    versions = re.findall(r"Name: GLIBC_([0-9.]+)", told("readelf", "--version-info", "--wide", file))
+    return max(versions, key=lambda it: [int(part) for part in it.split(".")])
+
+
+def python_packages(deb):
+    """The modules of Python whose packages a package names, but for `python3-` before each."""
+    fields = [told("dpkg-deb", "-f", deb, it) for it in ("Depends", "Recommends", "Suggests")]
+    return {*re.findall(r"python3-([\w-]+)", " ".join(fields))}
+
+
+def imported():
+    """The modules, as packages name them, that are neither the tools' nor Python's and that a tool imports."""
+    found = set()
+    for path in tracked("tools/*"):
+        text = Path(HERE, path).read_text()
+        for it in ast.walk(ast.parse(text)) if "python3" in text.partition("\n")[0] or path.endswith(".py") else []:
+            names = [each.name for each in it.names] if isinstance(it, ast.Import) else []
+            names += [it.module or ""] if isinstance(it, ast.ImportFrom) and not it.level else []
+            found |= {each.partition(".")[0] for each in names}
+    # (jinja2 has markupsafe with it, and boto3 botocore)
+    found -= {*sys.stdlib_module_names, "nixkeep_tools", "markupsafe", "botocore", ""}
+    return {it.replace("_", "-") for it in found}
+
+
+def sums(deb, room):
+    """What `sha256sum` finds wrong with the sums of a package, the files that they are of, and those that a proof
+    reads, as git has them."""
+    subprocess.run(["dpkg-deb", "-x", deb, f"{room}/proved-files"], check=True)
+    file = f"{room}/proved-files/usr/share/doc/nixkeep/sources.sha256"
+    wrong = subprocess.run(["sha256sum", "--check", "--quiet", file], cwd=HERE, stdout=subprocess.PIPE, text=True)
+    crates = program.with_below(program.NAME, program.listed())
+    read = rf"crates/({'|'.join(crates)})/(src|specs|proofs)/.*\.(rt|antt)"
+    wanted = ["HANDLES", "crates.txt", *[it for it in tracked("crates") if re.fullmatch(read, it)]]
+    return wrong.stdout, [line.split("  ", 1)[1] for line in Path(file).read_text().splitlines()], wanted
