@@ -16,7 +16,7 @@ OPTIONS = """usage: bin/run {name} [WORD OF PYTEST..] [--program FILE] [--seed N
   --seed N         what chance begins with; else the day
   --count N        how much is tried; else as much as each test says
 """
-# Each test is a line. The summary says what was skipped.
+# Each test is a line. What is skipped comes at the end.
 SHOWN = ["--verbose", "--no-header", "-rfE", "-p", "no:cacheprovider"]
 
 
