@@ -1,23 +1,20 @@
 """Runs `rt ci`, then all that tries the program that it built, and prints what took how long: `gate MINUTES`.
 
-After `rt ci` it compares the bytes of the program with those of release/. Then come, side by side: wrong bodies, those
-that are always tried and those of the day; wrong definitions and planted faults of the day; the program as
-`bin/nixkeep` builds it, and as Rattle's own compiler does; the cases, comparisons, the tests of the tools, a clean
-Debian with the package, and a part of each fault script, chosen by the day. What is tried a part of each day has a
-bound, which is lower where the proofs have taken much: what it leaves out is counted as skipped, and doesn't fail. At
-the end is a table of processor minutes: for each crate its proof, its tests (proved and run) and its edits; then one of
-the parts, with the minutes of the clock too. Both begin with what took most. It fails where a part does, and where all
-took more than MINUTES. The whole is what the system counts; what each crate took is seen by looking at the running
-processes, so the row `else` has what no look has caught. The last lines are what was skipped, the comparison with the
-release, and `N passed, M failed`: those of `rt ci` and of each part and, where it is exceeded, the budget. The program
-stays, and bin/nixkeep runs it. bin/test calls this.
+After `rt ci` it compares the bytes of the program with those of release/. Then come, side by side: the wrong bodies
+that are always tried; the program as `bin/nixkeep` builds it, and as Rattle's own compiler does; the cases,
+comparisons, the tests of the tools, a clean Debian with the package, and a part of each fault script, chosen by the
+day. At the end is a table of processor minutes: for each crate its proof, its tests (proved and run) and its edits;
+then one of the parts, with the minutes of the clock too. Both begin with what took most. It fails where a part does,
+and where all took more than MINUTES. The whole is what the system counts; what each crate took is seen by looking at
+the running processes, so the row `else` has what no look has caught. The last lines are what was skipped, the
+comparison with the release, and `N passed, M failed`: those of `rt ci` and of each part and, where it is exceeded, the
+budget. The program stays, and bin/nixkeep runs it. bin/test calls this.
 """
 import collections
 import os
 import re
 import shutil
 import sys
-import threading
 import time
 from pathlib import Path
 
@@ -28,14 +25,8 @@ from nixkeep_dev.testing.processes import children, processes
 from nixkeep_dev.testing.runs import file_of, run, spent, together
 
 TICKS = os.sysconf("SC_CLK_TCK")
-# The minutes that `rt ci` may take, and wrong bodies or definitions: on two processors each may take an hour.
-PROOFS, EDITS = 360, 240
-# The processor minutes of all but the proofs and what is tried a part of each day, and of them those of the wrong
-# bodies that are always tried.
-ALWAYS, BODIES = 95, 35
-# Those within which the day's may begin: its wrong bodies, next to those that are always tried, its wrong definitions
-# and its planted faults. Where the proofs leave less of the budget, each has the same part of its minutes.
-OF_DAY = {"wrong_bodies": BODIES + 25, "edits": 20, "sabotage": 10}
+# The minutes that `rt ci` may take, and wrong bodies: on two processors each takes more than an hour.
+PROOFS, EDITS = 360, 120
 KINDS = ("proof", "tests", "edits")
 
 
@@ -89,34 +80,12 @@ def clear_libraries():
         shutil.rmtree(f"{program.HERE}/crates/{crate}/out/rlib", ignore_errors=True)
 
 
-def minutes_of_day(left):
-    """The processor minutes of each part that tries the day's, where these are left of the budget for it."""
-    part = min(1, max(0, left) / (sum(OF_DAY.values()) - BODIES))
-    return {name: round(part * minutes, 1) for name, minutes in OF_DAY.items()}
-
-
-def try_parts(minutes):
-    """Runs edits and all parts side by side; returns the runs, and what was seen of the edits. Those that try the day's
-    have these minutes."""
-    watch, given, bodies_ended = Watch(), {"program": program.FILE, "libraries": BUILT}, threading.Event()
-
-    def try_edits(name, *more):
-        words = [file_of(f"gate/{name}"), *more, "--today", "--minutes", str(minutes[name])]
-        return run(words, False, watch.look, EDITS)
-
-    def bodies():
-        try:
-            return try_edits("wrong_bodies", "--gate")
-        finally:
-            bodies_ended.set()
-
-    def definitions():
-        # (both take all processors, and much memory)
-        bodies_ended.wait()
-        return try_edits("edits")
-
-    tried = [*parts.of_gate(given, minutes), *parts.of_program(given, is_whole=True)]
-    return parts.side_by_side(tried, [bodies, definitions]), watch.minutes()
+def try_parts():
+    """Runs wrong bodies and all parts side by side; returns the runs, and what was seen of the wrong bodies."""
+    watch, given = Watch(), {"program": program.FILE, "libraries": BUILT}
+    bodies = [file_of("gate/wrong_bodies"), "--gate"]
+    tried = [*parts.of_gate(given), *parts.of_program(given, is_whole=True)]
+    return parts.side_by_side(tried, [lambda: run(bodies, False, watch.look, EDITS)]), watch.minutes()
 
 
 def show_table(found, cases, whole, since):
@@ -145,7 +114,7 @@ def main():
         is_same, compared = release.compare(program.FILE)
         # (`launched` takes the libraries from there)
         program.keep_built()
-        more, edits = try_parts(minutes_of_day(budget - before - ALWAYS))
+        more, edits = try_parts()
         runs += more
         for crate, row in edits.items():
             found[crate]["edits"] += row["edits"]

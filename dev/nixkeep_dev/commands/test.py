@@ -5,8 +5,7 @@
                                 over a server, a part that changes from day to day
   bin/test all                  what .ci/run does: the checks of the repository, the proofs of all crates from scratch,
                                 their tests and programs, a comparison of the program with the released one, and then
-                                all of the above on the program that was built, wrong bodies, and of what is tried a
-                                part each day (the other wrong bodies and definitions, planted faults) the day's
+                                all of the above and wrong bodies on the program that was built
   bin/test cases [CASE..]       the cases: command lines and what they print
   bin/test compare [NAME..]     the program next to Nix, SQLite, curl, itself and a model of it
   bin/test faults [NAME..]      refused memory, failing streams, stops at each write, cut heads, hostile clients: all

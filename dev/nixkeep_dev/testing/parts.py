@@ -30,7 +30,6 @@ MORE = {"compare/model": ["--count", "20000"]}
 # What only the gate tries, since it takes minutes, or has itself what `rt ci` has built: whether it is given the
 # program, and its words.
 OF_GATE = {
-    "gate/sabotage": (True, ["--today", "--jobs", "1"]),
     "package/clean_machine": (True, []),
     "gate/launched": (False, []),
     "gate/by_rattle": (False, []),
@@ -93,11 +92,9 @@ def of_program(given, is_whole=False):
     return [Part(it, given, [*bounded.get(it, []), *more.get(it, [])]) for it in found]
 
 
-def of_gate(given, minutes):
-    """The parts that only the gate runs, those that take longest first. Some have a bound of processor minutes."""
-    bound = {f"gate/{name}": ["--minutes", str(count)] for name, count in minutes.items()}
-    return [Part(it, given if needs_program else {}, [*more, *bound.get(it, [])])
-            for it, (needs_program, more) in OF_GATE.items()]
+def of_gate(given):
+    """The parts that only the gate runs: those that take longest first."""
+    return [Part(it, given if needs_program else {}, more) for it, (needs_program, more) in OF_GATE.items()]
 
 
 def side_by_side(found, begun=()):
