@@ -42,7 +42,11 @@ def pytest_runtest_setup(item):
 
 
 def program_file(config):
-    file = os.path.abspath(config.getoption("--program") or release.ready())
+    try:
+        file = os.path.abspath(config.getoption("--program") or release.ready())
+    except SystemExit as stopped:
+        # (a failure of a fixture is kept, so the next test doesn't try to build the program again)
+        pytest.fail(f"there is no program: status {stopped.code}", pytrace=False)
     if not os.access(file, os.X_OK):
         pytest.fail(f"there is no program {file}", pytrace=False)
     return file
