@@ -186,7 +186,9 @@ class Machine:
 
 
 ASK = "curl -sS --max-time 500 --unix-socket /run/nixkeep/red.socket"
-LOST = ("curl: (52) Empty reply from server", "curl: (56) Recv failure: Connection reset by peer", " 000")
+# What a client may see of an answer that was lost, or of which a part was.
+LOST = (r"curl: \(52\) Empty reply from server|curl: \(56\) Recv failure: Connection reset by peer"
+        r"|curl: \(18\) transfer closed with \d+ bytes remaining to read| (000|200)")
 # (no copy is made but those that are asked for, also where this runs at the hour of the timer)
 SET_UP = r"""set -e
 dpkg -i /root/nixkeep.deb
@@ -223,10 +225,11 @@ class Load:
         self.answers = [line for it in self.running for line in it.communicate()[0].splitlines()]
         self.machine("rm /run/stop")
 
-    def check(self, check, lost=()):
-        """Each add was done, and is in the store. `lost` is what a client may see whose connection was lost."""
+    def check(self, check, lost=None):
+        """Each add was done, and is in the store. `lost` is the pattern of what a client may see whose connection was
+        lost."""
         done = [it for it in self.answers if re.fullmatch(r"/nix/store/\S+ 200", it)]
-        wrong = [it for it in self.answers if it not in done and it not in lost]
+        wrong = [it for it in self.answers if it not in done and not (lost and re.fullmatch(lost, it))]
         check.same(f"what failed while it was {self.what}", wrong, [])
         check.true(f"there were adds while it was {self.what}", len(done) >= self.clients, len(done))
         listed = machine_paths(self.machine)
@@ -301,7 +304,7 @@ def killing(machine, check):
     lines = ["systemctl restart nixkeep@red", "pkill -KILL -x nixkeep",
              "systemctl stop nixkeep@red; sleep 1; systemctl start nixkeep@red"]
     kill = "systemctl kill --kill-whom=main -s KILL nixkeep@red"
-    for what, asked, lost in (("restarted", lines, ()), ("killed", [kill], LOST)):
+    for what, asked, lost in (("restarted", lines, None), ("killed", [kill], LOST)):
         with Load(machine, what) as load:
             time.sleep(3)
             for line in asked:
