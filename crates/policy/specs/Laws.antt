@@ -1,9 +1,12 @@
 -- What follows from the rules and their order: each is the contract of a function of `src/laws.rt`.
-use Rattle.std.specs.Prelude.{◌≡◌, ℕ, Bool, true, false, if◌then◌else◌, ◌&&◌, List, codes, Some, None}
+use Rattle.std.specs.Prelude.{◌≡◌, ℕ, Bool, true, false, if◌then◌else◌, ◌&&◌, List, [], ◌∷◌, codes, Some, None, Ok}
 use Rattle.std.specs.Option.{option_or}
+use Rattle.std.specs.FinMap.{empty}
 use Rattle.policy.specs.Caller.{Caller, caller_of}
 use Rattle.policy.specs.Operation.{Operation, plain, import_object, set_permanent, drop_permanent, replace_runtime, set_user_root, drop_user_root, set_profile, rollback, switch, delete_generation, add_temp, end_session, collect, delete, deletes}
 use Rattle.policy.specs.Rules.{verdict, first_broken, is_stranger}
+use Rattle.policy.specs.Settings.{everyone, user}
+use Rattle.policy.specs.Toml.{config_of}
 use Rattle.policy.specs.declared.kinds.Class.{Class}
 use Rattle.policy.specs.declared.kinds.Class.TheVariants.{Stranger, Allowed, Trusted}
 use Rattle.policy.specs.declared.kinds.Rule.TheVariants.{Connect, TrustedImport, TrustedPermanentRoot, TrustedRuntimeRoots, OwnRoot, NoIgnoreLiveness, Live}
@@ -75,3 +78,14 @@ ForbiddenToAll =
     × (verdict Trusted ann (collect false) true ≡ None)
     × (verdict Allowed ann (delete false) false ≡ None)
     × (verdict Stranger ann (delete true) true ≡ Some Connect)
+
+-- the settings of an empty text: each key's default
+abbrev pub DefaultsOfAnEmptyText : Type 0
+DefaultsOfAnEmptyText = config_of [] ≡ Ok (record {
+  store_dir = codes "/nix/store";
+  allowed_users = everyone ∷ [];
+  trusted_users = user (codes "root") ∷ [];
+  keep_outputs = false;
+  keep_derivations = true;
+  groups = empty;
+})
