@@ -1,13 +1,12 @@
 -- What rows that go with some objects make of the world.
-use Rattle.std.proofs.Common.{◌≡◌, ℕ, List, [], ◌∷◌, ◌++◌, Bool, true, false, ◌||◌, not, cond, Some, None, Option, option_map, is_some, length, refl, sym, ap, subst, ◌∙◌, IsTrue}
-use Rattle.std.specs.declared.cmp.Ordering.{Ordering}
+use Rattle.std.proofs.Common.{◌≡◌, ℕ, List, [], ◌∷◌, ◌++◌, Bool, true, false, not, cond, Some, None, Option, option_map, is_some, length, refl, sym, ap, subst, ◌∙◌, IsTrue}
 use Rattle.std.specs.Prelude.{ℤ}
-use Rattle.std.specs.Cmp.{IsTotalOrder, int_cmp_total}
+use Rattle.std.specs.Cmp.{int_cmp_total}
 use Rattle.std.specs.FinMap as finite
 use Rattle.std.proofs.lemmas.Bool.{false≢true}
 use Rattle.std.proofs.lemmas.List.{nil_from_length}
 use Rattle.sha2.specs.Sha256.{sha256}
-use Rattle.live.specs.Graph.{same, holds}
+use Rattle.live.specs.Graph.{holds}
 use Rattle.tables_sql.proofs.Orders.{numbered_total, numbered_antisymmetric}
 use Rattle.tables_sql.specs.Contents.{Contents, Stored}
 use Rattle.model.specs.World.{Path, Object, World}
@@ -18,29 +17,13 @@ use Rattle.tables_world.specs.Worlds.{IsSoundContents, rows_of, world_in}
 use Rattle.tables_world.proofs.Reported.{get-reference, get-output, get-piece}
 use Rattle.tables_outline.specs.Outline.{OutlineValue, outlined, outline_of}
 use Rattle.tables_outline.proofs.Orders.{bytes_total, bytes_antisymmetric, pair_total, pair_antisymmetric}
-use Rattle.tables_outline.proofs.Puts.{get-kept, retained}
+use Rattle.tables_outline.proofs.Puts.{get-kept}
 use Rattle.tables_outline.proofs.Reported.{get-reported}
+use Rattle.tables_outline.proofs.Retained.{none_gone, one_more}
 use Rattle.tables.specs.Rewritten.{without_object, without_objects}
 use Rattle.tables.proofs.AfterWrites.{Follows}
 
 -- ---- one after another
-
-module _ {K X : Type 0} {R : K → K → Ordering} (o : IsTotalOrder R) (alike : finite.IsAntisymmetric R) (part : K → Path) where
-  none_gone : (m : finite.FinMap R X) → finite.retain_keys m (λ k. not (holds [] (part k))) ≡ m
-  none_gone m = finite.same_map o alike _ _ (λ q. get-kept o alike m (λ k. not (holds [] (part k))) q)
-
-  pub one_more : (m : finite.FinMap R X) (p : Path) (ps : List Path) → finite.retain_keys (finite.retain_keys m (λ k. not (same (part k) p))) (λ k. not (holds ps (part k))) ≡ finite.retain_keys m (λ k. not (holds (p ∷ ps) (part k)))
-  one_more m p ps = finite.same_map o alike _ _ (λ q.
-      get-kept o alike (finite.retain_keys m (λ k. not (same (part k) p))) (λ k. not (holds ps (part k))) q
-      ∙ ap (λ g. cond (not (holds ps (part q))) g None) (get-kept o alike m (λ k. not (same (part k) p)) q)
-      ∙ by (same (part q) p) (holds ps (part q)) (finite.get m q)
-      ∙ sym (get-kept o alike m (λ k. not (holds (p ∷ ps) (part k))) q))
-    where
-      by : (a b : Bool) (g : Option X) → cond (not b) (cond (not a) g None) None ≡ cond (not (a || b)) g None
-      by true true g = refl
-      by true false g = refl
-      by false true g = refl
-      by false false g = refl
 
 pub without_none : (c : Contents) → without_objects [] c ≡ c
 without_none c = λ i. record c {
@@ -66,13 +49,6 @@ without_next p ps c = λ i. record c {
 
 abbrev pub outline_without : List Path → OutlineValue → OutlineValue
 outline_without ps o = record o { objects = finite.retain_keys o.objects (λ p. not (holds ps p)) }
-
-pub outline_none : (o : OutlineValue) → outline_without [] o ≡ o
-outline_none o = ap (λ m. record o { objects = m }) (none_gone bytes_total bytes_antisymmetric (λ (k : Path). k) o.objects)
-
-pub outline_next : (p : Path) (ps : List Path) (o : OutlineValue) → outline_without ps (record o { objects = finite.remove o.objects p }) ≡ outline_without (p ∷ ps) o
-outline_next p ps o = ap (λ m. record o { objects = m })
-    (ap (λ m. finite.retain_keys m (λ q. not (holds ps q))) (sym (retained bytes_total bytes_antisymmetric o.objects p)) ∙ one_more bytes_total bytes_antisymmetric (λ (k : Path). k) o.objects p ps)
 
 -- ---- the world
 

@@ -51,6 +51,19 @@ impl<S: Alter> Tables<S> {
         &self.outline
     }
 
+    /// Keeps the links of the outline's objects turned round from now on, through all changes, as far as there is memory.
+    /// Whoever asks much of one store, as a server does, calls it once.
+    ///
+    /// ```rust
+    /// tables.turn_links();
+    /// assert!(rt; tables.outline().links().is_some());
+    /// ```
+    pub fn turn_links(&mut self)
+        ensures { self.new ≡ self.old }
+    {
+        self.outline.turn_links();
+    }
+
     /// Drops the outline and returns the connection, which is outside a transaction.
     ///
     /// ```rust

@@ -1,8 +1,5 @@
 //! Deletion of objects, from the rows and from the outline.
 
-ghost use Rattle.std.specs.Prelude.{◌≡◌, not};
-ghost use Rattle.std.specs.FinMap as finite;
-ghost use Rattle.live.specs.Graph.{holds};
 ghost use Rattle.tables_schema.specs.Forms.{piece};
 ghost use Rattle.tables_sql.specs.Calls.{HasFurther};
 ghost use Rattle.tables_sql.specs.Contents.{contents_of};
@@ -55,16 +52,6 @@ fn delete_objects<S: Alter>(
         delete_object(tx, outline, path)?;
     }
     Ok(())
-}
-
-/// Removes some objects from an outline. Allocates no memory.
-pub(crate) fn remove_all(outline: &mut Outline, paths: &[StorePath])
-    ensures { outline.new
-        ≡ record outline.old { objects = finite.retain_keys outline.old.objects (λ p. not (holds paths.now p)) } }
-{
-    'paths: for path in paths {
-        outline.remove_object(path);
-    }
 }
 
 /// The change that deletes some objects, those that exist: `first` and `rest`. `outline` is that of the rows before the

@@ -7,7 +7,7 @@ ghost use Rattle.tables.specs.Frames.{StaysSound, ChangesTables};
 ghost use Rattle.tables_make.specs.Reasons.{NoRow};
 
 use crate::keeping::Tables;
-use crate::removal::{delete_rows, remove_all};
+use crate::removal::delete_rows;
 use paths::StorePath;
 use sqlite::Alter;
 use tables_sql::failure::Failed;
@@ -30,7 +30,7 @@ impl<S: Alter> Tables<S> {
         ensures { ChangesTables S.Store self.old self.new result (λ w. keeping w (λ p. not (holds paths.now p))) NoRow }
     {
         delete_rows(self.alloc, &mut self.connection, &self.outline, paths)?;
-        remove_all(&mut self.outline, paths);
+        self.outline.remove_objects(paths);
         Ok(())
     }
 }

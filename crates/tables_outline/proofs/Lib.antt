@@ -9,3 +9,6 @@ pub mod SetTrees
 pub mod Reported
 pub mod Trees
 pub mod Written
+pub mod Retained
+pub mod TurnedObjects
+pub mod TurnedAll

@@ -3,6 +3,8 @@ pub mod Details
 pub mod Filling
 pub mod View
 pub mod Maps
+pub mod ObjectMap
 pub mod Outline
 pub mod Temporary
 pub mod Summary
+pub mod Turned

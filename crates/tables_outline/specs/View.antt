@@ -14,7 +14,7 @@ profile_view p = record { generations = seen_map nat_cmp (λ n. n) (λ t. t) p.g
 
 abbrev pub outline_view : Inside → OutlineValue
 outline_view i = record {
-  objects = seen_map bytes_cmp (λ p. p) (λ o. o) i.objects.entries;
+  objects = i.objects;
   permanent = seen_map bytes_cmp string_bytes (λ t. t) i.permanent.entries;
   user_roots = seen_map pair_cmp pair_bytes (λ t. t) i.user_roots.entries;
   profiles = seen_map pair_cmp pair_bytes profile_view i.profiles.entries;

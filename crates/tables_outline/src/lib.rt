@@ -4,6 +4,7 @@
 mod borrowed_roots;
 mod details;
 mod filling;
+mod object_map;
 mod objects;
 mod outline;
 mod profile_changes;
@@ -16,3 +17,4 @@ mod temporary;
 pub use outline::Outline;
 pub use profiles::Profile;
 pub use summary::Summary;
+pub use tables_links::Links;

@@ -1,15 +1,19 @@
 //! Objects in an outline.
 
-ghost use Rattle.std.specs.Prelude.{◌≡◌, option_map};
+ghost use Rattle.std.specs.Prelude.{◌≡◌, IfSome, not, option_map};
 ghost use Rattle.std.specs.FinMap as finite;
 ghost use Rattle.tables_outline.specs.Changes.{ChangesTo};
+ghost use Rattle.live.specs.Graph.{holds};
+ghost use Rattle.tables_links.specs.Links.{AreLinksOf};
 ghost use Rattle.tables_outline.specs.Maps.{put_all};
+ghost use Rattle.tables_outline.specs.Turned.{links_of};
 
 use crate::outline::Outline;
 use crate::summary::Summary;
 use paths::StorePath;
 use std::alloc::{AllocError, Global};
 use std::collections::BTreeMap;
+use tables_links::Links;
 
 impl Outline {
     /// Whether this path is an object's.
@@ -20,7 +24,7 @@ impl Outline {
     pub fn has(&self, path: &StorePath) -> bool
         ensures { result ≡ finite.contains_key self.now.objects path.now }
     {
-        self.objects.contains_key(path)
+        self.objects.has(path)
     }
 
     /// The object of this path, if there is one.
@@ -45,9 +49,7 @@ impl Outline {
     pub fn objects(&self) -> &BTreeMap<StorePath, Summary>
         ensures { result.now.entries ≡ finite.entries self.now.objects }
     {
-        // Paths rise.
-        let _count = self.objects.len();
-        &self.objects
+        self.objects.all()
     }
 
     /// Puts an object. Each reference to it or to an object of the index shares the text of that path, so that an
@@ -56,10 +58,7 @@ impl Outline {
         ensures { ChangesTo self.old self.new result
             (record self.old { objects = finite.insert self.old.objects path object }) }
     {
-        let mut object = object;
-        object.share_references(&path, &self.objects);
-        self.objects.insert(path, object)?;
-        Ok(())
+        self.objects.insert(path, object)
     }
 
     /// Replaces all objects by these. One tree of all of them has full nodes where paths rise, and takes half the
@@ -72,9 +71,7 @@ impl Outline {
         ensures { ChangesTo self.old self.new result
             (record self.old { objects = put_all objects.items finite.empty }) }
     {
-        let made = objects.into_iter().collect(alloc)?;
-        self.objects = made;
-        Ok(())
+        self.objects.set(alloc, objects)
     }
 
     /// Removes an object, if it exists. Allocates no memory.
@@ -82,5 +79,28 @@ impl Outline {
         ensures { self.new ≡ record self.old { objects = finite.remove self.old.objects path.now } }
     {
         self.objects.remove(path);
+    }
+
+    /// Removes some objects, those that exist. It takes no memory.
+    pub fn remove_objects(&mut self, paths: &[StorePath])
+        ensures { self.new
+            ≡ record self.old { objects = finite.retain_keys self.old.objects (λ p. not (holds paths.now p)) } }
+    {
+        self.objects.remove_all(paths);
+    }
+
+    /// The links of the objects, turned round. `None` if they aren't kept.
+    pub fn links(&self) -> Option<&Links>
+        ensures { IfSome result (λ links. AreLinksOf (links_of self.now.objects) links.now) }
+    {
+        self.objects.links()
+    }
+
+    /// Keeps the links of the objects turned round from now on, through all changes. If memory is refused, now or
+    /// later, they are no longer kept.
+    pub fn turn_links(&mut self)
+        ensures { self.new ≡ self.old }
+    {
+        self.objects.turn();
     }
 }

@@ -4,8 +4,8 @@ ghost use Rattle.std.specs.Prelude.{◌≡◌};
 ghost use Rattle.model.specs.World.{no_world};
 ghost use Rattle.tables_outline.specs.Outline.{outline_of};
 
+use crate::object_map::Objects;
 use crate::profiles::Profile;
-use crate::summary::Summary;
 use paths::StorePath;
 use std::alloc::Global;
 use std::collections::{BTreeMap, BTreeSet};
@@ -14,7 +14,7 @@ use std::marker::Model;
 /// All that the tables hold of a world but the bytes of archives.
 #[derive(Drop)]
 pub struct Outline {
-    pub(crate) objects: BTreeMap<StorePath, Summary>,
+    pub(crate) objects: Objects,
     pub(crate) permanent: BTreeMap<String, StorePath>,
     pub(crate) user_roots: BTreeMap<(String, String), StorePath>,
     pub(crate) profiles: BTreeMap<(String, String), Profile>,
@@ -39,7 +39,7 @@ impl Outline {
     pub fn new(alloc: Global) -> Outline
         ensures { result ≡ outline_of no_world }
     {
-        let objects = BTreeMap::new(alloc);
+        let objects = Objects::new(alloc);
         let permanent = BTreeMap::new(alloc);
         let user_roots = BTreeMap::new(alloc);
         let profiles = BTreeMap::new(alloc);

@@ -26,13 +26,13 @@ returns-in_err-delete_rows g c = record {
 
 pub invariant_of-self-2 : goal.invariant_of-self-2
 invariant_of-self-2 g c =
-    write_agrees g.S.Store (removed_write g.S.Store _ c.args.self.now c.args.paths.now c.self.view_is c.self.invariant c.requires.sound) c.delete_rows.new.conn c.remove_all.new.outline _ (c.in_ok-delete_rows.ensures.frame)
-    (c.remove_all.ensures)
+    write_agrees g.S.Store (removed_write g.S.Store _ c.args.self.now c.args.paths.now c.self.view_is c.self.invariant c.requires.sound) c.delete_rows.new.conn c.remove_objects.new.self _ (c.in_ok-delete_rows.ensures.frame)
+    (c.remove_objects.ensures)
 
 pub returns : goal.returns
 returns g c = record {
   frame =
-      write_commits g.S.Store (removed_write g.S.Store _ c.args.self.now c.args.paths.now c.self.view_is c.self.invariant c.requires.sound) c.delete_rows.new.conn c.remove_all.new.outline _ (c.in_ok-delete_rows.ensures.frame)
-      (c.remove_all.ensures) _;
+      write_commits g.S.Store (removed_write g.S.Store _ c.args.self.now c.args.paths.now c.self.view_is c.self.invariant c.requires.sound) c.delete_rows.new.conn c.remove_objects.new.self _ (c.in_ok-delete_rows.ensures.frame)
+      (c.remove_objects.ensures) _;
   cause = λ clean. tt;
 }

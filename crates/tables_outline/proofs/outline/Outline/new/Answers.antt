@@ -14,7 +14,7 @@ none_outlined = ap (λ es. finite.from_entries {R = bytes_cmp} (map (λ e. (e.0,
 pub returns : goal.returns
 returns c =
     let made : ◌≡◌ {A = OutlineValue} _ _ = λ i. record {
-      objects = seen_map bytes_cmp (λ (p : List ℕ). p) (λ (o : Outlined). o) (c.new-objects.ensures.empty i);
+      objects = c.new-objects.ensures i;
       permanent = seen_map bytes_cmp string_bytes (λ (t : List ℕ). t) (c.new-permanent.ensures.empty i);
       user_roots = seen_map pair_cmp pair_bytes (λ (t : List ℕ). t) (c.new-user_roots.ensures.empty i);
       profiles = seen_map pair_cmp pair_bytes profile_view (c.new-profiles.ensures.empty i);

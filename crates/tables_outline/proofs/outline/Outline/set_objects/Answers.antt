@@ -1,29 +1,15 @@
-use Rattle.std.proofs.Common.{ℕ, List, None, ap, sym, subst, map-id, ◌∙◌}
-use Rattle.std.specs.BTreeMap.{IsFromIterResult}
+use Rattle.std.proofs.Common.{subst}
 use Rattle.std.specs.FinMap as finite
-use Rattle.std.proofs.lemmas.Iterator.{items_from_drains}
-use Rattle.std.proofs.lemmas.Iterator.Adapters.{YieldsList-from_vec}
 use Rattle.paths.specs.Root.{bytes_cmp}
+use Rattle.tables_outline.specs.Changes.{ChangesTo}
 use Rattle.tables_outline.specs.Maps.{put_all}
 use Rattle.tables_outline.specs.View.{outline_view}
 use Rattle.tables_outline.specs.Outline.{OutlineValue, Outlined}
-use Rattle.tables_outline.proofs.Orders.{bytes_total, bytes_antisymmetric}
-use Rattle.tables_outline.proofs.Puts.{get-all, option_same}
-use Rattle.tables_outline.proofs.Trees.{seen_as}
+use Rattle.tables_outline.proofs.TurnedObjects.{changed}
 use Rattle.tables_outline.proofs.outline.Outline.set_objects.Goals as goal
 
 pub returns : goal.returns
 returns c =
-    let items = c.args.objects.items in
-    let all = put_all items finite.empty in
-    let ran = c.in_ok-made.ensures.ran in
-    let road = YieldsList-from_vec items c.into_iter.ensures.rest (c.into_iter.ensures.len ∙ c.args.objects.ok.0) in
-    let made = subst (λ xs. IsFromIterResult bytes_cmp xs c.in_ok-made.made) (sym (map-id ran.0) ∙ items_from_drains ran.0 ran.1 road) ran.2 in
-    record {
-      done =
-          ap (λ m. record (outline_view c.self.inside) { objects = m })
-          (seen_as bytes_cmp (λ (p : List ℕ). p) (λ (o : Outlined). o) bytes_total bytes_antisymmetric c.in_ok-made.made.entries all (λ q.
-          option_same _ ∙ made.0 q ∙ sym (get-all bytes_total bytes_antisymmetric items finite.empty (λ _. None) q (finite.get-empty bytes_cmp q))))
-          ∙ ap (λ (o : OutlineValue). record o { objects = all }) c.self.view_is;
-      failed = tt;
-    }
+    let with : finite.FinMap bytes_cmp Outlined → OutlineValue = λ m. record (outline_view c.self.inside) { objects = m } in
+    subst (λ (o : OutlineValue). ChangesTo o (with c.set.new.self) c.set.result (record o { objects = put_all c.args.objects.items finite.empty })) c.self.view_is
+    (changed with c.self.inside.objects c.set.new.self (put_all c.args.objects.items finite.empty) c.set.result c.set.ensures)

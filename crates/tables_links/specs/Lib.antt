@@ -1,0 +1,4 @@
+pub mod Lists
+pub mod Names
+pub mod Links
+pub mod View
