@@ -11,7 +11,7 @@ use Rattle.sqlite.specs.Held.{state}
 use Rattle.paths.specs.Root.{bytes_cmp, Set, set_of}
 use Rattle.paths.specs.ContentAddress.{address_of}
 use Rattle.tables_sql.specs.Contents.{Contents, Stored, contents_of}
-use Rattle.tables_sql.specs.Entries.{stored}
+use Rattle.tables_rows.specs.Entries.{stored}
 use Rattle.model.specs.World.{Path, Object, World}
 use Rattle.tables_world.specs.Pieces.{row_part, further_pieces}
 use Rattle.tables_world.specs.Rows.{address_in, object_in}

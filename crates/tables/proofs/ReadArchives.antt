@@ -13,10 +13,10 @@ use Rattle.sqlite.specs.State.{HasCleanDisk}
 use Rattle.sqlite.specs.Held.{state}
 use Rattle.paths.specs.Root.{bytes_cmp}
 use Rattle.tables_sql.specs.Contents.{Contents, Stored, Numbered, numbered_cmp, contents_of}
-use Rattle.tables_sql.specs.Entries.{stored_of, piece_in}
+use Rattle.tables_rows.specs.Entries.{stored_of, piece_in}
 use Rattle.tables_sql.proofs.Orders.{numbered_total, numbered_antisymmetric}
-use Rattle.tables_sql.specs.declared.objects.Object.{Object as Row}
-use Rattle.tables_sql.specs.declared.pieces.Piece.{Piece}
+use Rattle.tables_rows.specs.declared.objects.Object.{Object as Row}
+use Rattle.tables_rows.specs.declared.pieces.Piece.{Piece}
 use Rattle.model.specs.World.{Path, Object, World}
 use Rattle.tables_world.specs.Pieces.{joined, IsCut}
 use Rattle.tables_world.specs.Rows.{pieces_in, archive_in, object_in}

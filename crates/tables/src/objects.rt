@@ -73,7 +73,7 @@ pub(crate) struct InsertObject<'a> {
 }
 
 impl<'a> Change for InsertObject<'a> {
-    ghost use Rattle.tables_sql.specs.Entries.{stored};
+    ghost use Rattle.tables_rows.specs.Entries.{stored};
     ghost use Rattle.tables_world.specs.Pieces.{row_part, further_pieces};
     ghost use Rattle.tables.specs.Rewritten.{HasNoObject, put_object};
     ghost use Rattle.tables.specs.RowsPut.{ObjectRows};

@@ -13,7 +13,7 @@ use Rattle.sqlite.specs.Held.{Held, state}
 use Rattle.tables_schema.specs.Forms.{names_store_table}
 use Rattle.sqlite.specs.Values.{or_null}
 use Rattle.tables_sql.specs.Contents.{Contents}
-use Rattle.tables_sql.specs.Entries.{text_or_null}
+use Rattle.tables_rows.specs.Entries.{text_or_null}
 use Rattle.tables_sql.specs.Calls.{Changes}
 use Rattle.tables_sql.specs.Failures.{FailsFor, FailsToInsert, FailsToCommit}
 use Rattle.tables_sql.specs.declared.failure.Failed.{Failed}

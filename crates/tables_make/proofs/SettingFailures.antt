@@ -35,7 +35,7 @@ use Rattle.tables_sql.specs.Failures.{FailsWith, IsWriteFailure, IsTooLarge, Has
 use Rattle.tables_make.specs.Making.{Makes, Puts, placed, IsTooLong, RunsOutOfTrees, IsIndexNameUsed, FailsToMakeThese}
 use Rattle.tables_sql.proofs.Truths.{cast_null}
 use Rattle.tables_sql.proofs.Description.{terms_of}
-use Rattle.tables_sql.proofs.SettingLemmas.{insert_text, insert_is, table as settings}
+use Rattle.tables_rows.proofs.SettingLemmas.{insert_text, insert_is, table as settings}
 use Rattle.tables_sql.proofs.WriteFailures as write
 use Rattle.tables_sql.proofs.Additions.{IsNewKey, insert_stops}
 use Rattle.tables_make.proofs.Settles.{meta_tree}

@@ -31,7 +31,7 @@ use Rattle.tables_sql.proofs.Entries.{put_map}
 use Rattle.tables_sql.proofs.Members.{keyed_put}
 use Rattle.tables_sql.proofs.ReadableWrites.{put_readable}
 use Rattle.tables_sql.proofs.Description.{terms_of}
-use Rattle.tables_sql.proofs.SettingLemmas.{insert_text, insert_is, table as settings}
+use Rattle.tables_rows.proofs.SettingLemmas.{insert_text, insert_is, table as settings}
 use Rattle.tables_sql.proofs.Lists.{one_list}
 use Rattle.tables_sql.proofs.Frozen.{frozen_of}
 use Rattle.tables_make.proofs.FrozenThen.{frozen_then}

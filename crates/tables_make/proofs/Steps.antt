@@ -16,8 +16,8 @@ use Rattle.tables_sql.proofs.Orders.{texts_total, texts_antisymmetric}
 use Rattle.model.specs.World.{Path}
 use Rattle.tables_world.specs.Pieces.{piece_size, row_part, pieces_by, further_pieces}
 use Rattle.tables_make.specs.Cutting.{put_pieces, cut_row, cut_found, cut_object}
-use Rattle.tables_sql.specs.Entries.{stored, stored_of, IsStored}
-use Rattle.tables_sql.specs.declared.objects.Object.{Object}
+use Rattle.tables_rows.specs.Entries.{stored, stored_of, IsStored}
+use Rattle.tables_rows.specs.declared.objects.Object.{Object}
 use Rattle.tables_make.proofs.Cuts.{size, further, no_piece}
 
 -- a read changes nothing

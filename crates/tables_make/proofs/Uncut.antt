@@ -17,7 +17,7 @@ use Rattle.paths.specs.Root.{bytes_cmp}
 use Rattle.tables_schema.specs.Forms.{piece}
 use Rattle.tables_schema.specs.Finding.{IsFree}
 use Rattle.tables_sql.specs.Contents.{Bytes, Stored, Contents, contents_of, map_of, numbered_cmp, is_piece, piece_of}
-use Rattle.tables_sql.specs.Entries.{text_or_null}
+use Rattle.tables_rows.specs.Entries.{text_or_null}
 use Rattle.tables_sql.proofs.FurtherTables.{if_any_free}
 use Rattle.tables_sql.proofs.Orders.{numbered_antisymmetric}
 use Rattle.model.specs.World.{Path}

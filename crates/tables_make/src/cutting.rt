@@ -5,7 +5,7 @@ ghost use Rattle.sqlite.specs.Held.{state};
 ghost use Rattle.tables_schema.specs.Forms.{piece};
 ghost use Rattle.tables_sql.specs.Calls.{HasFurther};
 ghost use Rattle.tables_sql.specs.Contents.{contents_of};
-ghost use Rattle.tables_sql.specs.Entries.{stored_of};
+ghost use Rattle.tables_rows.specs.Entries.{stored_of};
 ghost use Rattle.tables_world.specs.Pieces.{pieces_by};
 ghost use Rattle.tables_make.specs.Cutting.{put_pieces, cut_row, cut_object, cut_objects};
 ghost use Rattle.tables_make.specs.Migrating.{CutRows, CutRowsAt, HasNoPieces, HasUncut, IsUncut, LongRows, PieceRow};

@@ -5,8 +5,8 @@ use Rattle.std.specs.FinMap as finite
 use Rattle.std.specs.List.{AllByRecursion}
 use Rattle.std.proofs.lemmas.Bool.{false≢true}
 use Rattle.tables_sql.specs.Contents.{Bytes, Contents, Stored}
-use Rattle.tables_sql.specs.declared.objects.Object.{Object}
-use Rattle.tables_sql.specs.Entries.{IsStored, stored_of}
+use Rattle.tables_rows.specs.declared.objects.Object.{Object}
+use Rattle.tables_rows.specs.Entries.{IsStored, stored_of}
 use Rattle.tables_sql.proofs.Orders.{texts_total, texts_antisymmetric}
 use Rattle.tables_outline.proofs.Puts.{get-kept}
 use Rattle.tables_objects.specs.Rows.{AreStored}

@@ -9,11 +9,11 @@ use Rattle.std.specs.FinMap as finite
 use Rattle.std.specs.FinMap.Entries.{is_sorted, below_all, where_key, same_entries, is_sorted-where_key, find-where_key}
 use Rattle.paths.specs.Root.{bytes_cmp}
 use Rattle.tables_sql.specs.Contents.{Contents}
-use Rattle.tables_sql.specs.declared.references.Reference.{Reference}
-use Rattle.tables_sql.specs.declared.outputs.Output.{Output}
-use Rattle.tables_sql.specs.declared.pieces.Piece.{Piece}
-use Rattle.tables_sql.specs.declared.pieces.PieceKey.{PieceKey}
-use Rattle.tables_sql.specs.Entries.{reference_of, output_of, piece_in, numbered_in}
+use Rattle.tables_rows.specs.declared.references.Reference.{Reference}
+use Rattle.tables_rows.specs.declared.outputs.Output.{Output}
+use Rattle.tables_rows.specs.declared.pieces.Piece.{Piece}
+use Rattle.tables_rows.specs.declared.pieces.PieceKey.{PieceKey}
+use Rattle.tables_rows.specs.Entries.{reference_of, output_of, piece_in, numbered_in}
 use Rattle.tables_sql.proofs.Orders.{numbered_total, numbered_antisymmetric}
 use Rattle.model.specs.World.{Path}
 use Rattle.tables_world.specs.Rows.{references_in, outputs_in, pieces_in}

@@ -8,10 +8,10 @@ use Rattle.std.specs.FinMap as finite
 use Rattle.paths.specs.StorePath.{is_base_name}
 use Rattle.paths.specs.Root.{bytes_cmp}
 use Rattle.tables_sql.specs.Contents.{Numbered}
-use Rattle.tables_sql.specs.declared.references.Reference.{Reference}
-use Rattle.tables_sql.specs.declared.outputs.Output.{Output}
-use Rattle.tables_sql.specs.declared.pieces.PieceKey.{PieceKey}
-use Rattle.tables_sql.specs.Entries.{reference_of, output_of, numbered_in}
+use Rattle.tables_rows.specs.declared.references.Reference.{Reference}
+use Rattle.tables_rows.specs.declared.outputs.Output.{Output}
+use Rattle.tables_rows.specs.declared.pieces.PieceKey.{PieceKey}
+use Rattle.tables_rows.specs.Entries.{reference_of, output_of, numbered_in}
 use Rattle.model.specs.World.{Path, Pair}
 use Rattle.tables_objects.specs.Known.{borrowed, is_known, is_known_reference, is_known_output, is_known_piece}
 use Rattle.tables_objects.specs.Rising.{Rises}

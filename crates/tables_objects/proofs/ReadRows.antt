@@ -18,8 +18,8 @@ use Rattle.tables_schema.specs.Forms.{piece}
 use Rattle.tables_rows.specs.Frames.{MayRead, LeftAsItWas}
 use Rattle.model.proofs.Empty.{no_entries}
 use Rattle.tables_outline.proofs.Puts.{get-kept}
-use Rattle.tables_sql.specs.declared.objects.Object.{Object}
-use Rattle.tables_sql.specs.Entries.{piece_in, stored_of, IsStored}
+use Rattle.tables_rows.specs.declared.objects.Object.{Object}
+use Rattle.tables_rows.specs.Entries.{piece_in, stored_of, IsStored}
 use Rattle.model.specs.World.{Path}
 use Rattle.tables_objects.specs.declared.reading.ObjectRows.{ObjectRows}
 use Rattle.tables_objects.specs.declared.joined.Joined.{Joined}

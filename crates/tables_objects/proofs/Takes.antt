@@ -6,10 +6,10 @@ use Rattle.std.proofs.lemmas.Option.{same_Some}
 use Rattle.sha2.specs.Sha256.{sha256}
 use Rattle.paths.specs.Root.{bytes_cmp, Set}
 use Rattle.tables_sql.specs.Contents.{Contents, Stored}
-use Rattle.tables_sql.specs.declared.references.Reference.{Reference}
-use Rattle.tables_sql.specs.declared.outputs.Output.{Output}
-use Rattle.tables_sql.specs.declared.pieces.Piece.{Piece}
-use Rattle.tables_sql.specs.Entries.{stored_of}
+use Rattle.tables_rows.specs.declared.references.Reference.{Reference}
+use Rattle.tables_rows.specs.declared.outputs.Output.{Output}
+use Rattle.tables_rows.specs.declared.pieces.Piece.{Piece}
+use Rattle.tables_rows.specs.Entries.{stored_of}
 use Rattle.model.specs.World.{Path}
 use Rattle.model.specs.Objects.{outputs_at}
 use Rattle.tables_world.specs.Rows.{address_in, archive_in, references_in, outputs_in, pieces_in, object_in}

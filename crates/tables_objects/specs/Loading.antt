@@ -5,7 +5,7 @@ use Rattle.sqlite.specs.State.{HasCleanDisk}
 use Rattle.sqlite.specs.Held.{Held, state}
 use Rattle.tables_sql.specs.Contents.{Contents, contents_of}
 use Rattle.tables_sql.specs.declared.failure.Failed.{Failed}
-use Rattle.tables_sql.specs.declared.objects.Object.{Object}
+use Rattle.tables_rows.specs.declared.objects.Object.{Object}
 use Rattle.tables_rows.specs.Frames.{MayRead, ReadsOnly}
 use Rattle.tables_schema.specs.declared.schema.Schema.{Schema}
 use Rattle.tables_objects.specs.declared.source.Source.{Source}

@@ -2,9 +2,9 @@
 use Rattle.std.specs.Prelude.{◌≡◌, List, Option, Some, None, MatchOption, map}
 use Rattle.std.specs.FinMap as finite
 use Rattle.std.specs.List.{AllByRecursion}
-use Rattle.tables_sql.specs.declared.objects.Object.{Object}
+use Rattle.tables_rows.specs.declared.objects.Object.{Object}
 use Rattle.tables_sql.specs.Contents.{Contents}
-use Rattle.tables_sql.specs.Entries.{stored_of, reference_of, output_of, numbered_in}
+use Rattle.tables_rows.specs.Entries.{stored_of, reference_of, output_of, numbered_in}
 use Rattle.model.specs.World.{Path}
 use Rattle.tables_world.specs.Rows.{pieces_in}
 use Rattle.tables_world.specs.Worlds.{rows_of}

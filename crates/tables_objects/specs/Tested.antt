@@ -13,8 +13,8 @@ use Rattle.paths.specs.Root.{bytes_cmp, set_of}
 use Rattle.paths.specs.ContentAddress.{ContentAddress, address_of, verifies}
 use Rattle.drv.specs.Outcome.{outputs_of}
 use Rattle.tables_sql.specs.Contents.{Stored}
-use Rattle.tables_sql.specs.declared.references.Reference.{Reference}
-use Rattle.tables_sql.specs.declared.outputs.Output.{Output}
+use Rattle.tables_rows.specs.declared.references.Reference.{Reference}
+use Rattle.tables_rows.specs.declared.outputs.Output.{Output}
 use Rattle.model.specs.World.{Path}
 use Rattle.model.specs.Objects.{most_references, outputs_at, tree_outputs}
 use Rattle.model.specs.Sound.{IsDerivation}

@@ -6,7 +6,7 @@ ghost use Rattle.tables_objects.specs.Cut as cut;
 ghost use Rattle.tables_objects.specs.Cut.{continues, part_of, parts_of};
 
 use streams::PIECE_SIZE;
-use tables_sql::pieces::Piece;
+use tables_rows::pieces::Piece;
 
 fn is_number(value: i64, number: u64) -> bool
     ensures { result ≡ cut.is_number value number }

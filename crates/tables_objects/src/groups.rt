@@ -7,9 +7,9 @@ ghost use Rattle.paths.specs.Root.{bytes_cmp};
 ghost use Rattle.tables_objects.specs.Rising.{Rises};
 
 use paths::StorePath;
-use tables_sql::outputs::Output;
-use tables_sql::pieces::PieceKey;
-use tables_sql::references::Reference;
+use tables_rows::outputs::Output;
+use tables_rows::pieces::PieceKey;
+use tables_rows::references::Reference;
 
 /// A row that belongs to a path.
 pub(crate) trait OfPath {

@@ -7,7 +7,7 @@ ghost use Rattle.std.specs.FinMap as finite;
 ghost use Rattle.sqlite.specs.State.{HasCleanDisk};
 ghost use Rattle.sqlite.specs.Held.{state};
 ghost use Rattle.tables_rows.specs.Frames.{FindsInReads};
-ghost use Rattle.tables_sql.specs.Entries.{numbered_in, output_of, reference_of};
+ghost use Rattle.tables_rows.specs.Entries.{numbered_in, output_of, reference_of};
 ghost use Rattle.tables_objects.specs.Rows.{AreJoined};
 ghost use Rattle.tables_objects.specs.Loaded.{is_output, is_owned, is_reference};
 ghost use Rattle.tables_objects.specs.Loading.{MayReadBy};
@@ -16,12 +16,12 @@ use crate::members::{Paths, are_outputs, are_owned, are_references};
 use sqlite::{Alter, Connection};
 use std::alloc::{AllocError, Global};
 use tables_outline::Outline;
+use tables_rows::outputs::Output;
+use tables_rows::pieces::PieceKey;
+use tables_rows::references::Reference;
 use tables_rows::{Find, outputs, pieces, references};
 use tables_schema::Schema;
 use tables_sql::failure::Failed;
-use tables_sql::outputs::Output;
-use tables_sql::pieces::PieceKey;
-use tables_sql::references::Reference;
 
 /// All references and outputs, and which pieces there are, each in order.
 #[derive(Drop)]

@@ -6,7 +6,7 @@ ghost use Rattle.std.specs.FinMap as finite;
 ghost use Rattle.sqlite.specs.State.{HasCleanDisk};
 ghost use Rattle.sqlite.specs.Held.{state};
 ghost use Rattle.tables_sql.specs.Contents.{contents_of};
-ghost use Rattle.tables_sql.specs.Entries.{stored_of};
+ghost use Rattle.tables_rows.specs.Entries.{stored_of};
 ghost use Rattle.tables_objects.specs.Cut.{parts_of, whole_of};
 ghost use Rattle.tables_objects.specs.Rows.{AreJoined, AreStored};
 ghost use Rattle.tables_objects.specs.Tested.{IsSoundAt, kept_of, named_of, targets_of};
@@ -25,13 +25,13 @@ use sqlite::{Alter, Connection};
 use std::alloc::{AllocError, Global};
 use std::collections::VecDeque;
 use tables_outline::{Outline, Summary};
+use tables_rows::objects::Object;
+use tables_rows::outputs::Output;
+use tables_rows::pieces::Piece;
+use tables_rows::references::Reference;
 use tables_rows::{Find, objects};
 use tables_schema::Schema;
 use tables_sql::failure::Failed;
-use tables_sql::objects::Object;
-use tables_sql::outputs::Output;
-use tables_sql::pieces::Piece;
-use tables_sql::references::Reference;
 
 /// Whether an archive is cut the right way, where there is a table of pieces.
 fn is_cut_by(schema: Schema, row: &[u8], pieces: &[Piece]) -> bool

@@ -5,7 +5,7 @@ ghost use Rattle.std.specs.Prelude.{◌≡◌, ◌↔◌, true, IfOk, IsTrue, ma
 ghost use Rattle.std.specs.List.{list_all};
 ghost use Rattle.std.specs.FinMap as finite;
 ghost use Rattle.std.specs.Option.{ForSome, option_copied};
-ghost use Rattle.tables_sql.specs.Entries.{numbered_in, reference_of, output_of};
+ghost use Rattle.tables_rows.specs.Entries.{numbered_in, reference_of, output_of};
 ghost use Rattle.tables_objects.specs.Known as known;
 ghost use Rattle.tables_objects.specs.Known.{is_known, borrowed};
 
@@ -14,9 +14,9 @@ use paths::StorePath;
 use std::alloc::{AllocError, Global};
 use std::marker::Model;
 use tables_outline::Outline;
-use tables_sql::outputs::Output;
-use tables_sql::pieces::PieceKey;
-use tables_sql::references::Reference;
+use tables_rows::outputs::Output;
+use tables_rows::pieces::PieceKey;
+use tables_rows::references::Reference;
 
 /// Paths in order, borrowed. Contracts see them as a list.
 #[derive(Drop)]

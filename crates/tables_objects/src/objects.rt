@@ -5,7 +5,7 @@ ghost use Rattle.std.specs.List.{zip};
 ghost use Rattle.std.specs.FinMap as finite;
 ghost use Rattle.sha2.specs.Sha256.{sha256};
 ghost use Rattle.paths.specs.Root.{bytes_cmp, set_of};
-ghost use Rattle.tables_sql.specs.Entries.{stored_of};
+ghost use Rattle.tables_rows.specs.Entries.{stored_of};
 ghost use Rattle.nar.specs.Archive.{IsArchive};
 ghost use Rattle.nar.specs.Tree.{Tree};
 ghost use Rattle.model.specs.Objects.{outputs_at};
@@ -22,10 +22,10 @@ use paths::{Ca, StoreDir, StorePath};
 use std::alloc::{AllocError, Global};
 use streams::MAX_REFERENCES;
 use tables_outline::Summary;
-use tables_sql::objects::Object;
-use tables_sql::outputs::Output;
-use tables_sql::pieces::Piece;
-use tables_sql::references::Reference;
+use tables_rows::objects::Object;
+use tables_rows::outputs::Output;
+use tables_rows::pieces::Piece;
+use tables_rows::references::Reference;
 
 /// The outputs of an object, where its rows have exactly those that its archive records.
 fn sound_outputs(

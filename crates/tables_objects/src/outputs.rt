@@ -14,7 +14,7 @@ use paths::{StoreDir, StorePath};
 use std::alloc::{AllocError, Global};
 use std::collections::BTreeMap;
 use streams::Pieces;
-use tables_sql::outputs::Output;
+use tables_rows::outputs::Output;
 
 /// Outputs in the order of their names, each name with the path at the same place.
 #[derive(Drop)]

@@ -13,7 +13,7 @@ use paths::{Facts, Method};
 use std::alloc::{AllocError, Global};
 use std::marker::Model;
 use streams::Pieces;
-use tables_sql::pieces::Piece;
+use tables_rows::pieces::Piece;
 
 /// The bytes of a row and of its pieces, one after another. Where they are cut the right way none is copied.
 fn gathered(alloc: Global, row: Vec<u8>, pieces: Vec<Piece>) -> Result<Pieces, AllocError>

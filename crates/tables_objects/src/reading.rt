@@ -5,7 +5,7 @@ ghost use Rattle.std.specs.Ordering.{eq_by_cmp};
 ghost use Rattle.std.specs.FinMap as finite;
 ghost use Rattle.tables_sql.specs.Contents.{texts_cmp};
 ghost use Rattle.tables_rows.specs.Frames.{FindsInReads};
-ghost use Rattle.tables_sql.specs.Entries.{piece_in};
+ghost use Rattle.tables_rows.specs.Entries.{piece_in};
 ghost use Rattle.tables_objects.specs.Loading.{MayReadFrom};
 ghost use Rattle.tables_objects.specs.Rows.{AreRowsAt, AreStored};
 
@@ -15,10 +15,10 @@ use crate::source::Source;
 use sqlite::{Alter, Connection};
 use std::alloc::Global;
 use std::collections::VecDeque;
+use tables_rows::objects::Object;
+use tables_rows::pieces::Piece;
 use tables_rows::{Find, pieces};
 use tables_sql::failure::Failed;
-use tables_sql::objects::Object;
-use tables_sql::pieces::Piece;
 
 /// The row of an object, and its pieces.
 #[derive(Drop)]

@@ -3,7 +3,7 @@
 ghost use Rattle.std.specs.Prelude.{◌≡◌, ◌↔◌, Some, IfSome, IsTrue, string_bytes};
 ghost use Rattle.std.specs.FinMap as finite;
 ghost use Rattle.tables_sql.specs.Contents.{Contents};
-ghost use Rattle.tables_sql.specs.Entries.{IsStored, stored_of};
+ghost use Rattle.tables_rows.specs.Entries.{IsStored, stored_of};
 ghost use Rattle.tables_rows.specs.Frames.{FindsInReads};
 ghost use Rattle.tables_objects.specs.Loading.{MayReadFrom};
 ghost use Rattle.tables_objects.specs.Rows.{AreStored};
@@ -12,10 +12,10 @@ use crate::source::Source;
 use sqlite::{Alter, Connection};
 use std::alloc::Global;
 use std::collections::VecDeque;
+use tables_rows::objects::Object;
 use tables_rows::{Find, objects};
 use tables_schema::Schema;
 use tables_sql::failure::Failed;
-use tables_sql::objects::Object;
 
 /// How many objects one query reads. Where there are pieces, a row has at most 65,536 bytes of an archive.
 const AHEAD: usize = 16;

@@ -8,7 +8,7 @@ ghost use Rattle.tables_objects.specs.Tested.{are_paths, targets_of};
 use crate::texts::path_of;
 use paths::StorePath;
 use std::alloc::{AllocError, Global};
-use tables_sql::references::Reference;
+use tables_rows::references::Reference;
 
 /// Whether a text comes after the last one.
 fn is_above(last: Option<&str>, text: &str) -> bool

@@ -6,17 +6,17 @@ use Rattle.sqlite_schema.specs.Names.{column_named}
 use Rattle.tables_schema.specs.StoreTables.{form}
 use Rattle.tables_schema.specs.declared.store_table.StoreTable.{StoreTable}
 use Rattle.tables_schema.specs.declared.store_table.StoreTable.TheVariants.{Meta, Object, Refs, Outs, Permanent, UserRoot, Profile, Generation, Runtime, Piece, TempRoot}
-use Rattle.tables_sql.proofs.SettingLemmas as settings
-use Rattle.tables_sql.proofs.ListingLemmas as listing
-use Rattle.tables_sql.proofs.ReferenceLemmas as references
-use Rattle.tables_sql.proofs.OutputLemmas as outputs
-use Rattle.tables_sql.proofs.PermanentRootLemmas as permanent_roots
-use Rattle.tables_sql.proofs.UserRootLemmas as user_roots
-use Rattle.tables_sql.proofs.ProfileLemmas as profiles
-use Rattle.tables_sql.proofs.GenerationLemmas as generations
-use Rattle.tables_sql.proofs.RuntimeRootLemmas as runtime_roots
-use Rattle.tables_sql.proofs.PieceKeyLemmas as piece_keys
-use Rattle.tables_sql.proofs.TempRootLemmas as temp_roots
+use Rattle.tables_rows.proofs.SettingLemmas as settings
+use Rattle.tables_rows.proofs.ListingLemmas as listing
+use Rattle.tables_rows.proofs.ReferenceLemmas as references
+use Rattle.tables_rows.proofs.OutputLemmas as outputs
+use Rattle.tables_rows.proofs.PermanentRootLemmas as permanent_roots
+use Rattle.tables_rows.proofs.UserRootLemmas as user_roots
+use Rattle.tables_rows.proofs.ProfileLemmas as profiles
+use Rattle.tables_rows.proofs.GenerationLemmas as generations
+use Rattle.tables_rows.proofs.RuntimeRootLemmas as runtime_roots
+use Rattle.tables_rows.proofs.PieceKeyLemmas as piece_keys
+use Rattle.tables_rows.proofs.TempRootLemmas as temp_roots
 use Rattle.tables_sql.proofs.Ordered.{Place, IsColumn}
 use Rattle.tables_open.specs.Tables.{rows_text}
 use Rattle.tables_open.proofs.Asking.{Asks}

@@ -4,17 +4,17 @@ use Rattle.sqlite_value.specs.Order.{Row, column}
 use Rattle.tables_schema.specs.Forms.{meta, object, refs, outs, permanent, user_root, profile, generation, runtime, piece, temp_root}
 use Rattle.tables_sql.specs.Texts.{IsReadable, IsReadableRow}
 use Rattle.tables_sql.proofs.Truths.{and_so}
-use Rattle.tables_sql.proofs.SettingLemmas as settings
-use Rattle.tables_sql.proofs.ListingLemmas as listing
-use Rattle.tables_sql.proofs.ReferenceLemmas as references
-use Rattle.tables_sql.proofs.OutputLemmas as outputs
-use Rattle.tables_sql.proofs.PermanentRootLemmas as permanent_roots
-use Rattle.tables_sql.proofs.UserRootLemmas as user_roots
-use Rattle.tables_sql.proofs.ProfileLemmas as profiles
-use Rattle.tables_sql.proofs.GenerationLemmas as generations
-use Rattle.tables_sql.proofs.RuntimeRootLemmas as runtime_roots
-use Rattle.tables_sql.proofs.PieceKeyLemmas as piece_keys
-use Rattle.tables_sql.proofs.TempRootLemmas as temp_roots
+use Rattle.tables_rows.proofs.SettingLemmas as settings
+use Rattle.tables_rows.proofs.ListingLemmas as listing
+use Rattle.tables_rows.proofs.ReferenceLemmas as references
+use Rattle.tables_rows.proofs.OutputLemmas as outputs
+use Rattle.tables_rows.proofs.PermanentRootLemmas as permanent_roots
+use Rattle.tables_rows.proofs.UserRootLemmas as user_roots
+use Rattle.tables_rows.proofs.ProfileLemmas as profiles
+use Rattle.tables_rows.proofs.GenerationLemmas as generations
+use Rattle.tables_rows.proofs.RuntimeRootLemmas as runtime_roots
+use Rattle.tables_rows.proofs.PieceKeyLemmas as piece_keys
+use Rattle.tables_rows.proofs.TempRootLemmas as temp_roots
 use Rattle.tables_sql.proofs.Typed.{objects_typed, pieces_typed}
 use Rattle.tables_sql.proofs.ReadableValues.{blob_readable}
 use Rattle.tables_schema.specs.declared.store_table.StoreTable.{StoreTable}

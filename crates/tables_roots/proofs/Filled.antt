@@ -7,8 +7,8 @@ use Rattle.std.specs.Ordering.{eq_by_cmp, is_eq, nat_cmp, int_cmp, ordering_then
 use Rattle.std.specs.Cmp.{IsTotalOrder, nat_cmp_total, int_cmp_total, tied_itself}
 use Rattle.std.specs.FinMap as finite
 use Rattle.std.proofs.lemmas.Bool.{false≢true}
-use Rattle.tables_sql.specs.declared.generations.Generation.{Generation}
-use Rattle.tables_sql.specs.Entries.{generation_in}
+use Rattle.tables_rows.specs.declared.generations.Generation.{Generation}
+use Rattle.tables_rows.specs.Entries.{generation_in}
 use Rattle.tables_sql.specs.Contents.{Contents, Triple, triple_cmp}
 use Rattle.tables_sql.proofs.Orders.{triple_total, triple_antisymmetric}
 use Rattle.paths.specs.Root.{bytes_cmp}

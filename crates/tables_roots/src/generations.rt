@@ -14,7 +14,7 @@ impl RootTable for Generation {
     ghost use Rattle.std.specs.Prelude.{◌≡◌};
     ghost use Rattle.std.specs.List.{list_all};
     ghost use Rattle.std.specs.FinMap as finite;
-    ghost use Rattle.tables_sql.specs.Entries.{generation_in};
+    ghost use Rattle.tables_rows.specs.Entries.{generation_in};
     ghost use Rattle.tables_world.specs.Rows.{number_in};
     ghost use Rattle.tables_world.specs.Worlds.{world_in};
     ghost use Rattle.tables_outline.specs.Filling.{with_generation};

@@ -14,7 +14,7 @@ impl RootTable for PermanentRoot {
     ghost use Rattle.std.specs.Prelude.{◌≡◌};
     ghost use Rattle.std.specs.List.{list_all};
     ghost use Rattle.std.specs.FinMap as finite;
-    ghost use Rattle.tables_sql.specs.Entries.{permanent_of};
+    ghost use Rattle.tables_rows.specs.Entries.{permanent_of};
     ghost use Rattle.tables_roots.specs.Loaded.{is_permanent_root};
 
     ghost passes = { λ r o. is_permanent_root o.objects (permanent_of r) };

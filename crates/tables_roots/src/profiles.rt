@@ -21,7 +21,7 @@ impl RootTable for Profile {
     ghost use Rattle.std.specs.Prelude.{◌≡◌};
     ghost use Rattle.std.specs.List.{list_all};
     ghost use Rattle.std.specs.FinMap as finite;
-    ghost use Rattle.tables_sql.specs.Entries.{current_of};
+    ghost use Rattle.tables_rows.specs.Entries.{current_of};
     ghost use Rattle.tables_roots.specs.Loaded.{is_profile, bare, bare_profiles};
 
     ghost passes = { λ r o. is_profile (current_of r) };

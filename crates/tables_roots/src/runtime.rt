@@ -14,7 +14,7 @@ impl RootTable for RuntimeRoot {
     ghost use Rattle.std.specs.Prelude.{◌≡◌};
     ghost use Rattle.std.specs.List.{list_all};
     ghost use Rattle.std.specs.FinMap as finite;
-    ghost use Rattle.tables_sql.specs.Entries.{runtime_of};
+    ghost use Rattle.tables_rows.specs.Entries.{runtime_of};
     ghost use Rattle.tables_roots.specs.Loaded.{is_runtime_root};
 
     ghost passes = { λ r o. is_runtime_root o.objects (runtime_of r) };

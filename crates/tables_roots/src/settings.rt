@@ -1,7 +1,7 @@
 //! The settings.
 
 ghost use Rattle.std.specs.Prelude.{◌≡◌, List, ℕ, IsTrue, IfOk, MatchOption, map};
-ghost use Rattle.tables_sql.specs.Entries.{setting_of};
+ghost use Rattle.tables_rows.specs.Entries.{setting_of};
 ghost use Rattle.paths.specs.Names.{is_store_dir};
 ghost use Rattle.tables_world.specs.Rows.{settings};
 ghost use Rattle.tables_roots.specs.Settings.{two_settings};

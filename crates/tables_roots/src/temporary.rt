@@ -16,7 +16,7 @@ impl RootTable for TempRoot {
     ghost use Rattle.std.specs.FinMap as finite;
     ghost use Rattle.tables_schema.specs.Forms.{temp_root};
     ghost use Rattle.tables_sql.specs.Calls.{HasFurther};
-    ghost use Rattle.tables_sql.specs.Entries.{temp_root_of};
+    ghost use Rattle.tables_rows.specs.Entries.{temp_root_of};
     ghost use Rattle.tables_world.specs.Rows.{temporary_in};
     ghost use Rattle.tables_world.specs.Worlds.{world_in};
     ghost use Rattle.tables_roots.specs.Loaded.{is_temporary_root, are_temporary};

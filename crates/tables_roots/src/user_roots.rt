@@ -14,7 +14,7 @@ impl RootTable for UserRoot {
     ghost use Rattle.std.specs.Prelude.{◌≡◌};
     ghost use Rattle.std.specs.List.{list_all};
     ghost use Rattle.std.specs.FinMap as finite;
-    ghost use Rattle.tables_sql.specs.Entries.{user_root_of};
+    ghost use Rattle.tables_rows.specs.Entries.{user_root_of};
     ghost use Rattle.tables_roots.specs.Loaded.{is_user_root};
 
     ghost passes = { λ r o. is_user_root o.objects (user_root_of r) };

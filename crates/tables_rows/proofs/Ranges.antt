@@ -38,7 +38,7 @@ use Rattle.tables_sql.specs.Contents.{is_text, texts_cmp}
 use Rattle.tables_sql.specs.Queries.{IsSelect}
 use Rattle.tables_sql.proofs.Description.{Selection}
 use Rattle.tables_sql.proofs.Means.{lower_to_column, plain_state}
-use Rattle.tables_sql.proofs.ObjectLemmas.{table, reading, places, places_are}
+use Rattle.tables_rows.proofs.ObjectLemmas.{table, reading, places, places_are}
 use Rattle.tables_sql.proofs.Ordered.{Place, column as column_is, context, found, names_on, outputs_of, query_on, selects, whole}
 use Rattle.tables_sql.proofs.Statements.{Compiles}
 use Rattle.tables_sql.proofs.Truths.{both_tests, reported}

@@ -1,20 +1,60 @@
 //! The generations of profiles.
-#![tactic(auto, using(tables_sql::proofs::GenerationLemmas::all_read))]
+#![tactic(auto, using(crate::proofs::GenerationLemmas::all_read))]
 
-ghost use Rattle.std.specs.Prelude.{◌∷◌, [], ◌≡◌, ◌&&◌, map, pos};
+ghost use Rattle.std.specs.Prelude.{◌∷◌, [], ◌≡◌, ◌&&◌, map, pos, false};
+ghost use Rattle.std.specs.FinMap as finite;
 ghost use Rattle.sqlite_value.specs.declared.value.Value.TheVariants.{Int, Text};
 ghost use Rattle.tables_schema.specs.Forms.{generation};
-ghost use Rattle.std.specs.FinMap as finite;
-ghost use Rattle.tables_sql.specs.Contents.{Bytes};
-ghost use Rattle.tables_sql.specs.Entries.{generation_in};
+ghost use Rattle.tables_sql.specs.Contents.{Bytes, triple_cmp};
+ghost use Rattle.tables_rows.specs.Entries.{generation_in, ShowsGeneration, IsGenerationRow};
 ghost use Rattle.tables_rows.specs.Keys.{same, same_number, without_keys};
+ghost use Rattle.std.specs.Ordering.{is_lt};
 
 use crate::{Delete, Find, Found, Insert, reading};
 use sqlite::{Alter, Connection, Transaction, params};
 use std::alloc::Global;
+use std::cmp::Ordering;
+use tables_sql::entry::Entry;
 use tables_sql::failure::Failed;
-pub use tables_sql::generations::Generation;
 use tables_sql::statement;
+
+/// A generation: its profile's owner and name, its number, and the base name of its target.
+#[derive(Debug, Drop)]
+pub struct Generation {
+    pub owner: String,
+    pub name: String,
+    pub number: i64,
+    pub target: String,
+}
+
+impl Entry for Generation {
+    ghost is_shown = { ShowsGeneration };
+
+    ghost is_legible = { IsGenerationRow };
+
+    ghost is_below = { λ a b. is_lt (triple_cmp (generation_in a).0 (generation_in b).0) };
+
+    fn read(row: &sqlite::Row) -> Result<Generation, Failed> {
+        Ok(Generation {
+            owner: row.get(0)?,
+            name: row.get(1)?,
+            number: row.get(2)?,
+            target: row.get(3)?,
+        })
+    }
+
+    fn is_below(&self, other: &Generation) -> bool {
+        match self.owner.cmp(&other.owner) {
+            Ordering::Less => true,
+            Ordering::Equal => match self.name.cmp(&other.name) {
+                Ordering::Less => true,
+                Ordering::Equal => self.number < other.number,
+                Ordering::Greater => false,
+            },
+            Ordering::Greater => false,
+        }
+    }
+}
 
 /// All generations, in order.
 #[derive(Drop)]

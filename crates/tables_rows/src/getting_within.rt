@@ -1,18 +1,18 @@
 //! An object inside a transaction.
-#![tactic(auto, using(tables_sql::proofs::ObjectLemmas::of_read))]
+#![tactic(auto, using(crate::proofs::ObjectLemmas::of_read))]
 
 ghost use Rattle.std.specs.Prelude.{◌≡◌, map};
 ghost use Rattle.std.specs.Ordering.{eq_by_cmp};
 ghost use Rattle.std.specs.FinMap as finite;
 ghost use Rattle.tables_sql.specs.Contents.{texts_cmp};
-ghost use Rattle.tables_sql.specs.Entries.{stored_of, IsStored};
+ghost use Rattle.tables_rows.specs.Entries.{stored_of, IsStored};
 ghost use Rattle.tables_rows.specs.Frames.{IsInside, FindsInside};
 
+use crate::objects::Object;
 use crate::within;
 use sqlite::{Alter, Transaction, params};
 use std::alloc::Global;
 use tables_sql::failure::Failed;
-use tables_sql::objects::Object;
 
 /// The object of this base inside a transaction, as that has left it so far, if there is one.
 pub fn get_within<S: Alter>(

@@ -1,4 +1,4 @@
-//! The statements of each table.
+//! The rows and the statements of each table.
 #![tactic(auto)]
 
 pub mod generations;

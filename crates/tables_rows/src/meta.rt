@@ -1,20 +1,47 @@
 //! The settings of the database: each a word and its value.
-#![tactic(auto, using(tables_sql::proofs::SettingLemmas::all_read))]
+#![tactic(auto, using(crate::proofs::SettingLemmas::all_read))]
 
 ghost use Rattle.std.specs.Prelude.{◌∷◌, [], ◌≡◌, map};
+ghost use Rattle.std.specs.FinMap as finite;
 ghost use Rattle.sqlite_value.specs.declared.value.Value.TheVariants.{Text};
 ghost use Rattle.tables_schema.specs.Forms.{meta};
-ghost use Rattle.std.specs.FinMap as finite;
-ghost use Rattle.tables_sql.specs.Contents.{Bytes};
-ghost use Rattle.tables_sql.specs.Entries.{setting_of};
+ghost use Rattle.tables_sql.specs.Contents.{Bytes, texts_cmp};
+ghost use Rattle.tables_rows.specs.Entries.{setting_of, ShowsSetting, IsPairRow};
 ghost use Rattle.tables_rows.specs.Keys.{same, without_keys};
+ghost use Rattle.std.specs.Ordering.{is_lt};
 
 use crate::{Delete, Find, Found, Insert, reading};
 use sqlite::{Alter, Connection, Transaction, params};
 use std::alloc::Global;
+use tables_sql::entry::Entry;
 use tables_sql::failure::Failed;
-pub use tables_sql::meta::Setting;
 use tables_sql::statement;
+
+/// A setting: a word, and its value.
+#[derive(Debug, Drop)]
+pub struct Setting {
+    pub word: String,
+    pub value: String,
+}
+
+impl Entry for Setting {
+    ghost is_shown = { ShowsSetting };
+
+    ghost is_legible = { IsPairRow };
+
+    ghost is_below = { λ a b. is_lt (texts_cmp (setting_of a).0 (setting_of b).0) };
+
+    fn read(row: &sqlite::Row) -> Result<Setting, Failed> {
+        Ok(Setting {
+            word: row.get(0)?,
+            value: row.get(1)?,
+        })
+    }
+
+    fn is_below(&self, other: &Setting) -> bool {
+        self.word < other.word
+    }
+}
 
 /// All settings, in order.
 #[derive(Drop)]

@@ -1,23 +1,57 @@
 //! The objects, with their archives.
-#![tactic(auto, using(tables_sql::proofs::ListingLemmas::keys_read, tables_sql::proofs::ObjectLemmas::of_read, crate::proofs::Ranges::reads))]
+#![tactic(auto, using(crate::proofs::ListingLemmas::keys_read, crate::proofs::ObjectLemmas::of_read, crate::proofs::Ranges::reads))]
 
 ghost use Rattle.std.specs.Prelude.{◌∷◌, [], ◌≡◌, map, string_bytes};
+ghost use Rattle.std.specs.FinMap as finite;
 ghost use Rattle.sqlite_value.specs.declared.value.Value.TheVariants.{Text, Blob};
 ghost use Rattle.tables_schema.specs.Forms.{object};
-ghost use Rattle.std.specs.FinMap as finite;
-ghost use Rattle.tables_sql.specs.Contents.{Stored};
-ghost use Rattle.tables_sql.specs.Entries.{text_or_null, stored_of, IsStored, stored};
+ghost use Rattle.tables_sql.specs.Contents.{Stored, texts_cmp};
+ghost use Rattle.tables_rows.specs.Entries.{text_or_null, stored_of, IsStored, stored, ShowsObject, IsObjectRow};
 ghost use Rattle.tables_rows.specs.Frames.{MayRead, Finds};
 ghost use Rattle.tables_rows.specs.Keys.{same, with_keys, without_keys};
 ghost use Rattle.tables_rows.specs.Ranges.{is_between};
+ghost use Rattle.std.specs.Ordering.{is_lt};
 
 pub use crate::getting_within::get_within;
 use crate::{Delete, Find, Found, Insert, reading};
 use sqlite::{Alter, Connection, Transaction, params};
 use std::alloc::Global;
+use tables_sql::entry::Entry;
 use tables_sql::failure::Failed;
-pub use tables_sql::objects::Object;
 use tables_sql::statement;
+
+/// An object: the base name of its path, its archive, the archive's SHA-256, and its deriver and content address where
+/// it has one.
+#[derive(Debug, Drop)]
+pub struct Object {
+    pub base: String,
+    pub nar: Vec<u8>,
+    pub hash: Vec<u8>,
+    pub deriver: Option<String>,
+    pub ca: Option<String>,
+}
+
+impl Entry for Object {
+    ghost is_shown = { ShowsObject };
+
+    ghost is_legible = { IsObjectRow };
+
+    ghost is_below = { λ a b. is_lt (texts_cmp (stored_of a).0 (stored_of b).0) };
+
+    fn read(row: &sqlite::Row) -> Result<Object, Failed> {
+        Ok(Object {
+            base: row.get(0)?,
+            nar: row.get(1)?,
+            hash: row.get(2)?,
+            deriver: row.get(3)?,
+            ca: row.get(4)?,
+        })
+    }
+
+    fn is_below(&self, other: &Object) -> bool {
+        self.base < other.base
+    }
+}
 
 /// The bases of all objects, in order. It copies no archive.
 #[derive(Drop)]

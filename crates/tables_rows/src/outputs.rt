@@ -1,20 +1,54 @@
 //! The outputs of derivations.
-#![tactic(auto, using(tables_sql::proofs::OutputLemmas::all_read))]
+#![tactic(auto, using(crate::proofs::OutputLemmas::all_read))]
 
-ghost use Rattle.std.specs.Prelude.{◌∷◌, [], ◌≡◌, map};
+ghost use Rattle.std.specs.Prelude.{◌∷◌, [], ◌≡◌, map, false};
+ghost use Rattle.std.specs.FinMap as finite;
 ghost use Rattle.sqlite_value.specs.declared.value.Value.TheVariants.{Text};
 ghost use Rattle.tables_schema.specs.Forms.{outs};
-ghost use Rattle.std.specs.FinMap as finite;
-ghost use Rattle.tables_sql.specs.Contents.{Bytes};
-ghost use Rattle.tables_sql.specs.Entries.{output_of};
+ghost use Rattle.tables_sql.specs.Contents.{Bytes, pair_cmp};
+ghost use Rattle.tables_rows.specs.Entries.{output_of, ShowsOutput, IsTripleRow};
 ghost use Rattle.tables_rows.specs.Keys.{same, without_keys};
+ghost use Rattle.std.specs.Ordering.{is_lt};
 
 use crate::{Delete, Find, Found, Insert, reading};
 use sqlite::{Alter, Connection, Transaction, params};
 use std::alloc::Global;
+use std::cmp::Ordering;
+use tables_sql::entry::Entry;
 use tables_sql::failure::Failed;
-pub use tables_sql::outputs::Output;
 use tables_sql::statement;
+
+/// An output: the base name of a derivation's path, the output's name, and the base name of its path.
+#[derive(Debug, Drop)]
+pub struct Output {
+    pub base: String,
+    pub name: String,
+    pub target: String,
+}
+
+impl Entry for Output {
+    ghost is_shown = { ShowsOutput };
+
+    ghost is_legible = { IsTripleRow };
+
+    ghost is_below = { λ a b. is_lt (pair_cmp (output_of a).0 (output_of b).0) };
+
+    fn read(row: &sqlite::Row) -> Result<Output, Failed> {
+        Ok(Output {
+            base: row.get(0)?,
+            name: row.get(1)?,
+            target: row.get(2)?,
+        })
+    }
+
+    fn is_below(&self, other: &Output) -> bool {
+        match self.base.cmp(&other.base) {
+            Ordering::Less => true,
+            Ordering::Equal => self.name < other.name,
+            Ordering::Greater => false,
+        }
+    }
+}
 
 /// All outputs, in order.
 #[derive(Drop)]

@@ -1,20 +1,47 @@
 //! The permanent roots.
-#![tactic(auto, using(tables_sql::proofs::PermanentRootLemmas::all_read))]
+#![tactic(auto, using(crate::proofs::PermanentRootLemmas::all_read))]
 
 ghost use Rattle.std.specs.Prelude.{◌∷◌, [], ◌≡◌, map};
+ghost use Rattle.std.specs.FinMap as finite;
 ghost use Rattle.sqlite_value.specs.declared.value.Value.TheVariants.{Text};
 ghost use Rattle.tables_schema.specs.Forms.{permanent};
-ghost use Rattle.std.specs.FinMap as finite;
-ghost use Rattle.tables_sql.specs.Contents.{Bytes};
-ghost use Rattle.tables_sql.specs.Entries.{permanent_of};
+ghost use Rattle.tables_sql.specs.Contents.{Bytes, texts_cmp};
+ghost use Rattle.tables_rows.specs.Entries.{permanent_of, ShowsPermanentRoot, IsPairRow};
 ghost use Rattle.tables_rows.specs.Keys.{same, without_keys};
+ghost use Rattle.std.specs.Ordering.{is_lt};
 
 use crate::{Delete, Find, Found, Insert, reading};
 use sqlite::{Alter, Connection, Transaction, params};
 use std::alloc::Global;
+use tables_sql::entry::Entry;
 use tables_sql::failure::Failed;
-pub use tables_sql::permanent::PermanentRoot;
 use tables_sql::statement;
+
+/// A permanent root: its name, and the base name of its target.
+#[derive(Debug, Drop)]
+pub struct PermanentRoot {
+    pub name: String,
+    pub target: String,
+}
+
+impl Entry for PermanentRoot {
+    ghost is_shown = { ShowsPermanentRoot };
+
+    ghost is_legible = { IsPairRow };
+
+    ghost is_below = { λ a b. is_lt (texts_cmp (permanent_of a).0 (permanent_of b).0) };
+
+    fn read(row: &sqlite::Row) -> Result<PermanentRoot, Failed> {
+        Ok(PermanentRoot {
+            name: row.get(0)?,
+            target: row.get(1)?,
+        })
+    }
+
+    fn is_below(&self, other: &PermanentRoot) -> bool {
+        self.name < other.name
+    }
+}
 
 /// All permanent roots, in order.
 #[derive(Drop)]

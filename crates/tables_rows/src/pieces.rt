@@ -1,21 +1,85 @@
 //! The pieces of archives, where there is a table of them.
-#![tactic(auto, using(tables_sql::proofs::PieceKeyLemmas::keys_read, tables_sql::proofs::PieceLemmas::of_read))]
+#![tactic(auto, using(crate::proofs::PieceKeyLemmas::keys_read, crate::proofs::PieceLemmas::of_read))]
 
-ghost use Rattle.std.specs.Prelude.{◌∷◌, [], ◌≡◌, map, pos};
+ghost use Rattle.std.specs.Prelude.{◌∷◌, [], ◌≡◌, map, pos, false};
+ghost use Rattle.std.specs.FinMap as finite;
 ghost use Rattle.sqlite_value.specs.declared.value.Value.TheVariants.{Int, Text, Blob};
 ghost use Rattle.tables_schema.specs.Forms.{piece};
-ghost use Rattle.std.specs.FinMap as finite;
 ghost use Rattle.tables_sql.specs.Calls.{HasFurther};
-ghost use Rattle.tables_sql.specs.Contents.{Bytes};
-ghost use Rattle.tables_sql.specs.Entries.{piece_in, numbered_in};
+ghost use Rattle.tables_sql.specs.Contents.{Bytes, numbered_cmp};
+ghost use Rattle.tables_rows.specs.Entries.{piece_in, numbered_in, ShowsPiece, IsPieceRow, ShowsPieceKey, IsPieceKeyRow};
 ghost use Rattle.tables_rows.specs.Keys.{same, with_keys, without_keys};
+ghost use Rattle.std.specs.Ordering.{is_lt};
 
 use crate::{Delete, Find, Found, Insert, reading};
 use sqlite::{Alter, Connection, Transaction, params};
 use std::alloc::Global;
+use std::cmp::Ordering;
+use tables_sql::entry::Entry;
 use tables_sql::failure::Failed;
-pub use tables_sql::pieces::{Piece, PieceKey};
 use tables_sql::statement;
+
+/// A piece of an archive: the base name of the object's path, the piece's number, and its bytes.
+#[derive(Debug, Drop)]
+pub struct Piece {
+    pub base: String,
+    pub number: i64,
+    pub bytes: Vec<u8>,
+}
+
+impl Entry for Piece {
+    ghost is_shown = { ShowsPiece };
+
+    ghost is_legible = { IsPieceRow };
+
+    ghost is_below = { λ a b. is_lt (numbered_cmp (piece_in a).0 (piece_in b).0) };
+
+    fn read(row: &sqlite::Row) -> Result<Piece, Failed> {
+        Ok(Piece {
+            base: row.get(0)?,
+            number: row.get(1)?,
+            bytes: row.get(2)?,
+        })
+    }
+
+    fn is_below(&self, other: &Piece) -> bool {
+        match self.base.cmp(&other.base) {
+            Ordering::Less => true,
+            Ordering::Equal => self.number < other.number,
+            Ordering::Greater => false,
+        }
+    }
+}
+
+/// The key of a piece: the base name of the object's path, and the piece's number.
+#[derive(Debug, Drop)]
+pub struct PieceKey {
+    pub base: String,
+    pub number: i64,
+}
+
+impl Entry for PieceKey {
+    ghost is_shown = { ShowsPieceKey };
+
+    ghost is_legible = { IsPieceKeyRow };
+
+    ghost is_below = { λ a b. is_lt (numbered_cmp (numbered_in a) (numbered_in b)) };
+
+    fn read(row: &sqlite::Row) -> Result<PieceKey, Failed> {
+        Ok(PieceKey {
+            base: row.get(0)?,
+            number: row.get(1)?,
+        })
+    }
+
+    fn is_below(&self, other: &PieceKey) -> bool {
+        match self.base.cmp(&other.base) {
+            Ordering::Less => true,
+            Ordering::Equal => self.number < other.number,
+            Ordering::Greater => false,
+        }
+    }
+}
 
 /// The keys of all pieces, in the order of their bases and then of their numbers, without the pieces' bytes.
 #[derive(Drop)]

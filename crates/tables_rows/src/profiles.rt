@@ -1,19 +1,54 @@
 //! The profiles, each with the number of its current generation.
-#![tactic(auto, using(tables_sql::proofs::ProfileLemmas::all_read))]
+#![tactic(auto, using(crate::proofs::ProfileLemmas::all_read))]
 
-ghost use Rattle.std.specs.Prelude.{◌∷◌, [], ◌≡◌, ◌&&◌, map, pos, ℤ};
+ghost use Rattle.std.specs.Prelude.{◌∷◌, [], ◌≡◌, ◌&&◌, map, pos, ℤ, false};
+ghost use Rattle.std.specs.FinMap as finite;
 ghost use Rattle.sqlite_value.specs.declared.value.Value.TheVariants.{Int, Text};
 ghost use Rattle.tables_schema.specs.Forms.{profile};
-ghost use Rattle.std.specs.FinMap as finite;
-ghost use Rattle.tables_sql.specs.Entries.{current_of};
+ghost use Rattle.tables_rows.specs.Entries.{current_of, ShowsProfile, IsProfileRow};
 ghost use Rattle.tables_rows.specs.Keys.{same, without_keys};
+ghost use Rattle.std.specs.Ordering.{is_lt};
+ghost use Rattle.tables_sql.specs.Contents.{pair_cmp};
 
 use crate::{Delete, Find, Found, Insert, reading};
 use sqlite::{Alter, Connection, Transaction, params};
 use std::alloc::Global;
+use std::cmp::Ordering;
+use tables_sql::entry::Entry;
 use tables_sql::failure::Failed;
-pub use tables_sql::profiles::Profile;
 use tables_sql::statement;
+
+/// A profile: its owner, its name, and the number of its current generation.
+#[derive(Debug, Drop)]
+pub struct Profile {
+    pub owner: String,
+    pub name: String,
+    pub current: i64,
+}
+
+impl Entry for Profile {
+    ghost is_shown = { ShowsProfile };
+
+    ghost is_legible = { IsProfileRow };
+
+    ghost is_below = { λ a b. is_lt (pair_cmp (current_of a).0 (current_of b).0) };
+
+    fn read(row: &sqlite::Row) -> Result<Profile, Failed> {
+        Ok(Profile {
+            owner: row.get(0)?,
+            name: row.get(1)?,
+            current: row.get(2)?,
+        })
+    }
+
+    fn is_below(&self, other: &Profile) -> bool {
+        match self.owner.cmp(&other.owner) {
+            Ordering::Less => true,
+            Ordering::Equal => self.name < other.name,
+            Ordering::Greater => false,
+        }
+    }
+}
 
 /// All profiles, in order.
 #[derive(Drop)]

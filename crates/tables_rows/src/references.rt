@@ -1,19 +1,52 @@
 //! The references: which path an object refers to.
-#![tactic(auto, using(tables_sql::proofs::ReferenceLemmas::all_read))]
+#![tactic(auto, using(crate::proofs::ReferenceLemmas::all_read))]
 
-ghost use Rattle.std.specs.Prelude.{◌∷◌, [], ◌≡◌, map, ⊤};
+ghost use Rattle.std.specs.Prelude.{◌∷◌, [], ◌≡◌, map, ⊤, false};
+ghost use Rattle.std.specs.FinMap as finite;
 ghost use Rattle.sqlite_value.specs.declared.value.Value.TheVariants.{Text};
 ghost use Rattle.tables_schema.specs.Forms.{refs};
-ghost use Rattle.std.specs.FinMap as finite;
-ghost use Rattle.tables_sql.specs.Entries.{reference_of};
+ghost use Rattle.tables_rows.specs.Entries.{reference_of, ShowsReference, IsPairRow};
 ghost use Rattle.tables_rows.specs.Keys.{same, without_keys};
+ghost use Rattle.std.specs.Ordering.{is_lt};
+ghost use Rattle.tables_sql.specs.Contents.{pair_cmp};
 
 use crate::{Delete, Find, Found, Insert, reading};
 use sqlite::{Alter, Connection, Transaction, params};
 use std::alloc::Global;
+use std::cmp::Ordering;
+use tables_sql::entry::Entry;
 use tables_sql::failure::Failed;
-pub use tables_sql::references::Reference;
 use tables_sql::statement;
+
+/// A reference: the base name of an object's path, and that of a path that it refers to.
+#[derive(Debug, Drop)]
+pub struct Reference {
+    pub base: String,
+    pub target: String,
+}
+
+impl Entry for Reference {
+    ghost is_shown = { ShowsReference };
+
+    ghost is_legible = { IsPairRow };
+
+    ghost is_below = { λ a b. is_lt (pair_cmp (reference_of a).0 (reference_of b).0) };
+
+    fn read(row: &sqlite::Row) -> Result<Reference, Failed> {
+        Ok(Reference {
+            base: row.get(0)?,
+            target: row.get(1)?,
+        })
+    }
+
+    fn is_below(&self, other: &Reference) -> bool {
+        match self.base.cmp(&other.base) {
+            Ordering::Less => true,
+            Ordering::Equal => self.target < other.target,
+            Ordering::Greater => false,
+        }
+    }
+}
 
 /// All references, in order.
 #[derive(Drop)]

@@ -1,18 +1,51 @@
 //! The runtime roots.
-#![tactic(auto, using(tables_sql::proofs::RuntimeRootLemmas::all_read))]
+#![tactic(auto, using(crate::proofs::RuntimeRootLemmas::all_read))]
 
-ghost use Rattle.std.specs.Prelude.{◌∷◌, [], ◌≡◌, map, ⊤};
+ghost use Rattle.std.specs.Prelude.{◌∷◌, [], ◌≡◌, map, ⊤, false};
+ghost use Rattle.std.specs.FinMap as finite;
 ghost use Rattle.sqlite_value.specs.declared.value.Value.TheVariants.{Text};
 ghost use Rattle.tables_schema.specs.Forms.{runtime};
-ghost use Rattle.std.specs.FinMap as finite;
-ghost use Rattle.tables_sql.specs.Entries.{runtime_of};
+ghost use Rattle.tables_rows.specs.Entries.{runtime_of, ShowsRuntimeRoot, IsPairRow};
+ghost use Rattle.std.specs.Ordering.{is_lt};
+ghost use Rattle.tables_sql.specs.Contents.{pair_cmp};
 
 use crate::{Delete, Find, Found, Insert, reading};
 use sqlite::{Alter, Connection, Transaction, params};
 use std::alloc::Global;
+use std::cmp::Ordering;
+use tables_sql::entry::Entry;
 use tables_sql::failure::Failed;
-pub use tables_sql::runtime::RuntimeRoot;
 use tables_sql::statement;
+
+/// A runtime root: its label, and the base name of its target.
+#[derive(Debug, Drop)]
+pub struct RuntimeRoot {
+    pub label: String,
+    pub target: String,
+}
+
+impl Entry for RuntimeRoot {
+    ghost is_shown = { ShowsRuntimeRoot };
+
+    ghost is_legible = { IsPairRow };
+
+    ghost is_below = { λ a b. is_lt (pair_cmp (runtime_of a).0 (runtime_of b).0) };
+
+    fn read(row: &sqlite::Row) -> Result<RuntimeRoot, Failed> {
+        Ok(RuntimeRoot {
+            label: row.get(0)?,
+            target: row.get(1)?,
+        })
+    }
+
+    fn is_below(&self, other: &RuntimeRoot) -> bool {
+        match self.label.cmp(&other.label) {
+            Ordering::Less => true,
+            Ordering::Equal => self.target < other.target,
+            Ordering::Greater => false,
+        }
+    }
+}
 
 /// All runtime roots, in order.
 #[derive(Drop)]

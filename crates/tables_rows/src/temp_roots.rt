@@ -1,20 +1,59 @@
 //! The temporary roots of sessions, where there is a table of them.
-#![tactic(auto, using(tables_sql::proofs::TempRootLemmas::all_read))]
+#![tactic(auto, using(crate::proofs::TempRootLemmas::all_read))]
 
-ghost use Rattle.std.specs.Prelude.{◌∷◌, [], ◌≡◌, ◌&&◌, map, pos, ⊤};
+ghost use Rattle.std.specs.Prelude.{◌∷◌, [], ◌≡◌, ◌&&◌, map, pos, ⊤, false};
+ghost use Rattle.std.specs.FinMap as finite;
 ghost use Rattle.sqlite_value.specs.declared.value.Value.TheVariants.{Int, Text};
 ghost use Rattle.tables_schema.specs.Forms.{temp_root};
-ghost use Rattle.std.specs.FinMap as finite;
 ghost use Rattle.tables_sql.specs.Calls.{HasFurther};
-ghost use Rattle.tables_sql.specs.Entries.{temp_root_of};
+ghost use Rattle.tables_rows.specs.Entries.{temp_root_of, ShowsTempRoot, IsTempRootRow};
 ghost use Rattle.tables_rows.specs.Keys.{same, same_number, without_keys};
+ghost use Rattle.std.specs.Ordering.{is_lt};
+ghost use Rattle.tables_sql.specs.Contents.{session_path_cmp};
 
 use crate::{Delete, Find, Found, Insert, reading};
 use sqlite::{Alter, Connection, Transaction, params};
 use std::alloc::Global;
+use std::cmp::Ordering;
+use tables_sql::entry::Entry;
 use tables_sql::failure::Failed;
 use tables_sql::statement;
-pub use tables_sql::temp_roots::TempRoot;
+
+/// A temporary root: its owner, the number of its session, and the base name of its target.
+#[derive(Debug, Drop)]
+pub struct TempRoot {
+    pub owner: String,
+    pub session: i64,
+    pub target: String,
+}
+
+impl Entry for TempRoot {
+    ghost is_shown = { ShowsTempRoot };
+
+    ghost is_legible = { IsTempRootRow };
+
+    ghost is_below = { λ a b. is_lt (session_path_cmp (temp_root_of a).0 (temp_root_of b).0) };
+
+    fn read(row: &sqlite::Row) -> Result<TempRoot, Failed> {
+        Ok(TempRoot {
+            owner: row.get(0)?,
+            session: row.get(1)?,
+            target: row.get(2)?,
+        })
+    }
+
+    fn is_below(&self, other: &TempRoot) -> bool {
+        match self.owner.cmp(&other.owner) {
+            Ordering::Less => true,
+            Ordering::Equal => match self.session.cmp(&other.session) {
+                Ordering::Less => true,
+                Ordering::Equal => self.target < other.target,
+                Ordering::Greater => false,
+            },
+            Ordering::Greater => false,
+        }
+    }
+}
 
 /// All temporary roots, in order.
 #[derive(Drop)]

@@ -1,20 +1,54 @@
 //! The roots of users.
-#![tactic(auto, using(tables_sql::proofs::UserRootLemmas::all_read))]
+#![tactic(auto, using(crate::proofs::UserRootLemmas::all_read))]
 
-ghost use Rattle.std.specs.Prelude.{◌∷◌, [], ◌≡◌, ◌&&◌, map};
+ghost use Rattle.std.specs.Prelude.{◌∷◌, [], ◌≡◌, ◌&&◌, map, false};
+ghost use Rattle.std.specs.FinMap as finite;
 ghost use Rattle.sqlite_value.specs.declared.value.Value.TheVariants.{Text};
 ghost use Rattle.tables_schema.specs.Forms.{user_root};
-ghost use Rattle.std.specs.FinMap as finite;
-ghost use Rattle.tables_sql.specs.Contents.{Bytes};
-ghost use Rattle.tables_sql.specs.Entries.{user_root_of};
+ghost use Rattle.tables_sql.specs.Contents.{Bytes, pair_cmp};
+ghost use Rattle.tables_rows.specs.Entries.{user_root_of, ShowsUserRoot, IsTripleRow};
 ghost use Rattle.tables_rows.specs.Keys.{same, without_keys};
+ghost use Rattle.std.specs.Ordering.{is_lt};
 
 use crate::{Delete, Find, Found, Insert, reading};
 use sqlite::{Alter, Connection, Transaction, params};
 use std::alloc::Global;
+use std::cmp::Ordering;
+use tables_sql::entry::Entry;
 use tables_sql::failure::Failed;
 use tables_sql::statement;
-pub use tables_sql::user_roots::UserRoot;
+
+/// A root of a user: its owner, its name, and the base name of its target.
+#[derive(Debug, Drop)]
+pub struct UserRoot {
+    pub owner: String,
+    pub name: String,
+    pub target: String,
+}
+
+impl Entry for UserRoot {
+    ghost is_shown = { ShowsUserRoot };
+
+    ghost is_legible = { IsTripleRow };
+
+    ghost is_below = { λ a b. is_lt (pair_cmp (user_root_of a).0 (user_root_of b).0) };
+
+    fn read(row: &sqlite::Row) -> Result<UserRoot, Failed> {
+        Ok(UserRoot {
+            owner: row.get(0)?,
+            name: row.get(1)?,
+            target: row.get(2)?,
+        })
+    }
+
+    fn is_below(&self, other: &UserRoot) -> bool {
+        match self.owner.cmp(&other.owner) {
+            Ordering::Less => true,
+            Ordering::Equal => self.name < other.name,
+            Ordering::Greater => false,
+        }
+    }
+}
 
 /// All user roots, in order.
 #[derive(Drop)]

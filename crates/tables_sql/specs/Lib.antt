@@ -2,7 +2,6 @@ pub use Rattle.tables_schema.specs.Forms
 pub use Rattle.tables_schema.specs.Intact
 pub mod Calls
 pub mod Contents
-pub mod Entries
 pub mod Failures
 pub mod Frames
 pub mod Frozen

@@ -1,6 +1,6 @@
 use Rattle.std.proofs.Common.{◌≡◌, ◌++◌}
 use Rattle.std.specs.List.{flat_map}
-use Rattle.tables_sql.specs.declared.pieces.Piece.{Piece}
+use Rattle.tables_rows.specs.declared.pieces.Piece.{Piece}
 use Rattle.tables.proofs.reading.joined.Given as goal
 
 -- what is copied, and what is left

@@ -9,7 +9,7 @@ use Rattle.paths.specs.Root.{bytes_cmp}
 use Rattle.tables_schema.specs.Forms.{piece}
 use Rattle.tables_sql.specs.Calls.{HasFurther}
 use Rattle.tables_sql.specs.Contents.{contents_of}
-use Rattle.tables_sql.specs.Entries.{IsStored, stored_of}
+use Rattle.tables_rows.specs.Entries.{IsStored, stored_of}
 use Rattle.tables.proofs.ReadArchives.{none_read, all_read, row_read}
 use Rattle.tables_rows.proofs.Several.{finds_failed, left_then, memory_failed, one_failed, reads_then}
 use Rattle.tables.proofs.reading.read_archive.Goals as goal

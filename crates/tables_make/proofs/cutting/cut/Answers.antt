@@ -11,7 +11,7 @@ use Rattle.tables_sql.proofs.Scans.{on_ok}
 use Rattle.tables_sql.proofs.Steps.{clean_before, under_after}
 use Rattle.tables_sql.proofs.TestFailures.{passed_on}
 use Rattle.tables_sql.proofs.Transactions.{done_both}
-use Rattle.tables_sql.specs.Entries.{stored_of}
+use Rattle.tables_rows.specs.Entries.{stored_of}
 use Rattle.tables_make.specs.Cutting.{cut_object}
 use Rattle.tables_make.specs.Migrating.{CutRowsAt, HasUncut, LongRows}
 use Rattle.tables_make.specs.Reasons.{IsReason}

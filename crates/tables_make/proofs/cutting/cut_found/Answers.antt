@@ -6,7 +6,7 @@ use Rattle.tables_sql.specs.Rowids.{NumbersOn}
 use Rattle.tables_sql.proofs.Scans.{on_ok}
 use Rattle.tables_sql.proofs.Steps.{changes_none, clean_before}
 use Rattle.tables_sql.proofs.Transactions.{survives_none}
-use Rattle.tables_sql.specs.Entries.{stored_of}
+use Rattle.tables_rows.specs.Entries.{stored_of}
 use Rattle.model.specs.World.{Path}
 use Rattle.tables_world.specs.Pieces.{piece_size}
 use Rattle.tables_make.specs.Migrating.{CutRows, LongRows}

@@ -11,7 +11,7 @@ use Rattle.tables_sql.proofs.Steps.{clean_before, under_after}
 use Rattle.tables_sql.proofs.TestFailures.{passed_on, survives_both}
 use Rattle.tables_sql.proofs.Transactions.{done_both, steps_both}
 use Rattle.tables_sql.proofs.Under.{piece_after}
-use Rattle.tables_sql.specs.Entries.{stored_of}
+use Rattle.tables_rows.specs.Entries.{stored_of}
 use Rattle.model.specs.World.{Path}
 use Rattle.tables_world.specs.Pieces.{piece_size, row_part, pieces_by, further_pieces}
 use Rattle.tables_make.specs.Cutting.{cut_row}

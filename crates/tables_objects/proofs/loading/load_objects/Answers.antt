@@ -3,7 +3,7 @@ use Rattle.std.specs.List.{list_all, AllByRecursion}
 use Rattle.std.specs.FinMap as finite
 use Rattle.std.proofs.lemmas.Bool.{false≢true}
 use Rattle.sqlite.specs.Held.{state}
-use Rattle.tables_sql.specs.Entries.{numbered_in, output_of, reference_of}
+use Rattle.tables_rows.specs.Entries.{numbered_in, output_of, reference_of}
 use Rattle.tables_sql.specs.Contents.{Contents, contents_of}
 use Rattle.tables_rows.proofs.Several.{left_then, memory_failed, several_failed, reads_done, reads_then}
 use Rattle.tables_world.specs.Worlds.{world_in}

@@ -3,8 +3,8 @@ use Rattle.std.specs.List.{filter}
 use Rattle.std.specs.Ordering.{eq_by_cmp}
 use Rattle.sqlite.specs.Held.{state}
 use Rattle.paths.specs.Root.{bytes_cmp}
-use Rattle.tables_sql.specs.declared.references.Reference.{Reference}
-use Rattle.tables_sql.specs.declared.outputs.Output.{Output}
+use Rattle.tables_rows.specs.declared.references.Reference.{Reference}
+use Rattle.tables_rows.specs.declared.outputs.Output.{Output}
 use Rattle.tables_sql.specs.Contents.{contents_of}
 use Rattle.tables_rows.proofs.Several.{memory_failed, several_failed, finds_alone, reads_done}
 use Rattle.tables_objects.specs.Rising.{Rises}

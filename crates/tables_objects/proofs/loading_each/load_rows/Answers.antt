@@ -1,6 +1,6 @@
 use Rattle.std.proofs.Common.{ap, sym, refl, ◌∙◌}
 use Rattle.std.proofs.lemmas.Bool.{false≢true}
-use Rattle.tables_sql.specs.Entries.{stored_of}
+use Rattle.tables_rows.specs.Entries.{stored_of}
 use Rattle.tables_objects.specs.Cut.{parts_of, whole_of}
 use Rattle.tables_objects.specs.Tested.{named_of, targets_of}
 use Rattle.tables_objects.specs.Loaded.{filled}

@@ -1,7 +1,7 @@
 use Rattle.std.proofs.Common.{◌≡◌, true, false, ◌&&◌, ◌+◌, map, drop, string_bytes, sym, ap, subst, ◌∙◌}
 use Rattle.std.specs.List.{list_all}
 use Rattle.std.proofs.lemmas.Option.{same_Some}
-use Rattle.tables_sql.specs.Entries.{reference_of}
+use Rattle.tables_rows.specs.Entries.{reference_of}
 use Rattle.tables_objects.specs.Known.{is_known, is_known_reference}
 use Rattle.tables_objects.proofs.Each.{left_at}
 use Rattle.tables_objects.proofs.Known.{and_no}

@@ -1,7 +1,7 @@
 use Rattle.std.specs.Prelude.{◌≡◌, true, drop, map}
 use Rattle.std.specs.List.{list_all}
 use Rattle.std.specs.Option.{ForSome, option_copied}
-use Rattle.tables_sql.specs.Entries.{reference_of}
+use Rattle.tables_rows.specs.Entries.{reference_of}
 use Rattle.tables_objects.specs.Known.{is_known, is_known_reference}
 use Rattle.tables_objects.proofs.members.are_references.Given as goal
 

@@ -1,7 +1,7 @@
 use Rattle.std.proofs.Common.{map, sym, ap, ◌∙◌}
 use Rattle.sqlite.specs.Held.{state}
 use Rattle.tables_sql.specs.Contents.{contents_of}
-use Rattle.tables_sql.specs.Entries.{numbered_in, piece_in}
+use Rattle.tables_rows.specs.Entries.{numbered_in, piece_in}
 use Rattle.tables_rows.proofs.Several.{finds_one}
 use Rattle.tables_objects.proofs.Columns.{no_parts}
 use Rattle.tables_objects.proofs.Each.{no_change}

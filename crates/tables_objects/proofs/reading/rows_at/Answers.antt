@@ -2,7 +2,7 @@ use Rattle.std.proofs.Common.{[], subst}
 use Rattle.sqlite.specs.State.{HasCleanDisk}
 use Rattle.sqlite.specs.Held.{state}
 use Rattle.tables_sql.specs.Contents.{contents_of}
-use Rattle.tables_sql.specs.Entries.{IsStored}
+use Rattle.tables_rows.specs.Entries.{IsStored}
 use Rattle.tables_rows.proofs.Several.{left_then, several_failed, finds_failed, reads_then}
 use Rattle.tables_objects.proofs.ReadRows.{clean_before, from_after, rows_read}
 use Rattle.tables_objects.proofs.reading.rows_at.Goals as goal

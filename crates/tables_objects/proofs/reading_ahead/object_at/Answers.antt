@@ -3,7 +3,7 @@ use Rattle.sqlite.specs.Effect.{Database}
 use Rattle.sqlite.specs.Held.{state}
 use Rattle.sqlite.proofs.Callers.{unchanged_then}
 use Rattle.tables_sql.specs.Contents.{contents_of}
-use Rattle.tables_sql.specs.Entries.{IsStored}
+use Rattle.tables_rows.specs.Entries.{IsStored}
 use Rattle.tables_rows.proofs.Several.{left_then, finds_failed, one_failed, reads_then, several_failed}
 use Rattle.tables_objects.proofs.Ahead.{found_so}
 use Rattle.tables_objects.proofs.ReadRows.{clean_before}

@@ -2,7 +2,7 @@ use Rattle.std.proofs.Common.{◌≡◌, ◌≤◌, ◌<◌, List, [], ◌∷◌
 use Rattle.std.specs.Cmp.Lexicographic.{same_text}
 use Rattle.std.proofs.lemmas.Bool.{false≢true}
 use Rattle.paths.specs.Names.{is_store_dir}
-use Rattle.tables_sql.specs.Entries.{setting_of}
+use Rattle.tables_rows.specs.Entries.{setting_of}
 use Rattle.tables_schema.specs.Schemas.{schema_text}
 use Rattle.tables_roots.proofs.settings.directory_of.Goals as goal
 

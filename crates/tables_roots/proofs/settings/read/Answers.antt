@@ -1,7 +1,7 @@
 use Rattle.std.proofs.Common.{map, ap, ◌∙◌}
 use Rattle.sqlite.specs.Held.{state}
 use Rattle.tables_sql.specs.Contents.{contents_of}
-use Rattle.tables_sql.specs.Entries.{setting_of}
+use Rattle.tables_rows.specs.Entries.{setting_of}
 use Rattle.tables_roots.proofs.SettingRows.{settings_reported}
 use Rattle.tables_rows.proofs.Several.{finds_failed, one_failed, memory_failed}
 use Rattle.tables_roots.proofs.settings.read.Goals as goal

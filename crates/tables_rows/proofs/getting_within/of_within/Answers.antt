@@ -1,4 +1,4 @@
-use Rattle.tables_sql.proofs.ObjectLemmas.{of}
+use Rattle.tables_rows.proofs.ObjectLemmas.{of}
 use Rattle.tables_rows.proofs.Unsettled.{selects_within, fails_within}
 use Rattle.tables_rows.proofs.getting_within.of_within.Goals as goal
 

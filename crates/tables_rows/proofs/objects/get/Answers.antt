@@ -1,4 +1,4 @@
-use Rattle.tables_sql.proofs.ObjectLemmas.{last_is}
+use Rattle.tables_rows.proofs.ObjectLemmas.{last_is}
 use Rattle.tables_rows.proofs.objects.get.Goals as goal
 
 pub returns : goal.returns

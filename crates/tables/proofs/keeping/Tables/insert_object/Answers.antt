@@ -4,7 +4,7 @@ use Rattle.std.proofs.lemmas.Bool.{false≢true}
 use Rattle.std.proofs.lemmas.Option.{same_Some}
 use Rattle.sqlite.specs.Held.{state}
 use Rattle.tables_sql.specs.Contents.{contents_of}
-use Rattle.tables_sql.specs.Entries.{stored}
+use Rattle.tables_rows.specs.Entries.{stored}
 use Rattle.tables_world.specs.Pieces.{row_part, further_pieces}
 use Rattle.tables.specs.TablesValue.{TablesValue}
 use Rattle.tables.specs.Rewritten.{HasNoObject, put_object}

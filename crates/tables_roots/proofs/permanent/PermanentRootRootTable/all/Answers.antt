@@ -1,7 +1,7 @@
 use Rattle.std.proofs.Common.{refl}
 use Rattle.std.specs.FinMap as finite
 use Rattle.tables_sql.specs.Contents.{contents_of}
-use Rattle.tables_sql.specs.Entries.{permanent_of}
+use Rattle.tables_rows.specs.Entries.{permanent_of}
 use Rattle.sqlite.specs.Held.{state}
 use Rattle.tables_outline.specs.Outline.{OutlineValue}
 use Rattle.tables_outline.proofs.Orders.{bytes_total, bytes_antisymmetric}

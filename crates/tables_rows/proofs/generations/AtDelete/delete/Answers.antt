@@ -1,5 +1,5 @@
 use Rattle.std.proofs.Common.{pos}
-use Rattle.tables_sql.proofs.GenerationLemmas.{removal}
+use Rattle.tables_rows.proofs.GenerationLemmas.{removal}
 use Rattle.tables_rows.proofs.Clauses.{takes, takes_number, fails_to_take}
 use Rattle.tables_rows.proofs.generations.AtDelete.delete.Goals as goal
 

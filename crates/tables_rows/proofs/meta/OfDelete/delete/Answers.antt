@@ -1,4 +1,4 @@
-use Rattle.tables_sql.proofs.SettingLemmas.{removal}
+use Rattle.tables_rows.proofs.SettingLemmas.{removal}
 use Rattle.tables_rows.proofs.Clauses.{takes, takes_number, fails_to_take}
 use Rattle.tables_rows.proofs.meta.OfDelete.delete.Goals as goal
 

@@ -1,4 +1,4 @@
-use Rattle.tables_sql.proofs.ListingLemmas.{keys}
+use Rattle.tables_rows.proofs.ListingLemmas.{keys}
 use Rattle.tables_rows.proofs.Clauses.{reads_keys, fails_to_read}
 use Rattle.tables_rows.proofs.objects.KeysFind.find.Goals as goal
 

@@ -1,4 +1,4 @@
-use Rattle.tables_sql.proofs.ObjectLemmas.{removal}
+use Rattle.tables_rows.proofs.ObjectLemmas.{removal}
 use Rattle.tables_rows.proofs.Clauses.{takes, takes_number, fails_to_take}
 use Rattle.tables_rows.proofs.objects.OfDelete.delete.Goals as goal
 

@@ -1,4 +1,4 @@
-use Rattle.tables_sql.proofs.ObjectLemmas.{of}
+use Rattle.tables_rows.proofs.ObjectLemmas.{of}
 use Rattle.tables_rows.proofs.Clauses.{reads, fails_to_read}
 use Rattle.tables_rows.proofs.objects.OfFind.find.Goals as goal
 

@@ -1,4 +1,4 @@
-use Rattle.tables_sql.proofs.PermanentRootLemmas.{all}
+use Rattle.tables_rows.proofs.PermanentRootLemmas.{all}
 use Rattle.tables_rows.proofs.Clauses.{reads_all, fails_to_read}
 use Rattle.tables_rows.proofs.permanent.AllFind.find.Goals as goal
 

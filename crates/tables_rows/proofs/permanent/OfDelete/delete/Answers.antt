@@ -1,4 +1,4 @@
-use Rattle.tables_sql.proofs.PermanentRootLemmas.{removal}
+use Rattle.tables_rows.proofs.PermanentRootLemmas.{removal}
 use Rattle.tables_rows.proofs.Clauses.{takes, takes_number, fails_to_take}
 use Rattle.tables_rows.proofs.permanent.OfDelete.delete.Goals as goal
 

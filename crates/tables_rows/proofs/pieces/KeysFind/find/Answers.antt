@@ -1,5 +1,5 @@
 use Rattle.tables_schema.specs.Forms.{piece}
-use Rattle.tables_sql.proofs.PieceKeyLemmas.{keys}
+use Rattle.tables_rows.proofs.PieceKeyLemmas.{keys}
 use Rattle.tables_rows.proofs.Clauses.{reads_keys, fails_to_read}
 use Rattle.tables_rows.proofs.pieces.KeysFind.find.Goals as goal
 

@@ -1,5 +1,5 @@
 use Rattle.tables_schema.specs.Forms.{piece}
-use Rattle.tables_sql.proofs.PieceLemmas.{of}
+use Rattle.tables_rows.proofs.PieceLemmas.{of}
 use Rattle.tables_rows.proofs.Clauses.{reads, fails_to_read}
 use Rattle.tables_rows.proofs.pieces.OfFind.find.Goals as goal
 

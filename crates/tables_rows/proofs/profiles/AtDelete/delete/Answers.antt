@@ -1,4 +1,4 @@
-use Rattle.tables_sql.proofs.ProfileLemmas.{removal}
+use Rattle.tables_rows.proofs.ProfileLemmas.{removal}
 use Rattle.tables_rows.proofs.Clauses.{takes, takes_number, fails_to_take}
 use Rattle.tables_rows.proofs.profiles.AtDelete.delete.Goals as goal
 

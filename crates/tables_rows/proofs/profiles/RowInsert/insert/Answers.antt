@@ -1,6 +1,6 @@
 use Rattle.std.proofs.Common.{subst, pos}
 use Rattle.std.specs.Prelude.{IsUtf8}
-use Rattle.tables_sql.proofs.ProfileLemmas.{addition}
+use Rattle.tables_rows.proofs.ProfileLemmas.{addition}
 use Rattle.tables_rows.proofs.Clauses.{puts, puts_new, puts_number, fails_to_put}
 use Rattle.tables_rows.proofs.profiles.RowInsert.insert.Goals as goal
 

@@ -2,7 +2,7 @@ use Rattle.tables_sql.proofs.Orders.{pair_total, pair_antisymmetric}
 use Rattle.tables_sql.proofs.Entries.{none_kept}
 use Rattle.tables_sql.proofs.Scans.{on_ok}
 use Rattle.tables_sql.proofs.Steps.{changes_by}
-use Rattle.tables_sql.proofs.RuntimeRootLemmas.{removal_all}
+use Rattle.tables_rows.proofs.RuntimeRootLemmas.{removal_all}
 use Rattle.tables_rows.proofs.Clauses.{takes, takes_number, fails_to_take}
 use Rattle.tables_rows.proofs.runtime.AllDelete.delete.Goals as goal
 

@@ -1,6 +1,6 @@
 use Rattle.std.proofs.Common.{subst}
 use Rattle.std.specs.Prelude.{IsUtf8}
-use Rattle.tables_sql.proofs.RuntimeRootLemmas.{addition}
+use Rattle.tables_rows.proofs.RuntimeRootLemmas.{addition}
 use Rattle.tables_rows.proofs.Clauses.{puts, puts_new, puts_number, fails_to_put}
 use Rattle.tables_rows.proofs.runtime.RowInsert.insert.Goals as goal
 

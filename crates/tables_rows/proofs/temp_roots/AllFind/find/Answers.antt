@@ -1,5 +1,5 @@
 use Rattle.tables_schema.specs.Forms.{temp_root}
-use Rattle.tables_sql.proofs.TempRootLemmas.{all}
+use Rattle.tables_rows.proofs.TempRootLemmas.{all}
 use Rattle.tables_rows.proofs.Clauses.{reads_all, fails_to_read}
 use Rattle.tables_rows.proofs.temp_roots.AllFind.find.Goals as goal
 

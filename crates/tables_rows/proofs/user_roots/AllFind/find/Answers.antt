@@ -1,4 +1,4 @@
-use Rattle.tables_sql.proofs.UserRootLemmas.{all}
+use Rattle.tables_rows.proofs.UserRootLemmas.{all}
 use Rattle.tables_rows.proofs.Clauses.{reads_all, fails_to_read}
 use Rattle.tables_rows.proofs.user_roots.AllFind.find.Goals as goal
 

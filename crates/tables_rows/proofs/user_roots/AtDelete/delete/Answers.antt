@@ -1,4 +1,4 @@
-use Rattle.tables_sql.proofs.UserRootLemmas.{removal}
+use Rattle.tables_rows.proofs.UserRootLemmas.{removal}
 use Rattle.tables_rows.proofs.Clauses.{takes, takes_number, fails_to_take}
 use Rattle.tables_rows.proofs.user_roots.AtDelete.delete.Goals as goal
 

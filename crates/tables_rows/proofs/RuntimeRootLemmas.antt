@@ -7,7 +7,7 @@ use Rattle.sqlite_tied.specs.Compute.{everything}
 use Rattle.tables_schema.specs.Forms.{runtime}
 use Rattle.tables_sql.specs.Contents.{is_text, is_pair, member_of, Pair}
 use Rattle.tables_sql.specs.Queries.{IsSelect}
-use Rattle.tables_sql.specs.Entries.{runtime_of, ShowsRuntimeRoot, IsPairRow}
+use Rattle.tables_rows.specs.Entries.{runtime_of, ShowsRuntimeRoot, IsPairRow}
 use Rattle.tables_sql.proofs.Orders.{pair_total, pair_antisymmetric}
 use Rattle.tables_sql.proofs.Truths.{cast_null, and_so}
 use Rattle.tables_sql.proofs.Means.{insert_means}
@@ -15,7 +15,7 @@ use Rattle.tables_sql.proofs.Ordered.{Place, IsColumn}
 use Rattle.tables_sql.proofs.ContentsLemmas.{runtime_set}
 use Rattle.tables_sql.proofs.Parts.{IsAsked, added, selected, removed}
 use Rattle.tables_sql.proofs.KeyOrders.{by_pair}
-use Rattle.tables_sql.proofs.Legible.{pair_row}
+use Rattle.tables_rows.proofs.Legible.{pair_row}
 use Rattle.tables_sql.proofs.FreeKeys.{agreed_two}
 use Rattle.tables_sql.proofs.RowKinds.{runtime_kept}
 use Rattle.tables_sql.proofs.OneOfNine.{one_of_nine}

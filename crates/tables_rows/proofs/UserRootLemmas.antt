@@ -8,7 +8,7 @@ use Rattle.sqlite_tied.specs.Compute.{everything}
 use Rattle.tables_schema.specs.Forms.{user_root}
 use Rattle.tables_sql.specs.Contents.{texts_cmp, is_text, is_triple, target_of, Bytes, Pair}
 use Rattle.tables_sql.specs.Queries.{IsSelect}
-use Rattle.tables_sql.specs.Entries.{user_root_of, ShowsUserRoot, IsTripleRow}
+use Rattle.tables_rows.specs.Entries.{user_root_of, ShowsUserRoot, IsTripleRow}
 use Rattle.tables_sql.proofs.Orders.{pair_total, pair_antisymmetric}
 use Rattle.tables_sql.proofs.Truths.{cast_null, and_so}
 use Rattle.tables_sql.proofs.Means.{insert_means}
@@ -16,7 +16,7 @@ use Rattle.tables_sql.proofs.Ordered.{Place, IsColumn}
 use Rattle.tables_sql.proofs.ContentsLemmas.{user_root_set}
 use Rattle.tables_sql.proofs.Parts.{IsAsked, added, selected, removed, said_two}
 use Rattle.tables_sql.proofs.KeyOrders.{by_pair}
-use Rattle.tables_sql.proofs.Legible.{triple_row}
+use Rattle.tables_rows.proofs.Legible.{triple_row}
 use Rattle.tables_sql.proofs.FreeKeys.{agreed_two}
 use Rattle.tables_sql.proofs.RowKinds.{user_root_kept}
 use Rattle.tables_sql.proofs.OneOfNine.{one_of_nine}

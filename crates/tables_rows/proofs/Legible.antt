@@ -7,7 +7,7 @@ use Rattle.sqlite_trees.specs.View.{is_int}
 use Rattle.sqlite.specs.Values.{IsInt}
 use Rattle.tables_sql.specs.Contents.{is_text, is_blob, is_text_or_null, is_pair, is_triple, is_profile, is_generation, is_object, is_piece, is_session_path}
 use Rattle.tables_sql.specs.Texts.{IsReadable}
-use Rattle.tables_sql.specs.Entries.{IsLegibleIfAny, IsBlob, IsPairRow, IsTripleRow, IsProfileRow, IsGenerationRow, IsObjectRow, IsPieceRow, IsPieceKeyRow, IsTempRootRow}
+use Rattle.tables_rows.specs.Entries.{IsLegibleIfAny, IsBlob, IsPairRow, IsTripleRow, IsProfileRow, IsGenerationRow, IsObjectRow, IsPieceRow, IsPieceKeyRow, IsTempRootRow}
 use Rattle.tables_sql.specs.Reading.{IsLegible, IsTextRow}
 use Rattle.tables_sql.proofs.Truths.{and_so}
 use Rattle.tables_sql.proofs.Typed.{base_is}

@@ -12,14 +12,14 @@ use Rattle.sqlite_value.specs.declared.value.Value.{Value}
 use Rattle.sqlite_value.specs.declared.value.Value.TheVariants.{Null, Int, Real, Text, Blob}
 use Rattle.sqlite_value.specs.Order.{bytes}
 use Rattle.sqlite_tied.specs.Compute.{everything}
-use Rattle.tables_sql.specs.declared.objects.Object.{Object}
+use Rattle.tables_rows.specs.declared.objects.Object.{Object}
 use Rattle.tables_schema.specs.Forms.{object}
 use Rattle.tables_sql.specs.Contents.{Bytes, Stored, texts_cmp, is_text, is_blob, is_object, object_of, text_if_any, is_text_or_null}
 use Rattle.tables_sql.specs.Queries.{IsSelect}
-use Rattle.tables_sql.specs.Entries.{stored_of, ShowsObject, IsStored, stored, IsObjectRow}
+use Rattle.tables_rows.specs.Entries.{stored_of, ShowsObject, IsStored, stored, IsObjectRow}
 use Rattle.tables_sql.proofs.Orders.{texts_total, texts_antisymmetric}
 use Rattle.tables_sql.proofs.Truths.{cast_null}
-use Rattle.tables_sql.proofs.Optional.{IsKept, given, kept_given, bound_given, read_given, option_fits}
+use Rattle.tables_rows.proofs.Optional.{IsKept, given, kept_given, bound_given, read_given, option_fits}
 use Rattle.tables_sql.proofs.Means.{insert_means}
 use Rattle.tables_sql.proofs.Ordered.{Place, IsColumn}
 use Rattle.tables_sql.proofs.ContentsLemmas.{object_set}
@@ -28,7 +28,7 @@ use Rattle.tables_sql.proofs.One.{one_is, none_is}
 use Rattle.sqlite.specs.Values.{bound_value}
 use Rattle.tables_sql.proofs.Parts.{added, selected, removed, said_one}
 use Rattle.tables_sql.proofs.KeyOrders.{by_text}
-use Rattle.tables_sql.proofs.Legible.{object_row}
+use Rattle.tables_rows.proofs.Legible.{object_row}
 use Rattle.tables_sql.proofs.FreeKeys.{agreed_one}
 use Rattle.tables_sql.proofs.RowKinds.{object_kept}
 use Rattle.tables_sql.proofs.OneOfNine.{one_of_nine}

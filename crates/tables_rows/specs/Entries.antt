@@ -7,18 +7,18 @@ use Rattle.sqlite_value.specs.Order.{Row, column}
 use Rattle.std.specs.FinMap as finite
 use Rattle.sqlite.specs.Values.{IsInt, or_null}
 use Rattle.tables_sql.specs.Contents.{Bytes, Pair, Triple, Numbered, SessionPath, Stored, texts_cmp}
-use Rattle.tables_sql.specs.declared.meta.Setting.{Setting}
-use Rattle.tables_sql.specs.declared.objects.Object.{Object}
-use Rattle.tables_sql.specs.declared.references.Reference.{Reference}
-use Rattle.tables_sql.specs.declared.outputs.Output.{Output}
-use Rattle.tables_sql.specs.declared.permanent.PermanentRoot.{PermanentRoot}
-use Rattle.tables_sql.specs.declared.user_roots.UserRoot.{UserRoot}
-use Rattle.tables_sql.specs.declared.profiles.Profile.{Profile}
-use Rattle.tables_sql.specs.declared.generations.Generation.{Generation}
-use Rattle.tables_sql.specs.declared.runtime.RuntimeRoot.{RuntimeRoot}
-use Rattle.tables_sql.specs.declared.pieces.Piece.{Piece}
-use Rattle.tables_sql.specs.declared.pieces.PieceKey.{PieceKey}
-use Rattle.tables_sql.specs.declared.temp_roots.TempRoot.{TempRoot}
+use Rattle.tables_rows.specs.declared.meta.Setting.{Setting}
+use Rattle.tables_rows.specs.declared.objects.Object.{Object}
+use Rattle.tables_rows.specs.declared.references.Reference.{Reference}
+use Rattle.tables_rows.specs.declared.outputs.Output.{Output}
+use Rattle.tables_rows.specs.declared.permanent.PermanentRoot.{PermanentRoot}
+use Rattle.tables_rows.specs.declared.user_roots.UserRoot.{UserRoot}
+use Rattle.tables_rows.specs.declared.profiles.Profile.{Profile}
+use Rattle.tables_rows.specs.declared.generations.Generation.{Generation}
+use Rattle.tables_rows.specs.declared.runtime.RuntimeRoot.{RuntimeRoot}
+use Rattle.tables_rows.specs.declared.pieces.Piece.{Piece}
+use Rattle.tables_rows.specs.declared.pieces.PieceKey.{PieceKey}
+use Rattle.tables_rows.specs.declared.temp_roots.TempRoot.{TempRoot}
 use Rattle.tables_sql.specs.Reading.{IsLegible}
 
 -- what is stored of an object that is passed

@@ -10,7 +10,7 @@ use Rattle.sqlite_tied.specs.Compute.{everything}
 use Rattle.tables_schema.specs.Forms.{profile}
 use Rattle.tables_sql.specs.Contents.{texts_cmp, is_text, is_profile, profile_of, Pair}
 use Rattle.tables_sql.specs.Queries.{IsSelect}
-use Rattle.tables_sql.specs.Entries.{current_of, ShowsProfile, IsProfileRow}
+use Rattle.tables_rows.specs.Entries.{current_of, ShowsProfile, IsProfileRow}
 use Rattle.tables_sql.proofs.Orders.{pair_total, pair_antisymmetric}
 use Rattle.tables_sql.proofs.Truths.{cast_null, cast_int, and_so}
 use Rattle.tables_sql.proofs.Means.{insert_means}
@@ -18,7 +18,7 @@ use Rattle.tables_sql.proofs.Ordered.{Place, IsColumn}
 use Rattle.tables_sql.proofs.ContentsLemmas.{profile_set}
 use Rattle.tables_sql.proofs.Parts.{IsAsked, added, selected, removed, said_two}
 use Rattle.tables_sql.proofs.KeyOrders.{by_pair}
-use Rattle.tables_sql.proofs.Legible.{profile_row}
+use Rattle.tables_rows.proofs.Legible.{profile_row}
 use Rattle.tables_sql.proofs.FreeKeys.{agreed_two}
 use Rattle.tables_sql.proofs.RowKinds.{profile_kept}
 use Rattle.tables_sql.proofs.OneOfNine.{one_of_nine}

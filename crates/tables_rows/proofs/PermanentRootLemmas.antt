@@ -8,7 +8,7 @@ use Rattle.sqlite_tied.specs.Compute.{everything}
 use Rattle.tables_schema.specs.Forms.{permanent}
 use Rattle.tables_sql.specs.Contents.{texts_cmp, is_text, is_pair, pair_of, Bytes}
 use Rattle.tables_sql.specs.Queries.{IsSelect}
-use Rattle.tables_sql.specs.Entries.{permanent_of, ShowsPermanentRoot, IsPairRow}
+use Rattle.tables_rows.specs.Entries.{permanent_of, ShowsPermanentRoot, IsPairRow}
 use Rattle.tables_sql.proofs.Orders.{texts_total, texts_antisymmetric}
 use Rattle.tables_sql.proofs.Truths.{cast_null, and_so}
 use Rattle.tables_sql.proofs.Means.{insert_means}
@@ -16,7 +16,7 @@ use Rattle.tables_sql.proofs.Ordered.{Place, IsColumn}
 use Rattle.tables_sql.proofs.ContentsLemmas.{permanent_set}
 use Rattle.tables_sql.proofs.Parts.{IsAsked, added, selected, removed, said_one}
 use Rattle.tables_sql.proofs.KeyOrders.{by_text}
-use Rattle.tables_sql.proofs.Legible.{pair_row}
+use Rattle.tables_rows.proofs.Legible.{pair_row}
 use Rattle.tables_sql.proofs.FreeKeys.{agreed_one}
 use Rattle.tables_sql.proofs.RowKinds.{permanent_kept}
 use Rattle.tables_sql.proofs.OneOfNine.{one_of_nine}

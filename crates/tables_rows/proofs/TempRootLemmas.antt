@@ -12,7 +12,7 @@ use Rattle.tables_schema.specs.Intact.{IsIntact}
 use Rattle.tables_sql.specs.Contents.{SessionPath, texts_cmp, session_path_cmp, is_text, is_session_path, session_path_of}
 use Rattle.tables_sql.specs.Calls.{HasFurther}
 use Rattle.tables_sql.specs.Queries.{IsSelect}
-use Rattle.tables_sql.specs.Entries.{temp_root_of, ShowsTempRoot, IsTempRootRow}
+use Rattle.tables_rows.specs.Entries.{temp_root_of, ShowsTempRoot, IsTempRootRow}
 use Rattle.tables_sql.proofs.Orders.{session_path_total, session_path_antisymmetric}
 use Rattle.tables_sql.proofs.Truths.{cast_null, cast_int, and_so}
 use Rattle.tables_sql.proofs.Means.{insert_means}
@@ -20,7 +20,7 @@ use Rattle.tables_sql.proofs.Ordered.{Place, IsColumn}
 use Rattle.tables_sql.proofs.FurtherTables.{temp_root_kept, temp_roots_held, temp_roots_set}
 use Rattle.tables_sql.proofs.Parts.{IsAsked, added, selected, removed, said_two, said_three}
 use Rattle.tables_sql.proofs.KeyOrders.{by_kept}
-use Rattle.tables_sql.proofs.Legible.{temp_root_row}
+use Rattle.tables_rows.proofs.Legible.{temp_root_row}
 use Rattle.tables_sql.proofs.FreeKeys.{agreed_three}
 use Rattle.tables_sql.proofs.Places.{further_kept}
 use Rattle.tables_sql.proofs.Description.{Description, Addition, Removal, Reading, Selection}

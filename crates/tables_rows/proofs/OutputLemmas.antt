@@ -8,7 +8,7 @@ use Rattle.sqlite_tied.specs.Compute.{everything}
 use Rattle.tables_schema.specs.Forms.{outs}
 use Rattle.tables_sql.specs.Contents.{texts_cmp, is_text, is_triple, target_of, Bytes, Pair}
 use Rattle.tables_sql.specs.Queries.{IsSelect}
-use Rattle.tables_sql.specs.Entries.{output_of, ShowsOutput, IsTripleRow}
+use Rattle.tables_rows.specs.Entries.{output_of, ShowsOutput, IsTripleRow}
 use Rattle.tables_sql.proofs.Orders.{pair_total, pair_antisymmetric}
 use Rattle.tables_sql.proofs.Truths.{cast_null, and_so}
 use Rattle.tables_sql.proofs.Means.{insert_means}
@@ -16,7 +16,7 @@ use Rattle.tables_sql.proofs.Ordered.{Place, IsColumn}
 use Rattle.tables_sql.proofs.ContentsLemmas.{outs_set}
 use Rattle.tables_sql.proofs.Parts.{IsAsked, added, selected, removed, said_one}
 use Rattle.tables_sql.proofs.KeyOrders.{by_pair}
-use Rattle.tables_sql.proofs.Legible.{triple_row}
+use Rattle.tables_rows.proofs.Legible.{triple_row}
 use Rattle.tables_sql.proofs.FreeKeys.{agreed_two}
 use Rattle.tables_sql.proofs.RowKinds.{outs_kept}
 use Rattle.tables_sql.proofs.OneOfNine.{one_of_nine}

@@ -6,7 +6,7 @@ use Rattle.sqlite_rules.specs.Cast.{as_text}
 use Rattle.sqlite.specs.Values.{bound_value}
 use Rattle.tables_sql.specs.Contents.{is_text_or_null, text_if_any}
 use Rattle.tables_sql.specs.Texts.{IsReadable}
-use Rattle.tables_sql.specs.Entries.{ShowsOptional, text_or_null}
+use Rattle.tables_rows.specs.Entries.{ShowsOptional, text_or_null}
 
 abbrev pub given : Option (String Global) → Value
 given = text_or_null

@@ -8,14 +8,14 @@ use Rattle.sqlite_tied.specs.Compute.{everything}
 use Rattle.tables_schema.specs.Forms.{piece}
 use Rattle.tables_sql.specs.Contents.{is_text}
 use Rattle.tables_sql.specs.Queries.{IsSelect}
-use Rattle.tables_sql.specs.Entries.{numbered_in, ShowsPieceKey, IsPieceKeyRow}
+use Rattle.tables_rows.specs.Entries.{numbered_in, ShowsPieceKey, IsPieceKeyRow}
 use Rattle.tables_sql.proofs.Truths.{and_so}
 use Rattle.tables_sql.proofs.Description.{Part, part, PartReading, Selection}
 use Rattle.tables_sql.proofs.KeyOrders.{by_numbered}
-use Rattle.tables_sql.proofs.Legible.{piece_key_row}
+use Rattle.tables_rows.proofs.Legible.{piece_key_row}
 use Rattle.tables_sql.proofs.Ordered.{Place, IsColumn}
 use Rattle.tables_sql.proofs.Parts.{IsAsked, selected}
-use Rattle.tables_sql.proofs.PieceLemmas.{table}
+use Rattle.tables_rows.proofs.PieceLemmas.{table}
 
 abbrev pub places : List Place
 places = (codes "base", 0) ∷ (codes "num", 1) ∷ []

@@ -8,7 +8,7 @@ use Rattle.sqlite_tied.specs.Compute.{everything}
 use Rattle.tables_schema.specs.Forms.{refs}
 use Rattle.tables_sql.specs.Contents.{texts_cmp, is_text, is_pair, member_of, Pair}
 use Rattle.tables_sql.specs.Queries.{IsSelect}
-use Rattle.tables_sql.specs.Entries.{reference_of, ShowsReference, IsPairRow}
+use Rattle.tables_rows.specs.Entries.{reference_of, ShowsReference, IsPairRow}
 use Rattle.tables_sql.proofs.Orders.{pair_total, pair_antisymmetric}
 use Rattle.tables_sql.proofs.Truths.{cast_null, and_so}
 use Rattle.tables_sql.proofs.Means.{insert_means}
@@ -16,7 +16,7 @@ use Rattle.tables_sql.proofs.Ordered.{Place, IsColumn}
 use Rattle.tables_sql.proofs.ContentsLemmas.{refs_set}
 use Rattle.tables_sql.proofs.Parts.{IsAsked, added, selected, removed, said_one}
 use Rattle.tables_sql.proofs.KeyOrders.{by_pair}
-use Rattle.tables_sql.proofs.Legible.{pair_row}
+use Rattle.tables_rows.proofs.Legible.{pair_row}
 use Rattle.tables_sql.proofs.FreeKeys.{agreed_two}
 use Rattle.tables_sql.proofs.RowKinds.{refs_kept}
 use Rattle.tables_sql.proofs.OneOfNine.{one_of_nine}

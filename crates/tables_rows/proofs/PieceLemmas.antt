@@ -12,7 +12,7 @@ use Rattle.tables_schema.specs.Intact.{IsIntact}
 use Rattle.tables_sql.specs.Contents.{Bytes, Numbered, texts_cmp, numbered_cmp, is_text, is_blob, is_piece, piece_of}
 use Rattle.tables_sql.specs.Calls.{HasFurther}
 use Rattle.tables_sql.specs.Queries.{IsSelect}
-use Rattle.tables_sql.specs.Entries.{piece_in, ShowsPiece, IsPieceRow}
+use Rattle.tables_rows.specs.Entries.{piece_in, ShowsPiece, IsPieceRow}
 use Rattle.tables_sql.proofs.Orders.{numbered_total, numbered_antisymmetric}
 use Rattle.tables_sql.proofs.Truths.{cast_null, cast_int, and_so}
 use Rattle.tables_sql.proofs.Means.{insert_means}
@@ -20,7 +20,7 @@ use Rattle.tables_sql.proofs.Ordered.{Place, IsColumn}
 use Rattle.tables_sql.proofs.FurtherTables.{piece_kept, pieces_held, pieces_set}
 use Rattle.tables_sql.proofs.Parts.{added, selected, removed, said_one}
 use Rattle.tables_sql.proofs.KeyOrders.{by_numbered}
-use Rattle.tables_sql.proofs.Legible.{piece_row}
+use Rattle.tables_rows.proofs.Legible.{piece_row}
 use Rattle.tables_sql.proofs.FreeKeys.{agreed_two}
 use Rattle.tables_sql.proofs.Places.{further_kept}
 use Rattle.tables_sql.proofs.Description.{Description, Addition, Removal, Reading, Selection}

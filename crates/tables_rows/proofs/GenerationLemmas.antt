@@ -10,7 +10,7 @@ use Rattle.sqlite_tied.specs.Compute.{everything}
 use Rattle.tables_schema.specs.Forms.{generation}
 use Rattle.tables_sql.specs.Contents.{texts_cmp, is_text, is_generation, generation_of, Bytes, Triple}
 use Rattle.tables_sql.specs.Queries.{IsSelect}
-use Rattle.tables_sql.specs.Entries.{generation_in, ShowsGeneration, IsGenerationRow}
+use Rattle.tables_rows.specs.Entries.{generation_in, ShowsGeneration, IsGenerationRow}
 use Rattle.tables_sql.proofs.Orders.{triple_total, triple_antisymmetric}
 use Rattle.tables_sql.proofs.Truths.{cast_null, cast_int, and_so}
 use Rattle.tables_sql.proofs.Means.{insert_means}
@@ -18,7 +18,7 @@ use Rattle.tables_sql.proofs.Ordered.{Place, IsColumn}
 use Rattle.tables_sql.proofs.ContentsLemmas.{generation_set}
 use Rattle.tables_sql.proofs.Parts.{IsAsked, added, selected, removed, said_three}
 use Rattle.tables_sql.proofs.KeyOrders.{by_triple}
-use Rattle.tables_sql.proofs.Legible.{generation_row}
+use Rattle.tables_rows.proofs.Legible.{generation_row}
 use Rattle.tables_sql.proofs.FreeKeys.{agreed_three}
 use Rattle.tables_sql.proofs.RowKinds.{generation_kept}
 use Rattle.tables_sql.proofs.OneOfNine.{one_of_nine}

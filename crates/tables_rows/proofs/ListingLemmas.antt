@@ -11,8 +11,8 @@ use Rattle.tables_sql.specs.Queries.{IsSelect}
 use Rattle.tables_sql.specs.Reading.{ShowsText, IsTextRow}
 use Rattle.tables_sql.proofs.Description.{Part, part, PartReading, Selection}
 use Rattle.tables_sql.proofs.KeyOrders.{by_text}
-use Rattle.tables_sql.proofs.Legible.{path_row}
-use Rattle.tables_sql.proofs.ObjectLemmas.{table}
+use Rattle.tables_rows.proofs.Legible.{path_row}
+use Rattle.tables_rows.proofs.ObjectLemmas.{table}
 use Rattle.tables_sql.proofs.Ordered.{Place, IsColumn}
 use Rattle.tables_sql.proofs.Parts.{selected}
 use Rattle.tables_sql.proofs.Typed.{base_is}
