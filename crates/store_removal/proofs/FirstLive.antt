@@ -24,7 +24,7 @@ use Rattle.model.specs.Verdict.{root_of_first}
 use Rattle.model.proofs.WorldLives.{first_found, ordered_again}
 use Rattle.store_removal.specs.Keeping.{AreMarked, first_value}
 use Rattle.store_removal.specs.Linked.{rows_in}
-use Rattle.tables_root_list.specs.Rooted.{rooted}
+use Rattle.tables_outline.specs.Rooted.{rooted}
 use Rattle.store_removal.proofs.Marked.{valid_rise}
 use Rattle.store_removal.proofs.Places.{keeping_reported, none_kept}
 use Rattle.store_removal.proofs.Valid.{aims_well, some_found}

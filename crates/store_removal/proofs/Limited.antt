@@ -15,7 +15,7 @@ use Rattle.model.specs.World.{Path, World, roots_of}
 use Rattle.tables_outline.specs.Outline.{OutlineValue, outline_of}
 use Rattle.model.specs.Liveness.{keep_of, lives, collected_paths}
 use Rattle.store_removal.specs.Linked.{rows_in}
-use Rattle.tables_root_list.specs.Rooted.{rooted}
+use Rattle.tables_outline.specs.Rooted.{rooted}
 use Rattle.store_removal.specs.Sizes.{size_in}
 use Rattle.store_removal.proofs.Sized.{sizes_reported}
 use Rattle.store_removal.proofs.Reported.{graph_reported, lives_reported}

@@ -17,7 +17,7 @@ use Rattle.model.specs.World.{Path, roots_of}
 use Rattle.tables_outline.specs.Outline.{OutlineValue}
 use Rattle.model.specs.Liveness.{keep_of}
 use Rattle.store_removal.specs.Linked.{AreListed, is_wanted, lives_in, rows_in}
-use Rattle.tables_root_list.specs.Rooted.{rooted}
+use Rattle.tables_outline.specs.Rooted.{rooted}
 use Rattle.store_removal.proofs.Rising.{paths_in, roots_rise, rows_rise}
 use Rattle.store_removal.proofs.Valid.{aims_well, all_marked, valid_all}
 

@@ -15,10 +15,10 @@ use Rattle.model.specs.World.{Pair, pair_cmp}
 use Rattle.tables_outline.specs.Maps.{labelled_bytes}
 use Rattle.tables_outline.proofs.Orders.{bytes_total, pair_total}
 use Rattle.model.specs.Seen.{same_pair}
-use Rattle.tables_root_list.specs.Gaining.{has_tied}
+use Rattle.tables_outline.specs.Gaining.{has_tied}
 use Rattle.store_removal.specs.Unique.{AreListed}
-use Rattle.tables_root_list.proofs.Loops.{map-append}
-use Rattle.tables_root_list.proofs.Sets.{has_inserted}
+use Rattle.tables_outline.proofs.Loops.{map-append}
+use Rattle.tables_outline.proofs.Sets.{has_inserted}
 
 abbrev Labelled : Type 0
 Labelled = String Global × List ℕ

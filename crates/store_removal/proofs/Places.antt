@@ -20,7 +20,7 @@ use Rattle.tables_outline.proofs.Reported.{has-reported}
 use Rattle.model.specs.Liveness.{keep_of, roots_that_keep}
 use Rattle.model.specs.Seen.{each_once, seen}
 use Rattle.store_removal.specs.Linked.{links_in, rows_in}
-use Rattle.tables_root_list.specs.Rooted.{rooted}
+use Rattle.tables_outline.specs.Rooted.{rooted}
 use Rattle.store_removal.proofs.Rising.{paths_in}
 use Rattle.store_removal.proofs.Reported.{graph_reported, roots_reported}
 use Rattle.store_removal.proofs.Valid.{aims_well, filter_kept, reaches_from_valid}

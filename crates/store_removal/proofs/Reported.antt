@@ -11,8 +11,8 @@ use Rattle.tables.proofs.Outlined.{entries_outlined}
 use Rattle.model.specs.Liveness as spec
 use Rattle.model.specs.Liveness.{linked}
 use Rattle.store_removal.specs.Linked.{row_in, rows_in, lives_in}
-use Rattle.tables_root_list.specs.Rooted.{rooted}
-use Rattle.tables_root_list.proofs.RootOrder.{map-map}
+use Rattle.tables_outline.specs.Rooted.{rooted}
+use Rattle.tables_outline.proofs.RootOrder.{map-map}
 
 -- the same paths
 pub paths_reported : (w : World) (o : OutlineValue) → outline_of w ≡ o → finite.keys o.objects ≡ all_paths w

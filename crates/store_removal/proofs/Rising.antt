@@ -17,8 +17,8 @@ use Rattle.tables_outline.proofs.Ordered.{both_T}
 use Rattle.tables_outline.proofs.Orders.{bytes_total}
 use Rattle.model.specs.World.{roots_of}
 use Rattle.store_removal.specs.Linked.{rows_in, row_in}
-use Rattle.tables_root_list.specs.Rooted.{rooted}
-use Rattle.tables_root_list.proofs.RootOrder.{map-map}
+use Rattle.tables_outline.specs.Rooted.{rooted}
+use Rattle.tables_outline.proofs.RootOrder.{map-map}
 
 module _ {K X : Type 0} {R : K → K → Ordering} (o : IsTotalOrder R) where
   sorted_rise : (es : List (K × X)) → T (is_sorted R es) → AllPairs (λ a b. R a b ≡ Less) (map (λ (e : K × X). e.0) es)

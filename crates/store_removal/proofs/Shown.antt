@@ -11,7 +11,7 @@ use Rattle.policy.specs.declared.kinds.Class.{Class}
 use Rattle.policy.specs.Rules.{is_trusted}
 use Rattle.model.specs.Seen.{plain, censored, same_pair, each_once, seen_root, seen}
 use Rattle.model.proofs.MapMembers.{bytes_antisymmetric, tied_is}
-use Rattle.tables_root_list.proofs.Loops.{map-append}
+use Rattle.tables_outline.proofs.Loops.{map-append}
 
 -- ---- equal pairs
 

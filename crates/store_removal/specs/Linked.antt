@@ -9,7 +9,7 @@ use Rattle.policy.specs.Settings.{Settings}
 use Rattle.model.specs.World.{Path, roots_of}
 use Rattle.tables_outline.specs.Outline.{OutlineValue, Outlined}
 use Rattle.model.specs.Liveness.{keep_of}
-use Rattle.tables_root_list.specs.Rooted.{rooted}
+use Rattle.tables_outline.specs.Rooted.{rooted}
 
 -- what an object points to
 abbrev pub links_in : Outlined → Links

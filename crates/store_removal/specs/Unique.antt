@@ -5,7 +5,7 @@ use Rattle.policy.specs.declared.kinds.Class.{Class}
 use Rattle.policy.specs.Rules.{is_trusted}
 use Rattle.model.specs.World.{Pair, pair_cmp}
 use Rattle.tables_outline.specs.Maps.{labelled_bytes}
-use Rattle.tables_root_list.specs.Gaining.{has_tied}
+use Rattle.tables_outline.specs.Gaining.{has_tied}
 
 -- To a caller who gets each pair once, these keys are the pairs that are shown.
 abbrev pub AreListed : Class → List (String Global × List ℕ) → List (String Global × List ℕ) → Type 0

@@ -29,8 +29,7 @@ use sqlite::Alter;
 use std::alloc::{AllocError, Global};
 use store_types::{Answer, Stop};
 use tables::Tables;
-use tables_outline::Outline;
-use tables_root_list::root_list;
+use tables_outline::{Outline, root_list};
 
 /// The bytes of the archive of each row's path.
 fn sizes(alloc: Global, outline: &Outline, rows: &[Row]) -> Result<Vec<u64>, AllocError>

@@ -21,8 +21,7 @@ use live::{Marks, Row, place_of};
 use paths::StorePath;
 use policy::{Class, Config};
 use std::alloc::{AllocError, Global};
-use tables_outline::Outline;
-use tables_root_list::root_list;
+use tables_outline::{Outline, root_list};
 
 /// The place of the first root of the first of some paths that has one, by the marks of the rows.
 fn first_mark(rows: &[Row], marks: &Marks, named: &[StorePath]) -> Option<usize>

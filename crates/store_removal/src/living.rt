@@ -19,8 +19,7 @@ use live::{Graph, Keep, Marks, Root, Roots, Row, mark};
 use paths::StorePath;
 use policy::{Config, keep_derivations, keep_outputs};
 use std::alloc::{AllocError, Global};
-use tables_outline::Outline;
-use tables_root_list::root_list;
+use tables_outline::{Outline, root_list};
 
 /// What live objects keep alive in addition to their references, by the configuration.
 pub(crate) fn keep_of(config: &Config) -> Keep

@@ -19,8 +19,7 @@ use live::{Graph, Keep, Root, Roots, Row, place_of, roots_of};
 use paths::StorePath;
 use policy::{Class, Config};
 use std::alloc::{AllocError, Global};
-use tables_outline::Outline;
-use tables_root_list::root_list;
+use tables_outline::{Outline, root_list};
 
 /// The roots at some places.
 fn roots_at<'a>(

@@ -11,8 +11,7 @@ use crate::seen::seen;
 use paths::StorePath;
 use policy::Class;
 use std::alloc::{AllocError, Global};
-use tables_outline::Outline;
-use tables_root_list::root_list;
+use tables_outline::{Outline, root_list};
 
 /// All roots in their order, each its label and its target, as a caller of a class sees them.
 pub fn seen_roots(

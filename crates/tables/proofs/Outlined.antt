@@ -14,7 +14,7 @@ use Rattle.tables_outline.specs.Outline.{OutlineValue, Outlined, outlined, outli
 use Rattle.tables_outline.proofs.Orders.{bytes_total, bytes_antisymmetric}
 use Rattle.tables_outline.proofs.Reported.{get-reported}
 use Rattle.tables_outline.proofs.Ordered.{both_T, from_both, listed_as}
-use Rattle.tables_root_list.specs.Rooted.{rooted}
+use Rattle.tables_outline.specs.Rooted.{rooted}
 use Rattle.tables.specs.Entries.{object_view}
 use Rattle.tables.specs.declared.entries.Object.{Object as Found}
 

@@ -17,8 +17,7 @@ use sqlite::Alter;
 use std::alloc::{AllocError, Global};
 use std::collections::BTreeMap;
 use streams::Pieces;
-use tables_outline::{Profile, Summary};
-use tables_root_list::root_list;
+use tables_outline::{Profile, Summary, root_list};
 use tables_sql::failure::Failed;
 
 /// An object: its archive, and the summary of its other facts.

@@ -12,3 +12,6 @@ pub mod Written
 pub mod Retained
 pub mod TurnedObjects
 pub mod TurnedAll
+pub mod Loops
+pub mod RootOrder
+pub mod Sets

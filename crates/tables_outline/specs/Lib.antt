@@ -8,3 +8,6 @@ pub mod Outline
 pub mod Temporary
 pub mod Summary
 pub mod Turned
+pub mod Gaining
+pub mod Rooted
+pub mod RootSet

@@ -8,7 +8,7 @@ use Rattle.live.specs.Keeping.{keep_view}
 use Rattle.live.specs.Numbering.{path_at}
 use Rattle.live.specs.declared.numbered.rows.Row.{Row as Handed}
 use Rattle.model.specs.World.{roots_of}
-use Rattle.tables_root_list.specs.Rooted.{rooted}
+use Rattle.tables_outline.specs.Rooted.{rooted}
 use Rattle.store_removal.specs.Sizes.{size_in}
 use Rattle.paths.specs.RootView.{root_view}
 use Rattle.store_removal.proofs.Limited.{limited_reported, sized}

@@ -6,7 +6,7 @@ use Rattle.live.specs.Numbering.{root_at}
 use Rattle.model.specs.World.{roots_of}
 use Rattle.model.specs.Liveness.{first_root_of}
 use Rattle.model.specs.Seen.{seen_root}
-use Rattle.tables_root_list.specs.Rooted.{rooted}
+use Rattle.tables_outline.specs.Rooted.{rooted}
 use Rattle.paths.specs.RootView.{root_view}
 use Rattle.store_removal.proofs.FirstLive.{all_marked, first_living, root_present, some_living}
 use Rattle.store_removal.proofs.Marked.{passed_rise, valid_listed}

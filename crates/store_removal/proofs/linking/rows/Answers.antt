@@ -3,7 +3,7 @@ use Rattle.std.specs.Prelude.{option_map}
 use Rattle.std.specs.Option.{option_copied}
 use Rattle.live.specs.Arguments.{row_view}
 use Rattle.store_removal.specs.Linked.{row_in}
-use Rattle.tables_root_list.proofs.Loops.{moved, ended}
+use Rattle.tables_outline.proofs.Loops.{moved, ended}
 use Rattle.store_removal.proofs.linking.rows.Goals as goal
 
 copied : {X : Type 0} (r : Option (Bor X)) → option_copied r ≡ option_map (λ (p : Bor X). p.now) r

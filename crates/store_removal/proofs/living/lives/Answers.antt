@@ -5,7 +5,7 @@ use Rattle.std.proofs.lemmas.Result.{IfOk-weaker}
 use Rattle.live.specs.Arguments.{roots_view, row_view, rows_view}
 use Rattle.live.specs.Keeping.{keep_view}
 use Rattle.model.specs.World.{roots_of}
-use Rattle.tables_root_list.specs.Rooted.{rooted}
+use Rattle.tables_outline.specs.Rooted.{rooted}
 use Rattle.paths.specs.RootView.{root_view}
 use Rattle.store_removal.proofs.Marked.{lives_marked, valid_listed}
 use Rattle.store_removal.proofs.Valid.{aims_well}

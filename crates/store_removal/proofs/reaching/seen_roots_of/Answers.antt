@@ -7,7 +7,7 @@ use Rattle.live.specs.Numbering.{path_at}
 use Rattle.model.specs.World.{roots_of}
 use Rattle.tables_outline.specs.Maps.{labelled_bytes}
 use Rattle.model.specs.Seen.{seen}
-use Rattle.tables_root_list.specs.Rooted.{rooted}
+use Rattle.tables_outline.specs.Rooted.{rooted}
 use Rattle.paths.specs.RootView.{root_view}
 use Rattle.store_removal.proofs.Marked.{passed_rise, valid_aimed}
 use Rattle.store_removal.proofs.Places.{keeping_reported, none_keeps}

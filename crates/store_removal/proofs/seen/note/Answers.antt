@@ -1,7 +1,7 @@
 use Rattle.std.proofs.Common.{◌≡◌, rules, map, sym, ap, ◌∙◌}
 use Rattle.model.specs.World.{pair_cmp}
 use Rattle.tables_outline.specs.Maps.{labelled_bytes}
-use Rattle.tables_root_list.specs.Gaining.{has_tied}
+use Rattle.tables_outline.specs.Gaining.{has_tied}
 use Rattle.store_removal.proofs.Noted.{noted_first, noted}
 use Rattle.store_removal.proofs.seen.note.Goals as goal
 

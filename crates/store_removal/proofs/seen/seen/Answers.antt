@@ -4,8 +4,8 @@ use Rattle.model.specs.World.{pair_cmp}
 use Rattle.live.specs.Arguments.{root_view, roots_view}
 use Rattle.tables_outline.specs.Maps.{labelled_bytes}
 use Rattle.model.specs.Seen.{seen}
-use Rattle.tables_root_list.specs.Gaining.{has_tied}
-use Rattle.tables_root_list.proofs.Loops.{map-append}
+use Rattle.tables_outline.specs.Gaining.{has_tied}
+use Rattle.tables_outline.proofs.Loops.{map-append}
 use Rattle.store_removal.proofs.seen.seen.Goals as goal
 
 pub loop-root-init : goal.loop-root-init

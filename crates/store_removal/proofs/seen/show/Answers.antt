@@ -3,7 +3,7 @@ use Rattle.std.specs.Prelude.{if◌then◌else◌}
 use Rattle.live.specs.Arguments.{root_view}
 use Rattle.tables_outline.specs.Maps.{labelled_bytes}
 use Rattle.store_removal.specs.Unique.{AreListed}
-use Rattle.tables_root_list.proofs.Loops.{map-append}
+use Rattle.tables_outline.proofs.Loops.{map-append}
 use Rattle.store_removal.proofs.Shown.{seen_again, seen_more}
 use Rattle.store_removal.proofs.seen.show.Goals as goal
 

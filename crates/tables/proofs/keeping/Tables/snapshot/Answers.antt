@@ -1,6 +1,6 @@
 use Rattle.std.proofs.Common.{map, sym, ap, ◌∙◌}
 use Rattle.std.specs.FinMap as finite
-use Rattle.tables_root_list.specs.Rooted.{rooted}
+use Rattle.tables_outline.specs.Rooted.{rooted}
 use Rattle.model.specs.World.{roots_of}
 use Rattle.tables_outline.specs.Outline.{OutlineValue}
 use Rattle.tables.specs.TablesValue.{TablesValue}

@@ -1,0 +1,12 @@
+use Rattle.std.specs.List.{flat_map}
+use Rattle.paths.specs.Root.{root_cmp}
+use Rattle.model.specs.World.{generation_roots}
+use Rattle.tables_outline.specs.View.{profile_view}
+use Rattle.tables_outline.specs.Maps.{pair_bytes}
+use Rattle.tables_outline.specs.RootSet.{root_set}
+use Rattle.tables_outline.proofs.Sets.{Fills}
+use Rattle.tables_outline.proofs.all_roots.add_profiles.Given as goal
+
+-- the roots of what is left
+abbrev pub invariant-loop-owned : goal.invariant-loop-owned
+invariant-loop-owned l = Fills root_cmp (root_set l.initial.roots.keys) (flat_map (λ e. generation_roots (pair_bytes e.0, profile_view e.1)) l.initial.owned-iterator) (root_set l.roots.keys) (flat_map (λ e. generation_roots (pair_bytes e.0, profile_view e.1)) l.owned-iterator)

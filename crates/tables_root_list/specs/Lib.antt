@@ -1,3 +1,0 @@
-pub mod Gaining
-pub mod Rooted
-pub mod View
