@@ -17,7 +17,7 @@ use Rattle.tables_world.specs.Worlds.{IsSoundContents}
 use Rattle.tables_outline.specs.Outline.{OutlineValue, with_profile, profile_of, current_of, without_added}
 use Rattle.tables_outline.proofs.Orders.{nat_antisymmetric, pair_total, pair_antisymmetric}
 use Rattle.tables_outline.proofs.Puts.{tied_is, unput_put, has_put}
-use Rattle.tables_make.specs.Reasons.{IsReason}
+use Rattle.tables_rows.specs.Reasons.{IsReason}
 use Rattle.tables.specs.Frames.{StaysSound, CommitsRows, ChangesTables}
 use Rattle.tables.specs.Rewritten.{put_generation}
 use Rattle.tables.specs.RowsPut.{GenerationRows}

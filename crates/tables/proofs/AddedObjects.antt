@@ -23,8 +23,8 @@ use Rattle.tables_outline.proofs.Reported.{get-reported}
 use Rattle.tables.specs.Rewritten.{HasNoObject, put_object}
 use Rattle.tables.specs.Entries.{with_archived}
 use Rattle.tables.specs.Frames.{StaysSound}
-use Rattle.tables_make.specs.Reasons.{AreAmong}
-use Rattle.tables_make.proofs.Reasons.{all_among}
+use Rattle.tables_rows.specs.Reasons.{AreAmong}
+use Rattle.tables_rows.proofs.Reasons.{all_among}
 use Rattle.tables.specs.RowsPut.{AddedRows, ObjectRows, RowsWithAddress}
 use Rattle.tables.specs.TablesValue.{TablesValue, Agrees}
 use Rattle.tables.proofs.Inserted.{AreNew, object_of, object_follows, outline_follows, no_output, no_piece, no_reference, get-set_of}

@@ -13,7 +13,7 @@ use Rattle.model.specs.World.{World}
 use Rattle.model.specs.Sound.{IsSound}
 use Rattle.tables_world.specs.Worlds.{IsSoundContents, world_in}
 use Rattle.tables_outline.specs.Outline.{OutlineValue, outline_of}
-use Rattle.tables_make.specs.Reasons.{Rows, IsReason}
+use Rattle.tables_rows.specs.Reasons.{Rows, IsReason}
 use Rattle.tables.specs.Frames.{CommitsRows, CommitsChange, StaysSound}
 use Rattle.tables.specs.TablesValue.{TablesValue, AreOutlined, Agrees, HasWorld, IsWritten, LeavesWorld}
 use Rattle.tables.specs.Others.{KeepsOthers}

@@ -12,7 +12,7 @@ use Rattle.tables_rows.specs.Frames.{FailsInReads, IsInside, MayRead}
 use Rattle.tables_sql.specs.Calls.{IsDurable, IsReady, IsWhole, KeepsShown, LeavesRows}
 use Rattle.model.specs.World.{World}
 use Rattle.model.specs.Sound.{IsSound}
-use Rattle.tables_make.specs.Reasons.{Rows, HasReason}
+use Rattle.tables_rows.specs.Reasons.{Rows, HasReason}
 use Rattle.tables.specs.TablesValue.{TablesValue, HasWorld, IsWritten, LeavesWorld}
 use Rattle.tables.specs.Others.{KeepsOthers}
 

@@ -9,7 +9,7 @@ pub use Rattle.tables_open.specs.Disk
 pub use Rattle.tables_open.specs.DiskCalls
 pub use Rattle.tables_open.specs.Modelled
 pub use Rattle.tables_open.specs.DiskStart
-pub use Rattle.tables_make.specs.Reasons
+pub use Rattle.tables_rows.specs.Reasons
 pub mod Adopted
 pub mod Causes
 pub mod Entries

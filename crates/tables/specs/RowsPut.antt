@@ -8,8 +8,8 @@ use Rattle.model.specs.World.{Path, Pair, Temporary}
 use Rattle.tables_world.specs.Rows.{address_in}
 use Rattle.tables_world.specs.Pieces.{row_part, further_pieces}
 use Rattle.tables_outline.specs.Outline.{Outlined}
-use Rattle.tables_make.specs.Reasons.{Rows, Both, IsRow, RowsOf}
-use Rattle.tables_make.specs.Migrating.{ObjectRow, PieceRow}
+use Rattle.tables_rows.specs.Reasons.{Rows, Both, IsRow, RowsOf}
+use Rattle.tables_rows.specs.ObjectRows.{ObjectRow, PieceRow}
 use Rattle.tables.specs.declared.named_roots.RootName.{RootName}
 use Rattle.tables.specs.declared.named_roots.RootName.TheVariants.{Permanent, User}
 

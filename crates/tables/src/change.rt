@@ -5,7 +5,7 @@ ghost use Rattle.sqlite.specs.State.{HasCleanDisk};
 ghost use Rattle.sqlite.specs.Held.{state};
 ghost use Rattle.tables_sql.specs.Contents.{Contents, contents_of};
 ghost use Rattle.tables_sql.specs.Calls.{IsWhole};
-ghost use Rattle.tables_make.specs.Reasons.{Rows, HasReason};
+ghost use Rattle.tables_rows.specs.Reasons.{Rows, HasReason};
 ghost use Rattle.tables.specs.Frames.{MayCommit, CommitsRows};
 ghost use Rattle.tables_rows.specs.Frames.{IsInside, Makes, StaysInside};
 

@@ -3,9 +3,9 @@
 ghost use Rattle.std.specs.Prelude.{map};
 ghost use Rattle.tables_world.specs.Pieces.{further_pieces};
 ghost use Rattle.tables.specs.Rewritten.{AreFree, put_pieces};
-ghost use Rattle.tables_make.specs.Reasons.{RowsOf};
-ghost use Rattle.tables_make.specs.Migrating.{PieceRow};
-ghost use Rattle.tables_make.specs.Frames.{MayCut, Writes};
+ghost use Rattle.tables_rows.specs.Reasons.{RowsOf};
+ghost use Rattle.tables_rows.specs.ObjectRows.{PieceRow};
+ghost use Rattle.tables_rows.specs.Frames.{MayCut, Writes};
 
 use sqlite::{Alter, Transaction};
 use streams::Pieces;

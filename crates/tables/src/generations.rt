@@ -8,7 +8,7 @@ ghost use Rattle.model.specs.Profiles.{number_for, put_at, set_to, switched, wit
 ghost use Rattle.tables_outline.specs.Outline.{profile_of};
 ghost use Rattle.tables.specs.Entries.{with_numbers, with_profile_by};
 ghost use Rattle.tables.specs.Frames.{StaysSound, ChangesTables};
-ghost use Rattle.tables_make.specs.Reasons.{NoRow};
+ghost use Rattle.tables_rows.specs.Reasons.{NoRow};
 ghost use Rattle.tables.specs.RowsPut.{ProfileRow, GenerationRows, NumberedRows};
 
 use crate::change;

@@ -2,7 +2,7 @@
 
 ghost use Rattle.tables.specs.Entries.{with_root, without_root};
 ghost use Rattle.tables.specs.Frames.{StaysSound, ChangesTables};
-ghost use Rattle.tables_make.specs.Reasons.{NoRow};
+ghost use Rattle.tables_rows.specs.Reasons.{NoRow};
 ghost use Rattle.tables.specs.RowsPut.{RootRow};
 
 use crate::keeping::Tables;

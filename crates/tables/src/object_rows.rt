@@ -5,8 +5,8 @@ ghost use Rattle.std.specs.Prelude.{◌<◌, ℕ, ℤ, List, IsTrue, not};
 ghost use Rattle.std.specs.FinMap as finite;
 ghost use Rattle.live.specs.Graph.{same};
 ghost use Rattle.tables_world.specs.Pieces.{piece_size};
-ghost use Rattle.tables_make.specs.Reasons.{NoRow};
-ghost use Rattle.tables_make.specs.Frames.{MayCut, Writes};
+ghost use Rattle.tables_rows.specs.Reasons.{NoRow};
+ghost use Rattle.tables_rows.specs.Frames.{MayCut, Writes};
 ghost use Rattle.tables.specs.Frames.{IsOpenInside};
 
 use sqlite::{Alter, Transaction};

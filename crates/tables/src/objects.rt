@@ -4,9 +4,9 @@ ghost use Rattle.std.specs.Prelude.{◌≡◌, length, map, string_bytes};
 ghost use Rattle.std.specs.List.{zip};
 ghost use Rattle.std.specs.FinMap as finite;
 ghost use Rattle.tables.specs.Rewritten.{AreFree, put_references, put_outputs};
-ghost use Rattle.tables_make.specs.Reasons.{RowsOf};
+ghost use Rattle.tables_rows.specs.Reasons.{RowsOf};
 ghost use Rattle.tables.specs.RowsPut.{ReferenceRow, OutputRow};
-ghost use Rattle.tables_make.specs.Frames.{Writes};
+ghost use Rattle.tables_rows.specs.Frames.{Writes};
 ghost use Rattle.tables.specs.Frames.{IsOpenInside};
 
 use crate::change::Change;

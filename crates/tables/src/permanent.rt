@@ -2,7 +2,7 @@
 
 ghost use Rattle.std.specs.FinMap as finite;
 ghost use Rattle.tables_rows.specs.Frames.{IsInside};
-ghost use Rattle.tables_make.specs.Frames.{Writes};
+ghost use Rattle.tables_rows.specs.Frames.{Writes};
 ghost use Rattle.tables.specs.RowsPut.{PermanentRow};
 
 use crate::change::Change;
@@ -53,7 +53,7 @@ pub(crate) struct DropPermanent<'a> {
 impl<'a> Change for DropPermanent<'a> {
     ghost use Rattle.std.specs.Prelude.{⊤};
     ghost use Rattle.std.specs.FinMap as finite;
-    ghost use Rattle.tables_make.specs.Reasons.{NoRow};
+    ghost use Rattle.tables_rows.specs.Reasons.{NoRow};
 
     ghost change = { λ p c. record c { permanent = finite.remove c.permanent p.name.now } };
 

@@ -4,7 +4,7 @@ ghost use Rattle.std.specs.Prelude.{pos};
 ghost use Rattle.std.specs.FinMap as finite;
 ghost use Rattle.tables.specs.RowsPut.{ProfileRow};
 ghost use Rattle.tables_rows.specs.Frames.{IsInside};
-ghost use Rattle.tables_make.specs.Frames.{Writes};
+ghost use Rattle.tables_rows.specs.Frames.{Writes};
 
 use crate::change::Change;
 use sqlite::{Alter, Transaction};
@@ -68,7 +68,7 @@ impl<'a> Change for DropGeneration<'a> {
     ghost use Rattle.std.specs.Ordering.{eq_by_cmp, int_cmp};
     ghost use Rattle.std.specs.FinMap as finite;
     ghost use Rattle.paths.specs.Root.{bytes_cmp};
-    ghost use Rattle.tables_make.specs.Reasons.{NoRow};
+    ghost use Rattle.tables_rows.specs.Reasons.{NoRow};
 
     ghost change = { λ p c. record c { generations = finite.retain_keys c.generations (λ k. not (eq_by_cmp bytes_cmp k.0 p.owner.now && (eq_by_cmp bytes_cmp k.1 p.name.now && eq_by_cmp int_cmp k.2 (pos p.number)))) } };
 

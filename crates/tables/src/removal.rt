@@ -3,8 +3,8 @@
 ghost use Rattle.tables_schema.specs.Forms.{piece};
 ghost use Rattle.tables_sql.specs.Calls.{HasFurther};
 ghost use Rattle.tables_sql.specs.Contents.{contents_of};
-ghost use Rattle.tables_make.specs.Reasons.{HasReason, NoRow};
-ghost use Rattle.tables_make.specs.Frames.{IsInsideWith, MayCut, Writes};
+ghost use Rattle.tables_rows.specs.Reasons.{HasReason, NoRow};
+ghost use Rattle.tables_rows.specs.Frames.{IsInsideWith, MayCut, Writes};
 ghost use Rattle.tables.specs.Frames.{CommitsRows, MayCommit};
 ghost use Rattle.tables.specs.Rewritten.{Covers, without_object, without_objects};
 

@@ -4,7 +4,7 @@ ghost use Rattle.std.specs.Prelude.{not};
 ghost use Rattle.live.specs.Graph.{holds};
 ghost use Rattle.model.specs.Effects.{keeping};
 ghost use Rattle.tables.specs.Frames.{StaysSound, ChangesTables};
-ghost use Rattle.tables_make.specs.Reasons.{NoRow};
+ghost use Rattle.tables_rows.specs.Reasons.{NoRow};
 
 use crate::keeping::Tables;
 use crate::removal::delete_rows;

@@ -4,9 +4,9 @@ ghost use Rattle.std.specs.Prelude.{◌≡◌, map};
 ghost use Rattle.std.specs.FinMap as finite;
 ghost use Rattle.tables_outline.specs.Maps.{labelled_bytes};
 ghost use Rattle.tables.specs.Rewritten.{put_pairs};
-ghost use Rattle.tables_make.specs.Reasons.{RowsOf};
+ghost use Rattle.tables_rows.specs.Reasons.{RowsOf};
 ghost use Rattle.tables.specs.RowsPut.{RuntimeRow};
-ghost use Rattle.tables_make.specs.Frames.{Writes};
+ghost use Rattle.tables_rows.specs.Frames.{Writes};
 ghost use Rattle.tables.specs.Frames.{IsOpenInside};
 
 use crate::change::Change;

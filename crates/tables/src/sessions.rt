@@ -7,7 +7,7 @@ ghost use Rattle.std.specs.FinMap as finite;
 ghost use Rattle.model.specs.Effects.{with_temporary};
 ghost use Rattle.tables_outline.specs.Temporary.{entries_of_session, entries_without_session};
 ghost use Rattle.tables.specs.Frames.{StaysSound, ChangesTables, CommitsChange, FailsToChange};
-ghost use Rattle.tables_make.specs.Reasons.{NoRow};
+ghost use Rattle.tables_rows.specs.Reasons.{NoRow};
 ghost use Rattle.tables.specs.RowsPut.{TemporaryRow};
 ghost use Rattle.tables.specs.Temporary.{keeps};
 

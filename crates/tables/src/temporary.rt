@@ -67,7 +67,7 @@ impl<'a> Change for EndSession<'a> {
     ghost use Rattle.std.specs.Ordering.{eq_by_cmp, int_cmp};
     ghost use Rattle.std.specs.FinMap as finite;
     ghost use Rattle.tables_sql.specs.Contents.{texts_cmp};
-    ghost use Rattle.tables_make.specs.Reasons.{NoRow};
+    ghost use Rattle.tables_rows.specs.Reasons.{NoRow};
 
     ghost change = { λ p c. record c { temp_roots = finite.retain_keys c.temp_roots (λ k. not (eq_by_cmp texts_cmp k.0 p.owner.now && eq_by_cmp int_cmp k.1 (pos p.session))) } };
 

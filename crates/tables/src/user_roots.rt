@@ -59,7 +59,7 @@ pub(crate) struct DropUserRoot<'a> {
 impl<'a> Change for DropUserRoot<'a> {
     ghost use Rattle.std.specs.Prelude.{⊤};
     ghost use Rattle.std.specs.FinMap as finite;
-    ghost use Rattle.tables_make.specs.Reasons.{NoRow};
+    ghost use Rattle.tables_rows.specs.Reasons.{NoRow};
 
     ghost change = { λ p c. record c { user_roots = finite.remove c.user_roots (p.owner.now, p.name.now) } };
 

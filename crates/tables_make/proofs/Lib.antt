@@ -1,7 +1,5 @@
 pub mod Creates
 pub mod Cuts
-pub mod Failed
-pub mod Failing
 pub mod FrozenThen
 pub mod FurtherMade
 pub mod Growing
@@ -16,7 +14,6 @@ pub mod MakingTogether
 pub mod MigratingFailures
 pub mod Migrations
 pub mod Pieces
-pub mod Reasons
 pub mod Rewritten
 pub mod SettingFailures
 pub mod Settles

@@ -19,10 +19,10 @@ use Rattle.tables_make.specs.Further.{MakesFurther, grown}
 use Rattle.tables_make.specs.Making.{FailsToMakeThese, IsIndexNameUsed, RunsOutOfTrees, placed}
 use Rattle.tables_make.specs.Migrated.{Grows, missing_tables}
 use Rattle.tables_make.specs.Migrating.{FailsToMigrate, FailsToPutBy, MigratedRows, with_missing}
-use Rattle.tables_make.specs.Reasons.{IsReason, IsWithin, RunsOutOfRowids, Rows}
+use Rattle.tables_rows.specs.Reasons.{IsReason, IsWithin, RunsOutOfRowids, Rows}
 use Rattle.tables_sql.proofs.Rowids.{full_before, fuller}
 use Rattle.tables_make.proofs.Growing.{foreign_grown}
-use Rattle.tables_make.proofs.Reasons.{within_then}
+use Rattle.tables_rows.proofs.Reasons.{within_then}
 
 -- the tables that a schema lacks are the store's
 abbrev AreOwn : Schema → Type 0

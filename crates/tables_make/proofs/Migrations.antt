@@ -22,12 +22,12 @@ use Rattle.tables_make.specs.Making.{placed}
 use Rattle.tables_make.specs.Further.{grown}
 use Rattle.tables_make.specs.Migrated.{missing_tables, migrated_contents, Grows, IsGrown, LeavesMigrated}
 use Rattle.tables_make.specs.Migrating.{FailsToMigrate, FailsToPutBy}
-use Rattle.tables_make.specs.Reasons.{Rows}
+use Rattle.tables_rows.specs.Reasons.{Rows}
 use Rattle.tables_make.specs.Commits.{CommitsMigration, MayMigrate, Migrates}
-use Rattle.tables_make.proofs.Failed.{always_done, always_failed, none_done, on_err, shown_undone}
+use Rattle.tables_rows.proofs.Failed.{always_done, always_failed, none_done, on_err, shown_undone}
 use Rattle.tables_make.proofs.Grown.{grown_as, grown_whole, on_done, survives_whole}
 use Rattle.tables_make.proofs.MigratingFailures.{migrating_begun, migrating_commit, migrating_later}
-use Rattle.tables_make.proofs.Reasons.{as_reason}
+use Rattle.tables_rows.proofs.Reasons.{as_reason}
 
 module _ {S : Type 0} (g : Ghosts S) (conn end : Held S) (from : Schema) (f : Contents → Contents) (rows : Contents → Rows) {T : Type 0} (r : Result T Failed) where
   -- a migration that makes this of the contents

@@ -5,13 +5,9 @@ use Rattle.std.specs.declared.cmp.Ordering.{Ordering}
 use Rattle.std.specs.Cmp.{IsTotalOrder, Equal-is}
 use Rattle.std.specs.FinMap as finite
 use Rattle.std.proofs.lemmas.List.{take_all, length-drop}
-use Rattle.sqlite_trees.proofs.ListLemmas.{all_of}
-use Rattle.sqlite_schema.specs.declared.schema.Table.{Table}
-use Rattle.sqlite.specs.Effect.{Database}
-use Rattle.sqlite.specs.State.{State, IsUnchanged}
-use Rattle.tables_schema.specs.Forms.{piece, temp_root, names_store_table}
+use Rattle.sqlite.specs.State.{State}
 use Rattle.tables_sql.specs.Contents.{Stored, Contents, contents_of, texts_cmp}
-use Rattle.tables_sql.specs.Calls.{IsStoreDatabase, IsUnderWay, HasFurther, KeepsFurther, KeepsForeignRows, Changes}
+use Rattle.tables_sql.specs.Calls.{Changes}
 use Rattle.tables_sql.proofs.Orders.{texts_total, texts_antisymmetric}
 use Rattle.model.specs.World.{Path}
 use Rattle.tables_world.specs.Pieces.{piece_size, row_part, pieces_by, further_pieces}
@@ -19,25 +15,6 @@ use Rattle.tables_make.specs.Cutting.{put_pieces, cut_row, cut_found, cut_object
 use Rattle.tables_rows.specs.Entries.{stored, stored_of, IsStored}
 use Rattle.tables_rows.specs.declared.objects.Object.{Object}
 use Rattle.tables_make.proofs.Cuts.{size, further, no_piece}
-
--- a read changes nothing
-pub changes_nothing : (a b : State) → IsUnderWay a → IsUnchanged a b → Changes a b (λ c. c)
-unfolding KeepsFurther
-changes_nothing a b under same =
-    let now = same.0.now_is in
-    record {
-      was_open = same.0.was_open;
-      is_open = same.0.is_open;
-      schema = ap (λ (x : Database). x.schema) now;
-      contents = ap contents_of now;
-      foreign_rows = subst (λ (x : Database). KeepsForeignRows a.now x) (sym now) (all_of (λ (t : Table). names_store_table t.name ≡ false → a.now.trees t.tree ≡ a.now.trees t.tree) (λ t other. refl) a.now.schema.tables);
-      unshown = λ tree hidden. ap (λ (x : Database). x.trees tree) now;
-      of_store = subst IsStoreDatabase (sym now) (under.of_store same.0.was_open);
-      further = (λ present. subst (λ (x : Database). HasFurther x piece) (sym now) present, (λ present. subst (λ (x : Database). HasFurther x temp_root) (sym now) present, tt));
-      committed = same.0.committed_is;
-      mode = same.0.mode ∙ under.mode;
-      marks = same.2;
-    }
 
 -- one change of these contents in other words
 pub changes_at : (a b : State) (f g : Contents → Contents) → f (contents_of a.now) ≡ g (contents_of a.now) → Changes a b f → Changes a b g

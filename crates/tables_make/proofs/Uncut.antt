@@ -24,8 +24,8 @@ use Rattle.model.specs.World.{Path}
 use Rattle.tables_world.specs.Pieces.{piece_size}
 use Rattle.tables_make.specs.Cutting.{cut_object}
 use Rattle.tables_make.specs.Migrating.{CutRows, CutRowsAt, IsUncut, LongRows}
-use Rattle.tables_make.specs.Reasons.{Rows, AreAmong, NoRow, RowsIfAny}
-use Rattle.tables_make.proofs.Reasons.{all_among, none_among, text_same}
+use Rattle.tables_rows.specs.Reasons.{Rows, AreAmong, NoRow, RowsIfAny}
+use Rattle.tables_rows.proofs.Reasons.{all_among, none_among, text_same}
 use Rattle.tables_make.proofs.Rewritten.{cut_stored, one_object, one_piece, piece_at}
 
 -- ---- one key

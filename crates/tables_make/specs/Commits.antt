@@ -12,7 +12,7 @@ use Rattle.tables_world.specs.Worlds.{IsSoundBy}
 use Rattle.tables_make.specs.Making.{FailsToMake}
 use Rattle.tables_make.specs.Migrated.{HasEarlier, IsMigrated, LeavesMigrated}
 use Rattle.tables_make.specs.Migrating.{MigratedRows, FailsToPutBy}
-use Rattle.tables_make.specs.Reasons.{Rows}
+use Rattle.tables_rows.specs.Reasons.{Rows}
 
 module _ {S : Type 0} (g : Ghosts S) where
   -- ---- all eleven tables

@@ -7,6 +7,7 @@ pub use Rattle.tables_sql.specs.Texts
 pub use Rattle.tables_sql.specs.Frozen
 pub use Rattle.tables_sql.specs.Calls
 pub use Rattle.tables_sql.specs.Failures
+pub use Rattle.tables_rows.specs.Reasons
 pub mod Commits
 pub mod Cutting
 pub mod Frames
@@ -14,4 +15,3 @@ pub mod Further
 pub mod Making
 pub mod Migrated
 pub mod Migrating
-pub mod Reasons

@@ -1,8 +1,7 @@
 -- The rows that a migration puts, and why it fails.
-use Rattle.std.specs.Prelude.{◌≡◌, ◌⊎◌, ◌<◌, ℕ, ℤ, List, [], ◌∷◌, cond, nat_lt, length, Some, None, codes}
+use Rattle.std.specs.Prelude.{◌≡◌, ◌⊎◌, ◌<◌, ℤ, List, [], ◌∷◌, cond, nat_lt, length, Some, None, codes}
 use Rattle.std.specs.FinMap as finite
-use Rattle.sqlite_value.specs.declared.value.Value.TheVariants.{Int, Text, Blob}
-use Rattle.sqlite.specs.Values.{or_null}
+use Rattle.sqlite_value.specs.declared.value.Value.TheVariants.{Text}
 use Rattle.sqlite.specs.State.{State}
 use Rattle.tables_schema.specs.Forms.{meta, object, piece}
 use Rattle.tables_schema.specs.declared.schema.Schema.{Schema}
@@ -12,20 +11,13 @@ use Rattle.tables_sql.specs.Contents.{Stored, Contents, contents_of}
 use Rattle.tables_sql.specs.declared.failure.Failed.{Failed}
 use Rattle.model.specs.World.{Path}
 use Rattle.tables_world.specs.Pieces.{piece_size, row_part, further_pieces}
-use Rattle.tables_make.specs.Reasons.{Rows, Both, IsRow, NoRow, RowsOf, RowsIfAny, IsReason}
+use Rattle.tables_rows.specs.ObjectRows.{ObjectRow, PieceRow}
+use Rattle.tables_rows.specs.Reasons.{Rows, Both, IsRow, NoRow, RowsOf, RowsIfAny, IsReason}
 use Rattle.tables_make.specs.Making.{FailsToMakeThese}
 use Rattle.tables_make.specs.Further.{grown}
 use Rattle.tables_make.specs.Migrated.{missing_tables}
 
 -- ---- rows
-
--- an object's own
-abbrev pub ObjectRow : Path → Stored → Rows
-ObjectRow p o = IsRow object (Text p ∷ Blob o.nar ∷ Blob o.hash ∷ or_null Text o.deriver ∷ or_null Text o.ca ∷ [])
-
--- a further piece of an archive: its number and its bytes
-abbrev pub PieceRow : Path → ℤ × List ℕ → Rows
-PieceRow p e = IsRow piece (Text p ∷ Int e.0 ∷ Blob e.1 ∷ [])
 
 -- the setting that says the third schema
 abbrev pub SettingRow : Rows

@@ -8,9 +8,10 @@ ghost use Rattle.tables_sql.specs.Contents.{contents_of};
 ghost use Rattle.tables_rows.specs.Entries.{stored_of};
 ghost use Rattle.tables_world.specs.Pieces.{pieces_by};
 ghost use Rattle.tables_make.specs.Cutting.{put_pieces, cut_row, cut_object, cut_objects};
-ghost use Rattle.tables_make.specs.Migrating.{CutRows, CutRowsAt, HasNoPieces, HasUncut, IsUncut, LongRows, PieceRow};
-ghost use Rattle.tables_make.specs.Reasons.{RowsOf};
-ghost use Rattle.tables_make.specs.Frames.{MayCut, IsInsideWith, Writes};
+ghost use Rattle.tables_rows.specs.ObjectRows.{PieceRow};
+ghost use Rattle.tables_make.specs.Migrating.{CutRows, CutRowsAt, HasNoPieces, HasUncut, IsUncut, LongRows};
+ghost use Rattle.tables_rows.specs.Reasons.{RowsOf};
+ghost use Rattle.tables_rows.specs.Frames.{MayCut, IsInsideWith, Writes};
 
 use sqlite::{Alter, Transaction};
 use std::alloc::Global;

@@ -9,7 +9,8 @@ ghost use Rattle.tables_make.specs.Further.{grown};
 ghost use Rattle.tables_make.specs.Cutting.{cut_objects, renumbered};
 ghost use Rattle.tables_make.specs.Migrated.{missing_tables, HasEarlier, Grows, IsGrown};
 ghost use Rattle.tables_make.specs.Migrating.{FailsToMigrate, FailsToPutBy, IsUncut, RewrittenRows};
-ghost use Rattle.tables_make.specs.Frames.{MayCut, IsInsideWith, StepsInside, Writes};
+ghost use Rattle.tables_rows.specs.Frames.{MayCut, IsInsideWith, Writes};
+ghost use Rattle.tables_make.specs.Frames.{StepsInside};
 ghost use Rattle.tables_make.specs.Commits.{CommitsMigration, MayMigrate, Migrates};
 
 use crate::cutting::cut_all;

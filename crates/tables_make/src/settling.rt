@@ -3,7 +3,7 @@
 ghost use Rattle.tables_make.specs.Cutting.{renumbered};
 ghost use Rattle.tables_make.specs.Migrating.{SettingRow};
 ghost use Rattle.tables_rows.specs.Frames.{IsInside};
-ghost use Rattle.tables_make.specs.Frames.{Writes};
+ghost use Rattle.tables_rows.specs.Frames.{Writes};
 
 use sqlite::{Alter, Transaction};
 use tables_rows::{Delete, Insert, meta};

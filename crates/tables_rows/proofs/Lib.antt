@@ -17,3 +17,8 @@ pub mod RuntimeRootLemmas
 pub mod SettingLemmas
 pub mod TempRootLemmas
 pub mod UserRootLemmas
+pub mod Failed
+pub mod Failing
+pub mod Reasons
+pub mod Inside
+pub mod Unchanged

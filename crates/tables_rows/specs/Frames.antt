@@ -8,11 +8,13 @@ use Rattle.sqlite_trees.specs.declared.store.Store.{Ghosts}
 use Rattle.sqlite.specs.Effect.{Database}
 use Rattle.sqlite.specs.State.{HasCleanDisk, IsUnchanged, Survives}
 use Rattle.sqlite.specs.Held.{Held, state}
-use Rattle.tables_sql.specs.Calls.{IsReady, KeepsShown, Changes, HasFurther}
+use Rattle.tables_schema.specs.Forms.{piece}
+use Rattle.tables_sql.specs.Calls.{IsReady, IsUnderWay, KeepsShown, Changes, HasFurther}
 use Rattle.tables_sql.specs.Contents.{Contents, contents_of}
 pub use Rattle.tables_sql.specs.Frames.{IsInside, StaysInside}
 use Rattle.tables_sql.specs.Failures.{FailsFor, FailsToInsert, FailsToRead}
 use Rattle.tables_sql.specs.Rowids.{NumbersOn}
+use Rattle.tables_rows.specs.Reasons.{Rows, HasReason}
 use Rattle.tables_sql.specs.declared.failure.Failed.{Failed}
 
 module _ {S : Type 0} (g : Ghosts S) where
@@ -127,3 +129,28 @@ module _ {S : Type 0} (g : Ghosts S) where
     pub frame : LeftAsItWas old new
     pub reads : Reads old new result shows
     pub cause : FailsInReads old new result
+
+  -- ---- a write of several rows
+
+  -- a transaction is under way over the store's tables, and unless a fault has shut the connection its database has
+  -- this
+  pub record IsInsideWith (old : MutBor (Held S)) (has : Database → Type 0) : Type 0 where
+    pub under_way : IsInside g old
+    pub tables : HasCleanDisk (state g old.now) → IsTrue (state g old.now).is_open → has (state g old.now).now
+
+  -- a transaction is under way over the store's tables and that of pieces, no fault has shut the connection, and this
+  -- is so of the contents
+  pub record MayCut (old : MutBor (Held S)) (holds : Contents → Type 0) : Type 0 where
+    pub under_way : HasCleanDisk (state g old.now) → IsUnderWay (state g old.now)
+    pub is_open : HasCleanDisk (state g old.now) → IsTrue (state g old.now).is_open
+    pub exists : HasCleanDisk (state g old.now) → HasFurther (state g old.now).now piece
+    pub fits : HasCleanDisk (state g old.now) → holds (contents_of (state g old.now).now)
+
+  -- A write inside a transaction: the change is made there, or it fails for a reason, by the rows that it puts.
+  pub record Writes {T : Type 0} (old new : MutBor (Held S)) (result : Result T Failed)
+      (change : Contents → Contents) (rows : Rows) : Type 0 where
+    pub frame : StaysInside g old new result
+    pub done : Makes old new result change
+    -- each table numbers on by no more rows than are put
+    pub numbers : Numbers rows.count old new result
+    pub cause : HasReason g old.now new.now result rows

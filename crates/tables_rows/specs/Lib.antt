@@ -2,3 +2,5 @@ pub mod Frames
 pub mod Keys
 pub mod Ranges
 pub mod Entries
+pub mod Reasons
+pub mod ObjectRows

@@ -7,12 +7,12 @@ use Rattle.tables_sql.specs.Calls.{IsWhole, IsCommitted}
 use Rattle.tables_sql.proofs.Scans.{on_ok}
 use Rattle.tables_sql.proofs.Steps.{under_after}
 use Rattle.tables_sql.proofs.Transactions.{survives_all}
-use Rattle.tables_make.specs.Reasons.{HasReason}
+use Rattle.tables_rows.specs.Reasons.{HasReason}
 use Rattle.tables.specs.Frames.{CommitsRows}
 use Rattle.tables.specs.TablesValue.{IsWritten}
 use Rattle.tables.proofs.Begun.{always_done, begun_has, undone}
 use Rattle.tables_sql.proofs.TestFailures.{passed_on}
-use Rattle.tables_make.proofs.Reasons.{as_reason, begun_reason, commit_reason, later_reason}
+use Rattle.tables_rows.proofs.Reasons.{as_reason, begun_reason, commit_reason, later_reason}
 use Rattle.tables.proofs.Transactions.{others_kept, written}
 use Rattle.tables.proofs.change.commit.Goals as goal
 

@@ -9,8 +9,8 @@ use Rattle.tables_schema.specs.Forms.{piece}
 use Rattle.tables_sql.specs.Contents.{Contents, contents_of}
 use Rattle.tables_world.specs.Pieces.{further_pieces}
 use Rattle.tables.specs.Rewritten.{AreFree, put_pieces}
-use Rattle.tables_make.specs.Reasons.{Both, RowsOf}
-use Rattle.tables_make.specs.Migrating.{PieceRow}
+use Rattle.tables_rows.specs.Reasons.{Both, RowsOf}
+use Rattle.tables_rows.specs.ObjectRows.{PieceRow}
 use Rattle.tables_sql.proofs.Going.{Goes, goes_first, goes_next, goes_done}
 use Rattle.tables_sql.proofs.Transactions.{survives_none}
 use Rattle.tables.proofs.Cuts.{left_from, all_left, next_left, past_end}
@@ -18,10 +18,10 @@ use Rattle.tables.proofs.AfterWrites.{clean_before}
 use Rattle.tables_sql.proofs.TestFailures.{passed_on, survives_both}
 use Rattle.tables_sql.proofs.Orders.{numbered_total}
 use Rattle.tables.proofs.Free.{free_next}
-use Rattle.tables_make.proofs.Reasons.{AreLeft, is_none, left_next, left_whole, next_reason, numbers_of, put_reason, row_among}
+use Rattle.tables_rows.proofs.Reasons.{AreLeft, is_none, left_next, left_whole, next_reason, numbers_of, put_reason, row_among}
 use Rattle.tables.proofs.Transactions.{pieces_exist}
-use Rattle.tables_make.proofs.Inside.{done_fails}
-use Rattle.tables_make.proofs.Failed.{none_done}
+use Rattle.tables_rows.proofs.Inside.{done_fails}
+use Rattle.tables_rows.proofs.Failed.{none_done}
 use Rattle.tables.proofs.cutting.put_pieces.Goals as goal
 
 pub pieces-init : goal.pieces-init

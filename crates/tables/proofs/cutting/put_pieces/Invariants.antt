@@ -4,9 +4,9 @@ use Rattle.sqlite.specs.Held.{state}
 use Rattle.tables_sql.specs.Contents.{Contents, contents_of}
 use Rattle.tables_world.specs.Pieces.{further_pieces}
 use Rattle.tables.specs.Rewritten.{AreFree, put_pieces}
-use Rattle.tables_make.specs.Reasons.{RowsOf}
-use Rattle.tables_make.specs.Migrating.{PieceRow}
-use Rattle.tables_make.proofs.Reasons.{AreLeft}
+use Rattle.tables_rows.specs.Reasons.{RowsOf}
+use Rattle.tables_rows.specs.ObjectRows.{PieceRow}
+use Rattle.tables_rows.proofs.Reasons.{AreLeft}
 use Rattle.tables_sql.proofs.Going.{Goes}
 use Rattle.tables.proofs.Cuts.{left_from}
 use Rattle.tables.proofs.cutting.put_pieces.Given as goal

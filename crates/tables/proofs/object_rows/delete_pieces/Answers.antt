@@ -5,7 +5,7 @@ use Rattle.tables_world.specs.Pieces.{piece_size}
 use Rattle.tables.proofs.Covered.{no_pieces}
 use Rattle.tables.proofs.Cuts.{size_is}
 use Rattle.tables.proofs.Transactions.{changes_nothing}
-use Rattle.tables_make.proofs.Reasons.{as_reason, removal_reason}
+use Rattle.tables_rows.proofs.Reasons.{as_reason, removal_reason}
 use Rattle.tables_sql.proofs.Rowids.{numbers_on_none}
 use Rattle.tables_sql.proofs.Transactions.{survives_none}
 use Rattle.tables.proofs.object_rows.delete_pieces.Goals as goal

@@ -2,7 +2,7 @@ use Rattle.sqlite.specs.Held.{state}
 use Rattle.tables_sql.specs.Contents.{contents_of}
 use Rattle.tables.proofs.Covered.{keyless, no_references}
 use Rattle.tables.proofs.Transactions.{changes_nothing}
-use Rattle.tables_make.proofs.Reasons.{as_reason, removal_reason}
+use Rattle.tables_rows.proofs.Reasons.{as_reason, removal_reason}
 use Rattle.std.proofs.Common.{refl}
 use Rattle.tables_sql.proofs.Rowids.{numbers_on_none}
 use Rattle.tables_sql.proofs.Transactions.{survives_none}

@@ -5,8 +5,8 @@ use Rattle.sqlite.specs.Held.{state}
 use Rattle.tables_sql.specs.Contents.{Contents, contents_of}
 use Rattle.tables.specs.Rewritten.{AreFree, put_outputs}
 use Rattle.tables.specs.RowsPut.{OutputRow}
-use Rattle.tables_make.specs.Reasons.{RowsOf}
-use Rattle.tables_make.proofs.Reasons.{AreLeft}
+use Rattle.tables_rows.specs.Reasons.{RowsOf}
+use Rattle.tables_rows.proofs.Reasons.{AreLeft}
 use Rattle.tables_sql.proofs.Going.{Goes}
 use Rattle.tables.proofs.objects.put_outputs.Given as goal
 

@@ -12,8 +12,8 @@ use Rattle.tables_sql.proofs.Scans.{on_ok}
 use Rattle.tables_sql.proofs.Steps.{under_after}
 use Rattle.tables_sql.proofs.TestFailures.{passed_on, survives_both}
 use Rattle.tables.specs.RowsPut.{ProfileRow}
-use Rattle.tables_make.proofs.Reasons.{all_among, as_reason, is_none, next_reason, none_put, numbers_both, put_reason, removal_reason}
-use Rattle.tables_make.proofs.Failed.{none_done, always_failed}
+use Rattle.tables_rows.proofs.Reasons.{all_among, as_reason, is_none, next_reason, none_put, numbers_both, put_reason, removal_reason}
+use Rattle.tables_rows.proofs.Failed.{none_done, always_failed}
 use Rattle.tables.proofs.profiles.put_current.Goals as goal
 
 pub insert-requires-clause-under : goal.insert-requires-clause-under

@@ -10,12 +10,12 @@ use Rattle.tables_sql.proofs.Scans.{on_ok}
 use Rattle.tables_sql.proofs.Steps.{under_after}
 use Rattle.tables.specs.Rewritten.{without_object}
 use Rattle.tables.proofs.Covered.{references_reported, outputs_reported, pieces_reported, single_removed}
-use Rattle.tables_make.proofs.Failing.{err_kept}
-use Rattle.tables_make.proofs.Failed.{none_done, always_failed}
+use Rattle.tables_rows.proofs.Failing.{err_kept}
+use Rattle.tables_rows.proofs.Failed.{none_done, always_failed}
 use Rattle.tables_sql.proofs.TestFailures.{passed_on, survives_both}
 use Rattle.tables.proofs.Transactions.{changes_at, pieces_exist}
-use Rattle.tables_make.specs.Reasons.{NoRow}
-use Rattle.tables_make.proofs.Reasons.{as_reason, next_reason, none_put, removal_reason}
+use Rattle.tables_rows.specs.Reasons.{NoRow}
+use Rattle.tables_rows.proofs.Reasons.{as_reason, next_reason, none_put, removal_reason}
 use Rattle.tables.proofs.removal.delete_object.Goals as goal
 
 pub delete_references-requires : goal.delete_references-requires

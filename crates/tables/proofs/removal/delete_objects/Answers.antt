@@ -13,10 +13,10 @@ use Rattle.tables.proofs.Lists.{left_at, none_left}
 use Rattle.tables.proofs.Removed.{without_none, without_next}
 use Rattle.tables_sql.proofs.TestFailures.{passed_on, survives_both}
 use Rattle.tables.proofs.Transactions.{pieces_exist}
-use Rattle.tables_make.specs.Reasons.{NoRow}
-use Rattle.tables_make.proofs.Reasons.{next_reason, none_put}
-use Rattle.tables_make.proofs.Inside.{done_fails}
-use Rattle.tables_make.proofs.Failed.{none_done}
+use Rattle.tables_rows.specs.Reasons.{NoRow}
+use Rattle.tables_rows.proofs.Reasons.{next_reason, none_put}
+use Rattle.tables_rows.proofs.Inside.{done_fails}
+use Rattle.tables_rows.proofs.Failed.{none_done}
 use Rattle.tables.proofs.removal.delete_objects.Goals as goal
 
 pub paths-init : goal.paths-init

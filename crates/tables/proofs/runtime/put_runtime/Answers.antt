@@ -7,7 +7,7 @@ use Rattle.tables_schema.specs.Forms.{runtime}
 use Rattle.tables_sql.specs.Contents.{Contents, contents_of, Pair, PairSet}
 use Rattle.tables_outline.specs.Maps.{labelled_bytes}
 use Rattle.tables.specs.Rewritten.{AreFree, put_pairs}
-use Rattle.tables_make.specs.Reasons.{Both, RowsOf}
+use Rattle.tables_rows.specs.Reasons.{Both, RowsOf}
 use Rattle.tables.specs.RowsPut.{RuntimeRow}
 use Rattle.tables_sql.specs.Calls.{Changes}
 use Rattle.tables_sql.specs.Rowids.{NumbersOn}
@@ -17,9 +17,9 @@ use Rattle.tables.proofs.AfterWrites.{clean_before}
 use Rattle.tables_sql.proofs.TestFailures.{passed_on, survives_both}
 use Rattle.tables_sql.proofs.Orders.{pair_total}
 use Rattle.tables.proofs.Free.{free_next, runtime_free}
-use Rattle.tables_make.proofs.Reasons.{AreLeft, is_none, left_next, left_whole, next_reason, numbers_of, put_reason, row_among}
-use Rattle.tables_make.proofs.Inside.{done_fails}
-use Rattle.tables_make.proofs.Failed.{none_done}
+use Rattle.tables_rows.proofs.Reasons.{AreLeft, is_none, left_next, left_whole, next_reason, numbers_of, put_reason, row_among}
+use Rattle.tables_rows.proofs.Inside.{done_fails}
+use Rattle.tables_rows.proofs.Failed.{none_done}
 use Rattle.tables.proofs.runtime.put_runtime.Goals as goal
 
 pub roots-init : goal.roots-init

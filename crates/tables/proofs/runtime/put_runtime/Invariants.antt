@@ -4,9 +4,9 @@ use Rattle.sqlite.specs.Held.{state}
 use Rattle.tables_sql.specs.Contents.{Contents, contents_of}
 use Rattle.tables_outline.specs.Maps.{labelled_bytes}
 use Rattle.tables.specs.Rewritten.{AreFree, put_pairs}
-use Rattle.tables_make.specs.Reasons.{RowsOf}
+use Rattle.tables_rows.specs.Reasons.{RowsOf}
 use Rattle.tables.specs.RowsPut.{RuntimeRow}
-use Rattle.tables_make.proofs.Reasons.{AreLeft}
+use Rattle.tables_rows.proofs.Reasons.{AreLeft}
 use Rattle.tables_sql.proofs.Going.{Goes}
 use Rattle.tables.proofs.runtime.put_runtime.Given as goal
 

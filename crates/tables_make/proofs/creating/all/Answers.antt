@@ -7,7 +7,7 @@ use Rattle.tables_make.proofs.InTurn.{none_made, next_making, next_made, next_fa
 use Rattle.tables_make.proofs.CallsInTurn.{both_keep_commit}
 use Rattle.tables_make.proofs.Inside.{both_keep}
 use Rattle.tables_make.specs.Frames.{KeepsInside}
-use Rattle.tables_make.proofs.Failed.{none_done}
+use Rattle.tables_rows.proofs.Failed.{none_done}
 use Rattle.tables_make.proofs.creating.all.Goals as goal
 
 pub one-requires : goal.one-requires

@@ -14,12 +14,13 @@ use Rattle.tables_sql.proofs.Transactions.{done_both}
 use Rattle.tables_rows.specs.Entries.{stored_of}
 use Rattle.tables_make.specs.Cutting.{cut_object}
 use Rattle.tables_make.specs.Migrating.{CutRowsAt, HasUncut, LongRows}
-use Rattle.tables_make.specs.Reasons.{IsReason}
-use Rattle.tables_make.proofs.Reasons.{as_reason, left_unchanged, next_reason, numbers_both, numbers_of, removal_reason}
-use Rattle.tables_make.proofs.Steps.{changes_nothing, changes_at, none_cut, found_is, none_is}
+use Rattle.tables_rows.specs.Reasons.{IsReason}
+use Rattle.tables_rows.proofs.Reasons.{as_reason, left_unchanged, next_reason, numbers_both, numbers_of, removal_reason}
+use Rattle.tables_rows.proofs.Unchanged.{changes_nothing}
+use Rattle.tables_make.proofs.Steps.{changes_at, none_cut, found_is, none_is}
 use Rattle.tables_make.proofs.Uncut.{rows_found}
-use Rattle.tables_make.proofs.Inside.{done_stays}
-use Rattle.tables_make.proofs.Failed.{none_done, always_failed}
+use Rattle.tables_rows.proofs.Inside.{done_stays}
+use Rattle.tables_rows.proofs.Failed.{none_done, always_failed}
 use Rattle.tables_make.proofs.cutting.cut.Goals as goal
 
 pub cut_found-requires : goal.cut_found-requires

@@ -11,12 +11,12 @@ use Rattle.tables_sql.proofs.Under.{piece_after}
 use Rattle.model.specs.World.{Path}
 use Rattle.tables_make.specs.Cutting.{cut_object, cut_objects}
 use Rattle.tables_make.specs.Migrating.{CutRowsAt, IsUncut}
-use Rattle.tables_make.specs.Reasons.{Rows, AreAmong, Both, RowsOf}
-use Rattle.tables_make.proofs.Reasons.{AreLeft, all_among, left_whole, among_then, first_among, left_next, more_reason, next_reason, numbers_of}
+use Rattle.tables_rows.specs.Reasons.{Rows, AreAmong, Both, RowsOf}
+use Rattle.tables_rows.proofs.Reasons.{AreLeft, all_among, left_whole, among_then, first_among, left_next, more_reason, next_reason, numbers_of}
 use Rattle.tables_make.proofs.Steps.{left_at, none_left}
 use Rattle.tables_make.proofs.Uncut.{cut_among, uncut_next}
-use Rattle.tables_make.proofs.Inside.{done_fails}
-use Rattle.tables_make.proofs.Failed.{none_done}
+use Rattle.tables_rows.proofs.Inside.{done_fails}
+use Rattle.tables_rows.proofs.Failed.{none_done}
 use Rattle.tables_make.proofs.cutting.cut_all.Goals as goal
 
 pub bases-init : goal.bases-init

@@ -8,8 +8,8 @@ use Rattle.tables_sql.proofs.Going.{Goes}
 use Rattle.model.specs.World.{Path}
 use Rattle.tables_make.specs.Cutting.{cut_objects}
 use Rattle.tables_make.specs.Migrating.{CutRowsAt, IsUncut}
-use Rattle.tables_make.specs.Reasons.{AreAmong, RowsOf}
-use Rattle.tables_make.proofs.Reasons.{AreLeft}
+use Rattle.tables_rows.specs.Reasons.{AreAmong, RowsOf}
+use Rattle.tables_rows.proofs.Reasons.{AreLeft}
 use Rattle.tables_make.proofs.cutting.cut_all.Given as goal
 
 -- what is left to cut

@@ -10,10 +10,10 @@ use Rattle.tables_rows.specs.Entries.{stored_of}
 use Rattle.model.specs.World.{Path}
 use Rattle.tables_world.specs.Pieces.{piece_size}
 use Rattle.tables_make.specs.Migrating.{CutRows, LongRows}
-use Rattle.tables_make.specs.Reasons.{Rows, NoRow, IsReason}
+use Rattle.tables_rows.specs.Reasons.{Rows, NoRow, IsReason}
 use Rattle.tables_make.proofs.Cuts.{size}
 use Rattle.tables_make.proofs.Grown.{on_done}
-use Rattle.tables_make.proofs.Reasons.{left_whole, as_reason, numbers_of}
+use Rattle.tables_rows.proofs.Reasons.{left_whole, as_reason, numbers_of}
 use Rattle.tables_make.proofs.Steps.{changes_at, short_cut, long_cut}
 use Rattle.tables_make.proofs.cutting.cut_found.Goals as goal
 

@@ -15,14 +15,15 @@ use Rattle.tables_rows.specs.Entries.{stored_of}
 use Rattle.model.specs.World.{Path}
 use Rattle.tables_world.specs.Pieces.{piece_size, row_part, pieces_by, further_pieces}
 use Rattle.tables_make.specs.Cutting.{cut_row}
-use Rattle.tables_make.specs.Migrating.{CutRows, ObjectRow, PieceRow}
-use Rattle.tables_make.specs.Reasons.{RowsOf}
+use Rattle.tables_rows.specs.ObjectRows.{ObjectRow, PieceRow}
+use Rattle.tables_make.specs.Migrating.{CutRows}
+use Rattle.tables_rows.specs.Reasons.{RowsOf}
 use Rattle.tables_make.proofs.Cuts.{further, size}
-use Rattle.tables_make.proofs.Reasons.{AreLeft, as_reason, is_none, left_next, next_reason, none_put, numbers_both, put_reason, removal_reason, row_among}
+use Rattle.tables_rows.proofs.Reasons.{AreLeft, as_reason, is_none, left_next, next_reason, none_put, numbers_both, put_reason, removal_reason, row_among}
 use Rattle.tables_make.proofs.Steps.{written}
 use Rattle.tables_make.proofs.Uncut.{deleted, row_is}
-use Rattle.tables_make.proofs.Inside.{done_fails, done_stays}
-use Rattle.tables_make.proofs.Failed.{none_done, always_failed}
+use Rattle.tables_rows.proofs.Inside.{done_fails, done_stays}
+use Rattle.tables_rows.proofs.Failed.{none_done, always_failed}
 use Rattle.tables_make.proofs.cutting.put_cut.Goals as goal
 
 -- once the row was put again, the pieces are left

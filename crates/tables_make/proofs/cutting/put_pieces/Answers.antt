@@ -14,13 +14,13 @@ use Rattle.tables_sql.proofs.Transactions.{survives_none}
 use Rattle.tables_sql.proofs.Under.{piece_after}
 use Rattle.tables_world.specs.Pieces.{piece_size, pieces_by}
 use Rattle.tables_make.specs.Cutting.{put_pieces}
-use Rattle.tables_make.specs.Migrating.{PieceRow}
-use Rattle.tables_make.specs.Reasons.{Both, RowsOf}
+use Rattle.tables_rows.specs.ObjectRows.{PieceRow}
+use Rattle.tables_rows.specs.Reasons.{Both, RowsOf}
 use Rattle.tables_make.proofs.Cuts.{size, first_piece, no_piece, no_end, at_end}
-use Rattle.tables_make.proofs.Reasons.{AreLeft, left_whole, first_among, is_none, left_next, next_reason, numbers_of, put_reason}
+use Rattle.tables_rows.proofs.Reasons.{AreLeft, left_whole, first_among, is_none, left_next, next_reason, numbers_of, put_reason}
 use Rattle.tables_make.proofs.Uncut.{apart}
-use Rattle.tables_make.proofs.Inside.{done_fails}
-use Rattle.tables_make.proofs.Failed.{none_done}
+use Rattle.tables_rows.proofs.Inside.{done_fails}
+use Rattle.tables_rows.proofs.Failed.{none_done}
 use Rattle.tables_make.proofs.cutting.put_pieces.Goals as goal
 
 pub pieces-init : goal.pieces-init

@@ -9,9 +9,9 @@ use Rattle.tables_sql.specs.Calls.{HasFurther}
 use Rattle.tables_sql.proofs.Going.{Goes}
 use Rattle.tables_world.specs.Pieces.{pieces_by}
 use Rattle.tables_make.specs.Cutting.{put_pieces}
-use Rattle.tables_make.specs.Migrating.{PieceRow}
-use Rattle.tables_make.specs.Reasons.{RowsOf}
-use Rattle.tables_make.proofs.Reasons.{AreLeft}
+use Rattle.tables_rows.specs.ObjectRows.{PieceRow}
+use Rattle.tables_rows.specs.Reasons.{RowsOf}
+use Rattle.tables_rows.proofs.Reasons.{AreLeft}
 use Rattle.tables_make.proofs.cutting.put_pieces.Given as goal
 
 -- what is left to write

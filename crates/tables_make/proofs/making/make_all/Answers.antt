@@ -12,7 +12,7 @@ use Rattle.tables_make.proofs.Creates.{making_after}
 use Rattle.tables_make.proofs.Inside.{both_keep}
 use Rattle.tables_make.proofs.MakingTogether.{part, fails_after, fails_wider}
 use Rattle.tables_make.proofs.Settles.{all_made}
-use Rattle.tables_make.proofs.Failed.{none_done}
+use Rattle.tables_rows.proofs.Failed.{none_done}
 use Rattle.tables_make.proofs.making.make_all.Goals as goal
 
 pub all-requires-clause-distinct : goal.all-requires-clause-distinct

@@ -1,7 +1,7 @@
 use Rattle.tables_sql.proofs.Steps.{clean_before}
 use Rattle.tables_make.proofs.MakingTogether.{becomes}
 use Rattle.tables_make.proofs.Settles.{puts}
-use Rattle.tables_make.proofs.Failed.{none_done}
+use Rattle.tables_rows.proofs.Failed.{none_done}
 use Rattle.tables_make.proofs.CallsInTurn.{refused_keeps}
 use Rattle.tables_make.proofs.making.put.Goals as goal
 

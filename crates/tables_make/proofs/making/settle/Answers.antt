@@ -5,7 +5,7 @@ use Rattle.tables_sql.proofs.Scans.{on_ok, err_with}
 use Rattle.tables_make.proofs.SettingFailures.{first_fails, second_fails}
 use Rattle.tables_make.proofs.Settles.{has_meta, has_still, meta_made}
 use Rattle.tables_make.proofs.Inside.{both_keep}
-use Rattle.tables_make.proofs.Failed.{none_done}
+use Rattle.tables_rows.proofs.Failed.{none_done}
 use Rattle.std.proofs.Common.{[], ◌∷◌, arith}
 use Rattle.tables_schema.specs.Forms.{meta}
 use Rattle.tables_make.proofs.MakingTogether.{fails_wider}

@@ -5,7 +5,7 @@ use Rattle.tables_sql.specs.Contents.{Contents}
 use Rattle.tables_make.specs.Cutting.{cut_objects, renumbered}
 use Rattle.tables_make.specs.Migrated.{HasEarlier}
 use Rattle.tables_make.specs.Migrating.{RewrittenRows}
-use Rattle.tables_make.specs.Reasons.{Rows}
+use Rattle.tables_rows.specs.Reasons.{Rows}
 use Rattle.tables_make.proofs.Grown.{begun_has, both_named, grows_under}
 use Rattle.tables_make.proofs.Migrations.{IsMigration, undone_migrates, written_migrates}
 use Rattle.tables_make.proofs.migrating.commit_first.Goals as goal

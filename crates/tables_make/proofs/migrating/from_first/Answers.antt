@@ -9,7 +9,7 @@ use Rattle.tables_sql.specs.Calls.{Leaves}
 use Rattle.tables_sql.proofs.Steps.{clean_before}
 use Rattle.tables_sql.proofs.TestFailures.{passed_on}
 use Rattle.tables_make.proofs.MigratingFailures.{keys_fail, migrating_before}
-use Rattle.tables_make.proofs.Reasons.{as_reason}
+use Rattle.tables_rows.proofs.Reasons.{as_reason}
 use Rattle.tables_make.specs.Further.{grown}
 use Rattle.tables_schema.specs.declared.schema.Schema.TheVariants.{V1}
 use Rattle.tables_world.specs.Worlds.{IsSoundBy}
@@ -18,7 +18,7 @@ use Rattle.tables_make.specs.Cutting.{cut_objects, renumbered}
 use Rattle.tables_make.specs.Migrating.{FailsToPutBy, MigratedRows, RewrittenRows}
 use Rattle.tables_make.specs.Migrated.{missing_tables, HasEarlier, migrated_contents, LeavesMigrated}
 use Rattle.tables_make.proofs.Grown.{grown_as, grown_from, on_done, shown_err}
-use Rattle.tables_make.proofs.Failed.{always_failed, none_done}
+use Rattle.tables_rows.proofs.Failed.{always_failed, none_done}
 use Rattle.tables_make.proofs.Rewritten.{first_written}
 use Rattle.tables_make.proofs.migrating.from_first.Goals as goal
 

@@ -6,10 +6,10 @@ use Rattle.tables_sql.proofs.Steps.{clean_before}
 use Rattle.tables_sql.proofs.TestFailures.{passed_on}
 use Rattle.tables_sql.proofs.Transactions.{done_both}
 use Rattle.tables_make.specs.Migrating.{CutRowsAt, SettingRow}
-use Rattle.tables_make.specs.Reasons.{Both, RowsOf}
-use Rattle.tables_make.proofs.Reasons.{as_reason, first_among, more_reason, next_reason, numbers_both, second_left}
-use Rattle.tables_make.proofs.Inside.{done_stays}
-use Rattle.tables_make.proofs.Failed.{none_done, always_failed}
+use Rattle.tables_rows.specs.Reasons.{Both, RowsOf}
+use Rattle.tables_rows.proofs.Reasons.{as_reason, first_among, more_reason, next_reason, numbers_both, second_left}
+use Rattle.tables_rows.proofs.Inside.{done_stays}
+use Rattle.tables_rows.proofs.Failed.{none_done, always_failed}
 use Rattle.tables_make.proofs.migrating.rewrite.Goals as goal
 
 pub returns : goal.returns

@@ -6,10 +6,10 @@ use Rattle.tables_sql.proofs.Steps.{clean_before}
 use Rattle.tables_sql.proofs.TestFailures.{passed_on}
 use Rattle.tables_make.specs.Migrating.{FailsToPutBy, RewrittenRows}
 use Rattle.tables_make.proofs.MigratingFailures.{rows_fail}
-use Rattle.tables_make.proofs.Reasons.{as_reason}
+use Rattle.tables_rows.proofs.Reasons.{as_reason}
 use Rattle.tables_make.proofs.Uncut.{no_pieces, none_cut}
 use Rattle.tables_make.proofs.Grown.{both_named, grows, makes_under, on_done}
-use Rattle.tables_make.proofs.Failed.{none_done}
+use Rattle.tables_rows.proofs.Failed.{none_done}
 use Rattle.tables_make.proofs.Inside.{write_after}
 use Rattle.tables_make.proofs.migrating.write_first.Goals as goal
 

@@ -6,9 +6,9 @@ use Rattle.tables_sql.proofs.Steps.{clean_before}
 use Rattle.tables_sql.proofs.TestFailures.{passed_on}
 use Rattle.tables_make.specs.Migrating.{SettingRow}
 use Rattle.tables_make.proofs.MigratingFailures.{rows_fail}
-use Rattle.tables_make.proofs.Reasons.{as_reason}
+use Rattle.tables_rows.proofs.Reasons.{as_reason}
 use Rattle.tables_make.proofs.Grown.{last_named, grows, makes_under, pieces_still, on_done}
-use Rattle.tables_make.proofs.Failed.{none_done}
+use Rattle.tables_rows.proofs.Failed.{none_done}
 use Rattle.tables_make.proofs.Inside.{write_after}
 use Rattle.tables_make.proofs.migrating.write_second.Goals as goal
 

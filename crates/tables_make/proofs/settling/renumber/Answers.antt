@@ -10,11 +10,11 @@ use Rattle.tables_sql.proofs.Steps.{clean_before}
 use Rattle.tables_sql.proofs.TestFailures.{passed_on}
 use Rattle.tables_sql.proofs.Transactions.{done_both}
 use Rattle.tables_make.specs.Migrating.{SettingRow}
-use Rattle.tables_make.proofs.Reasons.{all_among, as_reason, is_none, next_reason, none_put, numbers_both, put_reason, removal_reason}
+use Rattle.tables_rows.proofs.Reasons.{all_among, as_reason, is_none, next_reason, none_put, numbers_both, put_reason, removal_reason}
 use Rattle.tables_make.proofs.Steps.{put_over}
 use Rattle.tables_make.proofs.Uncut.{deleted}
-use Rattle.tables_make.proofs.Inside.{done_stays}
-use Rattle.tables_make.proofs.Failed.{none_done, always_failed}
+use Rattle.tables_rows.proofs.Inside.{done_stays}
+use Rattle.tables_rows.proofs.Failed.{none_done, always_failed}
 use Rattle.tables_make.proofs.settling.renumber.Goals as goal
 
 -- the setting isn't there any more

@@ -5,7 +5,7 @@ use Rattle.tables_sql.specs.Contents.{Contents}
 use Rattle.paths.specs.Root.{Set}
 use Rattle.model.specs.World.{temporary_cmp}
 use Rattle.tables_outline.specs.Maps.{temporary_bytes}
-use Rattle.tables_make.specs.Reasons.{HasReason}
+use Rattle.tables_rows.specs.Reasons.{HasReason}
 use Rattle.tables.specs.RowsPut.{TemporaryRow}
 use Rattle.tables.specs.Temporary.{keeps}
 use Rattle.tables.proofs.AfterWrites.{write_agrees, write_commits, write_fails, failure_agrees, failure_seen, rows_as}

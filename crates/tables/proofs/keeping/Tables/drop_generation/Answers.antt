@@ -12,7 +12,7 @@ use Rattle.tables.specs.TablesValue.{TablesValue}
 use Rattle.tables.proofs.ProfileWrites.{profile_write, drop_follows}
 use Rattle.tables.proofs.AfterWrites.{write_agrees, write_commits, write_fails, failure_seen}
 use Rattle.tables_sql.proofs.TestFailures.{passed_on}
-use Rattle.tables_make.specs.Reasons.{NoRow}
+use Rattle.tables_rows.specs.Reasons.{NoRow}
 use Rattle.tables.proofs.keeping.Tables.drop_generation.Goals as goal
 
 pub drop_generation-requires : goal.drop_generation-requires

@@ -6,7 +6,7 @@ use Rattle.model.specs.World.{Path, pair_cmp}
 use Rattle.tables.proofs.AfterWrites.{write_agrees, write_commits, write_fails, failure_seen}
 use Rattle.tables.proofs.RootChanges.{roots_write}
 use Rattle.tables_sql.proofs.TestFailures.{passed_on}
-use Rattle.tables_make.specs.Reasons.{NoRow}
+use Rattle.tables_rows.specs.Reasons.{NoRow}
 use Rattle.tables.proofs.keeping.Tables.drop_permanent.Goals as goal
 
 pub returns-in_err-commit : goal.returns-in_err-commit

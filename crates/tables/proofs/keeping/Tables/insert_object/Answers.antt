@@ -11,7 +11,7 @@ use Rattle.tables.specs.Rewritten.{HasNoObject, put_object}
 use Rattle.tables.specs.RowsPut.{AddedRows, RowsWithAddress}
 use Rattle.tables.proofs.AfterWrites.{write_agrees, write_commits, write_fails, failure_agrees, failure_seen, rows_as}
 use Rattle.tables.proofs.AddedObjects.{address_among, found_put, object_undone, object_fits, object_rows, object_write, put_is}
-use Rattle.tables_make.proofs.Reasons.{among_then, more_reason}
+use Rattle.tables_rows.proofs.Reasons.{among_then, more_reason}
 use Rattle.tables.proofs.keeping.Tables.insert_object.Goals as goal
 
 pub unreachable-requires : goal.unreachable-requires

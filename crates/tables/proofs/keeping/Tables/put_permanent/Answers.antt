@@ -3,7 +3,7 @@ use Rattle.std.specs.FinMap as finite
 use Rattle.paths.specs.Root.{bytes_cmp, Set}
 use Rattle.model.specs.World.{Path, pair_cmp}
 use Rattle.tables_sql.specs.Contents.{Contents}
-use Rattle.tables_make.specs.Reasons.{HasReason}
+use Rattle.tables_rows.specs.Reasons.{HasReason}
 use Rattle.tables.specs.RowsPut.{PermanentRow}
 use Rattle.tables.proofs.AfterWrites.{write_agrees, write_commits, write_fails, failure_agrees, failure_seen, rows_as}
 use Rattle.tables.proofs.PutRoots.{permanent_put, permanent_present, permanent_undone}

@@ -4,7 +4,7 @@ use Rattle.paths.specs.Root.{bytes_cmp, Set}
 use Rattle.model.specs.World.{Path, pair_cmp}
 use Rattle.tables_sql.specs.Contents.{Contents}
 use Rattle.tables_outline.specs.Maps.{pair_bytes}
-use Rattle.tables_make.specs.Reasons.{HasReason}
+use Rattle.tables_rows.specs.Reasons.{HasReason}
 use Rattle.tables.specs.RowsPut.{UserRootRow}
 use Rattle.tables.proofs.AfterWrites.{write_agrees, write_commits, write_fails, failure_agrees, failure_seen, rows_as}
 use Rattle.tables.proofs.PutRoots.{user_put, user_present, user_undone}

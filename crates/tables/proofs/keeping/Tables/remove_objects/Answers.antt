@@ -4,7 +4,7 @@ use Rattle.tables.proofs.Covered.{covered}
 use Rattle.tables.proofs.AfterWrites.{write_agrees, write_commits, write_fails, failure_seen}
 use Rattle.tables.proofs.RemovedObjects.{removed_write}
 use Rattle.tables_sql.proofs.TestFailures.{passed_on}
-use Rattle.tables_make.specs.Reasons.{NoRow}
+use Rattle.tables_rows.specs.Reasons.{NoRow}
 use Rattle.tables.proofs.keeping.Tables.remove_objects.Goals as goal
 
 pub delete_rows-requires : goal.delete_rows-requires

@@ -3,7 +3,7 @@ use Rattle.std.specs.FinMap as finite
 use Rattle.paths.specs.Root.{bytes_cmp, Set}
 use Rattle.model.specs.World.{Path, pair_cmp}
 use Rattle.tables_outline.specs.Maps.{labelled_bytes, seen_set}
-use Rattle.tables_make.specs.Reasons.{RowsOf}
+use Rattle.tables_rows.specs.Reasons.{RowsOf}
 use Rattle.tables.specs.RowsPut.{RuntimeRow}
 use Rattle.tables.proofs.AfterWrites.{write_agrees, write_commits, write_fails, failure_agrees, failure_seen}
 use Rattle.tables.proofs.RootChanges.{roots_write}

@@ -7,7 +7,7 @@ use Rattle.tables_outline.specs.Outline.{profile_of}
 use Rattle.tables.specs.TablesValue.{TablesValue}
 use Rattle.tables.specs.RowsPut.{ProfileRow, PathRow, GenerationRows}
 use Rattle.tables.proofs.NumbersLeft.{set_is_switch, set_is_new, present_of}
-use Rattle.tables_make.proofs.Reasons.{as_reason, first_among, more_reason}
+use Rattle.tables_rows.proofs.Reasons.{as_reason, first_among, more_reason}
 use Rattle.tables.proofs.SetProfiles.{set_sound, set_commits}
 use Rattle.tables.proofs.keeping.Tables.set_profile.Goals as goal
 

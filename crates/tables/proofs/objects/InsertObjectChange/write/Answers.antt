@@ -14,16 +14,16 @@ use Rattle.model.specs.World.{Path}
 use Rattle.tables_world.specs.Pieces.{piece_size, row_part, further_pieces}
 use Rattle.tables_world.proofs.Migrating.{rising}
 use Rattle.tables.specs.Rewritten.{AreFree, put_object}
-use Rattle.tables_make.specs.Reasons.{Rows, AreAmong, Both, RowsOf}
-use Rattle.tables_make.specs.Migrating.{ObjectRow, PieceRow}
+use Rattle.tables_rows.specs.Reasons.{Rows, AreAmong, Both, RowsOf}
+use Rattle.tables_rows.specs.ObjectRows.{ObjectRow, PieceRow}
 use Rattle.tables.specs.RowsPut.{ReferenceRow, OutputRow, ObjectRows}
 use Rattle.tables.proofs.Cuts.{row_part_is}
 use Rattle.tables.proofs.Free.{outputs_free, pieces_free, references_free}
 use Rattle.tables.proofs.Lists.{zipped, keys_count}
-use Rattle.tables_make.proofs.Reasons.{AreLeft, as_reason, first_among, is_none, left_next, more_reason, next_reason, put_open, row_among, second_left, text_same}
+use Rattle.tables_rows.proofs.Reasons.{AreLeft, as_reason, first_among, is_none, left_next, more_reason, next_reason, put_open, row_among, second_left, text_same}
 use Rattle.tables_sql.proofs.Transactions.{done_both, failed_next, steps_both}
 use Rattle.tables_sql.proofs.Steps.{under_after}
-use Rattle.tables_make.proofs.Failing.{err_kept}
+use Rattle.tables_rows.proofs.Failing.{err_kept}
 use Rattle.tables_sql.proofs.TestFailures.{passed_on, survives_both}
 use Rattle.tables.proofs.Transactions.{pieces_exist}
 use Rattle.tables.proofs.objects.InsertObjectChange.write.Goals as goal

@@ -1,5 +1,5 @@
 use Rattle.sqlite.specs.Held.{state}
-use Rattle.tables_make.proofs.Reasons.{as_reason, removal_reason}
+use Rattle.tables_rows.proofs.Reasons.{as_reason, removal_reason}
 use Rattle.tables.proofs.profiles.DropGenerationChange.write.Goals as goal
 
 pub returns-clause-cause : goal.returns-clause-cause

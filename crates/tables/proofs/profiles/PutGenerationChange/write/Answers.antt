@@ -10,11 +10,11 @@ use Rattle.tables_sql.proofs.Transactions.{done_both, failed_next, steps_both}
 use Rattle.tables_sql.proofs.Steps.{under_after}
 use Rattle.tables_sql.proofs.TestFailures.{passed_on, survives_both}
 use Rattle.tables_outline.proofs.Puts.{get-removed, put_over}
-use Rattle.tables_make.specs.Reasons.{Both}
+use Rattle.tables_rows.specs.Reasons.{Both}
 use Rattle.tables.specs.RowsPut.{ProfileRow, PathRow, GenerationRows}
 use Rattle.tables.proofs.AddedGenerations.{without_triple}
-use Rattle.tables_make.proofs.Failing.{err_kept}
-use Rattle.tables_make.proofs.Reasons.{all_among, as_reason, first_among, is_none, left_still, more_reason, next_reason, put_reason, removal_reason, second_left}
+use Rattle.tables_rows.proofs.Failing.{err_kept}
+use Rattle.tables_rows.proofs.Reasons.{all_among, as_reason, first_among, is_none, left_still, more_reason, next_reason, put_reason, removal_reason, second_left}
 use Rattle.tables.proofs.profiles.PutGenerationChange.write.Goals as goal
 
 pub delete-requires-clause-under : goal.delete-requires-clause-under

@@ -1,8 +1,8 @@
 use Rattle.sqlite.specs.Held.{state}
 use Rattle.tables_sql.proofs.Steps.{clean_before}
 use Rattle.tables_sql.proofs.TestFailures.{passed_on}
-use Rattle.tables_make.proofs.Steps.{changes_nothing}
-use Rattle.tables_make.proofs.Reasons.{removal_reason}
+use Rattle.tables_rows.proofs.Unchanged.{changes_nothing}
+use Rattle.tables_rows.proofs.Reasons.{removal_reason}
 use Rattle.tables.proofs.removal.RemoveNoneChange.write.Goals as goal
 
 pub returns-clause-done : goal.returns-clause-done

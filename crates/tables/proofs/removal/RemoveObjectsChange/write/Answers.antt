@@ -8,8 +8,8 @@ use Rattle.tables.proofs.Covered.{covers_less}
 use Rattle.tables.proofs.Removed.{without_next}
 use Rattle.tables_sql.proofs.TestFailures.{passed_on, survives_both}
 use Rattle.tables.proofs.Transactions.{pieces_exist}
-use Rattle.tables_make.specs.Reasons.{NoRow}
-use Rattle.tables_make.proofs.Reasons.{as_reason, next_reason, none_put}
+use Rattle.tables_rows.specs.Reasons.{NoRow}
+use Rattle.tables_rows.proofs.Reasons.{as_reason, next_reason, none_put}
 use Rattle.tables.proofs.removal.RemoveObjectsChange.write.Goals as goal
 
 pub delete_object-requires : goal.delete_object-requires

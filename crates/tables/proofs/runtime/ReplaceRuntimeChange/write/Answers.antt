@@ -7,7 +7,7 @@ use Rattle.tables_sql.proofs.Transactions.{done_both, failed_next}
 use Rattle.tables_sql.proofs.Steps.{under_after}
 use Rattle.tables.proofs.PutPairs.{all_put}
 use Rattle.tables_sql.proofs.TestFailures.{passed_on, survives_both}
-use Rattle.tables_make.proofs.Reasons.{as_reason, next_reason, none_put, removal_reason}
+use Rattle.tables_rows.proofs.Reasons.{as_reason, next_reason, none_put, removal_reason}
 use Rattle.tables.proofs.runtime.ReplaceRuntimeChange.write.Goals as goal
 
 pub put_runtime-requires : goal.put_runtime-requires

@@ -1,5 +1,5 @@
 use Rattle.sqlite.specs.Held.{state}
-use Rattle.tables_make.proofs.Reasons.{as_reason, removal_reason}
+use Rattle.tables_rows.proofs.Reasons.{as_reason, removal_reason}
 use Rattle.tables.proofs.temporary.EndSessionChange.write.Goals as goal
 
 pub delete-requires-clause-exists : goal.delete-requires-clause-exists

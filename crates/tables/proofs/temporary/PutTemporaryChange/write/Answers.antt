@@ -12,7 +12,7 @@ use Rattle.tables.proofs.SessionRows.{without_one}
 use Rattle.tables_sql.proofs.TestFailures.{passed_on, survives_both}
 use Rattle.tables.specs.RowsPut.{TemporaryRow}
 use Rattle.tables.specs.Temporary.{keeps}
-use Rattle.tables_make.proofs.Reasons.{all_among, as_reason, is_none, next_reason, none_put, put_reason, removal_reason}
+use Rattle.tables_rows.proofs.Reasons.{all_among, as_reason, is_none, next_reason, none_put, put_reason, removal_reason}
 use Rattle.tables.proofs.Transactions.{temp_roots_exist}
 use Rattle.tables.proofs.temporary.PutTemporaryChange.write.Goals as goal
 

@@ -3,7 +3,7 @@ use Rattle.sqlite.specs.Held.{state}
 use Rattle.tables_sql.specs.Contents.{Contents}
 use Rattle.tables_outline.proofs.Orders.{pair_total, pair_antisymmetric}
 use Rattle.tables_outline.proofs.Puts.{retained}
-use Rattle.tables_make.proofs.Reasons.{as_reason, removal_reason}
+use Rattle.tables_rows.proofs.Reasons.{as_reason, removal_reason}
 use Rattle.tables.proofs.Parts.{without_pair}
 use Rattle.tables.proofs.Transactions.{done_as}
 use Rattle.tables.proofs.user_roots.DropUserRootChange.write.Goals as goal

@@ -10,7 +10,7 @@ use Rattle.tables_sql.proofs.Transactions.{done_both, failed_next}
 use Rattle.tables_sql.proofs.Steps.{under_after}
 use Rattle.tables_sql.proofs.TestFailures.{passed_on, survives_both}
 use Rattle.tables.specs.RowsPut.{UserRootRow}
-use Rattle.tables_make.proofs.Reasons.{all_among, as_reason, is_none, next_reason, none_put, put_reason, removal_reason}
+use Rattle.tables_rows.proofs.Reasons.{all_among, as_reason, is_none, next_reason, none_put, put_reason, removal_reason}
 use Rattle.tables.proofs.user_roots.PutUserRootChange.write.Goals as goal
 
 pub insert-requires-clause-under : goal.insert-requires-clause-under

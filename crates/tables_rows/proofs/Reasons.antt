@@ -21,7 +21,7 @@ use Rattle.tables_sql.specs.declared.failure.Failed.TheVariants.{Memory, Size, D
 use Rattle.tables_sql.proofs.Steps.{foreign_then}
 use Rattle.tables_sql.specs.Rowids.{NumbersOn}
 use Rattle.tables_sql.proofs.Rowids.{full_before, full_for_one, fuller, numbers_on_more, numbers_on_none, numbers_on_then}
-use Rattle.tables_make.specs.Reasons.{Rows, AreAmong, Both, IsRow, NoRow, IsWithin, IsReason}
+use Rattle.tables_rows.specs.Reasons.{Rows, AreAmong, Both, IsRow, NoRow, IsWithin, IsReason}
 
 -- ---- rows among others
 
