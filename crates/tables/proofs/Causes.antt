@@ -13,7 +13,7 @@ use Rattle.tables_sql.specs.Failures.{HasDiskCause, FailsToRead}
 use Rattle.tables_make.specs.Making.{RunsOutOfTrees, IsIndexNameUsed, FailsToMake}
 use Rattle.tables_make.specs.Migrating.{FailsToMigrate}
 use Rattle.tables_make.proofs.MigratingFailures.{whole_before}
-use Rattle.tables_open.specs.Opened.{HasUnkeyed, FailsToOpen}
+use Rattle.tables_recognize.specs.Opened.{HasUnkeyed, FailsToOpen}
 use Rattle.tables.specs.declared.refusing.Cause.{Cause}
 use Rattle.tables.specs.declared.refusing.Cause.TheVariants.{BadSchema, OtherStoreDir, Failed as failing}
 use Rattle.tables.specs.Opening.{IsFoundBy, IsRefusal, IsCause}

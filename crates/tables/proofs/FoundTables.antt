@@ -13,7 +13,7 @@ use Rattle.tables_sql.specs.Texts.{AreReadable}
 use Rattle.tables_sql.specs.Calls.{HasFurther, IsStoreDatabase, IsWhole}
 use Rattle.tables_sql.proofs.FurtherTables.{if_any_free}
 use Rattle.tables_make.proofs.Uncut.{no_pieces}
-use Rattle.tables_open.specs.Opened.{IsFound, IsReadyBy}
+use Rattle.tables_recognize.specs.Opened.{IsFound, IsReadyBy}
 use Rattle.tables_schema.specs.declared.schema.Schema.{Schema}
 use Rattle.tables_schema.specs.declared.schema.Schema.TheVariants.{V1, V2, V3}
 use Rattle.tables_world.specs.Worlds.{IsSoundBy}

@@ -17,8 +17,8 @@ use Rattle.tables_world.proofs.SoundParts.{sound_by_parts}
 use Rattle.tables_outline.specs.Outline.{OutlineValue, outlined, outline_of}
 use Rattle.tables_outline.proofs.Orders.{bytes_total, bytes_antisymmetric}
 use Rattle.tables_outline.proofs.Reported.{has-reported}
-use Rattle.tables_objects.specs.Loaded.{AreSoundInPieces}
-use Rattle.tables_roots.specs.Loaded.{Objects, AreAllSound, AreObjects, with_roots}
+use Rattle.tables_load_objects.specs.Loaded.{AreSoundInPieces}
+use Rattle.tables_load_roots.specs.Loaded.{Objects, AreAllSound, AreObjects, with_roots}
 
 module _ (schema : Schema) (dir : List ℕ) (c : Contents) where
   parts : IsTrue (is_store_dir dir) → c.meta ≡ settings schema dir → (IsFalse (has_pieces schema) → c.pieces ≡ finite.empty) → (IsFalse (has_temporary schema) → c.temp_roots ≡ finite.empty)

@@ -1,8 +1,8 @@
 -- Why a file isn't opened as a store.
 use Rattle.std.specs.Option.{option_map_or}
-use Rattle.tables_open.specs.Disk as disk
-use Rattle.tables_open.specs.declared.file.UnopenedFile.{UnopenedFile}
-use Rattle.tables_open.specs.declared.file.UnopenedFile.TheVariants as file
+use Rattle.tables_recognize.specs.Disk as disk
+use Rattle.tables_recognize.specs.declared.file.UnopenedFile.{UnopenedFile}
+use Rattle.tables_recognize.specs.declared.file.UnopenedFile.TheVariants as file
 use Rattle.tables.specs.declared.refusing.Cause.{Cause}
 use Rattle.tables.specs.declared.refusing.Cause.TheVariants.{BadSchema, Failed}
 use Rattle.tables.specs.declared.refusing.Unopened.{Unopened}

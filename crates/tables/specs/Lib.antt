@@ -5,10 +5,10 @@ pub use Rattle.model.specs.Profiles
 pub use Rattle.model.specs.Effects
 pub use Rattle.tables_outline.specs.Outline
 pub use Rattle.tables_outline.specs.Maps
-pub use Rattle.tables_open.specs.Disk
-pub use Rattle.tables_open.specs.DiskCalls
-pub use Rattle.tables_open.specs.Modelled
-pub use Rattle.tables_open.specs.DiskStart
+pub use Rattle.tables_recognize.specs.Disk
+pub use Rattle.tables_recognize.specs.DiskCalls
+pub use Rattle.tables_recognize.specs.Modelled
+pub use Rattle.tables_recognize.specs.DiskStart
 pub use Rattle.tables_rows.specs.Reasons
 pub mod Adopted
 pub mod Causes

@@ -1,9 +1,9 @@
 -- How a file is opened as a store, or isn't.
 use Rattle.std.specs.Prelude.{◌≡◌, ℕ, false, List, IsTrue}
-use Rattle.tables_open.specs.Disk as disk
-use Rattle.tables_open.specs.DiskCalls as calls
-use Rattle.tables_open.specs.Modelled.{Modelled}
-use Rattle.tables_open.specs.DiskStart.{Ghosts}
+use Rattle.tables_recognize.specs.Disk as disk
+use Rattle.tables_recognize.specs.DiskCalls as calls
+use Rattle.tables_recognize.specs.Modelled.{Modelled}
+use Rattle.tables_recognize.specs.DiskStart.{Ghosts}
 use Rattle.sqlite_std_file.specs.declared.host.Host.{Host}
 use Rattle.sqlite_wal.specs.Recovery.{Image}
 use Rattle.sqlite_store.specs.declared.store.FileStore.{FileStore}
@@ -12,7 +12,7 @@ use Rattle.sqlite.specs.Held.{Held}
 use Rattle.sqlite.specs.Start.{FindsIn}
 use Rattle.sqlite.specs.Files.{over_files, file_state}
 use Rattle.tables_sql.specs.Calls.{IsDurable, KeepsShown}
-use Rattle.tables_open.specs.Opened.{IsAsOpened, FailsToOpenFile}
+use Rattle.tables_recognize.specs.Opened.{IsAsOpened, FailsToOpenFile}
 use Rattle.tables.specs.TablesValue.{TablesValue}
 use Rattle.tables.specs.declared.refusing.Cause.{Cause}
 use Rattle.tables.specs.declared.refusing.Unopened.{Unopened}

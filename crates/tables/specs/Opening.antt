@@ -19,7 +19,7 @@ use Rattle.tables_make.specs.Making.{LeavesMade, FailsToMake, all_created, store
 use Rattle.tables_make.specs.Migrated.{missing_tables, migrated_contents, LeavesMigrated}
 use Rattle.tables_make.specs.Migrating.{FailsToMigrate}
 use Rattle.tables_sql.specs.declared.failure.Failed.{Failed}
-use Rattle.tables_open.specs.Opened.{FailsToOpen}
+use Rattle.tables_recognize.specs.Opened.{FailsToOpen}
 use Rattle.model.specs.World.{no_world}
 use Rattle.tables_schema.specs.declared.schema.Schema.{Schema}
 use Rattle.tables_schema.specs.declared.schema.Schema.TheVariants.{V1, V2, V3}

@@ -12,8 +12,8 @@ use crate::refusing::{Cause, Unadopted};
 use paths::StoreDir;
 use sqlite::{Alter, Connection};
 use std::alloc::Global;
-use tables_open::file;
-use tables_open::file::{Opened, Unreadable};
+use tables_recognize::file;
+use tables_recognize::file::{Opened, Unreadable};
 use tables_schema::Schema;
 use tables_schema::recognising::Recognised;
 

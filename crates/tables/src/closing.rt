@@ -8,7 +8,7 @@ ghost use Rattle.sqlite.specs.Closing.{IsCopied};
 ghost use Rattle.sqlite.specs.Files.{FailsToClose, IsClosed};
 
 use sqlite::{Connection, Error, FileStore, Files, MemStore};
-use tables_open::Disk;
+use tables_recognize::Disk;
 
 /// A storage whose connections, of type `C`, can be closed.
 pub trait Close<C> {

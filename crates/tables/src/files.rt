@@ -10,8 +10,8 @@ use crate::refusing::Unopened;
 use paths::StoreDir;
 use sqlite::{FileFrom, FileStore, Start};
 use std::rt::HostRuntime;
-use tables_open::file;
-use tables_open::file::Opened;
+use tables_recognize::file;
+use tables_recognize::file::Opened;
 
 /// Opens the file at a path as the store of a directory. Makes the store's tables if the file is missing or has none of
 /// them. `start` is ghost: what a theorem assumes of the file. No code reads it, and a program passes `Unknown`.

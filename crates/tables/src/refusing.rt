@@ -6,8 +6,8 @@ ghost use Rattle.tables.specs.Causes.{cause_of};
 ghost use Rattle.tables.specs.declared.refusing.Cause.TheVariants.{BadSchema, Failed as failing};
 
 use sqlite::{Alter, Connection};
-use tables_open::Disk;
-use tables_open::file::UnopenedFile;
+use tables_recognize::Disk;
+use tables_recognize::file::UnopenedFile;
 use tables_sql::failure::Failed;
 
 /// Why a database isn't opened as a store.

@@ -15,9 +15,10 @@ use crate::refusing::Cause;
 use paths::StoreDir;
 use sqlite::{Alter, Connection};
 use std::alloc::Global;
-use tables_objects::load_objects;
+use tables_load_objects::load_objects;
+use tables_load_roots::load_roots;
 use tables_outline::Outline;
-use tables_roots::{load_roots, settings};
+use tables_recognize::settings;
 use tables_schema::Schema;
 use tables_sql::failure::Failed;
 

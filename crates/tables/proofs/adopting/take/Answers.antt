@@ -5,7 +5,7 @@ use Rattle.tables_schema.specs.declared.recognising.Recognised.TheVariants.{Tabl
 use Rattle.sqlite.specs.Held.{state}
 use Rattle.tables_make.specs.Making.{LeavesMade}
 use Rattle.tables_schema.specs.declared.schema.Schema.TheVariants.{V1, V2, V3}
-use Rattle.tables_open.specs.Opened.{IsReadyBy}
+use Rattle.tables_recognize.specs.Opened.{IsReadyBy}
 use Rattle.tables.specs.Opening.{OpensExisting, OpensMigrated, OpensNew, OpensStore, LeavesMigration, LeavesOpening}
 use Rattle.tables_schema.specs.Finding.{HasNone}
 use Rattle.tables.proofs.FoundTables.{first_found, second_found, third_found, is_none, is_other}

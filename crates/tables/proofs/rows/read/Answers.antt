@@ -9,8 +9,8 @@ use Rattle.tables_sql.specs.Contents.{contents_of}
 use Rattle.tables_sql.specs.Calls.{HasFurther}
 use Rattle.tables_world.specs.Worlds.{rows_of, world_in}
 use Rattle.tables_outline.specs.Outline.{OutlineValue, outline_of}
-use Rattle.tables_objects.specs.Loaded.{AreSoundInPieces}
-use Rattle.tables_roots.specs.Loaded.{AreAllSound, AreObjects, with_roots}
+use Rattle.tables_load_objects.specs.Loaded.{AreSoundInPieces}
+use Rattle.tables_load_roots.specs.Loaded.{AreAllSound, AreObjects, with_roots}
 use Rattle.tables.proofs.Joined.{named_dir, without_objects, without_roots, are_objects, sound_from, whole_outline}
 use Rattle.tables_rows.proofs.Several.{finds_alone, several_failed, reads_then, reads_done}
 use Rattle.tables.proofs.rows.read.Goals as goal

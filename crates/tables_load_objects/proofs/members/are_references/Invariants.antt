@@ -1,0 +1,13 @@
+use Rattle.std.specs.Prelude.{◌≡◌, true, drop, map}
+use Rattle.std.specs.List.{list_all}
+use Rattle.std.specs.Option.{ForSome, option_copied}
+use Rattle.tables_rows.specs.Entries.{reference_of}
+use Rattle.tables_load_objects.specs.Known.{is_known, is_known_reference}
+use Rattle.tables_load_objects.proofs.members.are_references.Given as goal
+
+-- what is left decides, and the last base is known
+abbrev pub invariant-rows : goal.invariant-rows
+invariant-rows l = record {
+  decides : list_all (is_known_reference l.paths) (map reference_of (drop l.row-index l.rows)) ≡ list_all (is_known_reference l.paths) (map reference_of l.rows);
+  last : ForSome (option_copied l.last) (λ base. is_known l.paths base ≡ true);
+}

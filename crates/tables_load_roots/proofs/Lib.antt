@@ -1,0 +1,10 @@
+pub mod AllReads
+pub mod EachEntry
+pub mod Filled
+pub mod Loads
+pub mod PutAll
+pub mod Rows
+pub mod Sessions
+pub mod SoundRoots
+pub mod ThreeTests
+pub mod TwoReads

@@ -1,0 +1,12 @@
+pub mod Asking
+pub mod OneAfterAnother
+pub mod Opened
+pub mod StoreRows
+pub mod OwnRowids
+pub mod ReadableRows
+pub mod RowQueries
+pub mod RowidFailures
+pub mod Shown
+pub mod Tested
+pub mod Tests
+pub mod SettingRows
