@@ -266,7 +266,7 @@ fn changed(rt: HostRuntime) -> Result<(), Fail> {
     let alloc = rt.alloc();
     let dir = StoreDir::parse(alloc, "/nix/store")?;
     let path = path(alloc, TEXT)?;
-    let mut tables = Tables::open_in_memory(alloc, &dir)?;
+    let mut tables = tables::open_in_memory(alloc, &dir)?;
     let changed = change_all(alloc, &mut tables, &path);
     drop(tables.release());
     assert!(rt; changed?);

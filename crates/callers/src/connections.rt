@@ -3,7 +3,6 @@ use crate::fixtures::{SETTINGS, new_store};
 use policy::{Config, store_dir};
 use std::alloc::Global;
 use std::test::Fail;
-use tables::Tables;
 use wire::{Count, WireError, serve, serve_streams};
 
 /// A listing of the paths, and an add of a text.
@@ -47,7 +46,7 @@ fn replied(alloc: Global, messages: &[u8]) -> Result<(u8, Vec<u8>, Vec<u8>), Fai
     let mut input = messages;
     let (mut output, mut errors) = (Vec::new(alloc), Vec::new(alloc));
     let config = Config::from_toml(alloc, SETTINGS)?;
-    let tables = Tables::open_in_memory(alloc, store_dir(&config))?;
+    let tables = tables::open_in_memory(alloc, store_dir(&config))?;
     let status = serve_streams(alloc, config, tables, &mut input, &mut output, &mut errors);
     Ok((status, output, errors))
 }

@@ -4,7 +4,7 @@ use policy::{Caller, CallerError, Config};
 use std::alloc::Global;
 use std::test::Fail;
 use store::Store;
-use tables::{MemStore, Tables};
+use tables::MemStore;
 
 /// The archive of a file whose contents are `mycontent` and a line feed.
 pub const MY_FILE: &[u8] = b"\x0d\0\0\0\0\0\0\0nix-archive-1\0\0\0\
@@ -50,6 +50,6 @@ pub fn caller(alloc: Global, name: &str) -> Result<Caller, CallerError> {
 /// A store in memory, under these settings, in which there is nothing yet.
 pub fn new_store(alloc: Global, settings: &[u8]) -> Result<Store<MemStore>, Fail> {
     let config = Config::from_toml(alloc, settings)?;
-    let tables = Tables::open_in_memory(alloc, policy::store_dir(&config))?;
+    let tables = tables::open_in_memory(alloc, policy::store_dir(&config))?;
     Ok(Store::new(alloc, config, tables))
 }

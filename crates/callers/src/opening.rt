@@ -48,7 +48,7 @@ fn read_all(tables: &mut Tables<MemStore>, path: &StorePath) -> Result<bool, Fai
 
 /// Reads new tables, and gives them up. Whether something was found, and the connection is outside a transaction.
 fn read_new(alloc: Global, dir: &StoreDir, path: &StorePath) -> Result<(bool, bool), Failed> {
-    let mut tables = Tables::open_in_memory(alloc, dir)?;
+    let mut tables = tables::open_in_memory(alloc, dir)?;
     tables.turn_links();
     let found = read_all(&mut tables, path);
     let conn = tables.release();

@@ -6,7 +6,7 @@ use std::io::{Read, Write};
 use std::net::{Shutdown, TcpListener, TcpStream};
 use std::test::Fail;
 use store::Store;
-use tables::{MemStore, Tables};
+use tables::MemStore;
 use tool::serve_on;
 
 /// `bob` is allowed, and nobody else is.
@@ -24,7 +24,7 @@ HTTP/1.1 200 OK\r\ncontent-type: text/plain\r\ncontent-length: 46\r\n\r\n\
 /// A store in memory without an object.
 fn new_store(alloc: Global) -> Result<Store<MemStore>, Fail> {
     let config = Config::from_toml(alloc, SETTINGS)?;
-    let tables = Tables::open_in_memory(alloc, store_dir(&config))?;
+    let tables = tables::open_in_memory(alloc, store_dir(&config))?;
     Ok(Store::new(alloc, config, tables))
 }
 

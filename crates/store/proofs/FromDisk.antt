@@ -22,7 +22,7 @@ use Rattle.model.specs.World.{Object, Path, World, has}
 use Rattle.model.specs.Answers.{archive_at}
 use Rattle.model.specs.Request.{Request}
 use Rattle.model.specs.Sound.{IsSound}
-use Rattle.tables.specs.TablesValue.{TablesValue, HasWorld}
+use Rattle.tables_writes.specs.TablesValue.{TablesValue, HasWorld}
 use Rattle.store_types.specs.declared.replies.Answer.{Answer}
 use Rattle.store_types.specs.declared.replies.Stop.{Stop}
 use Rattle.store_steps.specs.Causes.{HasCause}

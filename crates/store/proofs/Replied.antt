@@ -17,7 +17,7 @@ use Rattle.model.specs.Reply.{Reply, done, denied, refused, failed, memory, size
 use Rattle.model.specs.Verdict.{operation_of, named_in, shown, verdict}
 use Rattle.model.specs.Step.{IsNoneOrLive}
 use Rattle.model.specs.Effects.{effect}
-use Rattle.tables.specs.TablesValue.{TablesValue, HasWorld}
+use Rattle.tables_writes.specs.TablesValue.{TablesValue, HasWorld}
 use Rattle.store_types.specs.declared.replies.Answer.{Answer}
 use Rattle.store_types.specs.declared.replies.Stop.{Stop}
 use Rattle.store_types.specs.declared.replies.Stop.TheVariants.{Refused, Failed}

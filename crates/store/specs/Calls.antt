@@ -7,7 +7,7 @@ use Rattle.policy.specs.Caller.{Caller}
 use Rattle.model.specs.World.{World}
 use Rattle.model.specs.Request.{Request}
 use Rattle.model.specs.Reply.{Reply}
-use Rattle.tables.specs.TablesValue.{HasWorld}
+use Rattle.tables_writes.specs.TablesValue.{HasWorld}
 use Rattle.store_steps.specs.Causes.{HasCause}
 use Rattle.store_steps.specs.Disk.{StepOver}
 use Rattle.store_steps.specs.Durability.{LeavesOthers, StaysDurable}

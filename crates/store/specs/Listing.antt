@@ -4,8 +4,8 @@ use Rattle.sqlite_trees.specs.declared.store.Store.{Ghosts}
 use Rattle.sqlite.specs.State.{HasCleanDisk}
 use Rattle.sqlite.specs.Held.{state}
 use Rattle.model.specs.World.{Path, World, has}
-use Rattle.tables.specs.Frames.{FailsToAsk}
-use Rattle.tables.specs.TablesValue.{TablesValue, HasWorld}
+use Rattle.tables_writes.specs.Frames.{FailsToAsk}
+use Rattle.tables_writes.specs.TablesValue.{TablesValue, HasWorld}
 use Rattle.store_steps.specs.Meets.{OnlyReads}
 use Rattle.nar.specs.Tree.{Tree}
 use Rattle.nar.specs.declared.error.NarError.{NarError}

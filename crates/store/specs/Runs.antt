@@ -10,7 +10,7 @@ use Rattle.model.specs.World.{World}
 use Rattle.model.specs.Request.{Request}
 use Rattle.model.specs.Reply.{Reply}
 use Rattle.model.specs.Pinning.{KeepsReached, RemainsThroughout}
-use Rattle.tables.specs.TablesValue.{TablesValue, HasWorld}
+use Rattle.tables_writes.specs.TablesValue.{TablesValue, HasWorld}
 use Rattle.store_steps.specs.Disk.{RunOver}
 use Rattle.store_steps.specs.Durability.{LeavesOthers}
 

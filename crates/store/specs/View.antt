@@ -4,7 +4,7 @@ use Rattle.std.specs.Coded.{Coded, code_by, coded×}
 use Rattle.policy.specs.Settings.{Settings}
 use Rattle.policy.specs.Codes.{settings_code}
 use Rattle.model.specs.Reply.{Reply, done, denied, refused, failed}
-use Rattle.tables.specs.TablesValue.{TablesValue, kept_code}
+use Rattle.tables_writes.specs.TablesValue.{TablesValue, kept_code}
 
 pub record StoreView (S : Type 0) : Type 0 where
   pub tables : TablesValue S

@@ -5,7 +5,7 @@ ghost use Rattle.std.specs.List.{list_any};
 ghost use Rattle.model.specs.World.{World};
 ghost use Rattle.model.specs.Liveness.{lives};
 ghost use Rattle.model.specs.Verdict.{named_in};
-ghost use Rattle.tables.specs.TablesValue.{HasWorld};
+ghost use Rattle.tables_writes.specs.TablesValue.{HasWorld};
 ghost use Rattle.store_types.specs.Spent.{is_spent};
 ghost use Rattle.store_types.specs.View.{request_view, reply_view};
 ghost use Rattle.store_types.specs.declared.replies.Stop.TheVariants.{Failed as failed};
@@ -27,7 +27,7 @@ use store_roots::runtime::replace_runtime;
 use store_roots::temporary::{add_temp, end_session};
 use store_roots::user_roots::{drop_user_root, set_user_root};
 use store_types::{Answer, Imported, Reply, Request, Stop};
-use tables::Tables;
+use tables_writes::Tables;
 
 /// Does a request: runs its tests in their order, then makes its one change, and returns its answer.
 pub(crate) fn act<S: Alter>(

@@ -8,7 +8,7 @@ ghost use Rattle.model.specs.World.{World};
 ghost use Rattle.model.specs.Reply.{IsDone};
 ghost use Rattle.model.specs.Liveness.{lives};
 ghost use Rattle.model.specs.Verdict.{named_in};
-ghost use Rattle.tables.specs.TablesValue.{HasWorld};
+ghost use Rattle.tables_writes.specs.TablesValue.{HasWorld};
 ghost use Rattle.store_removal.specs.Found.{deletes};
 ghost use Rattle.store_steps.specs.Causes.{HasCause};
 ghost use Rattle.store_steps.specs.Disk.{StepOver};
@@ -29,8 +29,8 @@ use std::alloc::{AllocError, Global};
 use std::marker::Model;
 use store_removal::deleting::denial;
 use store_types::{Answer, Reply, Request, Stop, operation};
-use tables::Tables;
 use tables_sql::failure::Failed;
+use tables_writes::Tables;
 
 /// A store. Contracts see it as its tables and its settings.
 pub struct Store<S: Alter> {
@@ -61,7 +61,7 @@ impl<S: Alter> Store<S> {
     /// use tables::Tables;
     ///
     /// let config = Config::from_toml(alloc, b"keep-outputs = true\n")?;
-    /// let tables = Tables::open_in_memory(alloc, store_dir(&config))?;
+    /// let tables = tables::open_in_memory(alloc, store_dir(&config))?;
     /// let store = Store::new(alloc, config, tables);
     /// let keeps = keep_outputs(store.config());
     /// drop(store.release().release());
@@ -97,7 +97,7 @@ impl<S: Alter> Store<S> {
     /// use tables::Tables;
     ///
     /// let config = Config::from_toml(alloc, b"")?;
-    /// let tables = Tables::open_in_memory(alloc, store_dir(&config))?;
+    /// let tables = tables::open_in_memory(alloc, store_dir(&config))?;
     /// let conn = Store::new(alloc, config, tables).release().release();
     /// assert!(rt; conn.is_autocommit());
     /// ```

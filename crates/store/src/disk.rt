@@ -21,9 +21,9 @@ use std::alloc::Global;
 use store_steps::validity::is_valid;
 use store_types::{Answer, Refusal, Stop};
 use streams::Pieces;
-use tables::Tables;
 use tables_outline::Outline;
 use tables_sql::failure::Failed;
+use tables_writes::Tables;
 
 /// Tests a path whose archive is to be read.
 pub(crate) fn may_read(outline: &Outline, path: &StorePath) -> Result<(), Refusal>

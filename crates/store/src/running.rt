@@ -7,7 +7,7 @@ ghost use Rattle.model.specs.World.{World};
 ghost use Rattle.model.specs.Labels.{AllFailAlike, DifferInLabels};
 ghost use Rattle.model.specs.Reply as replied;
 ghost use Rattle.model.specs.Step.{Run};
-ghost use Rattle.tables.specs.TablesValue.{HasWorld};
+ghost use Rattle.tables_writes.specs.TablesValue.{HasWorld};
 ghost use Rattle.store_steps.specs.Disk.{LookAlikeOver};
 ghost use Rattle.store.specs.Runs.{RunsFrom};
 ghost use Rattle.store_types.specs.Spent.{SpentAreAnswered};

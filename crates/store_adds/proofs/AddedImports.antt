@@ -11,7 +11,7 @@ use Rattle.model.specs.Tests.{first_failing, import_tests}
 use Rattle.model.specs.Adds.{Added, added_import}
 use Rattle.model.specs.Effects.{with_object}
 use Rattle.model.proofs.SoundAdds.{import_sound}
-use Rattle.tables.specs.TablesValue.{TablesValue, HasWorld}
+use Rattle.tables_writes.specs.TablesValue.{TablesValue, HasWorld}
 use Rattle.store_types.specs.declared.replies.Stop.{Stop}
 use Rattle.store_types.specs.Tested.{Stops}
 

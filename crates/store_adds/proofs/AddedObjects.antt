@@ -24,10 +24,10 @@ use Rattle.model.proofs.SoundAdds.{text_sound}
 use Rattle.store_types.specs.Tested.{Stops}
 use Rattle.model.specs.Effects.{with_object, effect}
 use Rattle.model.specs.Answers.{answer}
-use Rattle.tables.specs.Reasons.{AreAmong}
-use Rattle.tables.specs.RowsPut.{AddedRows}
-use Rattle.tables.specs.Frames.{CommitsChange, FailsToChange}
-use Rattle.tables.specs.TablesValue.{TablesValue, HasWorld, LeavesWorld}
+use Rattle.tables_writes.specs.Reasons.{AreAmong}
+use Rattle.tables_writes.specs.RowsPut.{AddedRows}
+use Rattle.tables_writes.specs.Frames.{CommitsChange, FailsToChange}
+use Rattle.tables_writes.specs.TablesValue.{TablesValue, HasWorld, LeavesWorld}
 use Rattle.store_types.specs.declared.replies.Answer.{Answer}
 use Rattle.store_types.specs.declared.replies.Answer.TheVariants.{Path as Placed}
 use Rattle.store_types.specs.declared.replies.Stop.{Stop}

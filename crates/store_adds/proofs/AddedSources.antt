@@ -12,7 +12,7 @@ use Rattle.model.specs.Tests.{first_failing, source_tests}
 use Rattle.model.specs.Adds.{Added, added_source}
 use Rattle.model.specs.Effects.{with_object}
 use Rattle.model.proofs.SoundAdds.{source_sound}
-use Rattle.tables.specs.TablesValue.{TablesValue, HasWorld}
+use Rattle.tables_writes.specs.TablesValue.{TablesValue, HasWorld}
 use Rattle.store_types.specs.declared.replies.Stop.{Stop}
 use Rattle.store_types.specs.Tested.{Stops}
 

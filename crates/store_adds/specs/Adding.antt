@@ -9,12 +9,12 @@ use Rattle.model.specs.Request.{Request}
 use Rattle.model.specs.Reply.{path}
 use Rattle.model.specs.Adds.{Added}
 use Rattle.model.specs.Effects.{with_object}
-use Rattle.tables.specs.TablesValue.{TablesValue, HasWorld, LeavesWorld}
+use Rattle.tables_writes.specs.TablesValue.{TablesValue, HasWorld, LeavesWorld}
 use Rattle.store_types.specs.declared.replies.Answer.{Answer}
 use Rattle.store_types.specs.declared.replies.Stop.{Stop}
 use Rattle.store_types.specs.declared.replies.Stop.TheVariants.{Refused, Failed}
 use Rattle.store_types.specs.View.{answer_view}
-use Rattle.tables.specs.Reasons.{AreAmong}
+use Rattle.tables_writes.specs.Reasons.{AreAmong}
 use Rattle.store_steps.specs.Causes.{HasCause}
 use Rattle.store_steps.specs.RowsPut.{ObjectRowsPut, rows_put}
 use Rattle.store_steps.specs.Durability.{LeavesOthers, StaysDurable}

@@ -6,7 +6,7 @@ ghost use Rattle.model.specs.World.{World};
 ghost use Rattle.model.specs.Sound.{IsSound};
 ghost use Rattle.model.specs.Request as asked;
 ghost use Rattle.model.specs.Effects.{with_object};
-ghost use Rattle.tables.specs.TablesValue.{HasWorld};
+ghost use Rattle.tables_writes.specs.TablesValue.{HasWorld};
 ghost use Rattle.store_adds.specs.Parts.{added_view};
 ghost use Rattle.store_adds.specs.Adding.{IsAdded};
 ghost use Rattle.store_steps.specs.Meets.{IsMet};
@@ -18,7 +18,7 @@ use policy::{Config, store_dir};
 use sqlite::Alter;
 use std::alloc::Global;
 use store_types::{Answer, Stop};
-use tables::Tables;
+use tables_writes::Tables;
 
 /// Adds an object at its path, unless the path is valid already. The answer is the path.
 pub fn add<S: Alter>(tables: &mut Tables<S>, added: Added) -> Result<Answer, Stop>

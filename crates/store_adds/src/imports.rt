@@ -33,8 +33,8 @@ use sqlite::Alter;
 use std::alloc::Global;
 use std::collections::BTreeMap;
 use store_types::{Answer, Imported, Stop};
-use tables::Tables;
 use tables_outline::Outline;
+use tables_writes::Tables;
 
 /// Tests an imported object. Returns the outputs that the object records.
 fn examine_import(

@@ -31,8 +31,8 @@ use sqlite::Alter;
 use std::alloc::Global;
 use std::collections::BTreeMap;
 use store_types::{Answer, Stop};
-use tables::Tables;
 use tables_outline::Outline;
+use tables_writes::Tables;
 
 /// Tests a source object. Returns the outputs that the object records.
 fn examine_source(

@@ -11,7 +11,7 @@ use Rattle.model.specs.Request.{collect}
 use Rattle.model.proofs.Deleting.{reference_left}
 use Rattle.model.proofs.Pins.{stays}
 use Rattle.model.proofs.SoundRemoval.{collected_sound, limited_sound, removed_sound}
-use Rattle.tables.proofs.Chosen.{with_chosen, without_chosen}
+use Rattle.tables_writes.proofs.Chosen.{with_chosen, without_chosen}
 use Rattle.store_removal.specs.Removing.{without}
 
 -- without the dead the living are left

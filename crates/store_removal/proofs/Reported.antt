@@ -7,7 +7,7 @@ use Rattle.live.specs.Numbering.{graph_of}
 use Rattle.policy.specs.Settings.{Settings}
 use Rattle.model.specs.World.{Path, Object, World, all_paths, roots_of}
 use Rattle.tables_outline.specs.Outline.{OutlineValue, Outlined, outlined, outline_of}
-use Rattle.tables.proofs.Outlined.{entries_outlined}
+use Rattle.tables_writes.proofs.Outlined.{entries_outlined}
 use Rattle.model.specs.Liveness as spec
 use Rattle.model.specs.Liveness.{linked}
 use Rattle.store_removal.specs.Linked.{row_in, rows_in, lives_in}

@@ -28,8 +28,8 @@ use policy::Config;
 use sqlite::Alter;
 use std::alloc::{AllocError, Global};
 use store_types::{Answer, Stop};
-use tables::Tables;
 use tables_outline::{Outline, root_list};
+use tables_writes::Tables;
 
 /// The bytes of the archive of each row's path.
 fn sizes(alloc: Global, outline: &Outline, rows: &[Row]) -> Result<Vec<u64>, AllocError>

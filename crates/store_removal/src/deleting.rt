@@ -16,7 +16,7 @@ ghost use Rattle.store_types.specs.View.{request_view};
 ghost use Rattle.policy.specs.Settings.{Settings};
 ghost use Rattle.model.specs.Sound.{IsSound};
 ghost use Rattle.model.specs.Effects.{keeping};
-ghost use Rattle.tables.specs.TablesValue.{HasWorld};
+ghost use Rattle.tables_writes.specs.TablesValue.{HasWorld};
 ghost use Rattle.store_steps.specs.Meets.{IsMet};
 ghost use Rattle.model.specs.Liveness as spec;
 ghost use Rattle.policy.specs.Caller as callers;
@@ -33,8 +33,8 @@ use sqlite::Alter;
 use std::alloc::{AllocError, Global};
 use store_steps::validity::are_valid;
 use store_types::{Answer, Request, Stop};
-use tables::Tables;
 use tables_outline::Outline;
+use tables_writes::Tables;
 
 /// The places of the given paths that rows have.
 fn places(alloc: Global, rows: &[Row], named: &[StorePath]) -> Result<Vec<usize>, AllocError>

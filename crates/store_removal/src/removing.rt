@@ -7,7 +7,7 @@ ghost use Rattle.model.specs.Disk.{touches_disk};
 ghost use Rattle.model.specs.World.{World};
 ghost use Rattle.model.specs.Sound.{IsSound};
 ghost use Rattle.tables_outline.specs.Outline.{outline_of};
-ghost use Rattle.tables.specs.TablesValue.{HasWorld};
+ghost use Rattle.tables_writes.specs.TablesValue.{HasWorld};
 ghost use Rattle.store_steps.specs.Meets.{IsMet};
 ghost use Rattle.store_removal.specs.Removing.{Removes, without};
 ghost use Rattle.model.specs.Request as asked;
@@ -16,7 +16,7 @@ use paths::StorePath;
 use sqlite::Alter;
 use store_steps::writing::answered;
 use store_types::{Answer, Stop};
-use tables::Tables;
+use tables_writes::Tables;
 
 /// Paths in order, and the sum of the bytes of their archives.
 #[derive(Drop)]

@@ -16,8 +16,8 @@ use sqlite::Alter;
 use store_steps::validity::{has_permanent, is_valid};
 use store_steps::writing::answered;
 use store_types::{Answer, Refusal, Stop};
-use tables::Tables;
 use tables_outline::Outline;
+use tables_writes::Tables;
 
 /// Tests a permanent root that is to be set.
 pub fn may_set(outline: &Outline, name: &str, path: &StorePath) -> Result<(), Refusal>

@@ -20,8 +20,8 @@ use sqlite::Alter;
 use store_steps::validity::{has_profile, is_valid};
 use store_steps::writing::answered;
 use store_types::{Answer, Refusal, Stop};
-use tables::Tables;
 use tables_outline::Outline;
+use tables_writes::Tables;
 
 /// Tests a path that is to be set in a profile. Returns the number of its generation.
 pub fn next_number(

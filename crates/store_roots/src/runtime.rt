@@ -23,8 +23,8 @@ use std::alloc::{AllocError, Global};
 use std::collections::BTreeSet;
 use store_steps::writing::answered;
 use store_types::{Answer, Refusal, Stop};
-use tables::Tables;
 use tables_outline::Outline;
+use tables_writes::Tables;
 
 /// Adds a pair to a set, if the target of the pair is valid.
 fn put_valid(

@@ -18,8 +18,8 @@ use sqlite::Alter;
 use store_steps::validity::is_valid;
 use store_steps::writing::answered;
 use store_types::{Answer, Refusal, Stop};
-use tables::Tables;
 use tables_outline::Outline;
+use tables_writes::Tables;
 
 /// Tests that a session may have this number. Returns the number.
 fn has_number(number: u64) -> Result<u32, Refusal>

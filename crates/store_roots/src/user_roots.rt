@@ -16,8 +16,8 @@ use sqlite::Alter;
 use store_steps::validity::{has_user_root, is_valid};
 use store_steps::writing::answered;
 use store_types::{Answer, Refusal, Stop};
-use tables::Tables;
 use tables_outline::Outline;
+use tables_writes::Tables;
 
 /// Tests a user root that is to be set.
 pub fn may_set(outline: &Outline, owned: &(String, String), path: &StorePath) -> Result<(), Refusal>

@@ -16,9 +16,9 @@ use Rattle.model.specs.Disk.{puts_rows, touches_disk}
 use Rattle.model.specs.World.{World}
 use Rattle.model.specs.Request.{Request}
 use Rattle.model.specs.Reply.{disk}
-use Rattle.tables.specs.Reasons.{Rows, AreAmong, NoRow, RunsOutOfRowids}
-use Rattle.tables.specs.Frames.{FailsToAsk, FailsToChange}
-use Rattle.tables.specs.TablesValue.{TablesValue}
+use Rattle.tables_writes.specs.Reasons.{Rows, AreAmong, NoRow, RunsOutOfRowids}
+use Rattle.tables_writes.specs.Frames.{FailsToAsk, FailsToChange}
+use Rattle.tables_writes.specs.TablesValue.{TablesValue}
 use Rattle.store_types.specs.Meets.{Meets}
 use Rattle.store_types.specs.declared.replies.Answer.{Answer}
 use Rattle.store_types.specs.declared.replies.Stop.{Stop}

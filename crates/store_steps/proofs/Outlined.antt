@@ -12,7 +12,7 @@ use Rattle.model.specs.Answers.{record_at}
 use Rattle.store_steps.specs.Summaries.{info_in}
 use Rattle.tables_outline.proofs.Orders.{bytes_total, bytes_antisymmetric}
 use Rattle.tables_outline.proofs.Reported.{get-reported, has-reported}
-use Rattle.tables.proofs.Outlined.{entries_outlined, keys_mapped}
+use Rattle.tables_writes.proofs.Outlined.{entries_outlined, keys_mapped}
 
 -- the same paths
 pub paths_outlined : (w : World) → finite.keys (outline_of w).objects ≡ all_paths w

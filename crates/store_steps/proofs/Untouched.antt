@@ -12,9 +12,9 @@ use Rattle.model.specs.World.{World}
 use Rattle.tables_outline.specs.Outline.{OutlineValue, outline_of}
 use Rattle.model.specs.Request.{Request}
 use Rattle.model.specs.Tests.{refusal}
-use Rattle.tables.specs.TablesValue.{TablesValue}
-use Rattle.tables.proofs.AfterWrites.{clean_before}
-use Rattle.tables.proofs.Transactions.{nothing_changed, others_then}
+use Rattle.tables_writes.specs.TablesValue.{TablesValue}
+use Rattle.tables_writes.proofs.AfterWrites.{clean_before}
+use Rattle.tables_writes.proofs.Transactions.{nothing_changed, others_then}
 use Rattle.store_types.specs.declared.replies.Answer.{Answer}
 use Rattle.store_types.specs.declared.replies.Stop.{Stop}
 use Rattle.store_types.specs.declared.replies.Stop.TheVariants.{Refused, Failed}

@@ -7,8 +7,8 @@ use Rattle.tables_sql.specs.Failures.{HasDiskCause}
 use Rattle.model.specs.Disk.{touches_disk, puts_rows}
 use Rattle.model.specs.Request.{Request}
 use Rattle.model.specs.Reply.{Failure, Reply, done, denied, refused, failed, memory, size, disk}
-use Rattle.tables.specs.Reasons.{Rows, HasLargeRow, RunsOutOfRowids}
-use Rattle.tables.specs.TablesValue.{TablesValue}
+use Rattle.tables_writes.specs.Reasons.{Rows, HasLargeRow, RunsOutOfRowids}
+use Rattle.tables_writes.specs.TablesValue.{TablesValue}
 use Rattle.store_steps.specs.RowsPut.{rows_put}
 
 -- Why a read from the disk failed, or the write of a change that puts these rows. `size`: the request puts rows, the

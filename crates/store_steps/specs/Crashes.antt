@@ -11,7 +11,7 @@ use Rattle.model.specs.Tests.{refusal}
 use Rattle.model.specs.Effects.{effect}
 use Rattle.model.specs.Answers.{answer}
 use Rattle.model.specs.Step.{Step}
-use Rattle.tables.specs.TablesValue.{LeavesWorld}
+use Rattle.tables_writes.specs.TablesValue.{LeavesWorld}
 
 -- The sound rows of a world to which the call leads if it is done. There are none if a rule denies the request or one
 -- of its tests fails.

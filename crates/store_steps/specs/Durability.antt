@@ -5,8 +5,8 @@ use Rattle.sqlite.specs.State.{HasCleanDisk}
 use Rattle.sqlite.specs.Held.{state}
 use Rattle.tables_sql.specs.Calls.{IsDurable}
 use Rattle.model.specs.World.{World}
-use Rattle.tables.specs.TablesValue.{TablesValue, HasWorld}
-use Rattle.tables.specs.Others.{KeepsOthers}
+use Rattle.tables_writes.specs.TablesValue.{TablesValue, HasWorld}
+use Rattle.tables_writes.specs.Others.{KeepsOthers}
 
 module _ {S : Type 0} (g : Ghosts S) where
   -- nothing was done: the tables describe each world that they described before; and if the connection is open, its

@@ -7,7 +7,7 @@ use Rattle.sqlite.specs.Held.{state}
 use Rattle.sqlite.proofs.StateLemmas.{survives_weaker}
 use Rattle.tables_sql.specs.Calls.{KeepsShown}
 use Rattle.tables_sql.proofs.Transactions.{survives_none}
-use Rattle.tables.specs.TablesValue.{TablesValue}
+use Rattle.tables_writes.specs.TablesValue.{TablesValue}
 use Rattle.tables.specs.Opening.{IsCause, OpensStore, LeavesOpening}
 use Rattle.tables.specs.Adopted.{Adopts}
 use Rattle.tables.specs.declared.refusing.Unadopted.{Unadopted}

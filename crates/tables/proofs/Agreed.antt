@@ -9,7 +9,7 @@ use Rattle.tables_sql.specs.Calls.{IsReady, IsWhole}
 use Rattle.tables_world.specs.Worlds.{IsSoundContents, world_in}
 use Rattle.tables_schema.specs.declared.schema.Schema.TheVariants.{V3}
 use Rattle.tables_outline.specs.Outline.{OutlineValue, outline_of}
-use Rattle.tables.specs.TablesValue.{TablesValue, Agrees}
+use Rattle.tables_writes.specs.TablesValue.{TablesValue, Agrees}
 use Rattle.tables_schema.specs.Finding.{HasNone}
 use Rattle.tables_make.specs.Making.{IsMade}
 use Rattle.paths.specs.Names.{is_store_dir}

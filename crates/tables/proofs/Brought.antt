@@ -23,7 +23,7 @@ use Rattle.tables_world.proofs.Migrating.{migrates_soundly}
 use Rattle.tables_outline.specs.Outline.{OutlineValue, outline_of}
 use Rattle.tables_make.specs.Migrated.{missing_tables, migrated_contents, IsGrown, IsMigrated, LeavesMigrated}
 use Rattle.tables_make.proofs.Grown.{grown_from}
-use Rattle.tables.specs.TablesValue.{Agrees}
+use Rattle.tables_writes.specs.TablesValue.{Agrees}
 use Rattle.tables.specs.Opening.{IsFoundBy, AreRead, OpensMigrated, LeavesMigration}
 
 -- rows that were read from `a` to `b`, and then brought to the third schema from `b` to `d`

@@ -20,7 +20,7 @@ use Rattle.tables_schema.specs.declared.schema.Schema.TheVariants.{V3}
 use Rattle.tables_world.proofs.NewRows.{reports_nothing, new_rows_sound}
 use Rattle.tables_world.proofs.NewWorld.{new_world_sound}
 use Rattle.tables_world.specs.Worlds.{IsSoundContents, world_in}
-use Rattle.tables.specs.TablesValue.{Agrees, HasWorld}
+use Rattle.tables_writes.specs.TablesValue.{Agrees, HasWorld}
 use Rattle.tables_outline.specs.Outline.{OutlineValue, outline_of}
 
 abbrev no_schema : Schema

@@ -3,7 +3,7 @@ use Rattle.std.proofs.Common.{◌≡◌, ℕ, List, None, Result, ap, subst}
 use Rattle.sqlite_trees.specs.declared.store.Store.{Ghosts}
 use Rattle.sqlite.specs.State.{State}
 use Rattle.sqlite.specs.Held.{Held, state}
-use Rattle.tables.specs.TablesValue.{TablesValue}
+use Rattle.tables_writes.specs.TablesValue.{TablesValue}
 use Rattle.tables.specs.Opening.{OpensStore, LeavesOpening, unlimited}
 use Rattle.tables.specs.Adopted.{Adopts}
 use Rattle.tables.specs.declared.refusing.Unadopted.{Unadopted}

@@ -9,7 +9,7 @@ use Rattle.tables_schema.specs.declared.schema.Schema.{Schema}
 use Rattle.tables_sql.specs.Calls.{Remains, IsDurable, IsReady, KeepsShown}
 use Rattle.tables_rows.specs.Frames.{LeftAsItWas}
 use Rattle.tables_recognize.specs.Opened.{IsFound}
-use Rattle.tables.specs.TablesValue.{TablesValue}
+use Rattle.tables_writes.specs.TablesValue.{TablesValue}
 use Rattle.tables.specs.Opening.{IsFoundBy, AreRead, IsCause}
 use Rattle.tables.specs.declared.refusing.Cause.{Cause}
 use Rattle.tables.specs.declared.refusing.Unadopted.{Unadopted}

@@ -13,7 +13,7 @@ use Rattle.sqlite.specs.Start.{FindsIn}
 use Rattle.sqlite.specs.Files.{over_files, file_state}
 use Rattle.tables_sql.specs.Calls.{IsDurable, KeepsShown}
 use Rattle.tables_recognize.specs.Opened.{IsAsOpened, FailsToOpenFile}
-use Rattle.tables.specs.TablesValue.{TablesValue}
+use Rattle.tables_writes.specs.TablesValue.{TablesValue}
 use Rattle.tables.specs.declared.refusing.Cause.{Cause}
 use Rattle.tables.specs.declared.refusing.Unopened.{Unopened}
 use Rattle.tables.specs.declared.refusing.Unopened.TheVariants.{File, Store}

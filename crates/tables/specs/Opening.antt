@@ -26,7 +26,7 @@ use Rattle.tables_schema.specs.declared.schema.Schema.TheVariants.{V1, V2, V3}
 use Rattle.tables_schema.specs.Schemas.{has_pieces, has_temporary}
 use Rattle.tables_world.specs.Worlds.{IsSoundBy, world_in}
 use Rattle.tables_outline.specs.Outline.{OutlineValue, outline_of}
-use Rattle.tables.specs.TablesValue.{TablesValue, HasWorld}
+use Rattle.tables_writes.specs.TablesValue.{TablesValue, HasWorld}
 use Rattle.tables.specs.InTheWay.{is_name_used, has_store_tables, are_others_in_the_way}
 use Rattle.tables.specs.declared.refusing.Cause.{Cause}
 use Rattle.tables.specs.declared.refusing.Cause.TheVariants.{BadSchema, OtherStoreDir, Failed as failed}

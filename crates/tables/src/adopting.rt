@@ -7,7 +7,6 @@ ghost use Rattle.tables.specs.Adopted.{Adopts, IsRecognisedAs};
 
 use crate::earlier::open_earlier;
 use crate::found::{open_existing, open_new};
-use crate::keeping::Tables;
 use crate::refusing::{Cause, Unadopted};
 use paths::StoreDir;
 use sqlite::{Alter, Connection};
@@ -16,6 +15,7 @@ use tables_recognize::file;
 use tables_recognize::file::{Opened, Unreadable};
 use tables_schema::Schema;
 use tables_schema::recognising::Recognised;
+use tables_writes::Tables;
 
 /// Opens a store over a connection; `found` says which of the store's tables it has.
 pub(crate) fn take<S: Alter>(
@@ -49,7 +49,7 @@ pub(crate) fn take<S: Alter>(
 /// use tables::{Cause, Tables, Unadopted};
 ///
 /// let (nix, gnu) = (StoreDir::parse(alloc, "/nix/store")?, StoreDir::parse(alloc, "/gnu/store")?);
-/// let conn = Tables::open_in_memory(alloc, &nix)?.release();
+/// let conn = tables::open_in_memory(alloc, &nix)?.release();
 /// let cause = match tables::adopt(alloc, conn, &gnu) {
 ///     Ok(tables) => {
 ///         drop(tables.release());

@@ -10,7 +10,6 @@ ghost use Rattle.tables_make.specs.Commits.{Migrates};
 ghost use Rattle.tables.specs.Opening.{AreRead, OpensMigrated, LeavesMigration, IsCause};
 ghost use Rattle.tables.specs.Adopted.{Adopts, HasTables};
 
-use crate::keeping::Tables;
 use crate::refusing::{Cause, Unadopted};
 use crate::rows::{Loaded, read_as};
 use paths::StoreDir;
@@ -18,6 +17,7 @@ use sqlite::{Alter, Connection};
 use std::alloc::Global;
 use tables_schema::Schema;
 use tables_sql::failure::Failed;
+use tables_writes::{Tables, over};
 
 /// Migrates the tables of a schema to schema 3. Tables of schema 3 stay as they are.
 fn bring<S: Alter>(alloc: Global, conn: &mut Connection<S>, schema: Schema) -> Result<(), Failed>
@@ -74,7 +74,7 @@ pub(crate) fn open_earlier<S: Alter>(
     match read_and_bring(alloc, &mut conn, dir, schema) {
         Ok(loaded) => {
             let Loaded { dir: own, outline } = loaded;
-            Ok(Tables::over(alloc, conn, own, outline))
+            Ok(over(alloc, conn, own, outline))
         }
         Err(cause) => Err(Unadopted { conn, cause }),
     }

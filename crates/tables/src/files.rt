@@ -5,13 +5,13 @@ ghost use Rattle.sqlite_wal.specs.Files.{image_at};
 ghost use Rattle.tables.specs.Opened.{Opens, IsUnopened};
 
 use crate::adopting::take;
-use crate::keeping::Tables;
 use crate::refusing::Unopened;
 use paths::StoreDir;
 use sqlite::{FileFrom, FileStore, Start};
 use std::rt::HostRuntime;
 use tables_recognize::file;
 use tables_recognize::file::Opened;
+use tables_writes::Tables;
 
 /// Opens the file at a path as the store of a directory. Makes the store's tables if the file is missing or has none of
 /// them. `start` is ghost: what a theorem assumes of the file. No code reads it, and a program passes `Unknown`.

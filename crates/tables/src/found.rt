@@ -6,7 +6,6 @@ ghost use Rattle.tables_schema.specs.declared.schema.Schema.TheVariants.{V3};
 ghost use Rattle.tables.specs.Opening.{OpensExisting, OpensNew};
 ghost use Rattle.tables.specs.Adopted.{Adopts, HasTables, HasNoTables};
 
-use crate::keeping::Tables;
 use crate::refusing::{Cause, Unadopted};
 use crate::rows::{Loaded, read_as};
 use paths::StoreDir;
@@ -16,6 +15,7 @@ use tables_make::making;
 use tables_outline::Outline;
 use tables_schema::Schema;
 use tables_sql::failure::Failed;
+use tables_writes::{Tables, over};
 
 /// Opens a connection that holds all eleven tables of a store.
 pub(crate) fn open_existing<S: Alter>(
@@ -30,7 +30,7 @@ pub(crate) fn open_existing<S: Alter>(
     match read_as(alloc, &mut conn, dir, Schema::V3) {
         Ok(loaded) => {
             let Loaded { dir: own, outline } = loaded;
-            Ok(Tables::over(alloc, conn, own, outline))
+            Ok(over(alloc, conn, own, outline))
         }
         Err(cause) => Err(Unadopted { conn, cause }),
     }
@@ -53,7 +53,7 @@ pub(crate) fn open_new<S: Alter>(
     match making::make(&mut conn, dir.as_str()) {
         Ok(()) => {
             let outline = Outline::new(alloc);
-            Ok(Tables::over(alloc, conn, own, outline))
+            Ok(over(alloc, conn, own, outline))
         }
         Err(failure) => {
             let cause = Cause::Failed(failure);

@@ -9,7 +9,6 @@ use std::alloc::{AllocError, Global};
 use std::test::Fail;
 use store::Store;
 use store_types::{Reply, Request};
-use tables::Tables;
 
 /// `ann` is trusted, `bob` is allowed, and nobody else is.
 const SETTINGS: &[u8] = b"allowed-users = [\"bob\"]\ntrusted-users = [\"ann\"]\n";
@@ -147,7 +146,7 @@ fn push_all(alloc: Global, calls: &mut Vec<(Caller, Request)>) -> Result<(), Fai
 /// A store in memory, under these settings, in which there is nothing yet.
 pub fn store(alloc: Global, settings: &[u8]) -> Result<Store<MemStore>, Fail> {
     let config = Config::from_toml(alloc, settings)?;
-    let tables = Tables::open_in_memory(alloc, store_dir(&config))?;
+    let tables = tables::open_in_memory(alloc, store_dir(&config))?;
     Ok(Store::new(alloc, config, tables))
 }
 

@@ -37,7 +37,7 @@ fn in_memory<R: Read, W: Write, E: Write>(
           };
         }) }
 {
-    match Tables::open_in_memory(rt.alloc(), store_dir(&config)) {
+    match tables::open_in_memory(rt.alloc(), store_dir(&config)) {
         Ok(tables) => work_over(rt, config, tables, work, input, output, errors),
         Err(failure) => print_reply(
             rt.alloc(),

@@ -7,8 +7,8 @@ use Rattle.sqlite.specs.State.{HasCleanDisk}
 use Rattle.sqlite.specs.Held.{Held, state}
 use Rattle.policy.specs.Settings.{Settings}
 use Rattle.model.specs.World.{World}
-use Rattle.tables.specs.TablesValue.{HasWorld}
-use Rattle.tables.proofs.AfterWrites.{clean_before}
+use Rattle.tables_writes.specs.TablesValue.{HasWorld}
+use Rattle.tables_writes.proofs.AfterWrites.{clean_before}
 use Rattle.store.specs.View.{StoreView}
 use Rattle.store.proofs.Clean.{step_clean}
 use Rattle.wire_server.specs.Responses.{Replied}

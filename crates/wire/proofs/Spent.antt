@@ -21,7 +21,7 @@ use Rattle.model.specs.Liveness.{lives}
 use Rattle.model.specs.Step.{IsNoneOrLive}
 use Rattle.model.specs.Seen.{seen_root}
 use Rattle.model.specs.Verdict.{operation_of, named_in, root_of_first, verdict, shown}
-use Rattle.tables.specs.TablesValue.{HasWorld, TablesValue}
+use Rattle.tables_writes.specs.TablesValue.{HasWorld, TablesValue}
 use Rattle.store_types.specs.Spent.{is_spent, spent_reply}
 use Rattle.store_types.specs.View.{request_view}
 use Rattle.store_types.specs.declared.requests.Request as made

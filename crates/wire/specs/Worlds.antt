@@ -8,7 +8,7 @@ use Rattle.policy.specs.Settings.{Settings}
 use Rattle.model.specs.World.{World}
 use Rattle.model.specs.Reply.{Reply}
 use Rattle.model.specs.Step.{Step}
-use Rattle.tables.specs.TablesValue.{HasWorld}
+use Rattle.tables_writes.specs.TablesValue.{HasWorld}
 use Rattle.store.specs.View.{StoreView}
 use Rattle.wire_server.specs.Responses.{Replied}
 use Rattle.wire.specs.Replies.{response_to}

@@ -6,7 +6,7 @@ use policy::Config;
 use sqlite::{Alter, Connection};
 use std::alloc::{AllocError, Global};
 use store::Store;
-use tables::{Close, Tables};
+use tables_writes::{Close, Tables};
 
 /// A server, and the store of these tables.
 ///

@@ -3,7 +3,7 @@ ghost use Rattle.std.specs.Prelude.{◌≡◌, ◌⊎◌, None};
 ghost use Rattle.sqlite.specs.State.{HasCleanDisk};
 ghost use Rattle.sqlite.specs.Held.{Held, state};
 ghost use Rattle.model.specs.World.{World};
-ghost use Rattle.tables.specs.TablesValue.{HasWorld};
+ghost use Rattle.tables_writes.specs.TablesValue.{HasWorld};
 ghost use Rattle.wire.specs.Answers.{Answers};
 ghost use Rattle.report.specs.Outputs.{PrintsFailure, change_of};
 ghost use Rattle.report.specs.declared.failures.Failure.TheVariants.{Input};
@@ -19,7 +19,7 @@ use std::alloc::Global;
 use std::io::Write;
 use std::net::{Ipv4Addr, Net, TcpListener, TcpStream};
 use std::rt::Clock;
-use tables::{Close, Tables};
+use tables_writes::{Close, Tables};
 use wire_server::{Listener, Port, Responder};
 
 /// Serves a number of connections of a listener, and returns the exit status.
@@ -105,7 +105,7 @@ fn serve<
 /// use tables::Tables;
 ///
 /// let config = Config::from_toml(alloc, b"")?;
-/// let tables = Tables::open_in_memory(alloc, store_dir(&config))?;
+/// let tables = tables::open_in_memory(alloc, store_dir(&config))?;
 /// let mut errors = Vec::new(alloc);
 /// let status = wire::serve_port(&rt, alloc, 8080, 0, config, tables, &mut errors);
 /// assert!(rt; status == 0 && errors.is_empty());

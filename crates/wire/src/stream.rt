@@ -4,7 +4,7 @@ ghost use Rattle.policy.specs.Settings.{Settings};
 ghost use Rattle.sqlite.specs.State.{HasCleanDisk};
 ghost use Rattle.sqlite.specs.Held.{Held, state};
 ghost use Rattle.model.specs.World.{World};
-ghost use Rattle.tables.specs.TablesValue.{HasWorld};
+ghost use Rattle.tables_writes.specs.TablesValue.{HasWorld};
 ghost use Rattle.wire.specs.Answers.{Answers};
 ghost use Rattle.wire_server.specs.Sessions.{failure};
 ghost use Rattle.wire.specs.Worlds.{AnswersFrom, AnswersSome};
@@ -17,7 +17,7 @@ use report::{Failure, print_failure};
 use sqlite::{Alter, Connection};
 use std::alloc::Global;
 use std::io::{Read, Write};
-use tables::{Close, Tables};
+use tables_writes::{Close, Tables};
 use wire_server::{End, serve_connection};
 
 /// The exit status of one connection.
@@ -61,7 +61,7 @@ fn serve<S: Alter + Drop + Close<Connection<S>>, R: Read, W: Write, E: Write>(
 /// use tables::Tables;
 ///
 /// let config = Config::from_toml(alloc, b"")?;
-/// let tables = Tables::open_in_memory(alloc, store_dir(&config))?;
+/// let tables = tables::open_in_memory(alloc, store_dir(&config))?;
 /// let mut input = b"GET /paths".as_slice();
 /// let (mut output, mut errors) = (Vec::new(alloc), Vec::new(alloc));
 /// let status = wire::serve_streams(alloc, config, tables, &mut input, &mut output, &mut errors);

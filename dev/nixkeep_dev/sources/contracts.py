@@ -2,7 +2,7 @@
 
 A call is a function that a public crate exports, or a public method of a type that it declares, by the path under which
 users reach it. A clause is the name after `ensures`; one without a name is a dash. The methods of a type that a public
-crate passes on from another crate are on the page of that crate.
+crate passes on from another crate are on the page of that crate, or, of a part of its own, on its page.
 """
 import functools
 import re
@@ -14,6 +14,8 @@ PUBLIC = ("nar", "paths", "drv", "policy", "live", "tables", "store", "report", 
 FUNCTION = re.compile(r"( *)pub (?:const )?fn (\w+)")
 ENSURES = re.compile(r" *ensures(?: (\w+))? \{")
 METHODS = re.compile(r"impl(?:<[^{]*?>)? (\w+)(?:<[^{]*>)? \{")
+# Crates that are a part of a public one, whose page has the methods of their types.
+PARTS = {"tables_writes": "tables"}
 DASH = "–"
 
 
@@ -115,7 +117,8 @@ def passed_on(crate, module, name, shown):
     for where, it in exports(crate):
         first = where.split("::")[0]
         if it == name and exists(f"crates/{crate}/src/{first}.rt"):
-            yield from functions_of(crate, where, name, shown)
+            calls = declared if PARTS.get(crate) == shown else functions_of
+            yield from calls(crate, where, name, shown)
         elif it == name and first not in PUBLIC and exists(f"crates/{first}/src/lib.rt"):
             yield from passed_on(first, where.partition("::")[2], name, shown)
 

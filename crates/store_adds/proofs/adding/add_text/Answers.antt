@@ -4,7 +4,7 @@ use Rattle.nar.specs.Tree.{IsBytes}
 use Rattle.model.specs.Request.{add_text}
 use Rattle.model.specs.Adds.{added_text}
 use Rattle.store_adds.specs.Parts.{added_view}
-use Rattle.tables.specs.Reasons.{AreAmong}
+use Rattle.tables_writes.specs.Reasons.{AreAmong}
 use Rattle.store_steps.specs.RowsPut.{ObjectRowsPut}
 use Rattle.store_steps.proofs.Caused.{own_among}
 use Rattle.store_steps.proofs.Untouched.{met_by_reading, reads_stopped}

@@ -4,7 +4,7 @@ use Rattle.store_types.specs.declared.replies.Answer.TheVariants.{Freed}
 use Rattle.store_types.specs.declared.replies.Stop.{Stop}
 use Rattle.store_steps.specs.Meets.{IsMet}
 use Rattle.store_removal.specs.Removing.{without}
-use Rattle.tables.specs.Reasons.{NoRow}
+use Rattle.tables_writes.specs.Reasons.{NoRow}
 use Rattle.store_steps.specs.RowsPut.{rows_put}
 use Rattle.store_steps.proofs.Caused.{none_among, write_fails}
 use Rattle.store_steps.proofs.Written.{sound_as}

@@ -9,7 +9,7 @@ use Rattle.store_types.specs.declared.replies.Answer.TheVariants.{Changed}
 use Rattle.store_types.specs.declared.replies.Stop.{Stop}
 use Rattle.store_types.specs.declared.replies.Stop.TheVariants.{Refused}
 use Rattle.store_steps.specs.Meets.{IsMet}
-use Rattle.tables.specs.Reasons.{NoRow}
+use Rattle.tables_writes.specs.Reasons.{NoRow}
 use Rattle.store_steps.proofs.Caused.{own_among, write_fails}
 use Rattle.store_steps.proofs.Written.{met_by_stopping, met_by_writing}
 use Rattle.model.proofs.SoundRoots.{permanent_dropped}

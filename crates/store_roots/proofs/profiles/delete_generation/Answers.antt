@@ -5,7 +5,7 @@ use Rattle.model.specs.Profiles.{without_generation}
 use Rattle.model.specs.Request.{delete_generation}
 use Rattle.store_types.specs.declared.replies.Answer.TheVariants.{Changed}
 use Rattle.store_types.specs.declared.replies.Stop.TheVariants.{Refused}
-use Rattle.tables.specs.Reasons.{NoRow}
+use Rattle.tables_writes.specs.Reasons.{NoRow}
 use Rattle.store_steps.proofs.Caused.{own_among}
 use Rattle.store_steps.proofs.Written.{met_by_stopping}
 use Rattle.store_steps.proofs.Fits.{no_settings, deletion_fits}

@@ -8,8 +8,8 @@ use Rattle.model.specs.Request.{set_profile}
 use Rattle.model.specs.Reply.{generation}
 use Rattle.store_types.specs.declared.replies.Answer.TheVariants.{Generation}
 use Rattle.store_types.specs.declared.replies.Stop.TheVariants.{Refused}
-use Rattle.tables.specs.Reasons.{AreAmong}
-use Rattle.tables.specs.RowsPut.{GenerationRows}
+use Rattle.tables_writes.specs.Reasons.{AreAmong}
+use Rattle.tables_writes.specs.RowsPut.{GenerationRows}
 use Rattle.store_steps.specs.RowsPut.{AnyGenerationRows}
 use Rattle.store_steps.proofs.Written.{met_by_stopping}
 use Rattle.store_steps.proofs.Fits.{no_settings, profile_fits}

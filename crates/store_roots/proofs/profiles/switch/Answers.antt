@@ -6,8 +6,8 @@ use Rattle.model.specs.Profiles.{switched}
 use Rattle.model.specs.Request.{switch}
 use Rattle.store_types.specs.declared.replies.Answer.TheVariants.{Generation}
 use Rattle.store_types.specs.declared.replies.Stop.TheVariants.{Refused}
-use Rattle.tables.specs.Reasons.{AreAmong}
-use Rattle.tables.specs.RowsPut.{ProfileRow}
+use Rattle.tables_writes.specs.Reasons.{AreAmong}
+use Rattle.tables_writes.specs.RowsPut.{ProfileRow}
 use Rattle.store_steps.proofs.Caused.{own_among}
 use Rattle.store_steps.proofs.Written.{met_by_stopping}
 use Rattle.store_steps.proofs.Fits.{no_settings, switch_fits}

@@ -10,8 +10,8 @@ use Rattle.store_types.specs.declared.replies.Answer.TheVariants.{Changed}
 use Rattle.store_types.specs.declared.replies.Stop.{Stop}
 use Rattle.store_types.specs.declared.replies.Stop.TheVariants.{Refused}
 use Rattle.store_steps.specs.Meets.{IsMet}
-use Rattle.tables.specs.Reasons.{AreAmong}
-use Rattle.tables.specs.RowsPut.{TemporaryRow}
+use Rattle.tables_writes.specs.Reasons.{AreAmong}
+use Rattle.tables_writes.specs.RowsPut.{TemporaryRow}
 use Rattle.store_steps.proofs.Caused.{own_among, write_fails}
 use Rattle.store_steps.proofs.Written.{met_by_stopping, met_by_writing}
 use Rattle.store_steps.proofs.Fits.{no_settings, temporary_fits}

@@ -8,8 +8,8 @@ use Rattle.store_types.specs.declared.replies.Answer.TheVariants.{Changed}
 use Rattle.store_types.specs.declared.replies.Stop.{Stop}
 use Rattle.store_types.specs.declared.replies.Stop.TheVariants.{Refused}
 use Rattle.store_steps.specs.Meets.{IsMet}
-use Rattle.tables.specs.Reasons.{AreAmong}
-use Rattle.tables.specs.RowsPut.{UserRootRow}
+use Rattle.tables_writes.specs.Reasons.{AreAmong}
+use Rattle.tables_writes.specs.RowsPut.{UserRootRow}
 use Rattle.store_steps.proofs.Caused.{own_among, write_fails}
 use Rattle.store_steps.proofs.Written.{sound_as, met_by_stopping, met_by_writing}
 use Rattle.store_steps.proofs.Fits.{no_settings, user_root_fits}

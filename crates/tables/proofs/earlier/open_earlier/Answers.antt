@@ -2,7 +2,7 @@ use Rattle.std.proofs.Common.{sym, ap, subst, ◌∙◌}
 use Rattle.sqlite.specs.Held.{state}
 use Rattle.sqlite.specs.State.{HasCleanDisk, Survives}
 use Rattle.tables_sql.proofs.Steps.{clean_before}
-use Rattle.tables.specs.TablesValue.{TablesValue}
+use Rattle.tables_writes.specs.TablesValue.{TablesValue}
 use Rattle.tables.specs.Opening.{OpensMigrated, LeavesMigration}
 use Rattle.tables.proofs.Brought.{brought_agrees, took_migrated}
 use Rattle.tables.proofs.earlier.open_earlier.Goals as goal

@@ -3,7 +3,7 @@ use Rattle.sqlite.specs.Held.{state}
 use Rattle.sqlite.specs.State.{HasCleanDisk, Survives}
 use Rattle.paths.specs.Names.{is_store_dir}
 use Rattle.tables_make.specs.Making.{IsMade, FailsToMake, LeavesMade}
-use Rattle.tables.specs.TablesValue.{TablesValue}
+use Rattle.tables_writes.specs.TablesValue.{TablesValue}
 use Rattle.tables.proofs.Made.{made_agrees}
 use Rattle.tables.specs.Opening.{OpensNew}
 use Rattle.tables.proofs.Adopted.{adopts_refused}

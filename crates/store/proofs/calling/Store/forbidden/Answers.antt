@@ -7,7 +7,7 @@ use Rattle.policy.specs.declared.kinds.Rule.{Rule}
 use Rattle.model.specs.Reply.{Reply, denied}
 use Rattle.model.specs.Verdict.{operation_of}
 use Rattle.tables_outline.specs.Maps.{labelled_bytes}
-use Rattle.tables.specs.TablesValue.{HasWorld}
+use Rattle.tables_writes.specs.TablesValue.{HasWorld}
 use Rattle.store_removal.specs.Found.{IsDenial}
 use Rattle.store_types.specs.View.{request_view}
 use Rattle.store.specs.View.{StoreView}

@@ -4,7 +4,7 @@ use Rattle.sqlite.specs.State.{HasCleanDisk}
 use Rattle.sqlite.specs.Held.{state}
 use Rattle.policy.specs.Settings.{Settings}
 use Rattle.model.specs.Reply.{Reply}
-use Rattle.tables.proofs.AfterWrites.{clean_before}
+use Rattle.tables_writes.proofs.AfterWrites.{clean_before}
 use Rattle.store_steps.specs.Disk.{StepOver}
 use Rattle.store_steps.proofs.Untouched.{others_both, others_still}
 use Rattle.store_types.specs.View.{call_view, request_view, reply_view}

@@ -1,0 +1,15 @@
+pub use Rattle.model.specs.World
+pub use Rattle.model.specs.Objects
+pub use Rattle.model.specs.Sound
+pub use Rattle.model.specs.Profiles
+pub use Rattle.model.specs.Effects
+pub use Rattle.tables_outline.specs.Outline
+pub use Rattle.tables_outline.specs.Maps
+pub use Rattle.tables_rows.specs.Reasons
+pub mod Entries
+pub mod Frames
+pub mod Others
+pub mod Rewritten
+pub mod RowsPut
+pub mod TablesValue
+pub mod Temporary

@@ -1,0 +1,32 @@
+//! The tables of a store, once they are open: read, and changed by one transaction a call.
+#![tactic(auto)]
+
+mod change;
+mod closing;
+mod connected;
+mod cutting;
+mod entries;
+mod generations;
+mod laws;
+mod named_roots;
+mod object_rows;
+mod objects;
+mod permanent;
+mod profiles;
+mod reading;
+mod removal;
+mod removing;
+mod roots;
+mod runtime;
+mod sessions;
+mod tables;
+mod temporary;
+mod texts;
+mod user_roots;
+
+pub use closing::Close;
+pub use connected::over;
+pub use entries::{Object, Snapshot};
+pub use laws::open_tables_have_a_world;
+pub use named_roots::RootName;
+pub use tables::Tables;

@@ -1,0 +1,124 @@
+//! Deletion of objects, from the rows and from the outline.
+
+ghost use Rattle.tables_schema.specs.Forms.{piece};
+ghost use Rattle.tables_sql.specs.Calls.{HasFurther};
+ghost use Rattle.tables_sql.specs.Contents.{contents_of};
+ghost use Rattle.tables_rows.specs.Reasons.{HasReason, NoRow};
+ghost use Rattle.tables_rows.specs.Frames.{IsInsideWith, MayCut, Writes};
+ghost use Rattle.tables_writes.specs.Frames.{CommitsRows, MayCommit};
+ghost use Rattle.tables_writes.specs.Rewritten.{Covers, without_object, without_objects};
+
+use crate::change;
+use crate::change::Change;
+use crate::object_rows::{delete_outputs, delete_pieces, delete_references};
+use paths::StorePath;
+use sqlite::{Alter, Connection, Transaction};
+use std::alloc::Global;
+use tables_outline::Outline;
+use tables_rows::{Delete, objects};
+use tables_sql::failure::Failed;
+
+/// Deletes the rows of one object, if it exists: its own, and those of its references, outputs and pieces by the
+/// outline.
+fn delete_object<S: Alter>(
+    tx: &mut Transaction<'_, S>,
+    outline: &Outline,
+    path: &StorePath,
+) -> Result<(), Failed>
+    requires { IsInsideWith S.Store tx.old.conn
+        (λ db. HasFurther db piece × Covers outline.now (contents_of db)) }
+    ensures { Writes S.Store tx.old.conn tx.new.conn result (λ c. without_object path.now c) NoRow }
+{
+    let base = path.as_str();
+    objects::Of { base }.delete(tx)?;
+    let Some(object) = outline.object(path) else {
+        return Ok(());
+    };
+    delete_references(tx, base, object)?;
+    delete_outputs(tx, base, object)?;
+    delete_pieces(tx, base, object)
+}
+
+/// Deletes the rows of some objects.
+fn delete_objects<S: Alter>(
+    tx: &mut Transaction<'_, S>,
+    outline: &Outline,
+    paths: &[StorePath],
+) -> Result<(), Failed>
+    requires { MayCut S.Store tx.old.conn (Covers outline.now) }
+    ensures { Writes S.Store tx.old.conn tx.new.conn result (λ c. without_objects paths.now c) NoRow }
+{
+    'paths: for path in paths {
+        delete_object(tx, outline, path)?;
+    }
+    Ok(())
+}
+
+/// The change that deletes some objects, those that exist: `first` and `rest`. `outline` is that of the rows before the
+/// change.
+#[derive(Drop)]
+pub(crate) struct RemoveObjects<'a> {
+    pub(crate) outline: &'a Outline,
+    pub(crate) first: &'a StorePath,
+    pub(crate) rest: &'a [StorePath],
+}
+
+impl<'a> Change for RemoveObjects<'a> {
+    ghost use Rattle.std.specs.Prelude.{◌∷◌};
+
+    ghost change = { λ o c. without_objects (o.first.now ∷ o.rest.now) c };
+
+    ghost fits = { λ o c. Covers o.outline.now c };
+
+    ghost rows = { λ o. NoRow };
+
+    fn write<S: Alter>(&self, tx: &mut Transaction<'_, S>) -> Result<(), Failed> {
+        delete_object(tx, self.outline, self.first)?;
+        delete_objects(tx, self.outline, self.rest)
+    }
+}
+
+/// The change that deletes nothing. Queries a missing object, so that it fails on a shut connection.
+#[derive(Drop)]
+pub(crate) struct RemoveNone {
+    pub(crate) alloc: Global,
+}
+
+impl Change for RemoveNone {
+    ghost use Rattle.std.specs.Prelude.{⊤};
+
+    ghost change = { λ o c. c };
+
+    ghost fits = { λ o c. ⊤ };
+
+    ghost rows = { λ o. NoRow };
+
+    fn write<S: Alter>(&self, tx: &mut Transaction<'_, S>) -> Result<(), Failed> {
+        let _none = objects::get_within(self.alloc, tx, "")?;
+        Ok(())
+    }
+}
+
+/// Deletes the rows of some objects in one transaction. `outline` is that of the rows before the change.
+pub(crate) fn delete_rows<S: Alter>(
+    alloc: Global,
+    conn: &mut Connection<S>,
+    outline: &Outline,
+    paths: &[StorePath],
+) -> Result<(), Failed>
+    requires { MayCommit S.Store conn.old (Covers outline.now) }
+    ensures frame { CommitsRows S.Store conn.old conn.new result (without_objects paths.now) }
+    ensures cause { HasReason S.Store conn.old conn.new result NoRow }
+{
+    match paths.split_first() {
+        Some((first, rest)) => change::commit(
+            conn,
+            &RemoveObjects {
+                outline,
+                first,
+                rest,
+            },
+        ),
+        None => change::commit(conn, &RemoveNone { alloc }),
+    }
+}
