@@ -10,7 +10,7 @@ use Rattle.model.specs.Step.{Step, Run}
 use Rattle.model.specs.Labels.{DifferInLabels, FailAlike, LookAlike, AllFailAlike}
 use Rattle.model.proofs.MirrorRuns.{steps_look_alike}
 use Rattle.model.specs.Disk.{reads_disk}
-use Rattle.store_steps.specs.Disk.{StepOver, RunOver, LookAlikeOver}
+use Rattle.store_promises.specs.Disk.{StepOver, RunOver, LookAlikeOver}
 
 module _ (is_clean : Type 0) (s : Settings) where
   -- a step over the disk, and a step

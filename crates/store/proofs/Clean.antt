@@ -8,7 +8,7 @@ use Rattle.model.specs.Request.{Request}
 use Rattle.model.specs.Reply.{Reply, done, denied, refused, failed}
 use Rattle.model.specs.Step.{Step, Run}
 use Rattle.model.specs.Disk.{reads_disk}
-use Rattle.store_steps.specs.Disk.{StepOver, RunOver}
+use Rattle.store_promises.specs.Disk.{StepOver, RunOver}
 use Rattle.store.specs.Laws.{read_disk}
 
 pub step_clean : (is_clean : Type 0) (s : Settings) (w : World) (c : Caller) (q : Request) (reply : Reply) (next : World) → (IsTrue (reads_disk q) → is_clean)

@@ -25,9 +25,9 @@ use Rattle.model.specs.Sound.{IsSound}
 use Rattle.tables_writes.specs.TablesValue.{TablesValue, HasWorld}
 use Rattle.store_types.specs.declared.replies.Answer.{Answer}
 use Rattle.store_types.specs.declared.replies.Stop.{Stop}
-use Rattle.store_steps.specs.Causes.{HasCause}
-use Rattle.store_steps.specs.Meets.{IsMet, IsRefused, MeetsOver, OnlyReads, reply_to}
-use Rattle.store_steps.proofs.Untouched.{others_shown, survives_as}
+use Rattle.store_promises.specs.Causes.{HasCause}
+use Rattle.store_promises.specs.Meets.{IsMet, IsRefused, MeetsOver, OnlyReads, reply_to}
+use Rattle.store_promises.proofs.Untouched.{others_shown, survives_as}
 use Rattle.store.specs.Listing.{FailsToList}
 
 module _ {S : Type 0} (g : Ghosts S) (s : Settings) (c : Caller) (q : Request) (old new : TablesValue S) where

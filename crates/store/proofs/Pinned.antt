@@ -10,7 +10,7 @@ use Rattle.model.specs.Reply.{Reply, done, denied, refused, failed}
 use Rattle.model.specs.Answers.{answer}
 use Rattle.model.specs.Pinning.{KeepsReached, RemainsThroughout, world_after}
 use Rattle.model.proofs.Pins.{kept_here, kept_on, leads_on, pins}
-use Rattle.store_steps.specs.Disk.{StepOver, RunOver}
+use Rattle.store_promises.specs.Disk.{StepOver, RunOver}
 
 -- a step over a disk leads where a step does, and a root keeps what it reached
 pub record LeadsAndPins (s : Settings) (w : World) (q : Request) (reply : Reply) (new : World) : Type 0 where

@@ -23,12 +23,12 @@ use Rattle.store_types.specs.declared.replies.Stop.{Stop}
 use Rattle.store_types.specs.declared.replies.Stop.TheVariants.{Refused, Failed}
 use Rattle.model.specs.Reply.{IsDone}
 use Rattle.store.specs.View.{IsStill}
-use Rattle.store_steps.specs.Causes.{HasCause}
-use Rattle.store_steps.specs.Disk.{StepOver}
+use Rattle.store_promises.specs.Causes.{HasCause}
+use Rattle.store_promises.specs.Disk.{StepOver}
 use Rattle.store.specs.Forbidden.{IsForbidden}
-use Rattle.store_steps.specs.Crashes.{LeavesDone, LeavesPassed}
-use Rattle.store_steps.specs.Meets.{MeetsOver, IsMet, IsAnswered, IsRefused, reply_to}
-use Rattle.store_steps.proofs.Untouched.{survives_as}
+use Rattle.store_promises.specs.Crashes.{LeavesDone, LeavesPassed}
+use Rattle.store_promises.specs.Meets.{MeetsOver, IsMet, IsAnswered, IsRefused, reply_to}
+use Rattle.store_promises.proofs.Untouched.{survives_as}
 use Rattle.store.proofs.Verdicts.{denied_by, denied_live, none_or_live, permitted}
 
 -- where no rule forbids it, what becomes of a request is a step

@@ -5,7 +5,7 @@ use Rattle.policy.specs.Caller.{Caller}
 use Rattle.model.specs.World.{World}
 use Rattle.model.specs.Request.{Request}
 use Rattle.model.specs.Reply.{Reply, done, denied, refused, failed}
-use Rattle.store_steps.specs.Disk.{StepOver, RunOver}
+use Rattle.store_promises.specs.Disk.{StepOver, RunOver}
 
 module _ (was is : Type 0) (clean : is → was) (s : Settings) where
   -- what a disk was clean for it was clean for while it is

@@ -12,7 +12,7 @@ use Rattle.store_types.specs.Spent.{is_spent, spent_reply, SpentAreAnswered}
 use Rattle.store_types.specs.View.{request_view}
 use Rattle.store_types.specs.declared.requests.Request.{Request}
 use Rattle.store_types.specs.declared.requests.Request.TheVariants.{AddSource, Import}
-use Rattle.store_removal.specs.Found.{deletes}
+use Rattle.store_reach.specs.Found.{deletes}
 use Rattle.store.specs.View.{StoreView}
 
 -- an intake without bytes is spent

@@ -8,10 +8,10 @@ use Rattle.model.specs.World.{World}
 use Rattle.model.specs.Request.{Request}
 use Rattle.model.specs.Reply.{Reply}
 use Rattle.tables_writes.specs.TablesValue.{HasWorld}
-use Rattle.store_steps.specs.Causes.{HasCause}
-use Rattle.store_steps.specs.Disk.{StepOver}
-use Rattle.store_steps.specs.Durability.{LeavesOthers, StaysDurable}
-use Rattle.store_steps.specs.Crashes.{LeavesDone}
+use Rattle.store_promises.specs.Causes.{HasCause}
+use Rattle.store_promises.specs.Disk.{StepOver}
+use Rattle.store_promises.specs.Durability.{LeavesOthers, StaysDurable}
+use Rattle.store_promises.specs.Crashes.{LeavesDone}
 use Rattle.model.specs.Reply.{IsDone}
 use Rattle.store.specs.View.{StoreView, IsStill}
 

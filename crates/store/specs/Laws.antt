@@ -11,7 +11,7 @@ use Rattle.model.specs.World.{World}
 use Rattle.model.specs.Request.{Request}
 use Rattle.model.specs.Reply.{Reply}
 use Rattle.model.specs.Step.{Step, Run}
-use Rattle.store_steps.specs.Disk.{StepOver, RunOver}
+use Rattle.store_promises.specs.Disk.{StepOver, RunOver}
 
 -- whether one of some calls is answered from the disk
 abbrev pub read_disk : List (Caller × Request) → Bool

@@ -6,7 +6,7 @@ use Rattle.sqlite.specs.Held.{state}
 use Rattle.model.specs.World.{Path, World, has}
 use Rattle.tables_writes.specs.Frames.{FailsToAsk}
 use Rattle.tables_writes.specs.TablesValue.{TablesValue, HasWorld}
-use Rattle.store_steps.specs.Meets.{OnlyReads}
+use Rattle.store_promises.specs.Meets.{OnlyReads}
 use Rattle.nar.specs.Tree.{Tree}
 use Rattle.nar.specs.declared.error.NarError.{NarError}
 use Rattle.tables_sql.specs.declared.failure.Failed.{Failed}

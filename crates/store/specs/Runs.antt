@@ -11,8 +11,8 @@ use Rattle.model.specs.Request.{Request}
 use Rattle.model.specs.Reply.{Reply}
 use Rattle.model.specs.Pinning.{KeepsReached, RemainsThroughout}
 use Rattle.tables_writes.specs.TablesValue.{TablesValue, HasWorld}
-use Rattle.store_steps.specs.Disk.{RunOver}
-use Rattle.store_steps.specs.Durability.{LeavesOthers}
+use Rattle.store_promises.specs.Disk.{RunOver}
+use Rattle.store_promises.specs.Durability.{LeavesOthers}
 
 module _ {S : Type 0} (g : Ghosts S) where
   -- from a world that the tables described before, calls that had these replies lead to one that they describe now

@@ -13,7 +13,7 @@ use crate::records::all_paths;
 use paths::StorePath;
 use policy::Config;
 use std::alloc::Global;
-use store_removal::{bytes_in, dead_paths, live_and_dead, live_paths};
+use store_reach::{bytes_in, dead_paths, live_and_dead, live_paths};
 use store_types::{Answer, Stop, Usage};
 use tables_outline::Outline;
 

@@ -2,7 +2,7 @@
 
 ghost use Rattle.std.specs.Prelude.{◌≡◌, IfOk, option_map};
 ghost use Rattle.std.specs.FinMap as finite;
-ghost use Rattle.store_steps.specs.Summaries.{info_in};
+ghost use Rattle.store_promises.specs.Summaries.{info_in};
 ghost use Rattle.store_types.specs.View.{info_view};
 
 use paths::StorePath;

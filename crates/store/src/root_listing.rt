@@ -6,7 +6,7 @@ ghost use Rattle.store_types.specs.Meets.{Reads};
 use paths::StorePath;
 use policy::{Caller, Config, class};
 use std::alloc::Global;
-use store_removal::{seen_roots, seen_roots_of};
+use store_reach::{seen_roots, seen_roots_of};
 use store_types::{Answer, Refusal, Stop};
 use tables_outline::Outline;
 

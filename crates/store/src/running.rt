@@ -8,7 +8,7 @@ ghost use Rattle.model.specs.Labels.{AllFailAlike, DifferInLabels};
 ghost use Rattle.model.specs.Reply as replied;
 ghost use Rattle.model.specs.Step.{Run};
 ghost use Rattle.tables_writes.specs.TablesValue.{HasWorld};
-ghost use Rattle.store_steps.specs.Disk.{LookAlikeOver};
+ghost use Rattle.store_promises.specs.Disk.{LookAlikeOver};
 ghost use Rattle.store.specs.Runs.{RunsFrom};
 ghost use Rattle.store_types.specs.Spent.{SpentAreAnswered};
 ghost use Rattle.store_types.specs.View.{call_view, reply_view};

@@ -32,14 +32,14 @@ use Rattle.store_types.specs.declared.replies.Answer.{Answer}
 use Rattle.store_types.specs.declared.replies.Answer.TheVariants.{Path as Placed}
 use Rattle.store_types.specs.declared.replies.Stop.{Stop}
 use Rattle.store_types.specs.declared.replies.Stop.TheVariants.{Refused, Failed as failing}
-use Rattle.store_steps.specs.RowsPut.{ObjectRowsPut, rows_put}
-use Rattle.store_steps.specs.Meets.{MeetsOver, IsMet}
+use Rattle.store_promises.specs.RowsPut.{ObjectRowsPut, rows_put}
+use Rattle.store_promises.specs.Meets.{MeetsOver, IsMet}
 use Rattle.store_adds.specs.Adding.{Adds, IsAdded}
-use Rattle.store_steps.specs.Crashes.{LeavesPassed}
-use Rattle.store_steps.proofs.Outlined.{has_outlined}
-use Rattle.store_steps.proofs.Caused.{write_fails}
-use Rattle.store_steps.proofs.Untouched.{survives_as, survives_still, stays_durable_still, others_shown, others_still}
-use Rattle.store_steps.proofs.Written.{unwritten, written}
+use Rattle.store_promises.specs.Crashes.{LeavesPassed}
+use Rattle.store_promises.proofs.Outlined.{has_outlined}
+use Rattle.store_promises.proofs.Caused.{write_fails}
+use Rattle.store_promises.proofs.Untouched.{survives_as, survives_still, stays_durable_still, others_shown, others_still}
+use Rattle.store_promises.proofs.Written.{unwritten, written}
 
 module _ {S : Type 0} (g : Ghosts S) (path : Path) (o : Outlined) (k : TablesValue S) where
   abbrev it : List ℕ → Added

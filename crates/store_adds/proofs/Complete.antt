@@ -6,7 +6,7 @@ use Rattle.tables_outline.specs.Outline.{OutlineValue, outline_of}
 use Rattle.model.specs.Tests.{is_complete}
 use Rattle.live.specs.Graph.{same}
 use Rattle.store_adds.specs.Parts.{is_complete_in}
-use Rattle.store_steps.proofs.Outlined.{has_outlined}
+use Rattle.store_promises.proofs.Outlined.{has_outlined}
 
 -- whether references are all there
 pub complete_by : (o : OutlineValue) (w : World) (p : Path) (refs : List Path) → outline_of w ≡ o → is_complete w p refs ≡ is_complete_in o p refs

@@ -15,10 +15,10 @@ use Rattle.store_types.specs.declared.replies.Stop.{Stop}
 use Rattle.store_types.specs.declared.replies.Stop.TheVariants.{Refused, Failed}
 use Rattle.store_types.specs.View.{answer_view}
 use Rattle.tables_writes.specs.Reasons.{AreAmong}
-use Rattle.store_steps.specs.Causes.{HasCause}
-use Rattle.store_steps.specs.RowsPut.{ObjectRowsPut, rows_put}
-use Rattle.store_steps.specs.Durability.{LeavesOthers, StaysDurable}
-use Rattle.store_steps.specs.Meets.{IsAnswered, IsRefused, reply_to}
+use Rattle.store_promises.specs.Causes.{HasCause}
+use Rattle.store_promises.specs.RowsPut.{ObjectRowsPut, rows_put}
+use Rattle.store_promises.specs.Durability.{LeavesOthers, StaysDurable}
+use Rattle.store_promises.specs.Meets.{IsAnswered, IsRefused, reply_to}
 
 module _ {S : Type 0} (g : Ghosts S) where
   -- the path of the object is answered, and the tables have a world with the object; or the call failed, and the tables

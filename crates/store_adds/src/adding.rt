@@ -9,7 +9,7 @@ ghost use Rattle.model.specs.Effects.{with_object};
 ghost use Rattle.tables_writes.specs.TablesValue.{HasWorld};
 ghost use Rattle.store_adds.specs.Parts.{added_view};
 ghost use Rattle.store_adds.specs.Adding.{IsAdded};
-ghost use Rattle.store_steps.specs.Meets.{IsMet};
+ghost use Rattle.store_promises.specs.Meets.{IsMet};
 
 use crate::summaries::Added;
 use crate::texts::prepare_text;

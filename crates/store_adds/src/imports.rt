@@ -16,7 +16,7 @@ ghost use Rattle.intake.specs.Described.{DescribesBytes};
 ghost use Rattle.store_adds.specs.Delivered.{delivered_view};
 ghost use Rattle.store_types.specs.View.{import_view};
 ghost use Rattle.policy.specs.Caller.{Caller};
-ghost use Rattle.store_steps.specs.Meets.{IsMet};
+ghost use Rattle.store_promises.specs.Meets.{IsMet};
 ghost use Rattle.model.specs.Objects as objects;
 ghost use Rattle.model.specs.Request as asked;
 

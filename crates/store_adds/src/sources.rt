@@ -14,7 +14,7 @@ ghost use Rattle.store_types.specs.Tested.{Gives};
 ghost use Rattle.intake.specs.Recorded.{outputs_view};
 ghost use Rattle.store_adds.specs.Parts.{added_view};
 ghost use Rattle.policy.specs.Caller.{Caller};
-ghost use Rattle.store_steps.specs.Meets.{IsMet};
+ghost use Rattle.store_promises.specs.Meets.{IsMet};
 ghost use Rattle.paths.specs.Path as paths;
 ghost use Rattle.model.specs.Objects as objects;
 ghost use Rattle.model.specs.Request as asked;

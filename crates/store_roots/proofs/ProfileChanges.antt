@@ -24,11 +24,11 @@ use Rattle.tables_writes.specs.TablesValue.{TablesValue, HasWorld}
 use Rattle.store_types.specs.View.{answer_view}
 use Rattle.store_types.specs.declared.replies.Answer.{Answer}
 use Rattle.store_types.specs.declared.replies.Stop.{Stop}
-use Rattle.store_steps.specs.RowsPut.{rows_put}
-use Rattle.store_steps.specs.Meets.{IsMet}
-use Rattle.store_steps.specs.Writing.{answered}
-use Rattle.store_steps.proofs.Caused.{write_fails}
-use Rattle.store_steps.proofs.Written.{sound_as, met_by_writing}
+use Rattle.store_promises.specs.RowsPut.{rows_put}
+use Rattle.store_promises.specs.Meets.{IsMet}
+use Rattle.store_promises.specs.Writing.{answered}
+use Rattle.store_promises.proofs.Caused.{write_fails}
+use Rattle.store_promises.proofs.Written.{sound_as, met_by_writing}
 
 module _ {a b x y : List ℕ} (first : x ≡ a) (second : y ≡ b) where
   pub same_owned : ◌≡◌ {A = Pair} (x, y) (a, b)

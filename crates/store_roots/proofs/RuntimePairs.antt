@@ -17,7 +17,7 @@ use Rattle.tables_outline.specs.Maps.{labelled_bytes, seen_map, seen_set}
 use Rattle.tables_outline.specs.Outline.{OutlineValue, outline_of}
 use Rattle.tables_outline.proofs.Trees.{seen, cmp, listed, inserted}
 use Rattle.tables_outline.proofs.Ordered.{mapped_length}
-use Rattle.store_steps.proofs.Outlined.{has_outlined}
+use Rattle.store_promises.proofs.Outlined.{has_outlined}
 use Rattle.intake.proofs.FirstEntries.{Precede, put_next}
 
 -- whether the labels are those of runtime roots

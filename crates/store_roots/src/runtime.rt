@@ -12,7 +12,7 @@ ghost use Rattle.model.specs.Tests.{refusal};
 ghost use Rattle.model.specs.Effects.{valid_pairs as valid_pairs_of};
 ghost use Rattle.store_types.specs.Tested.{Gives};
 ghost use Rattle.policy.specs.Caller.{Caller};
-ghost use Rattle.store_steps.specs.Meets.{IsMet};
+ghost use Rattle.store_promises.specs.Meets.{IsMet};
 ghost use Rattle.std.specs.FinMap as finite;
 ghost use Rattle.model.specs.Request as asked;
 
@@ -21,7 +21,7 @@ use paths::StorePath;
 use sqlite::Alter;
 use std::alloc::{AllocError, Global};
 use std::collections::BTreeSet;
-use store_steps::writing::answered;
+use store_promises::writing::answered;
 use store_types::{Answer, Refusal, Stop};
 use tables_outline::Outline;
 use tables_writes::Tables;

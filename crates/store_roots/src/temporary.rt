@@ -8,15 +8,15 @@ ghost use Rattle.tables_outline.specs.Outline.{outline_of};
 ghost use Rattle.model.specs.Tests.{refusal, unless};
 ghost use Rattle.store_types.specs.Tested.{Finds, Tested};
 ghost use Rattle.policy.specs.Caller.{Caller};
-ghost use Rattle.store_steps.specs.Meets.{IsMet};
+ghost use Rattle.store_promises.specs.Meets.{IsMet};
 ghost use Rattle.model.specs.Request as asked;
 
 use crate::naming::is_named;
 use paths::StorePath;
 use paths::numbers::is_session;
 use sqlite::Alter;
-use store_steps::validity::is_valid;
-use store_steps::writing::answered;
+use store_promises::validity::is_valid;
+use store_promises::writing::answered;
 use store_types::{Answer, Refusal, Stop};
 use tables_outline::Outline;
 use tables_writes::Tables;

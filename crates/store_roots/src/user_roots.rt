@@ -7,14 +7,14 @@ ghost use Rattle.tables_outline.specs.Outline.{outline_of};
 ghost use Rattle.model.specs.Tests.{refusal};
 ghost use Rattle.store_types.specs.Tested.{Tested};
 ghost use Rattle.policy.specs.Caller.{Caller};
-ghost use Rattle.store_steps.specs.Meets.{IsMet};
+ghost use Rattle.store_promises.specs.Meets.{IsMet};
 ghost use Rattle.model.specs.Request as asked;
 
 use crate::naming::are_named;
 use paths::StorePath;
 use sqlite::Alter;
-use store_steps::validity::{has_user_root, is_valid};
-use store_steps::writing::answered;
+use store_promises::validity::{has_user_root, is_valid};
+use store_promises::writing::answered;
 use store_types::{Answer, Refusal, Stop};
 use tables_outline::Outline;
 use tables_writes::Tables;

@@ -25,11 +25,11 @@ use Rattle.tables_writes.specs.TablesValue.{HasWorld, TablesValue}
 use Rattle.store_types.specs.Spent.{is_spent, spent_reply}
 use Rattle.store_types.specs.View.{request_view}
 use Rattle.store_types.specs.declared.requests.Request as made
-use Rattle.store_steps.specs.Causes.{HasCause}
-use Rattle.store_steps.specs.Crashes.{LeavesDone}
-use Rattle.store_steps.specs.Disk.{StepOver}
-use Rattle.store_steps.specs.Durability.{LeavesOthers}
-use Rattle.store_steps.proofs.Untouched.{survives_still}
+use Rattle.store_promises.specs.Causes.{HasCause}
+use Rattle.store_promises.specs.Crashes.{LeavesDone}
+use Rattle.store_promises.specs.Disk.{StepOver}
+use Rattle.store_promises.specs.Durability.{LeavesOthers}
+use Rattle.store_promises.proofs.Untouched.{survives_still}
 use Rattle.store.specs.View.{StoreView}
 use Rattle.store.specs.Calls.{Calls}
 use Rattle.wire_requests.specs.Kept.{without_archive, IsRequest}

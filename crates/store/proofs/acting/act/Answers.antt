@@ -5,9 +5,9 @@ use Rattle.model.specs.Verdict.{named_in}
 use Rattle.store_types.specs.declared.requests.Request.{Request}
 use Rattle.store_types.specs.Spent.{is_spent}
 use Rattle.store_types.specs.View.{request_view}
-use Rattle.store_steps.specs.Meets.{IsMet}
-use Rattle.store_removal.proofs.Collected.{deleted_sound}
-use Rattle.store_steps.proofs.Untouched.{met_by_reading}
+use Rattle.store_promises.specs.Meets.{IsMet}
+use Rattle.store_reach.proofs.Collected.{deleted_sound}
+use Rattle.store_promises.proofs.Untouched.{met_by_reading}
 use Rattle.store.proofs.Spent.{is_lost, is_whole}
 use Rattle.store.proofs.acting.act.Goals as goal
 

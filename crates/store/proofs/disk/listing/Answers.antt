@@ -7,8 +7,8 @@ use Rattle.model.specs.Reply.{listing_of}
 use Rattle.model.specs.Request.{ls}
 use Rattle.store_types.specs.declared.replies.Stop.TheVariants.{Refused}
 use Rattle.store.proofs.FromDisk.{met_by_disk}
-use Rattle.store_steps.proofs.Caused.{read_fails}
-use Rattle.store_steps.proofs.Written.{met_by_stopping}
+use Rattle.store_promises.proofs.Caused.{read_fails}
+use Rattle.store_promises.proofs.Written.{met_by_stopping}
 use Rattle.store.proofs.disk.listing.Goals as goal
 
 pub returns : goal.returns

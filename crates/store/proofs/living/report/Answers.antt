@@ -1,7 +1,7 @@
 use Rattle.std.proofs.Common.{refl, ap, ◌∙◌}
 use Rattle.model.specs.Liveness.{usage_of}
 use Rattle.model.specs.Reply as replied
-use Rattle.store_steps.proofs.Outlined.{all_outlined}
+use Rattle.store_promises.proofs.Outlined.{all_outlined}
 use Rattle.store.proofs.living.report.Goals as goal
 
 pub returns : goal.returns

@@ -2,7 +2,7 @@ use Rattle.std.proofs.Common.{[], ◌∷◌, Some, None, refl, ap, ◌∙◌}
 use Rattle.model.specs.Reply.{record_of}
 use Rattle.model.specs.declared.refusal.Refusal.TheVariants.{NotValid}
 use Rattle.model.specs.Tests.{unless, first_failing}
-use Rattle.store_steps.proofs.Outlined.{valid_by, record_by}
+use Rattle.store_promises.proofs.Outlined.{valid_by, record_by}
 use Rattle.store.proofs.reading.info.Goals as goal
 
 pub returns-in_default : goal.returns-in_default

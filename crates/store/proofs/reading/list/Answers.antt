@@ -1,6 +1,6 @@
 use Rattle.std.proofs.Common.{refl, ap, ◌∙◌}
 use Rattle.model.specs.Reply.{paths}
-use Rattle.store_steps.proofs.Outlined.{all_outlined}
+use Rattle.store_promises.proofs.Outlined.{all_outlined}
 use Rattle.store.proofs.reading.list.Goals as goal
 
 pub returns : goal.returns

@@ -7,7 +7,7 @@ use Rattle.model.specs.Reply.{roots}
 use Rattle.model.specs.declared.refusal.Refusal.TheVariants.{NotValid}
 use Rattle.model.specs.Seen.{seen}
 use Rattle.model.specs.Tests.{first_failing, unless}
-use Rattle.store_steps.proofs.Outlined.{has_outlined}
+use Rattle.store_promises.proofs.Outlined.{has_outlined}
 use Rattle.store.proofs.root_listing.list_roots_of.Goals as goal
 
 pub returns-then-not-has : goal.returns-then-not-has

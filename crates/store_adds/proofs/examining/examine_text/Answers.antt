@@ -6,7 +6,7 @@ use Rattle.nar.specs.Tree.{IsBytes}
 use Rattle.paths.specs.StorePath.{is_derivation}
 use Rattle.model.specs.Objects.{tree_outputs}
 use Rattle.model.specs.Tests.{if_derivation, tree_fault}
-use Rattle.store_steps.proofs.Passing.{pass}
+use Rattle.store_promises.proofs.Passing.{pass}
 use Rattle.store_adds.proofs.TextArchives.{outputs_of_text}
 use Rattle.store_adds.proofs.examining.examine_text.Goals as goal
 

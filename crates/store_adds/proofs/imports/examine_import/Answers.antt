@@ -8,7 +8,7 @@ use Rattle.model.specs.declared.refusal.Refusal.TheVariants.{MissingReference, N
 use Rattle.model.proofs.Passed.{met}
 use Rattle.model.specs.Tests.{is_complete, unless}
 use Rattle.store_adds.specs.Delivered.{delivered_view}
-use Rattle.store_steps.proofs.Passing.{pass}
+use Rattle.store_promises.proofs.Passing.{pass}
 use Rattle.store_adds.proofs.imports.examine_import.Goals as goal
 
 pub returns-clause-reported : goal.returns-clause-reported

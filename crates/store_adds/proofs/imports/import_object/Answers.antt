@@ -5,9 +5,9 @@ use Rattle.model.specs.Adds.{added_import}
 use Rattle.store_adds.specs.Parts.{added_view}
 use Rattle.store_types.specs.View.{import_view}
 use Rattle.tables_writes.specs.Reasons.{AreAmong}
-use Rattle.store_steps.specs.RowsPut.{ObjectRowsPut}
-use Rattle.store_steps.proofs.Caused.{own_among}
-use Rattle.store_steps.proofs.Untouched.{met_by_reading, reads_stopped}
+use Rattle.store_promises.specs.RowsPut.{ObjectRowsPut}
+use Rattle.store_promises.proofs.Caused.{own_among}
+use Rattle.store_promises.proofs.Untouched.{met_by_reading, reads_stopped}
 use Rattle.store_adds.proofs.AddedObjects.{met_by_adding}
 use Rattle.store_adds.proofs.AddedImports.{import_given, import_stopped, import_stays_sound}
 use Rattle.store_adds.proofs.imports.import_object.Goals as goal

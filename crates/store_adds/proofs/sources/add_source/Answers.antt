@@ -4,9 +4,9 @@ use Rattle.model.specs.Request.{add_source}
 use Rattle.model.specs.Adds.{added_source}
 use Rattle.store_adds.specs.Parts.{added_view}
 use Rattle.tables_writes.specs.Reasons.{AreAmong}
-use Rattle.store_steps.specs.RowsPut.{ObjectRowsPut}
-use Rattle.store_steps.proofs.Caused.{own_among}
-use Rattle.store_steps.proofs.Untouched.{met_by_reading, reads_stopped}
+use Rattle.store_promises.specs.RowsPut.{ObjectRowsPut}
+use Rattle.store_promises.proofs.Caused.{own_among}
+use Rattle.store_promises.proofs.Untouched.{met_by_reading, reads_stopped}
 use Rattle.store_adds.proofs.AddedObjects.{met_by_adding}
 use Rattle.store_adds.proofs.AddedSources.{source_given, source_stopped, source_stays_sound}
 use Rattle.intake.specs.Arriving.{bytes_in}

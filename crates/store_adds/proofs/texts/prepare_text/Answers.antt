@@ -8,7 +8,7 @@ use Rattle.tables_outline.specs.Outline.{Outlined}
 use Rattle.model.specs.Adds.{text_archive}
 use Rattle.model.specs.declared.refusal.Refusal.TheVariants.{TooManyReferences}
 use Rattle.model.specs.Tests.{first_failing, text_tests, unless}
-use Rattle.store_steps.proofs.Passing.{pass}
+use Rattle.store_promises.proofs.Passing.{pass}
 use Rattle.store_adds.proofs.texts.prepare_text.Goals as goal
 
 abbrev as_address : List ℕ → ContentAddress

@@ -6,9 +6,9 @@ use Rattle.model.specs.Request.{delete_generation}
 use Rattle.store_types.specs.declared.replies.Answer.TheVariants.{Changed}
 use Rattle.store_types.specs.declared.replies.Stop.TheVariants.{Refused}
 use Rattle.tables_writes.specs.Reasons.{NoRow}
-use Rattle.store_steps.proofs.Caused.{own_among}
-use Rattle.store_steps.proofs.Written.{met_by_stopping}
-use Rattle.store_steps.proofs.Fits.{no_settings, deletion_fits}
+use Rattle.store_promises.proofs.Caused.{own_among}
+use Rattle.store_promises.proofs.Written.{met_by_stopping}
+use Rattle.store_promises.proofs.Fits.{no_settings, deletion_fits}
 use Rattle.store_roots.proofs.ProfileChanges.{met_by_changing, present_as, sound_changed}
 use Rattle.store_roots.proofs.profiles.delete_generation.Goals as goal
 

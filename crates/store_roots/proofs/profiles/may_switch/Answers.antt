@@ -1,6 +1,6 @@
 use Rattle.std.proofs.Common.{◌∙◌, arith, rules}
 use Rattle.std.proofs.lemmas.Grind.{common_steps}
-use Rattle.store_steps.proofs.Passing.{pass}
+use Rattle.store_promises.proofs.Passing.{pass}
 use Rattle.store_roots.proofs.profiles.may_switch.Goals as goal
 
 pub returns : goal.returns

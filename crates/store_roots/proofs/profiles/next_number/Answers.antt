@@ -6,7 +6,7 @@ use Rattle.model.specs.Profiles.{number_for}
 use Rattle.model.specs.Tests.{first_failing, unless}
 use Rattle.tables_outline.specs.Maps.{pair_bytes}
 use Rattle.tables_outline.specs.Outline.{OutlineValue, profile_of}
-use Rattle.store_steps.proofs.Passing.{pass}
+use Rattle.store_promises.proofs.Passing.{pass}
 use Rattle.store_roots.proofs.profiles.next_number.Goals as goal
 
 pub returns-in-Some-clause-reported : goal.returns-in-Some-clause-reported

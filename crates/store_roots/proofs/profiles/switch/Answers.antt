@@ -8,9 +8,9 @@ use Rattle.store_types.specs.declared.replies.Answer.TheVariants.{Generation}
 use Rattle.store_types.specs.declared.replies.Stop.TheVariants.{Refused}
 use Rattle.tables_writes.specs.Reasons.{AreAmong}
 use Rattle.tables_writes.specs.RowsPut.{ProfileRow}
-use Rattle.store_steps.proofs.Caused.{own_among}
-use Rattle.store_steps.proofs.Written.{met_by_stopping}
-use Rattle.store_steps.proofs.Fits.{no_settings, switch_fits}
+use Rattle.store_promises.proofs.Caused.{own_among}
+use Rattle.store_promises.proofs.Written.{met_by_stopping}
+use Rattle.store_promises.proofs.Fits.{no_settings, switch_fits}
 use Rattle.store_roots.proofs.ProfileChanges.{met_by_changing, present_as, same_owned, sound_changed}
 use Rattle.store_roots.proofs.profiles.switch.Goals as goal
 

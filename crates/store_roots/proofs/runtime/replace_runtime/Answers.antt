@@ -15,12 +15,12 @@ use Rattle.model.specs.Effects.{valid_pairs, with_runtime}
 use Rattle.store_types.specs.declared.replies.Answer.{Answer}
 use Rattle.store_types.specs.declared.replies.Answer.TheVariants.{RuntimeCount}
 use Rattle.store_types.specs.declared.replies.Stop.{Stop}
-use Rattle.store_steps.specs.Meets.{IsMet}
+use Rattle.store_promises.specs.Meets.{IsMet}
 use Rattle.tables_writes.specs.Reasons.{AreAmong, RowsOf}
 use Rattle.tables_writes.specs.RowsPut.{RuntimeRow}
-use Rattle.store_steps.proofs.Caused.{own_among, write_fails}
-use Rattle.store_steps.proofs.Written.{sound_as, met_by_stopping, met_by_writing}
-use Rattle.store_steps.proofs.Fits.{no_settings, runtime_fits}
+use Rattle.store_promises.proofs.Caused.{own_among, write_fails}
+use Rattle.store_promises.proofs.Written.{sound_as, met_by_stopping, met_by_writing}
+use Rattle.store_promises.proofs.Fits.{no_settings, runtime_fits}
 use Rattle.store_roots.proofs.runtime.replace_runtime.Goals as goal
 
 pub replace_runtime-requires : goal.replace_runtime-requires

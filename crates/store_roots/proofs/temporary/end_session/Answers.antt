@@ -11,10 +11,10 @@ use Rattle.model.specs.Effects.{is_of_session, without_session}
 use Rattle.model.proofs.SoundRoots.{session_ended}
 use Rattle.store_types.specs.declared.replies.Answer.TheVariants.{TemporaryCount}
 use Rattle.store_types.specs.declared.replies.Stop.TheVariants.{Refused}
-use Rattle.store_steps.specs.Meets.{IsMet}
+use Rattle.store_promises.specs.Meets.{IsMet}
 use Rattle.tables_writes.specs.Reasons.{NoRow}
-use Rattle.store_steps.proofs.Caused.{own_among, write_fails}
-use Rattle.store_steps.proofs.Written.{counted_done, counted_failed, met_by_stopping, met_by_writing}
+use Rattle.store_promises.proofs.Caused.{own_among, write_fails}
+use Rattle.store_promises.proofs.Written.{counted_done, counted_failed, met_by_stopping, met_by_writing}
 use Rattle.store_roots.proofs.temporary.end_session.Goals as goal
 
 pub end_session-requires : goal.end_session-requires

@@ -1,5 +1,5 @@
 use Rattle.std.proofs.Common.{◌∙◌}
-use Rattle.store_steps.proofs.Passing.{pass}
+use Rattle.store_promises.proofs.Passing.{pass}
 use Rattle.store_roots.proofs.temporary.may_keep.Goals as goal
 
 pub returns-clause-reported : goal.returns-clause-reported

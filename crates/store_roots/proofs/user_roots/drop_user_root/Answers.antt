@@ -7,11 +7,11 @@ use Rattle.store_types.specs.declared.replies.Answer.{Answer}
 use Rattle.store_types.specs.declared.replies.Answer.TheVariants.{Changed}
 use Rattle.store_types.specs.declared.replies.Stop.{Stop}
 use Rattle.store_types.specs.declared.replies.Stop.TheVariants.{Refused}
-use Rattle.store_steps.specs.Meets.{IsMet}
+use Rattle.store_promises.specs.Meets.{IsMet}
 use Rattle.model.proofs.SoundRoots.{user_root_dropped}
 use Rattle.tables_writes.specs.Reasons.{NoRow}
-use Rattle.store_steps.proofs.Caused.{own_among, write_fails}
-use Rattle.store_steps.proofs.Written.{met_by_stopping, met_by_writing}
+use Rattle.store_promises.proofs.Caused.{own_among, write_fails}
+use Rattle.store_promises.proofs.Written.{met_by_stopping, met_by_writing}
 use Rattle.store_roots.proofs.user_roots.drop_user_root.Goals as goal
 
 pub drop_user_root-requires : goal.drop_user_root-requires

@@ -7,12 +7,12 @@ use Rattle.store_types.specs.declared.replies.Answer.{Answer}
 use Rattle.store_types.specs.declared.replies.Answer.TheVariants.{Changed}
 use Rattle.store_types.specs.declared.replies.Stop.{Stop}
 use Rattle.store_types.specs.declared.replies.Stop.TheVariants.{Refused}
-use Rattle.store_steps.specs.Meets.{IsMet}
+use Rattle.store_promises.specs.Meets.{IsMet}
 use Rattle.tables_writes.specs.Reasons.{AreAmong}
 use Rattle.tables_writes.specs.RowsPut.{UserRootRow}
-use Rattle.store_steps.proofs.Caused.{own_among, write_fails}
-use Rattle.store_steps.proofs.Written.{sound_as, met_by_stopping, met_by_writing}
-use Rattle.store_steps.proofs.Fits.{no_settings, user_root_fits}
+use Rattle.store_promises.proofs.Caused.{own_among, write_fails}
+use Rattle.store_promises.proofs.Written.{sound_as, met_by_stopping, met_by_writing}
+use Rattle.store_promises.proofs.Fits.{no_settings, user_root_fits}
 use Rattle.store_roots.proofs.user_roots.set_user_root.Goals as goal
 
 pub put_user_root-requires : goal.put_user_root-requires

@@ -1,6 +1,6 @@
 use Rattle.std.proofs.Common.{subst}
 use Rattle.store_types.specs.View.{request_view}
-use Rattle.store_steps.specs.Meets.{IsMet}
+use Rattle.store_promises.specs.Meets.{IsMet}
 use Rattle.store.specs.View.{StoreView}
 use Rattle.store.proofs.calling.Store.act.Goals as goal
 

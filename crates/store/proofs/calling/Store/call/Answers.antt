@@ -4,9 +4,9 @@ use Rattle.policy.specs.Rules.{first_broken}
 use Rattle.model.specs.Reply.{Reply}
 use Rattle.model.specs.Verdict.{operation_of}
 use Rattle.store_types.specs.View.{request_view, reply_view}
-use Rattle.store_steps.specs.Causes.{HasCause}
-use Rattle.store_steps.specs.Meets.{reply_to}
-use Rattle.store_steps.proofs.Untouched.{others_still}
+use Rattle.store_promises.specs.Causes.{HasCause}
+use Rattle.store_promises.specs.Meets.{reply_to}
+use Rattle.store_promises.proofs.Untouched.{others_still}
 use Rattle.store.proofs.Replied.{cause_forbidden, step_forbidden, step_met, survives_met}
 use Rattle.store.proofs.Spent.{is_no_deletion, same_view, spent_denied, spent_fails}
 use Rattle.store.proofs.calling.Store.call.Goals as goal

@@ -8,7 +8,7 @@ use Rattle.model.specs.Reply.{Reply, denied}
 use Rattle.model.specs.Verdict.{operation_of}
 use Rattle.tables_outline.specs.Maps.{labelled_bytes}
 use Rattle.tables_writes.specs.TablesValue.{HasWorld}
-use Rattle.store_removal.specs.Found.{IsDenial}
+use Rattle.store_reach.specs.Found.{IsDenial}
 use Rattle.store_types.specs.View.{request_view}
 use Rattle.store.specs.View.{StoreView}
 use Rattle.store.proofs.Replied.{forbidden_by, forbidden_living, forbidden_failing}

@@ -5,8 +5,8 @@ use Rattle.sqlite.specs.Held.{state}
 use Rattle.policy.specs.Settings.{Settings}
 use Rattle.model.specs.Reply.{Reply}
 use Rattle.tables_writes.proofs.AfterWrites.{clean_before}
-use Rattle.store_steps.specs.Disk.{StepOver}
-use Rattle.store_steps.proofs.Untouched.{others_both, others_still}
+use Rattle.store_promises.specs.Disk.{StepOver}
+use Rattle.store_promises.proofs.Untouched.{others_both, others_still}
 use Rattle.store_types.specs.View.{call_view, request_view, reply_view}
 use Rattle.store_types.specs.Spent.{spent_reply}
 use Rattle.store.proofs.Alike.{runs_alike}

@@ -4,7 +4,7 @@ use Rattle.sqlite.specs.State.{HasCleanDisk}
 use Rattle.sqlite.specs.Held.{state}
 use Rattle.model.specs.World.{World}
 use Rattle.tables_writes.specs.TablesValue.{HasWorld}
-use Rattle.store_steps.specs.Durability.{LeavesOthers}
+use Rattle.store_promises.specs.Durability.{LeavesOthers}
 use Rattle.store_types.specs.View.{call_view, reply_view}
 use Rattle.store.proofs.Runs.{HasRun}
 use Rattle.store.proofs.Spent.{SpentSoFar}
