@@ -1,0 +1,13 @@
+use Rattle.std.proofs.Common.{refl, sym, ap, ◌∙◌}
+use Rattle.std.specs.Prelude.{codes}
+use Rattle.std.specs.FinMap as finite
+use Rattle.tables.specs.Outline.{OutlineValue}
+use Rattle.tables.proofs.SoundChanges.{valid_by_outline}
+use Rattle.tables.proofs.SoundRoots.{permanent_set}
+use Rattle.examples.proofs.changes.put_boot.Goals as goal
+
+pub put_permanent-requires : goal.put_permanent-requires
+put_permanent-requires g c = record {
+  sound = λ w t. permanent_set c.args.tables.now.dir w t.sound (codes "boot") c.args.path.now refl (valid_by_outline g.S.Store c.args.tables.now w t c.args.path.now
+      ∙ ap (λ (o : OutlineValue). finite.contains_key o.objects c.args.path.now) (sym c.outline.ensures) ∙ sym c.has.ensures ∙ c.if-not-has.false);
+}
