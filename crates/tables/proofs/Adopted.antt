@@ -10,7 +10,7 @@ use Rattle.tables_sql.proofs.Transactions.{survives_none}
 use Rattle.tables_writes.specs.TablesValue.{TablesValue}
 use Rattle.tables.specs.Opening.{IsCause, OpensStore, LeavesOpening}
 use Rattle.tables.specs.Adopted.{Adopts}
-use Rattle.tables.specs.declared.refusing.Unadopted.{Unadopted}
+use Rattle.tables.specs.declared.unopened.Unadopted.{Unadopted}
 use Rattle.tables.proofs.Passed.{among, with_before, both_survive, both_same, same_cause, same_took}
 
 module _ {S : Type 0} (g : Ghosts S) (dir : List ℕ) where

@@ -14,8 +14,8 @@ use Rattle.tables_make.specs.Making.{RunsOutOfTrees, IsIndexNameUsed, FailsToMak
 use Rattle.tables_make.specs.Migrating.{FailsToMigrate}
 use Rattle.tables_make.proofs.MigratingFailures.{whole_before}
 use Rattle.tables_recognize.specs.Opened.{HasUnkeyed, FailsToOpen}
-use Rattle.tables.specs.declared.refusing.Cause.{Cause}
-use Rattle.tables.specs.declared.refusing.Cause.TheVariants.{BadSchema, OtherStoreDir, Failed as failing}
+use Rattle.tables.specs.declared.unopened.Cause.{Cause}
+use Rattle.tables.specs.declared.unopened.Cause.TheVariants.{BadSchema, OtherStoreDir, Failed as failing}
 use Rattle.tables.specs.Opening.{IsFoundBy, IsRefusal, IsCause}
 
 -- ---- what failed

@@ -12,7 +12,7 @@ use Rattle.tables_schema.specs.Intact.{IsIntact, HasTables, tree_named, is_unref
 use Rattle.tables_schema.specs.Finding.{HasNone, IsFree, is_unawaited}
 use Rattle.tables_schema.specs.declared.schema.Schema.{Schema}
 use Rattle.tables_schema.specs.declared.schema.Schema.TheVariants.{V1, V2, V3}
-use Rattle.tables.specs.declared.refusing.Cause.TheVariants.{BadSchema}
+use Rattle.tables.specs.declared.unopened.Cause.TheVariants.{BadSchema}
 use Rattle.tables.specs.InTheWay.{is_present, is_name_used, has_store_tables, is_acted_on, is_awaited, is_blocked, are_others_in_the_way}
 use Rattle.tables.specs.Opening.{HasTablesOf, HoldsBy, HasItsForm, HasFormsOf, IsPresentBy, IsRefusal, IsNoStore, RefusesTheRest}
 

@@ -7,7 +7,7 @@ use Rattle.sqlite.specs.State.{State, HasCleanDisk, IsUnchanged, Survives}
 use Rattle.sqlite.proofs.StateLemmas.{survives_then, survives_weaker}
 use Rattle.tables_sql.specs.Calls.{KeepsShown}
 use Rattle.tables_sql.proofs.Steps.{shown_then}
-use Rattle.tables.specs.declared.refusing.Cause.{Cause}
+use Rattle.tables.specs.declared.unopened.Cause.{Cause}
 use Rattle.tables.specs.Opening.{LeavesOpening, IsCause}
 use Rattle.tables.proofs.Causes.{cause_before}
 

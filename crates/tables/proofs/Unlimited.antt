@@ -6,7 +6,7 @@ use Rattle.sqlite.specs.Held.{Held, state}
 use Rattle.tables_writes.specs.TablesValue.{TablesValue}
 use Rattle.tables.specs.Opening.{OpensStore, LeavesOpening, unlimited}
 use Rattle.tables.specs.Adopted.{Adopts}
-use Rattle.tables.specs.declared.refusing.Unadopted.{Unadopted}
+use Rattle.tables.specs.declared.unopened.Unadopted.{Unadopted}
 
 module _ {S : Type 0} (g : Ghosts S) where
   cleared : (old new : Held S) → new ≡ record old { step_limit = None } → state g new ≡ unlimited (state g old)

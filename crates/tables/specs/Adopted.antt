@@ -11,8 +11,8 @@ use Rattle.tables_rows.specs.Frames.{LeftAsItWas}
 use Rattle.tables_recognize.specs.Opened.{IsFound}
 use Rattle.tables_writes.specs.TablesValue.{TablesValue}
 use Rattle.tables.specs.Opening.{IsFoundBy, AreRead, IsCause}
-use Rattle.tables.specs.declared.refusing.Cause.{Cause}
-use Rattle.tables.specs.declared.refusing.Unadopted.{Unadopted}
+use Rattle.tables.specs.declared.unopened.Cause.{Cause}
+use Rattle.tables.specs.declared.unopened.Unadopted.{Unadopted}
 use Rattle.tables.specs.declared.rows.Loaded.{Loaded}
 
 module _ {S : Type 0} (g : Ghosts S) where

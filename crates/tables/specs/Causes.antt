@@ -3,10 +3,10 @@ use Rattle.std.specs.Option.{option_map_or}
 use Rattle.tables_recognize.specs.Disk as disk
 use Rattle.tables_recognize.specs.declared.file.UnopenedFile.{UnopenedFile}
 use Rattle.tables_recognize.specs.declared.file.UnopenedFile.TheVariants as file
-use Rattle.tables.specs.declared.refusing.Cause.{Cause}
-use Rattle.tables.specs.declared.refusing.Cause.TheVariants.{BadSchema, Failed}
-use Rattle.tables.specs.declared.refusing.Unopened.{Unopened}
-use Rattle.tables.specs.declared.refusing.Unopened.TheVariants.{File, Store}
+use Rattle.tables.specs.declared.unopened.Cause.{Cause}
+use Rattle.tables.specs.declared.unopened.Cause.TheVariants.{BadSchema, Failed}
+use Rattle.tables.specs.declared.unopened.Unopened.{Unopened}
+use Rattle.tables.specs.declared.unopened.Unopened.TheVariants.{File, Store}
 
 module _ {S D : Type 0} {g : disk.Ghosts D} where
   -- no connection was opened: what isn't a database is no store

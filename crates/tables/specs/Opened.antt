@@ -14,9 +14,9 @@ use Rattle.sqlite.specs.Files.{over_files, file_state}
 use Rattle.tables_sql.specs.Calls.{IsDurable, KeepsShown}
 use Rattle.tables_recognize.specs.Opened.{IsAsOpened, FailsToOpenFile}
 use Rattle.tables_writes.specs.TablesValue.{TablesValue}
-use Rattle.tables.specs.declared.refusing.Cause.{Cause}
-use Rattle.tables.specs.declared.refusing.Unopened.{Unopened}
-use Rattle.tables.specs.declared.refusing.Unopened.TheVariants.{File, Store}
+use Rattle.tables.specs.declared.unopened.Cause.{Cause}
+use Rattle.tables.specs.declared.unopened.Unopened.{Unopened}
+use Rattle.tables.specs.declared.unopened.Unopened.TheVariants.{File, Store}
 use Rattle.tables.specs.Opening.{OpensStore, LeavesOpening, IsCause}
 
 module _ {D : Type 0} {g : disk.Ghosts D} where

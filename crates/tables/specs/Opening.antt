@@ -28,8 +28,8 @@ use Rattle.tables_world.specs.Worlds.{IsSoundBy, world_in}
 use Rattle.tables_outline.specs.Outline.{OutlineValue, outline_of}
 use Rattle.tables_writes.specs.TablesValue.{TablesValue, HasWorld}
 use Rattle.tables.specs.InTheWay.{is_name_used, has_store_tables, are_others_in_the_way}
-use Rattle.tables.specs.declared.refusing.Cause.{Cause}
-use Rattle.tables.specs.declared.refusing.Cause.TheVariants.{BadSchema, OtherStoreDir, Failed as failed}
+use Rattle.tables.specs.declared.unopened.Cause.{Cause}
+use Rattle.tables.specs.declared.unopened.Cause.TheVariants.{BadSchema, OtherStoreDir, Failed as failed}
 
 -- a connection without its limit on steps
 abbrev pub unlimited : State → State

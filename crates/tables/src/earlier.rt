@@ -10,8 +10,8 @@ ghost use Rattle.tables_make.specs.Commits.{Migrates};
 ghost use Rattle.tables.specs.Opening.{AreRead, OpensMigrated, LeavesMigration, IsCause};
 ghost use Rattle.tables.specs.Adopted.{Adopts, HasTables};
 
-use crate::refusing::{Cause, Unadopted};
 use crate::rows::{Loaded, read_as};
+use crate::unopened::{Cause, Unadopted};
 use paths::StoreDir;
 use sqlite::{Alter, Connection};
 use std::alloc::Global;

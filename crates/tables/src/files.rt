@@ -4,8 +4,8 @@ ghost use Rattle.std.specs.Prelude.{◌≡◌, IfOk, IfErr};
 ghost use Rattle.sqlite_wal.specs.Files.{image_at};
 ghost use Rattle.tables.specs.Opened.{Opens, IsUnopened};
 
-use crate::adopting::take;
-use crate::refusing::Unopened;
+use crate::adoption::take;
+use crate::unopened::Unopened;
 use paths::StoreDir;
 use sqlite::{FileFrom, FileStore, Start};
 use std::rt::HostRuntime;

@@ -6,8 +6,8 @@ ghost use Rattle.tables_schema.specs.declared.schema.Schema.TheVariants.{V3};
 ghost use Rattle.tables.specs.Opening.{OpensExisting, OpensNew};
 ghost use Rattle.tables.specs.Adopted.{Adopts, HasTables, HasNoTables};
 
-use crate::refusing::{Cause, Unadopted};
 use crate::rows::{Loaded, read_as};
+use crate::unopened::{Cause, Unadopted};
 use paths::StoreDir;
 use sqlite::{Alter, Connection};
 use std::alloc::Global;

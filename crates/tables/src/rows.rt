@@ -11,7 +11,7 @@ ghost use Rattle.tables_rows.specs.Frames.{ReadsOnly};
 ghost use Rattle.tables_writes.specs.Frames.{MayReadWith};
 ghost use Rattle.tables.specs.Adopted.{HasTables, ReadsStore};
 
-use crate::refusing::Cause;
+use crate::unopened::Cause;
 use paths::StoreDir;
 use sqlite::{Alter, Connection};
 use std::alloc::Global;

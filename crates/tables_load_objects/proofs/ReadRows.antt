@@ -21,7 +21,7 @@ use Rattle.tables_outline.proofs.Puts.{get-kept}
 use Rattle.tables_rows.specs.declared.objects.Object.{Object}
 use Rattle.tables_rows.specs.Entries.{piece_in, stored_of, IsStored}
 use Rattle.model.specs.World.{Path}
-use Rattle.tables_load_objects.specs.declared.reading.ObjectRows.{ObjectRows}
+use Rattle.tables_load_objects.specs.declared.object_rows.ObjectRows.{ObjectRows}
 use Rattle.tables_load_objects.specs.declared.joined.Joined.{Joined}
 use Rattle.tables_load_objects.specs.declared.source.Source.{Source}
 use Rattle.tables_load_objects.specs.Rows.{AreRowsOf, AreJoined, AreStored}

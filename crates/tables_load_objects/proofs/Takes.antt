@@ -18,7 +18,7 @@ use Rattle.tables_world.specs.Worlds.{rows_of}
 use Rattle.tables_world.specs.Parts.{IsSoundRow}
 use Rattle.tables_outline.specs.Maps.{put_all}
 use Rattle.tables_outline.specs.Outline.{Outlined, outlined}
-use Rattle.tables_load_objects.specs.declared.reading.ObjectRows.{ObjectRows}
+use Rattle.tables_load_objects.specs.declared.object_rows.ObjectRows.{ObjectRows}
 use Rattle.tables_load_objects.specs.Cut.{parts_of, whole_of}
 use Rattle.tables_load_objects.specs.Tested.{IsSoundAt, kept_of, named_of, targets_of}
 use Rattle.tables_load_objects.specs.Rows.{AreRowsOf}

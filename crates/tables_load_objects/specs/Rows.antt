@@ -9,7 +9,7 @@ use Rattle.model.specs.World.{Path}
 use Rattle.tables_world.specs.Rows.{pieces_in}
 use Rattle.tables_world.specs.Worlds.{rows_of}
 use Rattle.tables_load_objects.specs.Cut.{parts_of}
-use Rattle.tables_load_objects.specs.declared.reading.ObjectRows.{ObjectRows}
+use Rattle.tables_load_objects.specs.declared.object_rows.ObjectRows.{ObjectRows}
 use Rattle.tables_load_objects.specs.declared.joined.Joined.{Joined}
 
 -- the row of an object, and its pieces in order

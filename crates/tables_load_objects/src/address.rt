@@ -5,7 +5,7 @@ ghost use Rattle.std.specs.List.{list_any};
 ghost use Rattle.std.specs.Str.{bytes_eq};
 ghost use Rattle.tables_load_objects.specs.Tested as tested;
 
-use crate::passing::ArchiveBytes;
+use crate::archive_bytes::ArchiveBytes;
 use paths::{Ca, StoreDir, StorePath, VerifyError};
 use std::alloc::{AllocError, Global};
 

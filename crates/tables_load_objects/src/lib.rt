@@ -2,20 +2,20 @@
 #![tactic(auto)]
 
 mod address;
-mod cutting;
+mod archive_bytes;
 mod groups;
 mod joined;
-mod loading;
+mod load;
 mod loading_each;
 mod members;
+mod object_rows;
 mod objects;
 mod outputs;
-mod passing;
-mod reading;
-mod reading_ahead;
+mod piece_sizes;
 mod recorded;
 mod references;
+mod rows_ahead;
 mod source;
 mod texts;
 
-pub use loading::load_objects;
+pub use load::load_objects;

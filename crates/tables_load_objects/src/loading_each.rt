@@ -13,11 +13,11 @@ ghost use Rattle.tables_load_objects.specs.Tested.{IsSoundAt, kept_of, named_of,
 ghost use Rattle.tables_load_objects.specs.Loaded.{IsCutBy, IsSoundOne, filled, with_object, with_objects};
 ghost use Rattle.tables_load_objects.specs.Loading.{MayReadBy, MayReadFrom, Loads};
 
-use crate::cutting::is_cut;
 use crate::groups::group;
 use crate::joined::Joined;
+use crate::object_rows::{ObjectRows, rows_at};
 use crate::objects::sound_object;
-use crate::reading::{ObjectRows, rows_at};
+use crate::piece_sizes::is_cut;
 use crate::source::Source;
 use crate::texts::new_path;
 use paths::{StoreDir, StorePath};

@@ -14,8 +14,8 @@ ghost use Rattle.tables_load_objects.specs.Cut.{parts_of, whole_of};
 ghost use Rattle.tables_load_objects.specs.Tested.{IsListed, IsRecorded, IsSoundArchive, IsSoundAt, kept_of, named_of, targets_of};
 
 use crate::address::{are_same, fits_address};
+use crate::archive_bytes::ArchiveBytes;
 use crate::outputs::{Listed, recorded};
-use crate::passing::ArchiveBytes;
 use crate::references::paths_of;
 use crate::texts::{address_of, deriver_of, path_of};
 use paths::{Ca, StoreDir, StorePath};

@@ -8,7 +8,7 @@ ghost use Rattle.tables_make.specs.Further.{MakesFurther};
 ghost use Rattle.tables_rows.specs.Frames.{IsInsideWith};
 ghost use Rattle.tables_make.specs.Frames.{StepsInside};
 
-use crate::creating;
+use crate::creation;
 use sqlite::{Alter, Transaction};
 use tables_schema::store_table::StoreTable;
 use tables_sql::failure::Failed;
@@ -20,7 +20,7 @@ pub fn make_both<S: Alter>(tx: &mut Transaction<'_, S>) -> Result<(), Failed>
     ensures { StepsInside S.Store tx.old.conn tx.new.conn result (MakesFurther (piece ∷ temp_root ∷ []))
         (FailsToMakeThese (piece ∷ temp_root ∷ []) ⊥ ⊥) }
 {
-    creating::all(tx, &[StoreTable::Piece, StoreTable::TempRoot])
+    creation::all(tx, &[StoreTable::Piece, StoreTable::TempRoot])
 }
 
 /// Makes the table of temporary roots next to the ten of the second schema, with no row. What the tables hold is as it
@@ -30,5 +30,5 @@ pub fn make_temp_root<S: Alter>(tx: &mut Transaction<'_, S>) -> Result<(), Faile
     ensures { StepsInside S.Store tx.old.conn tx.new.conn result (MakesFurther (temp_root ∷ []))
         (FailsToMakeThese (temp_root ∷ []) ⊥ ⊥) }
 {
-    creating::all(tx, &[StoreTable::TempRoot])
+    creation::all(tx, &[StoreTable::TempRoot])
 }

@@ -1,11 +1,11 @@
 //! Making the tables, and bringing those of an earlier schema to the third.
 #![tactic(auto)]
 
-mod creating;
-mod cutting;
+mod archive_cuts;
+mod creation;
 pub mod further;
 pub mod making;
-mod migrating;
-mod settling;
+mod migration;
+mod schema_setting;
 
-pub use migrating::{from_first, from_second};
+pub use migration::{from_first, from_second};

@@ -11,7 +11,7 @@ ghost use Rattle.tables_make.specs.Making.{IsMaking, HasMeta, Puts, MakesMeta, M
 ghost use Rattle.tables_make.specs.Frames.{StepsInside};
 ghost use Rattle.tables_make.specs.Commits.{CommitsTables, MayMake};
 
-use crate::creating;
+use crate::creation;
 use sqlite::{Alter, Connection, Transaction, params};
 use tables_schema::Schema;
 use tables_schema::store_table::{StoreTable, schema_tables};
@@ -36,7 +36,7 @@ fn settle<S: Alter>(tx: &mut Transaction<'_, S>, store_dir: &str) -> Result<(), 
     ensures { StepsInside S.Store tx.old.conn tx.new.conn result (MakesMeta store_dir.now)
         (FailsToMakeThese (meta ∷ []) (IsTooLong store_dir.now) (IsSome (state S.Store tx.old.conn.now).step_limit)) }
 {
-    creating::one(tx, StoreTable::Meta)?;
+    creation::one(tx, StoreTable::Meta)?;
     put(tx, "schema", Schema::V3.text())?;
     put(tx, "store-dir", store_dir)
 }
@@ -47,7 +47,7 @@ fn make_all<S: Alter>(tx: &mut Transaction<'_, S>, store_dir: &str) -> Result<()
     ensures { StepsInside S.Store tx.old.conn tx.new.conn result (MakesAll store_dir.now) (FailsToMake store_dir.now) }
 {
     settle(tx, store_dir)?;
-    creating::all(tx, &schema_tables(Schema::V3)[1..])
+    creation::all(tx, &schema_tables(Schema::V3)[1..])
 }
 
 #[tactic(auto, using(crate::proofs::Settles::committed_made))]

@@ -9,7 +9,7 @@ ghost use Rattle.sqlite.specs.Start.{FindsIn};
 ghost use Rattle.tables_recognize.specs.Opened.{IsFound, FailsToOpen, IsAsOpened, FailsToOpenFile};
 ghost use Rattle.tables_sql.specs.Calls.{KeepsShown};
 
-use crate::connecting::connect;
+use crate::connection::connect;
 pub use crate::files::Unfound;
 use crate::files::{find, opening_failure};
 use crate::opening;

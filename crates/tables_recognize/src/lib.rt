@@ -1,17 +1,17 @@
 //! Opening a file or a connection: by which schema it has the store's tables, and of which directory.
 #![tactic(auto)]
 
-mod connecting;
+mod connection;
 pub mod file;
 mod files;
-mod measuring;
 pub mod opening;
 mod options;
+mod page_count;
 mod queries;
-mod reading;
+mod row_tests;
 mod rowids;
 pub mod settings;
-mod testing;
+mod tested_rows;
 mod texts;
 
 // What callers name besides, so that they need no library for it.

@@ -11,7 +11,7 @@ ghost use Rattle.tables_schema.specs.declared.recognising.Recognised.TheVariants
 ghost use Rattle.tables_schema.specs.declared.schema.Schema.TheVariants.{V1, V2, V3};
 ghost use Rattle.tables_recognize.specs.Frames.{IsSettled, MayTest, OnlyLooks, FindsTables};
 
-use crate::testing;
+use crate::row_tests;
 use sqlite::{Alter, Connection};
 use std::alloc::Global;
 use tables_schema::recognising::Recognised;
@@ -30,7 +30,7 @@ fn inspect_tables<S: Alter>(
     ensures some { IfOk result (λ r. r ≢ Nothing) }
     ensures tested { FindsTables S.Store conn.old conn.new result }
 {
-    if testing::all(alloc, conn, schema_tables(schema))? {
+    if row_tests::all(alloc, conn, schema_tables(schema))? {
         Ok(Recognised::Tables(schema))
     } else {
         Ok(Recognised::Other)

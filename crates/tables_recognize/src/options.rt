@@ -9,7 +9,7 @@
 ghost use Rattle.std.specs.Prelude.{◌≡◌, ℕ, IfOk, IfErr};
 ghost use Rattle.tables_recognize.specs.Pages.{cached_pages};
 
-use crate::measuring::{Measured, measure};
+use crate::page_count::{Measured, measure};
 use sqlite::{Error, ErrorCode, Options};
 use std::hash::{BuildHasher, RandomState};
 use std::rt::HostRuntime;

@@ -1,10 +1,11 @@
 //! The tables of a store, once they are open: read, and changed by one transaction a call.
 #![tactic(auto)]
 
+mod archive_pieces;
+mod archives;
 mod change;
-mod closing;
+mod close;
 mod connected;
-mod cutting;
 mod entries;
 mod generations;
 mod laws;
@@ -13,9 +14,7 @@ mod object_rows;
 mod objects;
 mod permanent;
 mod profiles;
-mod reading;
 mod removal;
-mod removing;
 mod roots;
 mod runtime;
 mod sessions;
@@ -24,7 +23,7 @@ mod temporary;
 mod texts;
 mod user_roots;
 
-pub use closing::Close;
+pub use close::Close;
 pub use connected::over;
 pub use entries::{Object, Snapshot};
 pub use laws::open_tables_have_a_world;

@@ -9,8 +9,8 @@ ghost use Rattle.tables_writes.specs.RowsPut.{ReferenceRow, OutputRow};
 ghost use Rattle.tables_rows.specs.Frames.{Writes};
 ghost use Rattle.tables_writes.specs.Frames.{IsOpenInside};
 
+use crate::archive_pieces::put_pieces;
 use crate::change::Change;
-use crate::cutting::put_pieces;
 use crate::texts::Texts;
 use paths::StorePath;
 use sqlite::{Alter, Transaction};

@@ -5,12 +5,16 @@ ghost use Rattle.tables_sql.specs.Calls.{HasFurther};
 ghost use Rattle.tables_sql.specs.Contents.{contents_of};
 ghost use Rattle.tables_rows.specs.Reasons.{HasReason, NoRow};
 ghost use Rattle.tables_rows.specs.Frames.{IsInsideWith, MayCut, Writes};
-ghost use Rattle.tables_writes.specs.Frames.{CommitsRows, MayCommit};
+ghost use Rattle.tables_writes.specs.Frames.{CommitsRows, MayCommit, StaysSound, ChangesTables};
 ghost use Rattle.tables_writes.specs.Rewritten.{Covers, without_object, without_objects};
+ghost use Rattle.std.specs.Prelude.{not};
+ghost use Rattle.live.specs.Graph.{holds};
+ghost use Rattle.model.specs.Effects.{keeping};
 
 use crate::change;
 use crate::change::Change;
 use crate::object_rows::{delete_outputs, delete_pieces, delete_references};
+use crate::tables::Tables;
 use paths::StorePath;
 use sqlite::{Alter, Connection, Transaction};
 use std::alloc::Global;
@@ -120,5 +124,28 @@ pub(crate) fn delete_rows<S: Alter>(
             },
         ),
         None => change::commit(conn, &RemoveNone { alloc }),
+    }
+}
+
+impl<S: Alter> Tables<S> {
+    /// Deletes the objects of these paths, those that exist. The caller ensures that the world is sound afterwards: no
+    /// object that stays refers to a deleted one, and no root points to one.
+    ///
+    /// ```rust
+    /// let paths = [path.clone()?];
+    /// tables.remove_objects(&paths)?;
+    /// assert!(rt; !tables.outline().has(path));
+    /// ```
+    ///
+    /// # Errors
+    ///
+    /// Memory was refused or the disk failed, and then nothing has changed.
+    pub fn remove_objects(&mut self, paths: &[StorePath]) -> Result<(), Failed>
+        requires sound { StaysSound S.Store self.old (λ w. keeping w (λ p. not (holds paths.now p))) }
+        ensures { ChangesTables S.Store self.old self.new result (λ w. keeping w (λ p. not (holds paths.now p))) NoRow }
+    {
+        delete_rows(self.alloc, &mut self.connection, &self.outline, paths)?;
+        self.outline.remove_objects(paths);
+        Ok(())
     }
 }

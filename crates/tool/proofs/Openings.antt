@@ -11,7 +11,7 @@ use Rattle.sqlite_store.specs.declared.store.FileStore.{FileStore}
 use Rattle.sqlite.specs.Files.{over_files}
 use Rattle.policy.specs.Settings.{Settings}
 use Rattle.tables.specs.TablesValue.{TablesValue}
-use Rattle.tables.specs.declared.refusing.Unopened.{Unopened}
+use Rattle.tables.specs.declared.unopened.Unopened.{Unopened}
 use Rattle.tables.specs.Opened.{IsUnopened, Opens}
 use Rattle.report.specs.Outputs.{Console}
 use Rattle.tool.specs.Works.{OnStore}

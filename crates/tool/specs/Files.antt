@@ -12,9 +12,9 @@ use Rattle.sqlite_trees.specs.declared.store.Store as store
 use Rattle.tables.specs.TablesValue.{TablesValue}
 use Rattle.model.specs.Reply.{failed}
 use Rattle.store_types.specs.View.{failure_view}
-use Rattle.tables.specs.declared.refusing.Cause.{Cause}
-use Rattle.tables.specs.declared.refusing.Cause.TheVariants.{BadSchema, OtherStoreDir, Failed as CauseFailed}
-use Rattle.tables.specs.declared.refusing.Unopened.{Unopened}
+use Rattle.tables.specs.declared.unopened.Cause.{Cause}
+use Rattle.tables.specs.declared.unopened.Cause.TheVariants.{BadSchema, OtherStoreDir, Failed as CauseFailed}
+use Rattle.tables.specs.declared.unopened.Unopened.{Unopened}
 use Rattle.tables.specs.Causes.{cause_of}
 use Rattle.tables.specs.Opened.{IsUnopened, Opens}
 use Rattle.model.specs.declared.refusal.Refusal.TheVariants as refusal

@@ -1,6 +1,0 @@
-use Rattle.std.proofs.Common.{ap, ◌∙◌}
-use Rattle.sha2.specs.Sha256.{sha256}
-use Rattle.tables_load_objects.proofs.passing.ArchiveBytes.digest.Goals as goal
-
-pub returns : goal.returns
-returns c = c.self.invariant.hash ∙ ap sha256 c.self.view_is
