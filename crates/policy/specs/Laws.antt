@@ -2,11 +2,12 @@
 use Rattle.std.specs.Prelude.{◌≡◌, ℕ, Bool, true, false, if◌then◌else◌, ◌&&◌, List, [], ◌∷◌, codes, Some, None, Ok}
 use Rattle.std.specs.Option.{option_or}
 use Rattle.std.specs.FinMap.{empty}
+use Rattle.toml.specs.Data.{no_members}
 use Rattle.policy.specs.Caller.{Caller, caller_of}
 use Rattle.policy.specs.Operation.{Operation, plain, import_object, set_permanent, drop_permanent, replace_runtime, set_user_root, drop_user_root, set_profile, rollback, switch, delete_generation, add_temp, end_session, collect, delete, deletes}
 use Rattle.policy.specs.Rules.{verdict, first_broken, is_stranger}
 use Rattle.policy.specs.Settings.{everyone, user}
-use Rattle.policy.specs.Toml.{config_of}
+use Rattle.policy.specs.Toml.{settings_of}
 use Rattle.policy.specs.declared.kinds.Class.{Class}
 use Rattle.policy.specs.declared.kinds.Class.TheVariants.{Stranger, Allowed, Trusted}
 use Rattle.policy.specs.declared.kinds.Rule.TheVariants.{Connect, TrustedImport, TrustedPermanentRoot, TrustedRuntimeRoots, OwnRoot, NoIgnoreLiveness, Live}
@@ -79,9 +80,9 @@ ForbiddenToAll =
     × (verdict Allowed ann (delete false) false ≡ None)
     × (verdict Stranger ann (delete true) true ≡ Some Connect)
 
--- the settings of an empty text: each key's default
-abbrev pub DefaultsOfAnEmptyText : Type 0
-DefaultsOfAnEmptyText = config_of [] ≡ Ok (record {
+-- the settings of a table without keys: each key's default
+abbrev pub KeysHaveDefaults : Type 0
+KeysHaveDefaults = settings_of no_members ≡ Ok (record {
   store_dir = codes "/nix/store";
   allowed_users = everyone ∷ [];
   trusted_users = user (codes "root") ∷ [];

@@ -1,6 +1,6 @@
 //! Laws of the definitions. The functions do nothing: what counts is that their contracts are proved.
 ghost use Rattle.policy.specs.Faults.{FirstThatApplies};
-ghost use Rattle.policy.specs.Laws.{LiveIsAskedLast, StrangersMayNotConnect, PlainIsForAllOthers, ReservedForTrusted, ReservedForOwner, ForbiddenToAll, DefaultsOfAnEmptyText};
+ghost use Rattle.policy.specs.Laws.{LiveIsAskedLast, StrangersMayNotConnect, PlainIsForAllOthers, ReservedForTrusted, ReservedForOwner, ForbiddenToAll, KeysHaveDefaults};
 
 /// A text has settings if no key word applies to it, and is refused with the first that does, in the order of
 /// `KeyWord`.
@@ -31,7 +31,7 @@ pub fn worked_verdicts()
     ensures all { ForbiddenToAll }
 {}
 
-/// A text without keys has each key's default.
+/// A document without keys has each key's default.
 pub fn keys_have_defaults()
-    ensures { DefaultsOfAnEmptyText }
+    ensures { KeysHaveDefaults }
 {}
