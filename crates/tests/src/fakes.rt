@@ -3,7 +3,7 @@
 use std::alloc::AllocError;
 use std::io;
 use std::io::{ErrorKind, Read, Write};
-use wire_messages::Keeper;
+use wire_server::Keeper;
 
 /// A reader that gives at most `most` bytes a call, and has this fault once `calls` are used up.
 #[derive(Drop)]

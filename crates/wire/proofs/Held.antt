@@ -2,10 +2,10 @@
 use Rattle.std.proofs.Common.{◌≡◌, ℕ, List, Option, ap, ap₂, sym, ◌∙◌}
 use Rattle.httparse.specs.Grammar.{RequestHead}
 use Rattle.httparse.specs.Spans.{span_bytes}
-use Rattle.wire_messages.specs.declared.head.Head.{Head}
-use Rattle.wire_messages.specs.Fields.{fields_at}
-use Rattle.wire_messages.specs.Heads.{Holds}
-use Rattle.wire_messages.specs.Callers.{caller_in}
+use Rattle.wire_server.specs.declared.head.Head.{Head}
+use Rattle.wire_server.specs.Fields.{fields_at}
+use Rattle.wire_server.specs.Heads.{Holds}
+use Rattle.wire_server.specs.Callers.{caller_in}
 use Rattle.policy.specs.Settings.{Settings}
 use Rattle.policy.specs.Caller.{Caller}
 use Rattle.wire.specs.Courses.{Admission, by_caller, admission_of}

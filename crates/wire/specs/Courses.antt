@@ -2,8 +2,8 @@
 use Rattle.std.specs.Prelude.{◌≡◌, ◌⊎◌, ℕ, true, false, List, Option, Some, None, Result, IfOk, ⊤}
 use Rattle.std.specs.declared.alloc.AllocError.{AllocError}
 use Rattle.httparse.specs.Grammar.{RequestHead}
-use Rattle.wire_messages.specs.Fields.{fields_of}
-use Rattle.wire_messages.specs.Callers.{caller_in}
+use Rattle.wire_server.specs.Fields.{fields_of}
+use Rattle.wire_server.specs.Callers.{caller_in}
 use Rattle.policy.specs.Settings.{Settings}
 use Rattle.policy.specs.Caller.{Caller}
 use Rattle.policy.specs.Class.{class_of}

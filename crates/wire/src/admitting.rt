@@ -1,7 +1,7 @@
 //! The tests of the head of a message, in their order.
 ghost use Rattle.std.specs.Prelude.{◌≡◌, ℕ, List, IfOk, Some, option_map};
 ghost use Rattle.httparse.specs.Grammar.{RequestHead};
-ghost use Rattle.wire_messages.specs.Heads.{Holds};
+ghost use Rattle.wire_server.specs.Heads.{Holds};
 ghost use Rattle.wire_requests.specs.Methods.{kind_of};
 ghost use Rattle.wire_requests.specs.Parameters.{AreParametersOf};
 ghost use Rattle.wire_requests.specs.Table.{requests_of};
@@ -15,9 +15,8 @@ use paths::StoreDir;
 use policy::{Caller, CallerError, Config, Op, Rule, class, decide, store_dir};
 use report::{Refusal, denial_line};
 use std::alloc::{AllocError, Global};
-use wire_messages::{Head, HeadFields, read_caller};
 use wire_requests::{Found, Routes};
-use wire_server::Response;
+use wire_server::{Head, HeadFields, Response, read_caller};
 
 /// A refusal. `allow` lists the route's methods, for a refused method.
 fn refuse(

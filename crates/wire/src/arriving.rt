@@ -2,8 +2,8 @@
 ghost use Rattle.wire_requests.specs.Kept.{Represents};
 
 use std::alloc::AllocError;
-use wire_messages::Keeper;
 use wire_requests::Body;
+use wire_server::Keeper;
 
 /// The body of a message, as it arrives.
 #[derive(Drop)]

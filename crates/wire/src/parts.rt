@@ -3,7 +3,7 @@ ghost use Rattle.std.specs.Prelude.{◌≡◌, IsUtf8};
 ghost use Rattle.httparse.specs.Spans.{IsRequestWithin, span_bytes};
 
 use std::str;
-use wire_messages::Head;
+use wire_server::Head;
 
 /// The word of the message's method.
 pub(crate) fn method_of<'b>(held: &'b [u8], head: &Head) -> &'b [u8]

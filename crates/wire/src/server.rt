@@ -10,9 +10,8 @@ use policy::store_dir;
 use sqlite::Alter;
 use std::alloc::{AllocError, Global};
 use store::Store;
-use wire_messages::Head;
 use wire_requests::{Body, Routes, read_request};
-use wire_server::{Begun, Responder, Response};
+use wire_server::{Begun, Head, Responder, Response};
 
 /// Answers messages from a store, by the table of routes.
 #[derive(Drop)]

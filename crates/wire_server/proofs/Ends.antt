@@ -5,10 +5,10 @@ use Rattle.std.specs.Io.KnownBytes.{Consumes, IsAtEnd, Appends, Keeps}
 use Rattle.std.proofs.KnownBytes.{Appends-trans, Appends-nil, Appends-kept}
 use Rattle.streams.specs.Sends.{AppendsPrefix}
 use Rattle.httparse.specs.Grammar.{RequestHead}
-use Rattle.wire_messages.specs.declared.head.Head.{Head}
-use Rattle.wire_messages.specs.declared.error.Fault.{Fault}
-use Rattle.wire_messages.specs.Messages.{IsFault, HoldsMessage}
-use Rattle.wire_messages.specs.Division.{message, faulty, closes}
+use Rattle.wire_server.specs.declared.head.Head.{Head}
+use Rattle.wire_server.specs.declared.fault.Fault.{Fault}
+use Rattle.wire_server.specs.Messages.{IsFault, HoldsMessage}
+use Rattle.wire_server.specs.Division.{message, faulty, closes}
 use Rattle.wire_server.specs.Responses.{Replied, reply_bytes}
 use Rattle.wire_server.specs.Answers.{body_in}
 use Rattle.wire_server.specs.Serves.{fault_reply, joined, reported, IsWritten, Serves, Stops}

@@ -1,8 +1,17 @@
 mod Both
 pub mod Ends
 mod Peers
-mod Received
 pub mod Seen
 mod Sofar
 mod Reported
 mod Turns
+pub mod Arrived
+pub mod Beginnings
+pub mod Came
+pub mod Heads
+pub mod Longer
+pub mod Named
+pub mod Once
+pub mod PlainText
+pub mod Reading
+pub mod Whole

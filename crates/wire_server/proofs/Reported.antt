@@ -5,13 +5,13 @@ use Rattle.std.specs.List.{list_any}
 use Rattle.std.specs.Str.{str_eq_ignore_ascii_case}
 use Rattle.std.specs.Io.KnownBytes.{Consumes, IsAtEnd, Appends}
 use Rattle.httparse.specs.Grammar.{RequestHead}
-use Rattle.wire_messages.specs.declared.head.Head.{Head}
-use Rattle.wire_messages.specs.declared.error.Fault.{Fault}
-use Rattle.wire_messages.specs.Heads.{Holds}
-use Rattle.wire_messages.specs.Fields.{fields_at, values}
-use Rattle.wire_messages.specs.Messages.{IsMessage, IsFault, HoldsMessage}
-use Rattle.wire_messages.specs.Division.{Item, message, faulty, closes, Divides}
-use Rattle.wire_messages.proofs.Whole.{message_of_input}
+use Rattle.wire_server.specs.declared.head.Head.{Head}
+use Rattle.wire_server.specs.declared.fault.Fault.{Fault}
+use Rattle.wire_server.specs.Heads.{Holds}
+use Rattle.wire_server.specs.Fields.{fields_at, values}
+use Rattle.wire_server.specs.Messages.{IsMessage, IsFault, HoldsMessage}
+use Rattle.wire_server.specs.Division.{Item, message, faulty, closes, Divides}
+use Rattle.wire_server.proofs.Whole.{message_of_input}
 use Rattle.wire_server.specs.Responses.{Replied, reply_bytes}
 use Rattle.wire_server.specs.Answers.{body_in}
 use Rattle.wire_server.specs.Serves.{Begins, DividesAll, BeginsWith, Replies, fault_reply, joined}

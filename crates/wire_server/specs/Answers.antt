@@ -2,7 +2,7 @@
 use Rattle.std.specs.Prelude.{◌≡◌, ◌⊎◌, ℕ, List, [], take, drop, Result, Ok, Err}
 use Rattle.std.specs.declared.alloc.AllocError.{AllocError}
 use Rattle.httparse.specs.Grammar.{RequestHead}
-use Rattle.wire_messages.specs.declared.head.Head.{Head}
+use Rattle.wire_server.specs.declared.head.Head.{Head}
 use Rattle.wire_server.specs.declared.begun.Begun.{Begun}
 use Rattle.wire_server.specs.declared.begun.Begun.TheVariants.{Accepted, Refused}
 use Rattle.wire_server.specs.declared.ready.Ready.{Ready}

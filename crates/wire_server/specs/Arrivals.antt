@@ -2,11 +2,11 @@
 use Rattle.std.specs.Prelude.{◌≡◌, ℕ, ◌+◌, ◌<◌, List, [], ◌++◌, length, drop, Option, Result, Ok, Err, IfSome, ⊤}
 use Rattle.std.specs.Io.KnownBytes.{Consumes, IsAtEnd}
 use Rattle.httparse.specs.Grammar.{RequestHead}
-use Rattle.wire_messages.specs.declared.head.Head.{Head}
-use Rattle.wire_messages.specs.declared.error.ReceiveError.{ReceiveError}
-use Rattle.wire_messages.specs.declared.error.ReceiveError.TheVariants as received
-use Rattle.wire_messages.specs.Heads.{Holds}
-use Rattle.wire_messages.specs.Messages.{HoldsMessage, IsFault}
+use Rattle.wire_server.specs.declared.head.Head.{Head}
+use Rattle.wire_server.specs.declared.fault.ReceiveError.{ReceiveError}
+use Rattle.wire_server.specs.declared.fault.ReceiveError.TheVariants as received
+use Rattle.wire_server.specs.Heads.{Holds}
+use Rattle.wire_server.specs.Messages.{HoldsMessage, IsFault}
 use Rattle.wire_server.specs.Responses.{Replied}
 use Rattle.wire_server.specs.Answers.{body_in, IsReady}
 use Rattle.wire_server.specs.declared.ready.Ready.{Ready}

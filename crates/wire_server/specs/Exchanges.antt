@@ -3,10 +3,10 @@ use Rattle.std.specs.Prelude.{◌≡◌, ◌⊎◌, ℕ, ◌+◌, ◌<◌, true,
 use Rattle.std.specs.Io.KnownBytes.{Consumes, IsAtEnd}
 use Rattle.std.specs.declared.alloc.AllocError.{AllocError}
 use Rattle.httparse.specs.Grammar.{RequestHead}
-use Rattle.wire_messages.specs.declared.head.Head.{Head}
-use Rattle.wire_messages.specs.declared.error.Fault.{Fault}
-use Rattle.wire_messages.specs.Messages.{HoldsMessage, IsFault}
-use Rattle.wire_messages.specs.Division.{closes}
+use Rattle.wire_server.specs.declared.head.Head.{Head}
+use Rattle.wire_server.specs.declared.fault.Fault.{Fault}
+use Rattle.wire_server.specs.Messages.{HoldsMessage, IsFault}
+use Rattle.wire_server.specs.Division.{closes}
 use Rattle.wire_server.specs.Responses.{Replied, replied, refused}
 use Rattle.wire_server.specs.declared.exchange.Exchange.{Exchange}
 use Rattle.wire_server.specs.Answers.{body_in}

@@ -8,3 +8,9 @@ pub mod Sends
 pub mod Serves
 pub mod ServesAll
 pub mod Sessions
+pub mod Bodies
+pub mod Callers
+pub mod Division
+pub mod Fields
+pub mod Heads
+pub mod Messages

@@ -3,10 +3,10 @@ use Rattle.std.specs.Prelude.{◌≡◌, ◌⊎◌, ℕ, ◌<◌, ◌-◌, ◌^�
 use Rattle.std.specs.List.{flat_map}
 use Rattle.std.specs.Io.KnownBytes.{Appends}
 use Rattle.httparse.specs.Grammar.{RequestHead}
-use Rattle.wire_messages.specs.Messages.{IsMessage, IsFault}
-use Rattle.wire_messages.specs.Division.{Item, message, faulty, closes, Divides}
-use Rattle.wire_messages.specs.declared.error.Fault.{Fault}
-use Rattle.wire_messages.specs.declared.error.Fault.TheVariants.{BadHead, BadLength, TooLarge}
+use Rattle.wire_server.specs.Messages.{IsMessage, IsFault}
+use Rattle.wire_server.specs.Division.{Item, message, faulty, closes, Divides}
+use Rattle.wire_server.specs.declared.fault.Fault.{Fault}
+use Rattle.wire_server.specs.declared.fault.Fault.TheVariants.{BadHead, BadLength, TooLarge}
 use Rattle.model.specs.declared.refusal.Refusal.{Refusal}
 use Rattle.model.specs.declared.refusal.Refusal.TheVariants as refusals
 use Rattle.wire_server.specs.Responses.{Replied, refused, reply_bytes}

@@ -2,13 +2,14 @@
 ghost use Rattle.std.specs.Prelude.{◌≤◌, ◌<◌, IfOk, IfSome};
 ghost use Rattle.std.specs.Duration.{as_nanos};
 
+use crate::fields::MAX_BODY;
+use crate::head::MAX_HEAD;
 use std::io;
 use std::io::Read;
 use std::net::TcpStream;
 use std::rt::Clock;
 use std::time::{Duration, Instant};
 use streams::PIECE_SIZE;
-use wire_messages::{MAX_BODY, MAX_HEAD};
 
 /// How many bytes are read at most: the largest body that is accepted, and a head.
 const MOST: usize = MAX_BODY + MAX_HEAD;

@@ -3,10 +3,10 @@ ghost use Rattle.std.specs.Prelude.{◌≡◌};
 ghost use Rattle.wire_server.specs.Arrivals.{fault_of};
 ghost use Rattle.wire_server.specs.declared.error.WireError.TheVariants.{Memory, Write};
 
+use crate::fault::ReceiveError;
 use std::alloc::AllocError;
 use std::io;
 use thiserror::Error;
-use wire_messages::ReceiveError;
 
 /// Why a connection ends before its input does.
 #[derive(Clone, Copy, Debug, PartialEq, Eq, Error)]

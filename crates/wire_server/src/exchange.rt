@@ -1,19 +1,21 @@
 //! The next message of a connection, and its response.
 ghost use Rattle.std.specs.Prelude.{IfOk, List, ℕ, Option};
 ghost use Rattle.httparse.specs.Grammar.{RequestHead};
-ghost use Rattle.wire_messages.specs.Heads.{Holds};
+ghost use Rattle.wire_server.specs.Heads.{Holds};
 ghost use Rattle.wire_server.specs.Answers.{Answered, IsReady};
 ghost use Rattle.wire_server.specs.Arrivals.{Arrived, Whole};
 ghost use Rattle.wire_server.specs.Exchanges.{Comes, IsRefusal, Responds};
 
 use crate::buffer::drain_prefix;
+use crate::fault::Fault;
 use crate::faults::refuse;
+use crate::fields::{HeadFields, closes};
+use crate::head::Head;
 use crate::ready::Ready;
 use crate::receiving::Next;
 use crate::responder::Responder;
 use crate::response::Response;
 use std::alloc::{AllocError, Global};
-use wire_messages::{Fault, Head, HeadFields, closes};
 
 /// A response, and whether the connection is closed after it.
 #[derive(Drop)]

@@ -3,10 +3,10 @@ ghost use Rattle.std.specs.Prelude.{◌≡◌, IfOk, None};
 ghost use Rattle.wire_server.specs.Responses.{replied, refused};
 ghost use Rattle.wire_server.specs.Serves.{refusal_of};
 
+use crate::fault::Fault;
 use crate::response::Response;
 use report::Refusal;
 use std::alloc::{AllocError, Global};
-use wire_messages::Fault;
 
 /// The response to an input that doesn't begin with a message.
 pub(crate) fn refuse(alloc: Global, fault: Fault) -> Result<Response, AllocError>

@@ -1,17 +1,26 @@
-//! Replies over HTTP, connections and listeners.
+//! A server over HTTP: messages, replies, connections and listeners.
 #![tactic(auto)]
 
 mod begun;
+mod body;
 mod buffer;
+mod caller;
 mod connections;
 mod draining;
 mod error;
 mod exchange;
+mod fault;
 mod faults;
+mod fields;
+mod head;
+mod keeper;
+mod keeping;
+pub mod laws;
 mod listener;
 mod peer;
 mod port;
 mod ready;
+mod receive;
 mod receiving;
 mod reply_head;
 mod responder;
@@ -22,11 +31,19 @@ mod sessions;
 mod statuses;
 
 pub use begun::Begun;
+pub use body::pass_body;
+pub use caller::read_caller;
 pub use connections::serve_on;
 pub use error::WireError;
+pub use fault::{Fault, ReceiveError};
+pub use fields::{HeadFields, MAX_BODY, Values, closes, length_of_body, values_of};
+pub use head::{Head, Look, MAX_HEAD, look_for_head};
+pub use keeper::Keeper;
+pub use keeping::receive_body;
 pub use listener::Listener;
 pub use peer::{Incoming, Outgoing};
 pub use port::Port;
+pub use receive::{Received, Start, receive_head, receive_start};
 pub use reply_head::{ReplyHead, write_reply_head};
 pub use responder::Responder;
 pub use response::Response;

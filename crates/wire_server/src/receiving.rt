@@ -1,16 +1,20 @@
 //! The next message of a connection, as it arrives.
 ghost use Rattle.httparse.specs.Grammar.{RequestHead};
-ghost use Rattle.wire_messages.specs.Heads.{Holds};
-ghost use Rattle.wire_messages.specs.Messages.{HoldsHead};
+ghost use Rattle.wire_server.specs.Heads.{Holds};
+ghost use Rattle.wire_server.specs.Messages.{HoldsHead};
 ghost use Rattle.wire_server.specs.Answers.{IsBegun};
 ghost use Rattle.wire_server.specs.Arrivals.{Arrives};
 
 use crate::begun::Begun;
+use crate::body::pass_body;
 use crate::error::WireError;
+use crate::fault::Fault;
+use crate::head::Head;
+use crate::keeping::receive_body;
 use crate::ready::Ready;
+use crate::receive::{Received, receive_head};
 use crate::responder::Responder;
 use std::io::Read;
-use wire_messages::{Fault, Head, Received, pass_body, receive_body, receive_head};
 
 /// What is next on a connection.
 #[derive(Drop)]

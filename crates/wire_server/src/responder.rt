@@ -1,14 +1,15 @@
 //! The trait of servers that answer the messages of a connection.
 ghost use Rattle.std.specs.Prelude.{ℕ, List, IfOk};
 ghost use Rattle.httparse.specs.Grammar.{RequestHead};
-ghost use Rattle.wire_messages.specs.Heads.{Holds};
+ghost use Rattle.wire_server.specs.Heads.{Holds};
 ghost use Rattle.wire_server.specs.Responses.{Replied};
 ghost use Rattle.wire_server.specs.Answers.{Answered, IsBegun};
 
 use crate::begun::Begun;
+use crate::head::Head;
+use crate::keeper::Keeper;
 use crate::response::Response;
 use std::alloc::AllocError;
-use wire_messages::{Head, Keeper};
 
 /// Answers messages, one after another, from a state that it changes.
 pub trait Responder<T> {

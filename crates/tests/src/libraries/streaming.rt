@@ -3,7 +3,7 @@ use crate::fakes::{Drip, Narrow, Tight};
 use std::alloc::Global;
 use std::io::ErrorKind;
 use streams::{ReadError, read_at_most, send_bytes};
-use wire_messages::{ReceiveError, Received, receive_body, receive_head};
+use wire_server::{ReceiveError, Received, receive_body, receive_head};
 
 const BYTES: &[u8] = b"mycontent\n";
 

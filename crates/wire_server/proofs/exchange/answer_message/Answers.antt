@@ -2,7 +2,7 @@ use Rattle.std.proofs.Common.{rules, ◌∙◌, ◌+◌, ◌<◌, length}
 use Rattle.std.proofs.lemmas.Result.{err_from_is_err_and}
 use Rattle.wire_server.specs.Answers.{body_in}
 use Rattle.wire_server.proofs.Reported.{closes_in}
-use Rattle.wire_server.proofs.Received.{answered_whole, lost_whole, drop_saturated}
+use Rattle.wire_server.proofs.Arrived.{answered_whole, lost_whole, drop_saturated}
 use Rattle.wire_server.proofs.exchange.answer_message.Goals as goal
 
 pub respond-requires : goal.respond-requires

@@ -2,7 +2,7 @@ use Rattle.std.proofs.Common.{◌++◌, ◌∙◌, ap, subst, append_assoc}
 use Rattle.std.proofs.KnownBytes.{Consumes-trans}
 use Rattle.std.proofs.lemmas.Result.{err_from_is_err_and}
 use Rattle.wire_server.specs.Arrivals.{Brings}
-use Rattle.wire_server.proofs.Received.{brings_none}
+use Rattle.wire_server.proofs.Arrived.{brings_none}
 use Rattle.wire_server.proofs.receiving.receive_next.Goals as goal
 
 pub returns-in-Message : goal.returns-in-Message

@@ -2,7 +2,7 @@ use Rattle.std.proofs.Common.{◌++◌, Ok, ap}
 use Rattle.std.proofs.lemmas.Result.{err_from_is_err_and}
 use Rattle.wire_server.specs.Answers.{body_in}
 use Rattle.wire_server.specs.declared.ready.Ready.TheVariants.{Kept, Refused}
-use Rattle.wire_server.proofs.Received.{brings_none, cut_short, whole_arrives}
+use Rattle.wire_server.proofs.Arrived.{brings_none, cut_short, whole_arrives}
 use Rattle.wire_server.proofs.receiving.receive_rest.Goals as goal
 
 pub returns-then-branch : goal.returns-then-branch

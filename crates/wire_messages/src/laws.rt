@@ -1,7 +1,0 @@
-//! Laws of the definitions.
-ghost use Rattle.wire_messages.specs.Division.{DividesOnce};
-
-/// An input divides in one way into messages.
-pub fn an_input_divides_once()
-    ensures { DividesOnce }
-{}

@@ -1,0 +1,47 @@
+-- The head of a message at the beginning of an input.
+use Rattle.std.specs.Prelude.{ℕ, Bool, not, ◌||◌, ◌≤◌, ◌<◌, ◌==◌, ◌++◌, List, length, take, drop, ◌≡◌}
+use Rattle.std.specs.List.{list_any}
+use Rattle.httparse.specs.Grammar.{RequestHead, print_request, ReadsRequest, HasNoRequest}
+use Rattle.httparse.specs.Spans.{IsRequestAt, IsRequestWithin}
+use Rattle.wire_server.specs.declared.head.Head.{Head}
+use Rattle.wire_server.specs.declared.head.Look.{Look}
+use Rattle.wire_server.specs.declared.head.Look.TheVariants.{Whole, Unfinished, Faulty}
+
+-- the most bytes of a head, and the most fields
+abbrev pub max_head : ℕ
+max_head = 16384
+
+abbrev pub max_fields : ℕ
+max_fields = 64
+
+-- the input begins with the head h, and rest follows it
+pub record IsHead (input : List ℕ) (h : RequestHead) (rest : List ℕ) : Type 0 where
+  pub reads : ReadsRequest input h rest
+  pub short : length (print_request h) ≤ max_head
+  pub few : length h.fields ≤ max_fields
+
+-- the input begins with no head
+abbrev pub HasNoHead : List ℕ → Type 0
+HasNoHead input = (h : RequestHead) (rest : List ℕ) → ¬ (IsHead input h rest)
+
+-- a byte other than those of line ends (13 and 10) is among the bytes
+abbrev pub has_begun_in : List ℕ → Bool
+has_begun_in bytes = list_any (λ b. not (b == 13 || b == 10)) bytes
+
+-- the bytes of a buffer that were looked at have no head, and whether anything but line ends is among them
+pub record WasSeen (buf : List ℕ) (seen : ℕ) (before : Bool) : Type 0 where
+  pub within : seen ≤ length buf
+  pub none : HasNoRequest (take seen buf)
+  pub begun : before ≡ has_begun_in (take seen buf)
+
+-- the buffer begins with the head h, whose parts are at these places
+pub record Holds (buf : List ℕ) (head : Head) (h : RequestHead) : Type 0 where
+  pub is_head : IsHead buf h (drop head.spans.len buf)
+  pub places : IsRequestAt buf head.fields head.spans h
+  pub within : IsRequestWithin buf head.fields head.spans
+
+-- the result of a look at the bytes so far is right, whatever follows them
+abbrev pub LookFinds : List ℕ → Look → Type 0
+LookFinds buf (Whole head) = (h : RequestHead) × Holds buf head h
+LookFinds buf Unfinished = HasNoRequest buf × (length buf < max_head)
+LookFinds buf Faulty = (more : List ℕ) → HasNoHead (buf ++ more)
