@@ -1,20 +1,6 @@
 """Tests nixkeep-backup on stores with roots of each kind: copies of files, through servers, and stores put back.
 
-PART is one of copy, failures, kept, check, fetch, changing, hostile, restore, migrating, words; else all.
-
-  copy      a copy of a file with a log: its rows, its mode, the state; the store's own files stay byte for byte
-  failures  what mustn't cost the last good copy: no file, an empty one, a damaged one, what a stopped copy has left,
-            what hangs, a file that is in use, another report than the server's
-  kept      which copies are deleted, of a year of them
-  check     when a server isn't stopped: it doesn't run, its configuration is wrong, its memory is too small
-  fetch     a copy through a server, which has all objects, archives and roots that the server lists
-  changing  the same while objects come, go and come again; and a store that never rests
-  hostile   a server that answers what no store does, or without an end
-  restore   the order of units, what is moved aside, and that a bad copy stops nothing
-  migrating a file of an earlier schema is copied before it is migrated, and no other file
-  words     usage errors, completion and man page
-
-systemctl is a script here, which notes what it is asked. The last line is 'N passed, M failed'.
+systemctl is a script here, which notes what it is asked.
 """
 import contextlib
 import datetime
@@ -31,6 +17,8 @@ import time
 from pathlib import Path
 
 import parts
+import pytest
+
 from nixkeep_dev.build.program import HERE
 from nixkeep_dev.testing.store import killed
 from nixkeep_tools import backup_folder, backup_restore, http_client, objects, store_file
@@ -38,6 +26,9 @@ from tests.tools import checks
 from tests.tools.checks import ran
 
 BACKUP = f"{HERE}/tools/nixkeep-backup"
+# The names of the daily copies of a year.
+FIRST = datetime.datetime(2025, 1, 1, 3)
+DAILY = [(FIRST + datetime.timedelta(days=at)).strftime(backup_folder.FORM) for at in range(365)]
 CONFIG = """allowed-users = ["ann", "bob", "@builders"]
 trusted-users = ["@builders"]
 
@@ -72,7 +63,7 @@ class Store:
     def __init__(self, program, folder):
         self.program, self.folder, self.file, self.to = program, folder, f"{folder}/store.db", f"{folder}/copies"
         self.config, self.state = f"{folder}/store.toml", f"{folder}/state"
-        os.makedirs(self.to)
+        Path(self.to).mkdir()
         Path(self.config).write_text(CONFIG)
         with self.opened() as ask:
             self.paths = [add(ask, f"text{at}", f"text {at}\n" * 10_000 ** (at % 2)) for at in range(6)]
@@ -110,6 +101,15 @@ class Store:
     def copies(self):
         return sorted(os.listdir(self.to))
 
+    def bytes_of_copies(self):
+        return {it: Path(self.to, it).read_bytes() for it in self.copies()}
+
+    def damaged(self):
+        """A copy of a copy, of which an archive isn't what it was."""
+        made = Path(self.folder, "damaged.db")
+        made.write_bytes(Path(self.to, self.copies()[0]).read_bytes().replace(b"text 2\n", b"text 3\n"))
+        return made
+
     def bytes(self):
         return {it: Path(self.folder, it).read_bytes() for it in ("store.db", "store.db-wal")}
 
@@ -136,177 +136,184 @@ def all_of(ask):
     return {**found, **objects_of}
 
 
-def fails(check, what, came, pattern, store, before):
+@pytest.fixture
+def store(program, folder):
+    return Store(program, folder)
+
+
+@pytest.fixture
+def good(store):
+    """The copies of the store, one, which no failure may cost."""
+    store.copy()
+    return store.bytes_of_copies()
+
+
+def fails(came, pattern, store, good):
     """A run failed with one line, and the good copies are as they were."""
     status, output, errors = came
-    check.true(f"{what}: the line", status and not output and re.fullmatch(rf"nixkeep-backup: .*{pattern}.*\n", errors),
-               came)
-    found = {it: Path(store.to, it).read_bytes() for it in store.copies()}
-    check.true(f"{what}: the copies stay", found == before, sorted(found))
+    assert status and not output and re.fullmatch(rf"nixkeep-backup: .*{pattern}.*\n", errors)
+    assert store.bytes_of_copies() == good
 
 
-# ---- parts
+# ---- copies of a file
 
 
-def try_copy(program, folder, check):
-    store = Store(program, f"{folder}/copy")
+def test_a_copy_is_the_store(store):
     before = store.bytes()
     status, output, errors = store.copy("--state", store.state)
-    form = rf"{store.to}/([\dTZ-]+\.db): 6 objects, (\d+) bytes, in [\d.]+ seconds\n"
-    found = re.fullmatch(form, output)
-    check.true("a copy", status == 0 and found and not errors, (status, output, errors))
-    if not found:
-        return
-    check.same("it is one file", store.copies(), [found[1]])
-    check.same("which its owner alone reads", os.stat(f"{store.to}/{found[1]}").st_mode & 0o777, 0o600)
-    check.same("the store's files", store.bytes(), before)
+    found = re.fullmatch(rf"{store.to}/([\dTZ-]+\.db): 6 objects, (\d+) bytes, in [\d.]+ seconds\n", output)
+    assert status == 0 and found and not errors, (output, errors)
+    assert store.copies() == [found[1]], "it is one file"
+    assert Path(store.to, found[1]).stat().st_mode & 0o777 == 0o600, "which its owner alone reads"
+    assert store.bytes() == before, "the store's files"
     state = json.loads(Path(store.state).read_text())
-    check.same("the state", {it: state[it] for it in ("copy", "objects", "bytes")},
-               {"copy": found[1], "objects": 6, "bytes": int(found[2])})
+    assert (state["copy"], state["objects"], state["bytes"]) == (found[1], 6, int(found[2]))
     with store.opened(f"{store.to}/{found[1]}") as ask:
         of_copy = all_of(ask)
     with store.opened() as ask:
-        check.same("the copy answers as the store", of_copy, all_of(ask))
+        assert of_copy == all_of(ask), "the copy answers as the store"
 
 
-def try_failures(program, folder, check):
-    store = Store(program, f"{folder}/failures")
-    store.copy()
-    good = {it: Path(store.to, it).read_bytes() for it in store.copies()}
-    none = f"{folder}/failures/none.db"
-    fails(check, "no file", store.copy(file=none), "there is no such store", store, good)
-    check.true("and none is made", not os.path.exists(none))
-    Path(none).touch()
-    fails(check, "an empty file", store.copy(file=none), "no table of a store", store, good)
-    damaged = f"{folder}/failures/damaged.db"
-    shutil.copy(f"{store.to}/{store.copies()[0]}", damaged)
-    Path(damaged).write_bytes(Path(damaged).read_bytes().replace(b"text 2\n", b"text 3\n"))
-    fails(check, "a damaged file", store.copy("--state", store.state, file=damaged), "hash isn't", store, good)
+def test_a_failure_costs_no_copy(store, good):
+    none = Path(store.folder, "none.db")
+    fails(store.copy(file=none), "there is no such store", store, good)
+    assert not none.exists()
+    none.touch()
+    fails(store.copy(file=none), "no table of a store", store, good)
+    damaged = store.damaged()
+    fails(store.copy("--state", store.state, file=damaged), "hash isn't", store, good)
     state = json.loads(Path(store.state).read_text())
-    check.true("its state", "hash isn't" in state["reason"] and "succeeded" not in state, state)
+    assert "hash isn't" in state["reason"] and "succeeded" not in state
     status, output, errors = store.copy("--state", f"{damaged}/state", file=damaged)
     lines = [it.removeprefix("nixkeep-backup: failed: ").partition(":")[0] for it in errors.splitlines()]
-    check.same("a state that can't be written hides no reason", (status, lines), (1, ["state", "test"]))
-    pipe = f"{folder}/failures/pipe.db"
-    os.mkfifo(pipe)
-    fails(check, "a file that hangs", store.copy("--seconds", "1", file=pipe), "more than 1 seconds", store, good)
+    assert (status, lines) == (1, ["state", "test"]), "a state that can't be written hides no reason"
+    os.mkfifo(pipe := f"{store.folder}/pipe.db")
+    fails(store.copy("--seconds", "1", file=pipe), "more than 1 seconds", store, good)
     with open(store.file, "r+b") as held:
         # (the bytes that SQLite and nixkeep lock)
         fcntl.lockf(held, fcntl.LOCK_EX, 512, 1 << 30)
-        fails(check, "a file in use", store.copy(), "is locked by process", store, good)
-    try_left(check, store, good)
-    try_note(check, store, good)
+        fails(store.copy(), "is locked by process", store, good)
 
 
-def try_left(check, store, good):
-    """What a copy that was stopped has left isn't in the way, and nothing is written through a link."""
-    other = f"{store.folder}/other"
-    Path(other).write_bytes(b"other")
-    os.symlink(other, f"{store.to}/new.db")
-    Path(f"{store.to}/new.db-wal").write_bytes(b"left")
-    check.same("a copy after one that was stopped", store.copy()[0], 0)
-    check.same("the target of a link", Path(other).read_bytes(), b"other")
-    check.same("only copies are left", [it for it in store.copies() if not backup_folder.time_of(it)], [])
-    good.update({it: Path(store.to, it).read_bytes() for it in store.copies()})
-    os.mkdir(f"{store.to}/new.db")
+def test_what_a_stopped_copy_has_left(store, good):
+    """It isn't in the way, and nothing is written through a link."""
+    other, new = Path(store.folder, "other"), Path(store.to, "new.db")
+    other.write_bytes(b"other")
+    new.symlink_to(other)
+    Path(f"{new}-wal").write_bytes(b"left")
+    assert store.copy()[0] == 0
+    assert other.read_bytes() == b"other", "the target of a link"
+    assert all(map(backup_folder.time_of, store.copies())), "only copies are left"
+    good = store.bytes_of_copies()
+    new.mkdir()
     status, _, errors = store.copy()
-    check.true("a folder in the way", status == 1 and "is a folder, and in the way" in errors, errors)
-    os.rmdir(f"{store.to}/new.db")
+    assert status == 1 and "is a folder, and in the way" in errors
+    new.rmdir()
     opened = os.open(store.to, os.O_RDONLY)
     fcntl.flock(opened, fcntl.LOCK_EX)
-    fails(check, "two at once", store.copy(), "another copy is being made", store, good)
+    fails(store.copy(), "another copy is being made", store, good)
     os.close(opened)
 
 
-def try_note(check, store, good):
-    """The report that the server printed before it was stopped."""
-    note, version = f"{store.folder}/note", store_file.version(store.file)
+def test_the_note_of_a_server_that_was_stopped(store, good):
+    """It has the report that the server printed before."""
+    note, version = Path(store.folder, "note"), store_file.version(store.file)
     report = "class paths bytes\ntotal           7              360\n"
-    Path(note).write_text(json.dumps({"version": version, "report": report}))
-    fails(check, "another report", store.copy("--note", note), "isn't that of the server", store, good)
+    note.write_text(json.dumps({"version": version, "report": report}))
+    fails(store.copy("--note", note), "isn't that of the server", store, good)
     for other in (None, version[::-1]):
-        Path(note).write_text(json.dumps({"version": other, "report": report}))
-        check.same(f"a store that was changed since {other}", store.copy("--note", note)[0], 0)
-    Path(note).unlink()
+        note.write_text(json.dumps({"version": other, "report": report}))
+        assert store.copy("--note", note)[0] == 0, f"a store that was changed since {other}"
+    note.unlink()
     status, _, errors = store.copy("--note", note)
-    check.true("no note", status == 1 and "failed: note" in errors, errors)
+    assert status == 1 and "failed: note" in errors
 
 
-def try_kept(_program, folder, check):
-    first = datetime.datetime(2025, 1, 1, 3)
-    names = [(first + datetime.timedelta(days=at)).strftime(backup_folder.FORM) for at in range(365)]
-    kept = sorted(backup_folder.kept([*names, "other.db", "2025-13-01T00-00-00Z.db"]))
+def test_which_copies_of_a_year_are_kept():
+    kept = sorted(backup_folder.kept([*DAILY, "other.db", "2025-13-01T00-00-00Z.db"]))
     # (2025-12-31 is a Wednesday: its week, and the Sundays of the twelve before)
     sundays = [datetime.date(2025, 12, 28) - datetime.timedelta(weeks=at) for at in range(12)]
     wanted = {*[f"2025-12-{day}" for day in range(25, 32)], *map(str, sundays)}
-    check.same("of a year of daily copies", kept, sorted(f"{it}T03-00-00Z.db" for it in wanted))
+    assert kept == sorted(f"{it}T03-00-00Z.db" for it in wanted)
     many = [f"2025-12-31T{hour:02}-00-00Z.db" for hour in range(4, 24)]
-    left = backup_folder.kept([*names, *many])
-    check.true("many of one day delete none of the days before", {*kept} - left == {"2025-12-31T03-00-00Z.db"}, left)
-    check.same("old ones alone stay", backup_folder.kept(names[:7]), {*names[:7]})
-    to, fixed, number = f"{folder}/dated", time.gmtime, backup_folder.WEEKS + backup_folder.COPIES
-    os.makedirs(to)
-    for at in range(number):
-        Path(to, (first + datetime.timedelta(weeks=at)).strftime(backup_folder.FORM)).touch()
-    try:
-        for day in (1, 2):
-            time.gmtime = lambda *_: (2000, 1, day, 3, 0, 0, 5, day, 0)
-            name, _ = backup_folder.add(to, lambda path: Path(path).touch())
-            check.true("a copy of a clock that went back stays until the next one", name in os.listdir(to), name)
-    finally:
-        time.gmtime = fixed
-    check.same("and is the only one of that time", [it for it in os.listdir(to) if it < "2001"], [name])
+    left = backup_folder.kept([*DAILY, *many])
+    assert {*kept} - left == {"2025-12-31T03-00-00Z.db"}, "many of one day delete none of the days before"
+    assert backup_folder.kept(DAILY[:7]) == {*DAILY[:7]}, "old ones alone stay"
 
 
-@contextlib.contextmanager
-def systemctl(folder, *active, memory="infinity"):
-    """The environment with a systemctl that has these units active, and the folder of its notes."""
-    units = f"{folder}/units"
-    shutil.rmtree(units, ignore_errors=True)
-    os.makedirs(f"{units}/bin")
-    Path(f"{units}/bin/systemctl").write_text(SYSTEMCTL)
-    os.chmod(f"{units}/bin/systemctl", 0o755)
-    Path(f"{units}/memory").write_text(f"{memory}\n")
-    for it in active:
-        Path(f"{units}/{it}").touch()
-    yield {"UNITS": units, "PATH": f"{units}/bin:{os.environ['PATH']}"}, units
+def test_copies_of_a_clock_that_went_back(folder, monkeypatch):
+    for at in range(backup_folder.WEEKS + backup_folder.COPIES):
+        Path(folder, (FIRST + datetime.timedelta(weeks=at)).strftime(backup_folder.FORM)).touch()
+    for day in (1, 2):
+        monkeypatch.setattr(time, "gmtime", lambda *_: (2000, 1, day, 3, 0, 0, 5, day, 0))
+        name, _ = backup_folder.add(folder, lambda path: Path(path).touch())
+        assert name in os.listdir(folder), "it stays until the next one"
+    assert [it for it in os.listdir(folder) if it < "2001"] == [name], "and is the only one of that time"
 
 
-def try_check(program, folder, check):
-    store = Store(program, f"{folder}/check")
-    note, unit, later = f"{folder}/check/note", "nixkeep@red.service", of_later_schema(store)
-    with checks.server(program, "--config", store.config, "--db", store.file) as port:
+# ---- through a server
+
+
+class Units:
+    """A systemctl that has these units active; `env` is the environment with it, and `asked` the file of its notes."""
+
+    def __init__(self, folder):
+        self.folder = Path(folder, "units")
+        (self.folder / "bin").mkdir(parents=True)
+        command = self.folder / "bin/systemctl"
+        command.write_text(SYSTEMCTL)
+        command.chmod(0o755)
+        self.env = {"UNITS": str(self.folder), "PATH": f"{command.parent}:{os.environ['PATH']}"}
+        self.asked = self.folder / "asked"
+        self.set()
+
+    def set(self, *active, memory="infinity"):
+        for it in self.folder.glob("*@*"):
+            it.unlink()
+        for it in active:
+            (self.folder / it).touch()
+        (self.folder / "memory").write_text(f"{memory}\n")
+
+
+@pytest.fixture
+def units(folder):
+    return Units(folder)
+
+
+def test_a_check_of_a_server(store, units):
+    note, unit, later = Path(store.folder, "note"), "nixkeep@red.service", of_later_schema(store)
+    with checks.server(store.program, "--config", store.config, "--db", store.file) as port:
         words = [*store.options("check"), "--db", store.file, "--server", f"http://127.0.0.1:{port}", "--note", note]
+        of_unit = lambda: backup(*words, "--unit", unit, env=units.env)
         for memory in ("infinity", str(1 << 30)):
-            with systemctl(store.folder, unit, memory=memory) as (env, _):
-                check.same(f"a server with {memory}", backup(*words, "--unit", unit, env=env), (0, "", ""))
-        noted, report = (json.loads(Path(note).read_text())[it] for it in ("version", "report"))
-        check.same("its version", noted, store_file.version(store.file))
-        check.true("its report", report.splitlines()[-1].split()[:2] == ["total", "6"], report)
-        check.same("which nobody else reads", os.stat(note).st_mode & 0o777, 0o600)
+            units.set(unit, memory=memory)
+            assert of_unit() == (0, "", ""), f"a server with {memory}"
+        noted, report = (json.loads(note.read_text())[it] for it in ("version", "report"))
+        assert noted == store_file.version(store.file)
+        assert report.splitlines()[-1].split()[:2] == ["total", "6"]
+        assert note.stat().st_mode & 0o777 == 0o600, "nobody else reads it"
         if os.geteuid() == 0:
             os.chown(store.folder, 1234, 1234)
-            check.same("but the account of the store", (backup(*words)[0], os.stat(note).st_uid), (0, 1234))
+            assert (backup(*words)[0], note.stat().st_uid) == (0, 1234), "but the account of the store"
             os.chown(store.folder, 0, 0)
-        with systemctl(store.folder, unit, memory="200000") as (env, _):
-            came = backup(*words, "--unit", unit, env=env)
-            check.true("too little memory", came[0] == 1 and "failed: memory" in came[2], came)
-        with systemctl(store.folder) as (env, _):
-            came = backup(*words, "--unit", unit, env=env)
-            check.true("a unit that doesn't run", came[0] == 1 and "doesn't run" in came[2], came)
+        units.set(unit, memory="200000")
+        fails_with("failed: memory", of_unit())
+        units.set()
+        fails_with("doesn't run", of_unit())
         Path(store.config).write_text(CONFIG.replace("trusted", "thrusted"))
-        came = backup(*words)
-        check.true("a wrong configuration", came[0] == 1 and "bad-config" in came[2], came)
+        fails_with("bad-config", backup(*words))
         Path(store.config).write_text(CONFIG)
-        came = backup(*[later if it == store.file else it for it in words])
-        check.true("a file of a later schema", came[0] == 1 and "failed: schema" in came[2], came)
-    came = backup(*words)
-    check.true("no server", came[0] == 1 and "failed: unreachable" in came[2], came)
+        fails_with("failed: schema", backup(*[later if it == store.file else it for it in words]))
+    fails_with("failed: unreachable", backup(*words))
     with store.opened() as ask:
         add(ask, "late", "late")
         running = store_file.version(store.file)
-    check.same("the version after a server has ended", store_file.version(store.file), running)
-    check.true("which isn't that before a change", running and running != noted, running)
+    assert store_file.version(store.file) == running, "the version after a server has ended"
+    assert running and running != noted, "which isn't that before a change"
+
+
+def fails_with(line, came):
+    assert came[0] == 1 and line in came[2]
 
 
 def of_later_schema(store):
@@ -322,29 +329,35 @@ def fetched(store, url, *words):
     return backup(*store.options("fetch"), "--server", url, "--to", store.to, *words)
 
 
-def try_fetch(program, folder, check):
-    store = Store(program, f"{folder}/fetch")
-    with checks.server(program, "--config", store.config, "--db", store.file) as port:
+def all_of_server(place):
+    """All that the server at a place says of its store, to build."""
+    with contextlib.closing(place.connection()) as connection:
+        server = http_client.Server(place, {}, connection=connection)
+        return all_of(asker(objects.Store(server, "build", "/nix/store")))
+
+
+def is_the_copy(store, wanted):
+    """There is one copy, which answers this."""
+    assert len(store.copies()) == 1
+    with store.opened(f"{store.to}/{store.copies()[0]}") as ask:
+        assert all_of(ask) == wanted
+
+
+def test_a_copy_through_a_server(store):
+    with checks.server(store.program, "--config", store.config, "--db", store.file) as port:
         url = f"http://127.0.0.1:{port}"
         came = fetched(store, url, "--state", store.state)
-        check.true("a copy through the server", came[0] == 0 and ": 6 objects, " in came[1] and not came[2], came)
-        with contextlib.closing(http_client.Place(url).connection()) as connection:
-            server = http_client.Server(http_client.Place(url), {}, connection=connection)
-            wanted = all_of(asker(objects.Store(server, "build", "/nix/store")))
-        came = fetched(store, url, "--as", "ann")
-        check.true("an untrusted caller", came[0] == 1 and "needs a trusted caller" in came[2], came)
-        came = fetched(store, url, "--as", "eve")
-        check.same("a stranger", came, (4, "", "nixkeep-backup: denied: connect\n"))
-    check.same("one copy", len(store.copies()), 1)
-    with store.opened(f"{store.to}/{store.copies()[0]}") as ask:
-        check.same("the copy answers as the server", all_of(ask), wanted)
+        assert came[0] == 0 and ": 6 objects, " in came[1] and not came[2]
+        wanted = all_of_server(http_client.Place(url))
+        fails_with("needs a trusted caller", fetched(store, url, "--as", "ann"))
+        assert fetched(store, url, "--as", "eve") == (4, "", "nixkeep-backup: denied: connect\n")
+    is_the_copy(store, wanted)
 
 
-def try_changing(program, folder, check):
+def test_a_copy_of_a_store_that_changes(store):
     """A proxy changes the store between two requests of a copy."""
-    store = Store(program, f"{folder}/changing")
     steps, count = [], itertools.count()
-    with checks.server(program, "--config", store.config, "--db", store.file) as port:
+    with checks.server(store.program, "--config", store.config, "--db", store.file) as port:
         place = http_client.Place(f"http://127.0.0.1:{port}")
 
         def change(method, target):
@@ -363,16 +376,12 @@ def try_changing(program, folder, check):
             steps += [lambda ask: ask("ann", "POST", "/collect"), lambda ask: add(ask, "late", "late"),
                       lambda ask: ask("ann", "DELETE", "/root/user/ann/mine")]
             came = fetched(store, checks.url(made), "--as", "build")
-            check.true("a copy of a store that changes", came[0] == 0 and not steps, (came, len(steps)))
-            with contextlib.closing(place.connection()) as connection:
-                server = http_client.Server(place, {}, connection=connection)
-                wanted = all_of(asker(objects.Store(server, "build", "/nix/store")))
+            assert came[0] == 0 and not steps
+            wanted = all_of_server(place)
             steps.append(always)
             came = fetched(store, checks.url(made), "--as", "build")
-            check.true("a store that never rests", came[0] == 1 and "changed in each of 10 passes" in came[2], came)
-    check.same("one copy", len(store.copies()), 1)
-    with store.opened(f"{store.to}/{store.copies()[0]}") as ask:
-        check.same("it is the store as it was at its end", all_of(ask), wanted)
+            assert came[0] == 1 and "changed in each of 10 passes" in came[2], "a store that never rests"
+    is_the_copy(store, wanted)
 
 
 class Hostile(http.server.BaseHTTPRequestHandler):
@@ -395,187 +404,159 @@ class Hostile(http.server.BaseHTTPRequestHandler):
         pass
 
 
-@contextlib.contextmanager
+@pytest.fixture(scope="module")
 def hostile():
     made = http.server.ThreadingHTTPServer(("127.0.0.1", 0), Hostile)
     made.daemon_threads = True
     threading.Thread(target=made.serve_forever, args=(0.05,), daemon=True).start()
-    try:
-        yield made
-    finally:
-        made.shutdown()
-        made.server_close()
+    yield made
+    made.shutdown()
+    made.server_close()
 
 
-def try_hostile(program, folder, check):
-    """A server that answers what no store does is a line, within bounded time and memory."""
-    store, path = Store(program, f"{folder}/hostile"), b"/nix/store/" + b"0" * 32 + b"-x"
-    record = b"StorePath: %s\nNarHash: sha256:%s\nNarSize: 1\nReferences: \n"
-    report, profile = b"class paths bytes\ntotal 0 0\n", b"profiles/per-user/ann/tools-%s-link %s\n"
-    cases = [
-        ("a huge generation", {"/roots": profile % (b"9" * 12, path)}, "other roots"),
-        ("a longer number", {"/roots": profile % (b"9" * 5000, path)}, "bad-"),
-        ("no label", {"/roots": b" %s\n" % path}, "failed: answer"),
-        ("a label out of order", {"/roots": b"{temp:1} %s\nx %s\n" % (path, path)}, "failed: answer"),
-        ("bytes that are no text", {"/roots": b"\xff\n"}, "failed: answer"),
-        ("a record that is none", {"/paths": path + b"\n", f"/info/{path[11:].decode()}": b"x\n"}, "failed: answer"),
-        ("one with a wrong hash", {"/paths": path + b"\n",
-                                   f"/info/{path[11:].decode()}": record % (path, b"!")}, "failed: answer"),
-        ("one of another path", {"/paths": path + b"\n",
-                                 f"/info/{path[11:].decode()}": record % (path + b"y", b"0" * 52)}, "failed: answer"),
-        ("pointers that are none", {"/pointers": b"x y\n"}, "failed: answer"),
-        ("an answer without an end", {"/roots": None}, "failed: answer"),
-    ]
-    with hostile() as made:
-        for what, texts, wanted in cases:
-            made.texts = {"/report": report, **texts}
-            came = fetched(store, f"http://127.0.0.1:{made.server_port}", "--as", "build", "--seconds", "100")
-            is_line = came[0] in (1, 3) and came[2].count("\n") == 1 and wanted in came[2]
-            check.true(what, is_line and not came[1], came)
-    check.same("no copy is there", store.copies(), [])
+PATH = b"/nix/store/" + b"0" * 32 + b"-x"
+INFO, PROFILE = f"/info/{PATH[11:].decode()}", b"profiles/per-user/ann/tools-%s-link %s\n"
+RECORD = b"StorePath: %s\nNarHash: sha256:%s\nNarSize: 1\nReferences: \n"
+NO_ANSWERS = {
+    "a huge generation": ({"/roots": PROFILE % (b"9" * 12, PATH)}, "other roots"),
+    "a longer number": ({"/roots": PROFILE % (b"9" * 5000, PATH)}, "bad-"),
+    "no label": ({"/roots": b" %s\n" % PATH}, "failed: answer"),
+    "a label out of order": ({"/roots": b"{temp:1} %s\nx %s\n" % (PATH, PATH)}, "failed: answer"),
+    "bytes that are no text": ({"/roots": b"\xff\n"}, "failed: answer"),
+    "a record that is none": ({"/paths": PATH + b"\n", INFO: b"x\n"}, "failed: answer"),
+    "one with a wrong hash": ({"/paths": PATH + b"\n", INFO: RECORD % (PATH, b"!")}, "failed: answer"),
+    "one of another path": ({"/paths": PATH + b"\n", INFO: RECORD % (PATH + b"y", b"0" * 52)}, "failed: answer"),
+    "pointers that are none": ({"/pointers": b"x y\n"}, "failed: answer"),
+    "an answer without an end": ({"/roots": None}, "failed: answer"),
+}
 
 
-def try_restore(program, folder, check):
-    store = Store(program, f"{folder}/restore")
-    store.copy()
-    name = store.copies()[0]
+@pytest.mark.parametrize("what", NO_ANSWERS)
+def test_a_hostile_server(what, hostile, folder, program):
+    """What no store answers is a line, within bounded time and memory, and no copy is there."""
+    texts, wanted = NO_ANSWERS[what]
+    hostile.texts = {"/report": b"class paths bytes\ntotal 0 0\n", **texts}
+    words = ["--server", f"http://127.0.0.1:{hostile.server_port}", "--as", "build", "--seconds", "100"]
+    status, output, errors = backup("fetch", "--program", program, "--to", folder, *words)
+    assert status in (1, 3) and errors.count("\n") == 1 and wanted in errors and not output
+    assert os.listdir(folder) == []
+
+
+# ---- stores put back
+
+UNITS = ["nixkeep-backup@red.timer", "nixkeep@red.socket", "nixkeep@red.service"]
+
+
+@pytest.fixture
+def restored(store, good, units):
+    """The words that put a store back, but for the file of the copy, where its units are active."""
+    units.set(*UNITS)
+    return lambda file, **how: backup(*store.options("restore"), "--folder", store.folder, "red", file, env=units.env,
+                                      **how)
+
+
+def test_a_restore_from_what_is_no_copy_stops_nothing(store, restored, units):
+    os.mkfifo(pipe := f"{store.folder}/pipe.db")
+    for file, line in ((store.damaged(), "hash isn't"), (f"{store.folder}/none.db", "No such file"),
+                       (store.config, "not a database"), (pipe, "it is no file"), (store.folder, "it is no file")):
+        status, _, errors = restored(file)
+        assert status == 1 and line in errors and errors.count("\n") == 1, file
+    assert not units.asked.exists()
+
+
+def test_a_restore_without_room(store, restored, units):
+    """It leaves the store as it is, and starts again what ran."""
+    before = store.bytes()
+    status, _, errors = restored(f"{store.to}/{store.copies()[0]}", most=8)
+    assert status == 1 and "failed: restore: " in errors and errors.count("\n") == 1
+    assert store.bytes() == before, "leaves the store"
+    assert [it for it in os.listdir(store.folder) if it.startswith(("aside-", "store.new"))] == []
+    assert all((units.folder / it).exists() for it in UNITS), "whose units run again"
+
+
+def test_a_restore(store, restored, units):
     with store.opened() as ask:
         before = all_of(ask)
         add(ask, "lost", "after the copy")
-    units = ["nixkeep-backup@red.timer", "nixkeep@red.socket", "nixkeep@red.service"]
-    words = [*store.options("restore"), "--folder", store.folder, "red"]
-    with systemctl(store.folder, *units) as (env, notes):
-        bad = f"{store.folder}/bad.db"
-        shutil.copy(f"{store.to}/{name}", bad)
-        Path(bad).write_bytes(Path(bad).read_bytes().replace(b"text 2\n", b"text 3\n"))
-        os.mkfifo(pipe := f"{store.folder}/pipe.db")
-        for file, line in ((bad, "hash isn't"), (f"{store.folder}/none.db", "No such file"),
-                           (store.config, "not a database"), (pipe, "it is no file"), (store.folder, "it is no file")):
-            status, _, errors = backup(*words, file, env=env)
-            check.true(f"a restore from {file}", status == 1 and line in errors and errors.count("\n") == 1, errors)
-        check.true("stops nothing", not os.path.exists(f"{notes}/asked"))
-        try_restore_without_room(check, store, [*words, f"{store.to}/{name}"], env, units)
-        os.unlink(f"{notes}/asked")
-        owner = (4321, 4321) if os.geteuid() == 0 else (os.geteuid(), os.getegid())
-        os.chown(store.folder, *owner)
-        os.symlink(store.config, f"{store.folder}/store.new")
-        status, output, errors = backup(*words, f"{store.to}/{name}", env=env)
-        check.same("a link in the place of the new file isn't followed", Path(store.config).read_text(), CONFIG)
-        check.true("a restore", status == 0 and output.startswith("restored 6 objects, ") and not errors, errors)
-        asked = [it for it in Path(notes, "asked").read_text().splitlines() if not it.startswith("is-active")]
-        stopped = [it.removeprefix("stop ") for it in asked if it.startswith("stop ")]
-        check.same("what is stopped, in order", stopped, units)
-        started = [it.removeprefix("start ") for it in asked if it.startswith("start ")]
-        check.same("what is started, in order", started, [*units[1:], units[0]])
-    asides = [it for it in os.listdir(store.folder) if it.startswith("aside-")]
-    check.same("the files before", sorted(os.listdir(f"{store.folder}/{asides[0]}")), ["store.db", "store.db-wal"])
+    owner = (4321, 4321) if os.geteuid() == 0 else (os.geteuid(), os.getegid())
+    os.chown(store.folder, *owner)
+    os.symlink(store.config, f"{store.folder}/store.new")
+    status, output, errors = restored(f"{store.to}/{store.copies()[0]}")
+    assert status == 0 and output.startswith("restored 6 objects, ") and not errors, errors
+    assert Path(store.config).read_text() == CONFIG, "a link in the place of the new file isn't followed"
+    asked = units.asked.read_text().splitlines()
+    assert [it.removeprefix("stop ") for it in asked if it.startswith("stop ")] == UNITS, "stopped in order"
+    started = [it.removeprefix("start ") for it in asked if it.startswith("start ")]
+    assert started == [*UNITS[1:], UNITS[0]], "started in order"
+    aside = next(it for it in os.listdir(store.folder) if it.startswith("aside-"))
+    assert sorted(os.listdir(f"{store.folder}/{aside}")) == ["store.db", "store.db-wal"], "the files before"
     seen = os.stat(store.file)
-    check.same("the mode", seen.st_mode & 0o777, 0o600)
-    check.same("the owner is that of the folder", (seen.st_uid, seen.st_gid), owner)
+    assert (seen.st_mode & 0o777, seen.st_uid, seen.st_gid) == (0o600, *owner), "the owner is that of the folder"
     with store.opened() as ask:
-        check.same("the store is as it was", all_of(ask), before)
-    try_stopped_restore(check, store, f"{store.to}/{name}")
+        assert all_of(ask) == before, "the store is as it was"
 
 
-def try_stopped_restore(check, store, copy):
-    """A restore that is stopped before the copy has its place leaves the store there: no server begins a new one."""
-    was, moved = store.bytes(), os.rename
-    before = {*os.listdir(store.folder)}
+def test_a_restore_that_is_stopped(store, good, monkeypatch):
+    """Before the copy has its place the store is left there: no server begins a new one."""
+    was = store.bytes()
 
     def stopped(*_):
         raise KeyboardInterrupt
 
-    with contextlib.suppress(KeyboardInterrupt):
-        try:
-            os.rename = stopped
-            # (the name of the folder has the second)
-            time.sleep(1.1)
-            backup_restore.put(copy, store.folder)
-        finally:
-            os.rename = moved
-    check.same("the store of a restore that was stopped", Path(store.file).read_bytes(), was["store.db"])
-    aside = next(it for it in os.listdir(store.folder) if it.startswith("aside-") and it not in before)
-    found = {it: Path(store.folder, aside, it).read_bytes() for it in os.listdir(f"{store.folder}/{aside}")}
-    check.same("what it has moved aside", found, was)
+    with pytest.raises(KeyboardInterrupt), monkeypatch.context() as patch:
+        patch.setattr(os, "rename", stopped)
+        backup_restore.put(f"{store.to}/{store.copies()[0]}", store.folder)
+    assert Path(store.file).read_bytes() == was["store.db"]
+    aside, = Path(store.folder).glob("aside-*")
+    assert {it.name: it.read_bytes() for it in aside.iterdir()} == was, "what it has moved aside"
 
 
-def try_restore_without_room(check, store, words, env, units):
-    """A restore that can't write leaves the store as it is, and starts again what ran."""
-    before = store.bytes()
-    status, _, errors = backup(*words, env=env, most=8)
-    is_line = "failed: restore: " in errors and errors.count("\n") == 1
-    check.true("a restore without room", status == 1 and is_line, errors)
-    check.same("leaves the store", store.bytes(), before)
-    found = [it for it in os.listdir(store.folder) if it.startswith(("aside-", "store.new"))]
-    check.same("and nothing else", found, [])
-    check.true("whose units run again", all(os.path.exists(f"{env['UNITS']}/{it}") for it in units))
+# ---- copies before a migration
 
 
-def try_migrating(program, folder, check):
-    """The copy is the way back: it has the old schema, and all rows of the file."""
-    os.makedirs(f"{folder}/migrating")
-    file, kept = f"{folder}/migrating/store.db", f"{folder}/migrating/store.db-of-schema-1"
-    check.same("no file", backup("before-migration", "--db", file), (0, "", ""))
+def of_schema_1(file):
+    """A file of schema 1 with a text, whose path this is."""
     with contextlib.closing(sqlite3.connect(file)) as conn, conn:
         parts.put_tables(conn, 1)
-        path = parts.put_text(conn, "old", b"old")
-    Path(kept).write_text("of a start that was stopped")
-    came = backup("before-migration", "--db", file)
-    check.true("a file of schema 1", came[0] == 0 and came[1].startswith(f"{kept}: 1 object, ") and not came[2], came)
-    check.same("which its owner alone reads", os.stat(kept).st_mode & 0o777, 0o600)
+        return parts.put_text(conn, "old", b"old")
+
+
+def test_a_copy_before_a_migration(program, folder):
+    """The copy is the way back: it has the old schema, and all rows of the file. No other file is copied."""
+    file, kept = f"{folder}/store.db", Path(folder, "store.db-of-schema-1")
+    copied = lambda: backup("before-migration", "--db", file)
+    assert copied() == (0, "", ""), "no file"
+    path = of_schema_1(file)
+    kept.write_text("of a start that was stopped")
+    status, output, errors = copied()
+    assert status == 0 and output.startswith(f"{kept}: 1 object, ") and not errors, errors
+    assert kept.stat().st_mode & 0o777 == 0o600, "which its owner alone reads"
     with contextlib.closing(sqlite3.connect(kept)) as conn:
-        rows = conn.execute("SELECT val, base FROM meta, object WHERE word = 'schema'").fetchall()
-    check.same("the copy", rows, [("1", path)])
-    check.same("the program migrates the file", ran([program, "--db", file, "--user", "root", "list"]),
-               (0, f"/nix/store/{path}\n".encode(), b""))
-    Path(kept).unlink()
-    check.same("a file of today's schema", backup("before-migration", "--db", file), (0, "", ""))
-    check.true("isn't copied", not os.path.exists(kept))
-    damaged = f"{folder}/migrating/damaged.db"
-    with contextlib.closing(sqlite3.connect(damaged)) as conn, conn:
-        parts.put_tables(conn, 1)
-        parts.put_text(conn, "old", b"old")
+        assert conn.execute("SELECT val, base FROM meta, object WHERE word = 'schema'").fetchall() == [("1", path)]
+    migrated = ran([program, "--db", file, "--user", "root", "list"])
+    assert migrated == (0, f"/nix/store/{path}\n".encode(), b"")
+    kept.unlink()
+    assert copied() == (0, "", ""), "a file of today's schema"
+    assert not kept.exists(), "isn't copied"
+
+
+def test_a_file_that_is_no_store_before_a_migration(folder):
+    of_schema_1(file := f"{folder}/damaged.db")
+    with contextlib.closing(sqlite3.connect(file)) as conn, conn:
         conn.execute("UPDATE object SET hash = zeroblob(32)")
-    came = backup("before-migration", "--db", damaged)
-    check.true("a damaged one is neither copied nor started", came[0] == 1 and "hash isn't" in came[2], came)
+    fails_with("hash isn't", backup("before-migration", "--db", file))
     for schema in ("9" * 5000, "\xb2", "01", ""):
-        with contextlib.closing(sqlite3.connect(damaged)) as conn, conn:
+        with contextlib.closing(sqlite3.connect(file)) as conn, conn:
             conn.execute("UPDATE meta SET val = ? WHERE word = 'schema'", (schema,))
-        check.same(f"the schema {schema[:5]!r} is none", backup("before-migration", "--db", damaged), (0, "", ""))
-        status, output, errors = ran([f"{HERE}/tools/nixkeep-explain", damaged])
-        check.true("and is explained", (status, errors) == (3, b"") and b"21 bad-schema" in output, errors)
+        assert backup("before-migration", "--db", file) == (0, "", ""), f"the schema {schema[:5]!r} is none"
+        status, output, errors = ran([f"{HERE}/tools/nixkeep-explain", file])
+        assert (status, errors) == (3, b"") and b"21 bad-schema" in output, "and is explained"
 
 
-def try_words(_program, _folder, check):
-    for words in ([], ["copy"], ["copy", "--db", "a"], ["fetch"], ["restore", "red"], ["nope"], ["check", "--db", "a"]):
-        status, output, errors = backup(*words)
-        check.true(f"the words {words}", status == 2 and not output and errors.startswith("usage: "), errors)
-    pages = {"man": Path(HERE, "man/nixkeep-backup.1").read_text().replace("\\-", "-"),
-             "completion": Path(HERE, "completion/nixkeep-backup.bash").read_text()}
-    for action in ("check", "copy", "fetch", "restore", "before-migration"):
-        text = backup(action, "--help")[1]
-        for option in re.findall(r"^  (--[a-z-]+)", text, re.M):
-            for name, page in pages.items():
-                check.true(f"{option} of {action} in the {name} page", option in page)
+# ---- words
 
 
-def parts_of(program, folder):
-    """Each part makes a store of its own."""
-    return program, folder
-
-
-def main():
-    names = ("copy", "failures", "kept", "check", "fetch", "changing", "hostile", "restore", "migrating", "words")
-
-    def part(name):
-        def run(of, check):
-            globals()[f"try_{name}"](*of, check)
-
-        run.__name__ = f"try_{name}"
-        return run
-
-    checks.script(__doc__, [part(it) for it in names], start=parts_of)
-
-
-if __name__ == "__main__":
-    main()
+@pytest.mark.parametrize("words", ["", "copy", "copy --db a", "fetch", "restore red", "nope", "check --db a"])
+def test_usage_errors(words):
+    status, output, errors = backup(*words.split())
+    assert status == 2 and not output and errors.startswith("usage: ")
