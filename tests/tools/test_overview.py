@@ -1,16 +1,9 @@
 """Tests nixkeep-overview: its figures next to a plain computation, its page as nixkeep-cache serves it, what 10,000
-objects take, compared with plain work of this machine; and with --browser the page in headless Chromium: console,
-scripts, contrast, widths, names for a screen reader, the keyboard.
-
-Needs python3-jinja2 and, for the served page, python3-aiohttp and curl; with --browser chromium and graphviz. What is
-missing is skipped, and it says so. Each check is a line; the last line is `N passed, M failed`.
-
-usage: bin/run tests/tools/test_overview.py [--program FILE] [--browser [FOLDER]]   (FOLDER: for screenshots)
+objects take, compared with plain work of this machine; and the page in headless Chromium: console, scripts, contrast,
+widths, names for a screen reader, the keyboard.
 """
 import asyncio
-import base64
 import collections
-import contextlib
 import html
 import http.server
 import json
@@ -18,14 +11,19 @@ import os
 import random
 import resource
 import subprocess
+import tempfile
 import threading
 import time
 from pathlib import Path
 
+import pytest
+
 import parts
 from nixkeep_dev.testing import nar
-from parts import body, check, same
+from nixkeep_tools import overview, overview_source, store_file
+from parts import body
 
+pytestmark = pytest.mark.needs("python3-jinja2")
 COMMAND = f"{parts.ROOT}/tools/nixkeep-overview"
 # What figures of 10,000 objects may take, as a multiple of a few million steps of Python on this machine, now.
 STEPS, TIMES = 5_000_000, 4
@@ -44,51 +42,38 @@ def reached(kept, start):
     return found
 
 
-def figures():
-    """Random graphs, with cycles by derivers and outputs, next to a walk from each root."""
-    from nixkeep_tools import overview, store_file
-
-    for seed in range(20):
-        rng = random.Random(seed)
-        bases = [f"{nar.base32(rng.randbytes(20))}-n{at}" for at in range(30)]
-        pick = lambda most: rng.sample(bases, rng.randrange(most))
-        objects = {
-            it: store_file.Object(rng.randrange(1000), None, rng.choice([None, *bases]), None, pick(3),
-                                  dict(enumerate(pick(2))))
-            for it in bases
-        }
-        roots = [
-            store_file.Root(rng.choice(["user", "profile"]), rng.choice(bases), f"r{at}", rng.choice("ab"), "n", at)
-            for at in range(8)
-        ]
-        keeps = rng.random() < 0.5, rng.random() < 0.5
-        store = store_file.Store(3, "/nix/store", objects, roots, {})
-        found, kept = overview.Overview(store, *keeps), store_file.edges(store, *keeps)
-        reach = [reached(kept, it.target) for it in roots]
-        size = lambda some: sum(objects[it].size for it in some)
-        wanted = {}
-        for key in {(it.owner, it.kind) for it in roots}:
-            of = set().union(*(reach[at] for at, it in enumerate(roots) if (it.owner, it.kind) == key))
-            others = set().union(*(reach[at] for at, it in enumerate(roots) if (it.owner, it.kind) != key))
-            wanted[key] = size(of), size(of - others)
-        is_right = wanted == {(it.owner, it.kind): tuple(it.usage) for it in found.lines()}
-        is_right &= all(
-            tuple(used) == (size(reach[at]), size(set(reach[at]).difference(*reach[:at], *reach[at + 1 :])))
-            for root, used in found.roots()
-            for at in [roots.index(root)]
-        )
-        live = set().union(*reach)
-        is_right &= {base for base, _ in found.dead()} == set(bases) - live
-        for base in bases:
-            why = found.why(base)
-            first = next((at for at in range(8) if base in reach[at]), None)
-            is_right &= why.root == (None if first is None else roots[first])
-            is_right &= why.root is None or (why.steps[0].base, why.steps[-1].base, len(why.steps) - 1) == (
-                why.root.target,
-                base,
-                reach[first][base],
-            )
-        check(f"figures and chains of a random graph, number {seed}", is_right)
+@pytest.mark.parametrize("seed", range(20))
+def test_a_random_graph_next_to_a_walk_from_each_root(seed):
+    """With cycles by derivers and outputs."""
+    rng = random.Random(seed)
+    bases = [f"{nar.base32(rng.randbytes(20))}-n{at}" for at in range(30)]
+    pick = lambda most: rng.sample(bases, rng.randrange(most))
+    objects = {it: store_file.Object(rng.randrange(1000), None, rng.choice([None, *bases]), None, pick(3),
+                                     dict(enumerate(pick(2)))) for it in bases}
+    roots = [store_file.Root(rng.choice(["user", "profile"]), rng.choice(bases), f"r{at}", rng.choice("ab"), "n", at)
+             for at in range(8)]
+    keeps = rng.random() < 0.5, rng.random() < 0.5
+    store = store_file.Store(3, "/nix/store", objects, roots, {})
+    figures, kept = overview.Overview(store, *keeps), store_file.edges(store, *keeps)
+    reach = [reached(kept, it.target) for it in roots]
+    size = lambda some: sum(objects[it].size for it in some)
+    wanted = {}
+    for key in {(it.owner, it.kind) for it in roots}:
+        of = set().union(*(reach[at] for at, it in enumerate(roots) if (it.owner, it.kind) == key))
+        others = set().union(*(reach[at] for at, it in enumerate(roots) if (it.owner, it.kind) != key))
+        wanted[key] = size(of), size(of - others)
+    assert {(it.owner, it.kind): tuple(it.usage) for it in figures.lines()} == wanted
+    for root, used in figures.roots():
+        at = roots.index(root)
+        assert tuple(used) == (size(reach[at]), size(set(reach[at]).difference(*reach[:at], *reach[at + 1 :])))
+    assert {base for base, _ in figures.dead()} == set(bases) - set().union(*reach)
+    for base in bases:
+        why = figures.why(base)
+        first = next((at for at in range(8) if base in reach[at]), None)
+        assert why.root == (None if first is None else roots[first])
+        if why.root:
+            chain = why.steps[0].base, why.steps[-1].base, len(why.steps) - 1
+            assert chain == (why.root.target, base, reach[first][base])
 
 
 def most():
@@ -98,114 +83,65 @@ def most():
     return TIMES * (time.process_time() - began)
 
 
-def of_a_file(folder):
-    """10,000 objects in bounded work of the processor, and what the command says of files that it can't read."""
-    file = f"{folder}/large.db"
-    made = parts.put_store(file, 10_000, random.Random(1), 60, HOSTILE)
-    before, began = resource.getrusage(resource.RUSAGE_CHILDREN), time.monotonic()
-    ran = subprocess.run([COMMAND, "--db", file, "--output", f"{folder}/large.html"], capture_output=True, text=True)
+@pytest.fixture(scope="module")
+def large():
+    """The file of a store with 10,000 objects, and the path of its first."""
+    with tempfile.TemporaryDirectory() as folder:
+        yield f"{folder}/large.db", parts.put_store(f"{folder}/large.db", 10_000, random.Random(1), 60, HOSTILE)[0]
+
+
+def ran(*words):
+    return subprocess.run([COMMAND, *words], capture_output=True, text=True)
+
+
+def test_10_000_objects_in_bounded_work_of_the_processor(large, folder):
+    before = resource.getrusage(resource.RUSAGE_CHILDREN)
+    came = ran("--db", large[0], "--output", f"{folder}/large.html")
     after = resource.getrusage(resource.RUSAGE_CHILDREN)
     took = after.ru_utime + after.ru_stime - before.ru_utime - before.ru_stime
-    print(f"(10,000 objects: {time.monotonic() - began:.1f} s, {took:.1f} s of the processor)")
-    check(f"10,000 objects take less of the processor than {TIMES * STEPS:,} steps of Python",
-          ran.returncode == 0 and took < most(), (took, ran.stderr))
+    assert (came.returncode, came.stderr) == (0, "")
+    assert took < most(), f"less than {TIMES * STEPS:,} steps of Python"
     text = Path(f"{folder}/large.html").read_text()
-    check("the page loads nothing and has no script",
-          "<script" not in text and "http:" not in text and "https:" not in text)
-    check("the current generation is marked", text.count("9 (current)") == 3)
-    ran = subprocess.run([COMMAND, "--db", file, "--why", made[0]], capture_output=True, text=True)
-    check("why a path is kept", ran.returncode == 0 and "first root" in ran.stdout, ran.stderr)
-    ran = subprocess.run([COMMAND, "--db", file, "--name", "that"], capture_output=True, text=True)
-    check("the name that is given", "Who keeps what in that</h1>" in ran.stdout, ran.stderr)
-    check("the program by which users of a file delete a generation",
-          "its owner: nixkeep profile" in " ".join(text.split()))
-    for what, words, said in [
-        ("no file", ["--db", f"{folder}/none.db"], "No such file"),
-        ("no store", ["--db", __file__], "database"),
-        ("no path", ["--db", file, "--why", "x"], "14 bad-store-path"),
-    ]:
-        ran = subprocess.run([COMMAND, *words], capture_output=True, text=True)
-        check(f"{what} has one line", ran.returncode == 1 and said in ran.stderr and ran.stderr.count("\n") == 1,
-              ran.stderr)
-    return file
+    assert "<script" not in text and "http:" not in text and "https:" not in text, "it loads nothing, and has no script"
+    assert text.count("9 (current)") == 3, "the current generation is marked"
+    assert "its owner: nixkeep profile" in " ".join(text.split()), "by which users of a file delete a generation"
 
 
-@contextlib.contextmanager
-def served(program, folder):
-    """The page as nixkeep-cache serves it, over a small store whose server is the program."""
-    os.makedirs(f"{folder}/served")
-    config, file = f"{folder}/red.toml", f"{folder}/served/store.db"
-    Path(config).write_text('allowed-users = ["ann"]\ntrusted-users = ["build"]\n')
-    made = parts.put_store(file, 40, random.Random(2), 3, HOSTILE)
-    with parts.server(program, f"{folder}/served", config, file) as server:
-        with parts.cache(f"{folder}/served", server.place, None, "--proxied", "--config", config) as cache:
-            yield server, cache, made
+def test_words_about_a_file(large):
+    file, path = large
+    came = ran("--db", file, "--why", path)
+    assert came.returncode == 0 and "first root" in came.stdout, came.stderr
+    came = ran("--db", file, "--name", "that")
+    assert "Who keeps what in that</h1>" in came.stdout, came.stderr
 
 
-def of_a_server(folder, server, cache, made):
-    url = f"http://127.0.0.1:{cache.place}"
-    get = lambda user, target="/overview": parts.curl("-H", f"store-user: {user}", url + target)
-    status, text = get("build")
-    check("a trusted user gets the page", status == 200 and b"Who keeps what" in text, text)
-    check("it names the store, by its configuration", b"Who keeps what in red</h1>" in text, text)
-    check("and the program by which users of a server delete a generation", b"nixkeep-remote profile delete" in text)
-    check("with all labels, as text", html.escape(HOSTILE, quote=False)[:30].encode() in text)
-    check("and the server's own list of live paths agrees", b"own listing" not in text)
-    status, text = get("ann")
-    check("an allowed user doesn't see runtime labels",
-          status == 200 and b"{censored}" in text and b"script" not in text.replace(b"script-src", b""), text)
-    own = ["--data-binary", "@-", "-H", "store-user: ann", f"{url}/temp/ann/7"]
-    same("ann's own session", parts.curl(*own, given=body(("path", f"/nix/store/{made[0]}"))), (200, b"done\n"))
-    text = until_newer(lambda: get("ann")[1])
-    check("is a hidden root to her, and no runtime root",
-          b"<td>runtime or session, hidden</td>" in text and b"<td>runtime</td>" not in text, text)
-    same("a stranger is denied", get("eve"), (403, b"denied: connect\n"))
-    status, text = get("ann", f"/overview?why=/nix/store/{made[0]}")
-    check("why a path is kept", status == 200 and b"first root" in text, text)
-    status, text = get("ann", "/overview?why=%3Cb%3E")
-    check("a path that isn't there", status == 200 and b"There is no path &lt;b&gt;" in text, text)
-    dead = [it for it in made if b"No root" in get("ann", f"/overview?why={it}")[1]]
-    before = get("ann", "/report")[1].splitlines()[2].split()
-    same("the dead paths are those of report", str(len(dead)), before[1].decode())
-    parts.curl("-X", "POST", "-H", "store-user: ann", f"{url}/collect")
-    text = until_newer(lambda: get("ann")[1])
-    check("after a collection there are none, once the page isn't fresh any more", b"There is none." in text, text)
-    words, given = ["--data-binary", "@-", "-H", "store-user: ann"], body(("name", "new"), payload=b"x")
-    added = parts.curl(*words, f"{url}/text", given=given)[1].decode().strip()
-    check("and a new one is seen", added[11:43].encode() in until_newer(lambda: get("ann")[1]))
-    without_drawing(cache, url, made)
-    cache.end()
-    asked = lambda user: subprocess.run([COMMAND, "--store", f"127.0.0.1:{server.place}", "--user", user],
-                                        capture_output=True, text=True)
-    ran = asked("ann")
-    check("the command asks the server too", ran.returncode == 0 and added[11:43] in ran.stdout, ran.stderr)
-    same("and says what it says to a stranger", asked("eve").stderr, "nixkeep-overview: denied: connect\n")
+@pytest.mark.parametrize("words, line", [(["--db", "/none.db"], "No such file"), (["--db", __file__], "database"),
+                                         (["--why", "x", "--db", None], "14 bad-store-path")])
+def test_what_cannot_be_read_has_one_line(words, line, large):
+    came = ran(*[it or large[0] for it in words])
+    assert came.returncode == 1 and line in came.stderr and came.stderr.count("\n") == 1
 
 
-def until_newer(get):
-    """A page that is made after this call: figures are kept for five seconds."""
-    time.sleep(5.5)
-    return get()
+def test_8_000_roots_in_bounded_work_of_the_processor(folder):
+    """The figures are those of a walk from each of some of them."""
+    from nixkeep_tools import overview_page
+
+    parts.put_store(f"{folder}/roots.db", 10_000, random.Random(3), 2_667)
+    store = overview_source.of_file(f"{folder}/roots.db")
+    began = time.process_time()
+    figures = overview.Overview(store)
+    overview_page.page(figures, "/overview")
+    took = time.process_time() - began
+    assert len(store.roots) > 8_000 and took < most(), f"less than {TIMES * STEPS:,} steps of Python"
+    kept = store_file.edges(store)
+    size = lambda root: sum(store.objects[it].size for it in reached(kept, root.target))
+    walked = {root.label: size(root) for root in store.roots[::400]}
+    assert {root.label: used.all for root, used in figures.roots() if root.label in walked} == walked
 
 
-def without_drawing(cache, url, made):
-    """Where `dot` fails, a page has the chain without the drawing."""
-    os.makedirs(folder := f"{os.path.dirname(cache.log)}/bin")
-    Path(f"{folder}/dot").write_text("#!/bin/sh\nexit 1\n")
-    os.chmod(f"{folder}/dot", 0o755)
-    cache.end()
-    path, os.environ["PATH"] = os.environ["PATH"], f"{folder}:{os.environ['PATH']}"
-    cache.start()
-    os.environ["PATH"] = path
-    texts = [parts.curl("-H", "store-user: build", f"{url}/overview?why={it}") for it in made]
-    kept = [text for status, text in texts if status == 200 and b"first root" in text]
-    check("a path that is kept has its chain where no drawing can be made",
-          kept and all(b"There is no drawing" in it and b"<svg" not in it for it in kept), texts[0])
-
-
-def long_chain():
-    """A chain of more steps than are drawn is listed alone."""
-    from nixkeep_tools import overview, overview_page, store_file
+def test_a_long_chain():
+    """One of more steps than are drawn is listed alone."""
+    from nixkeep_tools import overview_page
 
     bases = [f"{at:032}-step" for at in range(overview.DRAWN + 1)]
     objects = {base: store_file.Object(1, None, None, None, [it for it in [to] if it], {})
@@ -213,39 +149,66 @@ def long_chain():
     root = store_file.Root("user", bases[0], "a label", "ann", "name", None)
     made = overview.Overview(store_file.Store(None, "/nix/store", objects, [root], {}))
     long, short = (overview_page.page(made, why=it) for it in (bases[-1], bases[-2]))
-    same("a chain of 101 steps is listed and not drawn, and one of 100 may be drawn",
-         (long.count('<li '), "<svg" in long, "of more than 100 steps" in long, "of more than" in short),
-         (101, False, True, False))
+    assert (long.count("<li "), "<svg" in long, "of more than 100 steps" in long) == (101, False, True)
+    assert "of more than" not in short, "one of 100 steps may be drawn"
 
 
-def documents():
-    """Each option is in the man page and in the completion, which bash can read."""
-    from nixkeep_tools import overview_command
+# ---- as it is served
 
-    options = [it for action in overview_command.parser()._actions for it in action.option_strings if it[:2] == "--"]
-    for name in ("man/nixkeep-overview.1", "completion/nixkeep-overview.bash"):
-        text = Path(f"{parts.ROOT}/{name}").read_text().replace("\\-", "-")
-        same(f"options that {name} lacks", [it for it in options if it not in text and it != "--help"], [])
-    same("bash reads the completion", subprocess.run(["bash", "-n", f"{parts.ROOT}/{name}"]).returncode, 0)
+needs_cache = pytest.mark.needs("curl", "python3-aiohttp")
 
 
-def of_many_roots(folder):
-    """8,000 roots: the same figures as by a walk from each of some, in bounded work of the processor."""
-    from nixkeep_tools import overview, overview_page, overview_source, store_file
+class Site:
+    """nixkeep-cache before the server of a small store, and the paths of that."""
 
-    parts.put_store(f"{folder}/roots.db", 10_000, random.Random(3), 2_667)
-    store = overview_source.of_file(f"{folder}/roots.db")
-    began = time.process_time()
-    found = overview.Overview(store)
-    overview_page.page(found, "/overview")
-    took = time.process_time() - began
-    check(f"{len(store.roots):,} roots take less of the processor than {TIMES * STEPS:,} steps of Python",
-          len(store.roots) > 8_000 and took < most(), took)
-    kept = store_file.edges(store)
-    size = lambda root: sum(store.objects[it].size for it in reached(kept, root.target))
-    walked = {root.label: size(root) for root in store.roots[::400]}
-    used = {root.label: used.all for root, used in found.roots() if root.label in walked}
-    same("the figures of some of them are those of a walk", used, walked)
+    def __init__(self, server, cache, paths):
+        self.server, self.cache, self.paths, self.url = server, cache, paths, f"http://127.0.0.1:{cache.place}"
+
+    def get(self, user, target="/overview", *words, **more):
+        return parts.curl("-H", f"store-user: {user}", *words, self.url + target, **more)
+
+    def post(self, target, given):
+        return self.get("ann", target, "--data-binary", "@-", given=given)
+
+    def newer(self):
+        """Ann's page, made after this call: figures are kept for five seconds."""
+        time.sleep(5.5)
+        return self.get("ann")[1]
+
+
+@pytest.fixture(scope="module")
+def site(program):
+    with tempfile.TemporaryDirectory() as folder:
+        config, file = f"{folder}/red.toml", f"{folder}/store.db"
+        Path(config).write_text('allowed-users = ["ann"]\ntrusted-users = ["build"]\n')
+        made = parts.put_store(file, 40, random.Random(2), 3, HOSTILE)
+        with parts.server(program, folder, config, file) as server, \
+                parts.cache(folder, server.place, None, "--proxied", "--config", config) as cache:
+            yield Site(server, cache, made)
+
+
+@needs_cache
+def test_who_sees_what(site):
+    status, text = site.get("build")
+    assert status == 200 and b"Who keeps what in red</h1>" in text, "a trusted user, with the name by the configuration"
+    assert b"nixkeep-remote profile delete" in text, "by which users of a server delete a generation"
+    assert html.escape(HOSTILE, quote=False)[:30].encode() in text, "with all labels, as text"
+    assert b"own listing" not in text, "and the server's own list of live paths agrees"
+    status, text = site.get("ann")
+    assert status == 200 and b"{censored}" in text and b"script" not in text.replace(b"script-src", b""), (
+        "an allowed user doesn't see runtime labels")
+    assert site.post("/temp/ann/7", body(("path", f"/nix/store/{site.paths[0]}"))) == (200, b"done\n")
+    text = site.newer()
+    assert b"<td>runtime or session, hidden</td>" in text and b"<td>runtime</td>" not in text, "ann's own session"
+    assert site.get("eve") == (403, b"denied: connect\n")
+
+
+@needs_cache
+def test_why_a_path_is_kept(site):
+    status, text = site.get("ann", f"/overview?why=/nix/store/{site.paths[0]}")
+    assert status == 200 and b"first root" in text
+    status, text = site.get("ann", "/overview?why=%3Cb%3E")
+    assert status == 200 and b"There is no path &lt;b&gt;" in text
 
 
 # ---- in a browser
@@ -300,37 +263,30 @@ class Browser:
         return [it for it in self.events if it["method"] in kinds]
 
 
-async def looked_at(browser, name, url, width, scheme, shots):
+async def looked_at(browser, url, width, scheme):
     await browser.ask("Emulation.setDeviceMetricsOverride", width=width, height=900, deviceScaleFactor=1,
                       mobile=width < 600)
     await browser.ask("Emulation.setEmulatedMedia", features=[{"name": "prefers-color-scheme", "value": scheme}])
     await browser.open(url)
-    what = f"{name}, {width} wide, {scheme}"
-    worst = await browser.value(CONTRAST)
-    check(f"{what}: contrast of at least 4.5 ({worst[0]:.1f})", worst[0] >= 4.5, worst)
+    contrast, text = await browser.value(CONTRAST)
+    assert contrast >= 4.5, text
     over = await browser.value("document.documentElement.scrollWidth - document.documentElement.clientWidth")
-    same(f"{what}: nothing is wider than the window", over, 0)
-    same(f"{what}: each control, region, table and drawing has a name", await browser.value(NAMES), 0)
-    check(f"{what}: no script has run", await browser.value("document.title") != "run")
-    if shots:
-        shot = await browser.ask("Page.captureScreenshot", captureBeyondViewport=True)
-        Path(f"{shots}/{name}-{width}-{scheme}.png").write_bytes(base64.b64decode(shot["data"]))
+    assert over == 0, "nothing is wider than the window"
+    assert await browser.value(NAMES) == 0, "each control, region, table and drawing has a name"
+    assert await browser.value("document.title") != "run", "no script has run"
+    assert browser.said() == [], "no message on the console"
 
 
 async def keyboard(browser, url):
-    """Tab goes to the link over the head, to the form, and through the tables."""
+    """Tab goes to the link over the head, to that to the last day, to the form, and through the tables."""
     await browser.open(url)
-    found = []
-    for _ in range(6):
+    places = []
+    for _ in range(5):
         for kind in ("keyDown", "keyUp"):
             await browser.ask("Input.dispatchKeyEvent", type=kind, key="Tab", code="Tab", windowsVirtualKeyCode=9)
-        found.append(
-            await browser.value(
-                "document.activeElement.className || document.activeElement.id || document.activeElement.tagName"
-            )
-        )
-    check("the keyboard reaches the link to the figures, that to the last day, the form and the tables",
-          found[:5] == ["skip", "A", "why", "BUTTON", "wide"], found)
+        places.append(await browser.value("(it => it.className || it.id || it.tagName)(document.activeElement)"))
+    assert places == ["skip", "A", "why", "BUTTON", "wide"]
+    assert browser.said() == []
 
 
 # A page of another site that changes the store of whoever opens it, as far as the browser and the store let it.
@@ -363,10 +319,9 @@ def serve_attack(url):
     return made
 
 
-async def attacked(browser, url):
+async def attacked(browser, site):
     """Pages of another host and of another port of the same host ask for a collection: nothing is deleted."""
-    paths_of = lambda: parts.curl("-H", "store-user: build", f"{url}/paths")[1]
-    before, made = paths_of(), serve_attack(f"{url}/collect")
+    before, made = site.get("build", "/paths"), serve_attack(f"{site.url}/collect")
     for host in ("localhost", "127.0.0.1"):
         browser.events.clear()
         await browser.open(f"http://{host}:{made.server_port}/")
@@ -376,72 +331,94 @@ async def attacked(browser, url):
                 break
             await asyncio.sleep(0.1)
         seen = [it["params"]["response"] for it in browser.events if it.get("method") == "Network.responseReceived"]
-        statuses = [it["status"] for it in seen if it["url"].startswith(url)]
-        check(f"a page of {host} asks for a collection by a form and by a script, and is denied",
-              title.startswith("done") and len(statuses) >= 2 and set(statuses) <= {403, 405}, (title, statuses))
+        statuses = [it["status"] for it in seen if it["url"].startswith(site.url)]
+        assert title.startswith("done") and len(statuses) >= 2 and set(statuses) <= {403, 405}, (
+            f"a page of {host} asks for a collection by a form and by a script, and is denied", (title, statuses))
     made.shutdown()
-    check("nothing is deleted", paths_of() == before and before)
+    assert site.get("build", "/paths") == before and before[1].split(), "nothing is deleted"
     browser.events.clear()
-    await browser.open(f"{url}/overview")
+    await browser.open(f"{site.url}/overview")
     own = "fetch('/collect', {method: 'POST'}).then(it => it.status)"
-    asked = await browser.ask("Runtime.evaluate", expression=own, awaitPromise=True, returnByValue=True)
+    reply = await browser.ask("Runtime.evaluate", expression=own, awaitPromise=True, returnByValue=True)
     # (the page itself has no script and may connect nowhere, by its policy)
-    check("a script within the page itself has no leave to ask", "exceptionDetails" in asked, asked)
+    assert "exceptionDetails" in reply, "a script within the page itself has no leave to ask"
     browser.events.clear()
 
 
-async def browse(port, pages, shots):
+@pytest.fixture(scope="module")
+def browse():
+    """Runs a function on the page of Chromium, as a trusted user of the store."""
     import aiohttp
 
-    async with aiohttp.ClientSession() as session:
-        async with session.get(f"http://127.0.0.1:{port}/json/list") as reply:
-            target = next(it for it in await reply.json() if it["type"] == "page")
-        async with session.ws_connect(target["webSocketDebuggerUrl"], max_msg_size=0) as socket:
-            browser = Browser(socket)
-            for domain in ("Page", "Runtime", "Log", "Network"):
-                await browser.ask(f"{domain}.enable")
-            await browser.ask("Network.setExtraHTTPHeaders", headers={"store-user": "build"})
-            for name, url in pages:
-                for width, scheme in [(390, "light"), (390, "dark"), (1280, "light"), (1280, "dark")]:
-                    await looked_at(browser, name, url, width, scheme, shots)
-            await keyboard(browser, pages[0][1])
-            same("no message on the console", browser.said(), [])
-            await attacked(browser, pages[0][1].removesuffix("/overview"))
+    async def run(work, *words):
+        async with aiohttp.ClientSession() as session:
+            async with session.get(f"http://127.0.0.1:{port}/json/list") as reply:
+                target = next(it for it in await reply.json() if it["type"] == "page")
+            async with session.ws_connect(target["webSocketDebuggerUrl"], max_msg_size=0) as socket:
+                browser = Browser(socket)
+                for domain in ("Page", "Runtime", "Log", "Network"):
+                    await browser.ask(f"{domain}.enable")
+                await browser.ask("Network.setExtraHTTPHeaders", headers={"store-user": "build"})
+                await work(browser, *words)
 
-
-def in_a_browser(folder, pages, shots):
-    if parts.skipped("the page in a browser", "chromium", "dot", "python3-aiohttp"):
-        return
-    if shots:
-        os.makedirs(shots, exist_ok=True)
     port = parts.free_port()
     words = "chromium --headless=new --no-sandbox --disable-gpu --no-first-run".split()
-    words += [f"--remote-debugging-port={port}", f"--user-data-dir={folder}/chromium", "about:blank"]
-    with parts.Part("chromium", words, port, f"{folder}/chromium.log"):
-        asyncio.run(browse(port, pages, shots))
+    with tempfile.TemporaryDirectory() as folder:
+        words += [f"--remote-debugging-port={port}", f"--user-data-dir={folder}/chromium", "about:blank"]
+        with parts.Part("chromium", words, port, f"{folder}/chromium.log"):
+            yield lambda *it: asyncio.run(run(*it))
 
 
-def more(asked):
-    asked.add_argument("--browser", nargs="?", const="", metavar="FOLDER",
-                       help="look at the page in Chromium; keep screenshots in FOLDER")
+needs_browser = pytest.mark.needs("curl", "chromium", "dot", "python3-aiohttp")
 
 
-def main(words):
-    figures()
-    long_chain()
-    documents()
-    of_a_file(words.folder)
-    of_many_roots(words.folder)
-    if parts.skipped("the page that is served, also in a browser", "curl", "python3-aiohttp"):
-        return
-    with served(words.program, words.folder) as (server, cache, made):
-        if words.browser is not None:
-            url = f"http://127.0.0.1:{cache.place}/overview"
-            kept = max(made, key=lambda it: parts.curl("-H", "store-user: build", f"{url}?why={it}")[1].count(b"<li"))
-            pages = [("figures", url), ("why", f"{url}?why={kept}"), ("day", f"{url}/day")]
-            in_a_browser(words.folder, pages, words.browser)
-        of_a_server(words.folder, server, cache, made)
+@needs_browser
+@pytest.mark.parametrize("scheme", ["light", "dark"])
+@pytest.mark.parametrize("width", [390, 1280])
+@pytest.mark.parametrize("page", ["figures", "why", "day"])
+def test_a_page_in_a_browser(page, width, scheme, site, browse):
+    of_path = lambda it: f"/overview?why={it}"
+    targets = {"figures": "/overview", "day": "/overview/day",
+               "why": of_path(max(site.paths, key=lambda it: site.get("build", of_path(it))[1].count(b"<li")))}
+    browse(looked_at, site.url + targets[page], width, scheme)
 
 
-if __name__ == "__main__":
-    parts.script(__doc__, "all of nixkeep-overview", main, "python3-jinja2", more=more)
+@needs_browser
+def test_the_keyboard_in_a_browser(site, browse):
+    browse(keyboard, f"{site.url}/overview")
+
+
+@needs_browser
+def test_a_page_of_another_site_in_a_browser(site, browse):
+    browse(attacked, site)
+
+
+# ---- what changes the store, after all else
+
+
+@needs_cache
+def test_a_collection(site):
+    dead = [it for it in site.paths if b"No root" in site.get("ann", f"/overview?why={it}")[1]]
+    assert site.get("ann", "/report")[1].splitlines()[2].split()[1] == str(len(dead)).encode()
+    site.post("/collect", b"")
+    assert b"There is none." in site.newer(), "after a collection, once the page isn't fresh any more"
+    added = site.post("/text", body(("name", "new"), payload=b"x"))[1].decode().strip()
+    assert added[11:43].encode() in site.newer(), "and a new one is seen"
+    at = "--store", f"127.0.0.1:{site.server.place}", "--user"
+    came = ran(*at, "ann")
+    assert came.returncode == 0 and added[11:43] in came.stdout, "the command asks the server too"
+    assert ran(*at, "eve").stderr == "nixkeep-overview: denied: connect\n"
+
+
+@needs_cache
+def test_a_drawing_that_fails(site, folder, monkeypatch):
+    """Where `dot` fails, a page has the chain without the drawing."""
+    dot = Path(folder, "dot")
+    dot.write_text("#!/bin/sh\nexit 1\n")
+    dot.chmod(0o755)
+    site.cache.end()
+    monkeypatch.setenv("PATH", f"{folder}:{os.environ['PATH']}")
+    site.cache.start()
+    texts = [site.get("build", f"/overview?why={it}")[1] for it in site.paths]
+    kept = [it for it in texts if b"first root" in it]
+    assert kept and all(b"There is no drawing" in it and b"<svg" not in it for it in kept)

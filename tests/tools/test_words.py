@@ -4,6 +4,7 @@ Each option of the help, and of the help of its subcommands, has to be in both. 
 those of other programs that a manual page mentions. What nixkeep itself has is compared by tests/cases/reference.txt.
 """
 import re
+import subprocess
 from pathlib import Path
 
 import pytest
@@ -42,3 +43,7 @@ def test_the_manual_page_has_the_options(tool, options):
 
 def test_the_completion_has_the_options(tool, options):
     assert options_in(text_of(f"completion/{tool}.bash")) - MENTIONED.get(tool, set()) == options
+
+
+def test_bash_reads_the_completion(tool):
+    assert subprocess.run(["bash", "-n", f"{layout.HERE}/completion/{tool}.bash"]).returncode == 0

@@ -57,8 +57,7 @@ def run_part(words, asked):
     found = []
     for name in words.names or by_itself(words.part, known):
         print(f"\n{words.part} {name}", flush=True)
-        more = ["--browser"] if (words.part, name) == ("team", "overview") else []
-        found.append(run([known[name], *options_of(known[name], given), *more], limit=ALONE))
+        found.append(run([known[name], *options_of(known[name], given)], limit=ALONE))
     return together(found, may_skip=not words.no_skips)
 
 

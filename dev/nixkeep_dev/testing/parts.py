@@ -16,7 +16,6 @@ BOUNDED = {
     "faults/fail_streams": ["--count", "12"],
     "faults/cut_heads": ["--count", "1500"],
     "faults/hostile_clients": ["--count", "2"],
-    "tools/test_overview": ["--browser"],
     BENCH: ["--count", "2"],
 }
 # The script that tries a team's deployment.
@@ -41,7 +40,7 @@ SHORT = {
     "tools/test_remote": ["--count", "20"],
     "compare/nix_store": ["--count", "3"],
     "compare/sqlite": ["--count", "2"],
-    "tools/test_units": ["said"],
+    "tools/test_units": ["-k", "said"],
     BENCH: ["-k", "commands or warning"],
     "compare/model": ["--count", "500"],
     "faults/refuse_memory": ["--count", "8"],
