@@ -1,10 +1,13 @@
-"""What the tests of nixkeep-explain are given."""
+"""What the tests of nixkeep-explain and nixkeep-cache are given."""
 import os
+from pathlib import Path
 
 import pytest
 
+import parts
 from nixkeep_dev.testing.tables import ALL, put
 from nixkeep_dev.testing.unsound import Faulty
+from tests.tools.cached import CONFIG
 from tests.tools.explained import Program
 
 
@@ -24,4 +27,15 @@ def path(folder):
     """A sound file."""
     made = os.path.join(folder, "apart.db")
     put(made, Faulty().store.rows(), ALL)
+    return made
+
+
+@pytest.fixture
+def unit(program, folder):
+    """Makes a store in the folder, as its units run it, with further options of nixkeep-cache."""
+    def made(*more):
+        Path(config := f"{folder}/store.toml").write_text(CONFIG)
+        words = more and ("--proxied", *more)
+        return parts.Unit(program, folder, config, f"{folder}/store.db", f"{folder}/socket", *words)
+
     return made

@@ -1,4 +1,5 @@
 """Tests of nixkeep-cache and its server: a server as a child, servers that die, the limit of the file, sessions."""
+import asyncio
 import contextlib
 import fcntl
 import os
@@ -15,74 +16,58 @@ import time
 import zlib
 from pathlib import Path
 
+import pytest
+
 import parts
 from nixkeep_dev.testing import nar
-from parts import body, check, curl, same, some_path
+from nixkeep_tools import cache_child, cache_limit, cache_server, cache_sessions, store_size
+from nixkeep_tools.cache_turns import Turns
+from parts import body, curl, some_path
+from tests.tools.cached import ask, text
 
-CONFIG = 'allowed-users = ["ann", "bob"]\ntrusted-users = ["build"]\n'
-
-
-def ask(place, user, method, target, given=None, *more):
-    sent = ["--data-binary", "@-"] if given is not None else []
-    return curl("--unix-socket", place, "-H", f"store-user: {user}", *sent, *more, "-X", method, f"http://red{target}",
-                given=given)
+pytestmark = pytest.mark.needs("curl", "python3-aiohttp")
 
 
-def text(name, contents=b"x"):
-    return body(("name", name), payload=contents)
-
-
-def unit(words, name, *more):
-    """A store in a folder of its own, as its units run it."""
-    os.makedirs(folder := f"{words.folder}/{name}")
-    Path(f"{folder}/store.toml").write_text(CONFIG)
-    more = more and ("--proxied", *more)
-    return parts.Unit(words.program, folder, f"{folder}/store.toml", f"{folder}/store.db", f"{folder}/socket", *more)
-
-
-def child(words):
+def test_a_server_that_is_a_child(unit):
     """The server is a child: it serves, it is started again, and it ends with the cache."""
-    with unit(words, "child") as store:
+    with unit() as store:
         add = lambda name: ask(store.place, "ann", "POST", "/text", text(name))[0]
-        same("an add to a server that is a child", add("one"), 200)
-        listening = Path("/proc/net/tcp").read_text()
+        assert add("one") == 200, "an add to a server that is a child"
         pid = store.server()
-        inodes = {os.readlink(f"/proc/{pid}/fd/{it}") for it in os.listdir(f"/proc/{pid}/fd")}
-        check("the server has no socket", not any(it.startswith("socket:") for it in inodes), (inodes, listening[:0]))
+        files = [os.readlink(it) for it in Path(f"/proc/{pid}/fd").iterdir()]
+        assert not any(it.startswith("socket:") for it in files), "the server has no socket"
         for count in range(3):
             store.kill_server()
-            same(f"killed {count + 1} times, it is started again", add(f"more{count}"), 200)
+            assert add(f"more{count}") == 200, f"killed {count + 1} times, it is started again"
         lines = store.lines()
-        same("each later start waits for longer", [it.rpartition("in ")[2] for it in lines], ["0.5 s", "1 s", "2 s"])
+        assert [it.rpartition("in ")[2] for it in lines] == ["0.5 s", "1 s", "2 s"], "each later start waits for longer"
         pid = store.server()
         store.end()
-        check("it ends with the cache", not os.path.exists(f"/proc/{pid}"))
-        same("and no line is a fault", len(store.lines()), 3)
+        assert not Path(f"/proc/{pid}").exists(), "it ends with the cache"
+        assert len(store.lines()) == 3, "and no line is a fault"
         late = subprocess.Popen(["curl", "-s", "--max-time", "300", "--unix-socket", store.place,
                                  "-H", "store-user: ann", "http://red/paths"], stdout=subprocess.PIPE)
         time.sleep(1)
         store.start()
-        same("who connects between two starts is answered", len(late.communicate()[0].splitlines()), 4)
+        assert len(late.communicate()[0].splitlines()) == 4, "who connects between two starts is answered"
 
 
-def refused(words):
+def test_stores_that_are_refused(program, folder):
     """A store that is refused ends the cache, with the status of the server; a program that isn't there, too."""
-    folder = f"{words.folder}/refused"
-    os.makedirs(folder)
     Path(f"{folder}/store.toml").write_text("allowed-users = 1\n")
     Path(f"{folder}/store.db").write_text("no store")
     command = [f"{parts.TOOLS}/nixkeep-cache", "--user", "ann", "--db", f"{folder}/store.db", "--waiting",
                f"{folder}/waiting", "--listen", f"{folder}/socket"]
     run = lambda *more: subprocess.run([*command, *more], capture_output=True, text=True, timeout=300)
-    ran = run("--nixkeep", words.program)
-    check("a file that is no store ends the cache", ran.returncode == 3 and "refused: 21" in ran.stderr, ran.stderr)
-    ran = run("--nixkeep", words.program, "--config", f"{folder}/store.toml")
-    check("so does a wrong configuration", ran.returncode == 3 and "refused: 19" in ran.stderr, ran.stderr)
+    ran = run("--nixkeep", program)
+    assert ran.returncode == 3 and "refused: 21" in ran.stderr, ("a file that is no store ends the cache", ran.stderr)
+    ran = run("--nixkeep", program, "--config", f"{folder}/store.toml")
+    assert ran.returncode == 3 and "refused: 19" in ran.stderr, ("so does a wrong configuration", ran.stderr)
     Path(f"{folder}/bytes.toml").write_bytes(b"\xff\xfe")
     ran = run("--config", f"{folder}/bytes.toml")
-    check("one that is no text is a line", ran.returncode == 1 and ran.stderr.count("\n") == 1, ran.stderr)
+    assert ran.returncode == 1 and ran.stderr.count("\n") == 1, ("one that is no text is a line", ran.stderr)
     ran = run("--nixkeep", f"{folder}/none")
-    check("and a program that isn't there", ran.returncode == 1 and "No such file" in ran.stderr, ran.stderr)
+    assert ran.returncode == 1 and "No such file" in ran.stderr, ("and a program that isn't there", ran.stderr)
 
 
 NOTHING = b"HTTP/1.1 404 Not Found\r\ncontent-type: text/plain\r\ncontent-length: 0\r\n\r\n"
@@ -115,28 +100,23 @@ def deadly(deaths):
         yield listener.getsockname()[1]
 
 
-def lost(words):
+def test_requests_by_which_a_server_dies(folder):
     """A request that makes the server die is sent once more, where that does no harm, and then it is a 502."""
     deaths = []
-    os.makedirs(folder := f"{words.folder}/lost")
     with deadly(deaths) as port, parts.cache(folder, port) as cache:
         url = f"http://127.0.0.1:{cache.place}"
-        asked = ("GET", "/deadly", 2), ("POST", "/rollback/ann/deadly", 1), ("DELETE", "/deadly", 1)
-        for method, target, times in asked:
+        for method, target, times in (("GET", "/deadly", 2), ("POST", "/rollback/ann/deadly", 1),
+                                      ("DELETE", "/deadly", 1)):
             deaths.clear()
             seen = curl("-H", "store-user: ann", "-X", method, url + target)[0], len(deaths)
-            same(f"{method} {target}: it is sent {times} times, and then it is a 502", seen, (502, times))
-        same("other requests are answered", curl("-H", "store-user: ann", f"{url}/paths")[0], 404)
+            assert seen == (502, times), f"{method} {target}: it is sent {times} times, and then it is a 502"
+        assert curl("-H", "store-user: ann", f"{url}/paths")[0] == 404, "other requests are answered"
     lines = cache.lines()
-    check("each has one line", len(lines) == 3 and all("before its reply" in it for it in lines), lines)
+    assert len(lines) == 3 and all("before its reply" in it for it in lines), ("each has one line", lines)
 
 
-def turns():
+def test_turns_of_users():
     """One user's thousand requests delay those of another user by one."""
-    import asyncio
-
-    from nixkeep_tools.cache_turns import Turns
-
     async def run():
         made, order = Turns(), []
 
@@ -156,152 +136,140 @@ def turns():
             return order
 
     order = asyncio.run(run())
-    check("a user's thousand requests delay another by one or two", order.index("bob") <= 3, order[:10])
-    same("those that are given up are left out, and the others are done", len(order), 1001)
+    assert order.index("bob") <= 3, ("a user's thousand requests delay another by one or two", order[:10])
+    assert len(order) == 1001, "those that are given up are left out, and the others are done"
 
 
-def limited(words):
+def test_the_limit_of_the_file(unit):
     """A file that is nearly as large as it may be takes no adds, until something is collected."""
     contents = random.Random(9).randbytes(100_000)
-    with unit(words, "limited", "--most-bytes", "1000000") as store:
+    with unit("--most-bytes", "1000000") as store:
         ann = lambda *asked: ask(store.place, "ann", *asked)
         added = []
         while len(added) < 20 and (reply := ann("POST", "/text", text(f"t{len(added)}", contents)))[0] == 200:
             added.append(reply[1].decode().strip())
-        check("the file grows up to its limit", 5 < len(added) < 10, len(added))
-        check("then an add is refused, and the reply says why",
-              reply[0] == 507 and reply[1].startswith(b"failed: full ") and reply[1].endswith(b"collect\n"), reply)
-        same("so is an upload", ann("PUT", f"/nar/{'0' * 52}.nar", contents)[0], 507)
-        same("a root is set, so that a collection can follow",
-             ann("POST", "/root/user/ann/kept", body(("path", added[0])))[0], 200)
-        check("a line has warned", "warning: the store has" in Path(store.log).read_text(), Path(store.log).read_text())
+        assert 5 < len(added) < 10, ("the file grows up to its limit", len(added))
+        assert reply[0] == 507 and reply[1].startswith(b"failed: full ") and reply[1].endswith(b"collect\n"), (
+            "then an add is refused, and the reply says why", reply)
+        assert ann("PUT", f"/nar/{'0' * 52}.nar", contents)[0] == 507, "so is an upload"
+        assert ann("POST", "/root/user/ann/kept", body(("path", added[0])))[0] == 200, (
+            "a root is set, so that a collection can follow")
+        assert "warning: the store has" in Path(store.log).read_text(), (
+            "a line has warned", Path(store.log).read_text())
         remote = subprocess.run([f"{parts.TOOLS}/nixkeep-remote", "--server", f"unix:{store.place}", "--as", "ann",
                                  "add-text", "more"], input=contents, capture_output=True)
-        check("nixkeep-remote has the line too", remote.returncode == 1 and remote.stderr.startswith(b"failed: full "),
-              remote)
-        same("a collection", ann("POST", "/collect")[0], 200)
+        assert remote.returncode == 1 and remote.stderr.startswith(b"failed: full "), (
+            "nixkeep-remote has the line too", remote)
+        assert ann("POST", "/collect")[0] == 200, "a collection"
         time.sleep(1.1)
-        same("makes room at once", ann("POST", "/text", text("again", contents))[0], 200)
+        assert ann("POST", "/text", text("again", contents))[0] == 200, "makes room at once"
 
 
-def shared(words):
+def test_the_share_of_a_user(unit, folder):
     """A user who has added a share takes no more, until something of it is collected. Other users aren't concerned."""
     contents = bytes(10_000)
-    with unit(words, "shared", "--most-bytes-each", "25000") as store:
+    with unit("--most-bytes-each", "25000") as store:
         add = lambda user, name: ask(store.place, user, "POST", "/text", text(name, contents))
-        same("two adds of a user are within the share, and a third isn't",
-             [add("ann", it)[0] for it in ("a", "b", "c")], [200, 200, 507])
+        assert [add("ann", it)[0] for it in ("a", "b", "c")] == [200, 200, 507], (
+            "two adds of a user are within the share, and a third isn't")
         said = add("ann", "c")[1]
-        check("the reply says so", said.endswith(b"of 25000 bytes are used by ann: drop roots, and collect\n"), said)
-        same("another user has a share, too", add("bob", "c")[0], 200)
-        same("what another has added counts for that one", add("bob", "b")[0], 200)
+        assert said.endswith(b"of 25000 bytes are used by ann: drop roots, and collect\n"), ("the reply says so", said)
+        assert add("bob", "c")[0] == 200, "another user has a share, too"
+        assert add("bob", "b")[0] == 200, "what another has added counts for that one"
         store.end()
         store.start()
-        same("the share is known after a restart", [add(it, "d")[0] for it in ("ann", "bob")], [507, 200])
+        assert [add(it, "d")[0] for it in ("ann", "bob")] == [507, 200], "the share is known after a restart"
         ask(store.place, "bob", "POST", "/collect")
-        same("what is collected counts no more", add("ann", "c")[0], 200)
+        assert add("ann", "c")[0] == 200, "what is collected counts no more"
         store.end()
-        file = f"{words.folder}/shared/waiting/shares.db"
+        file = f"{folder}/waiting/shares.db"
         Path(file).write_bytes(b"no list" * 1000)
         store.start()
-        same("a damaged list of shares is begun anew", [add("bob", it)[0] for it in ("e", "f")], [200, 200])
-        check("it is set aside, and a line says so", Path(f"{file}.damaged").exists()
-              and Path(store.log).read_text().count("begun anew") == 1, Path(store.log).read_text())
+        assert [add("bob", it)[0] for it in ("e", "f")] == [200, 200], "a damaged list of shares is begun anew"
+        assert Path(f"{file}.damaged").exists() and Path(store.log).read_text().count("begun anew") == 1, (
+            "it is set aside, and a line says so", Path(store.log).read_text())
         store.end()
         Path(f"{file}.damaged").unlink()
         with contextlib.closing(sqlite3.connect(file, isolation_level=None)) as other:
             other.execute("BEGIN EXCLUSIVE")
             store.start()
-            same("one that can't be used costs no request", add("bob", "g")[0], 200)
+            assert add("bob", "g")[0] == 200, "one that can't be used costs no request"
             store.end()
         store.start()
-        same("and is whole afterwards", (add("bob", "h")[0], Path(f"{file}.damaged").exists()), (507, False))
+        assert (add("bob", "h")[0], Path(f"{file}.damaged").exists()) == (507, False), "and is whole afterwards"
 
 
-def memory_limit(folder):
+def test_the_limit_by_memory(folder, monkeypatch):
     """The usual limit follows from the memory of the service."""
-    from nixkeep_tools import cache_limit, store_size
-
-    os.makedirs(f"{folder}/cgroup/system.slice/store.service")
+    Path(f"{folder}/cgroup/system.slice/store.service").mkdir(parents=True)
     Path(f"{folder}/own").write_text("0::/system.slice/store.service\n")
     Path(f"{folder}/cgroup/system.slice/memory.max").write_text("max\n")
-    store_size.CGROUPS, store_size.OWN = f"{folder}/cgroup", f"{folder}/own"
-    same("no limit of memory is no limit of the file", cache_limit.usual(), None)
+    monkeypatch.setattr(store_size, "CGROUPS", f"{folder}/cgroup")
+    monkeypatch.setattr(store_size, "OWN", f"{folder}/own")
+    assert cache_limit.usual() is None, "no limit of memory is no limit of the file"
     Path(f"{folder}/cgroup/system.slice/store.service/memory.max").write_text(f"{2 << 30}\n")
     # (docs/OPERATING.md, Growth: with 2 GiB no file of more than about 1.5 GiB is opened)
     part = cache_limit.usual() / (1.5 * (1 << 30))
-    check("MemoryMax=2G opens about 1.5 GiB, of which 0.6 are accepted", 0.55 < part < 0.65, part)
+    assert 0.55 < part < 0.65, ("MemoryMax=2G opens about 1.5 GiB, of which 0.6 are accepted", part)
     Path(f"{folder}/own").write_text("0::/\n")
-    same("a group without a file of limits has none", store_size.memory(), None)
+    assert store_size.memory() is None, "a group without a file of limits has none"
     Path(f"{folder}/cgroup/memory.max").write_text(f"{1 << 30}\n")
-    same("the limit of a container is that of its first group", store_size.memory(), 1 << 30)
+    assert store_size.memory() == 1 << 30, "the limit of a container is that of its first group"
     for own in ("/system.slice/store.service", "/../other/x", "/system.slice/"):
         Path(f"{folder}/own").write_text(f"1:name=x:/\n0::{own}\n")
-        same(f"the least limit counts: {own}", store_size.memory(), 1 << 30)
+        assert store_size.memory() == 1 << 30, f"the least limit counts: {own}"
     Path(f"{folder}/cgroup/memory.max").unlink()
     Path(f"{folder}/own").write_text("0::/system.slice/store.service\n")
     had = [3 << 29]
     limit = cache_limit.Limit(None, None, lambda: had[0])
     limit.check(1)
     had[0] += 1
-    try:
+    line = "failed: full the server has 1610612737 of 2147483648 bytes of memory: drop roots, collect, and start it"
+    with pytest.raises(cache_limit.Full, match=f"^{line} again\n$"):
         limit.check(1)
-        said = "nothing"
-    except cache_limit.Full as full:
-        said = str(full)
-    wanted = "failed: full the server has 1610612737 of 2147483648 bytes of memory: drop roots, collect, and start it"
-    same("a server with more than three quarters of the memory takes nothing more", said, f"{wanted} again\n")
     had[0] = None
-    same("without a server nothing is refused for it", limit.check(1), None)
+    assert limit.check(1) is None, "without a server nothing is refused for it"
 
 
-def memory_had(words):
+def test_the_memory_of_a_server(program, folder):
     """How much memory a server has is known, so that many small rows don't fill it."""
-    import asyncio
-
-    from nixkeep_tools import cache_child
-
     async def run():
-        child = cache_child.Child(words.program, f"{words.folder}/had.db", None)
+        child = cache_child.Child(program, f"{folder}/had.db", None)
         before = child.memory()
         await child.open()
         said = Path(f"/proc/{child.process.pid}/status").read_text()
-        found = child.memory(), int(re.search(r"VmRSS:\s+(\d+)", said)[1])
+        running = child.memory(), int(re.search(r"VmRSS:\s+(\d+)", said)[1])
         await child.end()
-        return before, found, child.memory()
+        return before, running, child.memory()
 
     before, (had, shown), after = asyncio.run(run())
-    check("the memory of a server", before is after is None and 0.8 < had / (1024 * shown) < 1.2, (before, had, after))
+    assert before is after is None and 0.8 < had / (1024 * shown) < 1.2
 
 
-def sessions(words):
+def test_sessions(unit, folder):
     """What is uploaded is kept until nothing has come for a while, also when the cache is restarted meanwhile."""
     rng = random.Random(10)
-    with unit(words, "sessions") as store:
+    with unit() as store:
         as_of = lambda user: lambda *asked: ask(store.place, user, *asked)
         path, archive = some_path(rng, "uploaded"), nar.archive(b"uploaded")
         digest = nar.digest(archive)
         build = as_of("build")
         build("PUT", f"/nar/{digest}.nar", archive)
         record = f"StorePath: {path}\nURL: nar/{digest}.nar\nCompression: none\nNarHash: sha256:{digest}\n"
-        same("an upload", build("PUT", f"/{path[11:43]}.narinfo", record.encode())[0], 200)
-        same("is kept by a session of its user", build("GET", "/roots")[1].decode(), f"{{temp:4194304}} {path}\n")
+        assert build("PUT", f"/{path[11:43]}.narinfo", record.encode())[0] == 200, "an upload"
+        assert build("GET", "/roots")[1].decode() == f"{{temp:4194304}} {path}\n", "is kept by a session of its user"
         store.end()
         store.start()
-        same("also after a restart", as_of("bob")("POST", "/collect")[1], b"freed 0 paths 0 bytes\n")
+        assert as_of("bob")("POST", "/collect")[1] == b"freed 0 paths 0 bytes\n", "also after a restart"
         store.end()
-        os.utime(f"{words.folder}/sessions/waiting/sessions/build.session", (time.time() - 3601,) * 2)
+        os.utime(f"{folder}/waiting/sessions/build.session", (time.time() - 3601,) * 2)
         store.start()
         parts.until("the session ends", lambda: not build("GET", "/roots")[1])
-        check("once it is over it is collected", path in as_of("bob")("POST", "/collect")[1].decode())
+        assert path in as_of("bob")("POST", "/collect")[1].decode(), "once it is over it is collected"
 
 
-def kept_in_turns(words):
+def test_paths_kept_in_turns(folder):
     """What clients asked for is kept before a collection, a part at a time, so that others get their turns."""
-    import asyncio
-
-    from nixkeep_tools import cache_sessions
-
     exchanges = []
 
     class Server:
@@ -311,29 +279,27 @@ def kept_in_turns(words):
             exchanges.append([it.target for it in (*first(), *requests)])
             return exchanges[-1]
 
-    made, ann = cache_sessions.Sessions(Server(), f"{words.folder}/kept", 3600), cache_sessions.Caller("ann", None)
+    made, ann = cache_sessions.Sessions(Server(), f"{folder}/kept", 3600), cache_sessions.Caller("ann", None)
     for at in range(250):
         made.asked(ann, f"path{at}")
     collect = cache_sessions.Request(cache_sessions.Caller("bob", None), "POST", "/collect")
     made.asked(ann, None)
-    same("the reply is that to the collection", asyncio.run(made.before(collect)), "/collect")
-    same("250 paths are kept a hundred at a time, and the last with one that is asked for meanwhile",
-         [len(it) for it in exchanges], [100, 100, 52])
+    assert asyncio.run(made.before(collect)) == "/collect", "the reply is that to the collection"
+    assert [len(it) for it in exchanges] == [100, 100, 52], (
+        "250 paths are kept a hundred at a time, and the last with one that is asked for meanwhile")
     asyncio.run(made.before(collect))
-    same("and once", exchanges[3], ["/collect"])
+    assert exchanges[3] == ["/collect"], "and once"
     made.asked(ann, "ann's")
     for at in range(cache_sessions.MOST + 10):
         made.asked(collect.caller, f"path{at}")
     del exchanges[3:]
     asyncio.run(made.before(collect))
     kept = [cache_sessions.target("ann"), "/collect"]
-    same("another user who asks for many makes none forgotten", exchanges[3], kept)
+    assert exchanges[3] == kept, "another user who asks for many makes none forgotten"
 
 
-def unread(words):
+def test_replies_that_nobody_reads(folder):
     """Clients that take nothing of a large reply hold up nobody, and a bounded number of replies is in memory."""
-    import asyncio
-
     from aiohttp import web
     from nixkeep_tools import cache_http
 
@@ -352,7 +318,7 @@ def unread(words):
         app.router.add_get("/", answer)
         runner = web.AppRunner(app)
         await runner.setup()
-        await web.UnixSite(runner, place := f"{words.folder}/unread").start()
+        await web.UnixSite(runner, place := f"{folder}/unread").start()
         silent = [await asyncio.open_unix_connection(place, limit=1000) for _ in range(6)]
         for _, writer in silent:
             writer.write(b"GET / HTTP/1.1\r\nhost: a\r\n\r\n")
@@ -369,10 +335,10 @@ def unread(words):
         await runner.cleanup()
         return text.partition(b"\r\n\r\n")[2]
 
-    same("six clients take nothing, and another gets its reply of 4 MiB", asyncio.run(run()) == bytes(size), True)
-    check("HEAD of it has its length and no body",
-          heads[0].endswith(b"\r\n\r\n") and b"Content-Length: %d\r\n" % size in heads[0], heads)
-    check("never were there more bytes than there is room", max(held) <= most, held)
+    assert asyncio.run(run()) == bytes(size), "six clients take nothing, and another gets its reply of 4 MiB"
+    assert heads[0].endswith(b"\r\n\r\n") and b"Content-Length: %d\r\n" % size in heads[0], (
+        "HEAD of it has its length and no body", heads)
+    assert max(held) <= most, ("never were there more bytes than there is room", held)
 
 
 @contextlib.asynccontextmanager
@@ -391,13 +357,11 @@ async def serving(answer, place):
         await runner.cleanup()
 
 
-def crowded(words):
+def test_many_slow_clients(folder):
     """A user with many slow clients, which take a little now and then, doesn't hold up another one."""
-    import asyncio
+    from nixkeep_tools import cache_http
 
-    from nixkeep_tools import cache_http, cache_server
-
-    size, whole, place = 4 << 20, [], f"{words.folder}/crowded"
+    size, whole, place = 4 << 20, [], f"{folder}/crowded"
 
     async def answer(request):
         request["caller"] = cache_server.Caller(request.headers["store-user"], None)
@@ -427,18 +391,16 @@ def crowded(words):
             return found
 
     sending = cache_http.Sending(16 * size, 60)
-    same("of a user's 24 slow clients some lose their connections, and others get their replies", asyncio.run(run()),
-         [b"ann", b"carol"])
+    assert asyncio.run(run()) == [b"ann", b"carol"], (
+        "of a user's 24 slow clients some lose their connections, and others get their replies")
 
 
-def left(words):
+def test_a_client_that_leaves(folder):
     """Nothing more is read of a large archive for a client that has left."""
-    import asyncio
-
     from aiohttp import web
     from nixkeep_tools import cache_blobs, cache_http
 
-    ended, place = [], f"{words.folder}/left"
+    ended, place = [], f"{folder}/left"
 
     def pieces():
         try:
@@ -460,8 +422,8 @@ def left(words):
                 await asyncio.sleep(0 if ended else 0.1)
         return is_reading, ended, blobs.sending.bytes
 
-    same("a client asks for the end of a large archive, and leaves: it isn't read further", asyncio.run(run()),
-         (True, [True], 0))
+    assert asyncio.run(run()) == (True, [True], 0), (
+        "a client asks for the end of a large archive, and leaves: it isn't read further")
 
 
 def not_read_by(pid):
@@ -470,9 +432,9 @@ def not_read_by(pid):
         return int.from_bytes(fcntl.ioctl(pipe, termios.FIONREAD, bytes(4)), sys.byteorder)
 
 
-def stopped(words):
+def test_an_end_with_a_request_under_way(unit):
     """A request that is under way when the cache has to end is answered."""
-    with unit(words, "stopped") as store:
+    with unit() as store:
         ask(store.place, "ann", "POST", "/text", text("first"))
         process = subprocess.Popen(["curl", "-s", "--unix-socket", store.place, "-H", "store-user: ann", "-X", "POST",
                                     "--data-binary", "@-", "http://red/source"], stdin=subprocess.PIPE,
@@ -485,14 +447,14 @@ def stopped(words):
         store.running.send_signal(signal.SIGTERM)
         time.sleep(0.5)
         os.kill(pid, signal.SIGCONT)
-        check("a request in the middle is answered", process.stdout.read().endswith(b"-late\n"))
-        same("and the cache ends well", store.running.wait(), 0)
+        assert process.stdout.read().endswith(b"-late\n"), "a request in the middle is answered"
+        assert store.running.wait() == 0, "and the cache ends well"
         store.running = None
 
 
-def half_sent(words):
+def test_an_end_with_half_a_body(unit):
     """A request whose body comes while the cache ends is answered, and its connection is closed."""
-    with unit(words, "half-sent") as store, socket.socket(socket.AF_UNIX) as client:
+    with unit() as store, socket.socket(socket.AF_UNIX) as client:
         given = text("half-sent")
         client.connect(store.place)
         head = f"POST /text HTTP/1.1\r\nhost: red\r\nstore-user: ann\r\ncontent-length: {len(given)}\r\n\r\n"
@@ -506,14 +468,14 @@ def half_sent(words):
             client.sendall(given[5:])
             reply = b"".join(iter(lambda: client.recv(1000), b""))
         is_done = reply.startswith(b"HTTP/1.1 200") and reply.endswith(b"-half-sent\n")
-        check("a body that comes at the end is an add", is_done, reply)
-        same("and the cache ends well", store.running.wait(), 0)
+        assert is_done, ("a body that comes at the end is an add", reply)
+        assert store.running.wait() == 0, "and the cache ends well"
         store.running = None
 
 
-def held_up(words):
+def test_an_end_that_slow_clients_hold_up(unit):
     """Clients that send or take slowly hold up an end for less than a minute, and it ends well."""
-    with unit(words, "held-up") as store, contextlib.ExitStack() as held:
+    with unit() as store, contextlib.ExitStack() as held:
         path = ask(store.place, "ann", "POST", "/text", text("long", bytes(8_000_000)))[1].decode().strip()
         asked = ("POST /text HTTP/1.1\r\n{}content-length: 10000\r\n\r\n",
                  f"PUT /nar/{'0' * 52}.nar HTTP/1.1\r\n{{}}content-length: 10000\r\n\r\n",
@@ -535,21 +497,17 @@ def held_up(words):
 
         moving = threading.Thread(target=move)
         moving.start()
-        same("an end that slow clients hold up ends well", store.running.wait(), 0)
+        assert store.running.wait() == 0, "an end that slow clients hold up ends well"
         ended.set()
         moving.join()
         took = time.monotonic() - began
-        check("after less than a minute", 10 < took < 60, took)
+        assert 10 < took < 60, ("after less than a minute", took)
         store.running = None
 
 
-def patient():
+def test_a_server_that_hangs():
     """A server that doesn't answer is given up and started again. A request waits for that as long as for any start,
     also where it waited for its turn or its first reply before."""
-    import asyncio
-
-    from nixkeep_tools import cache_server
-
     class Place:
         idle, why, opened = None, "it starts", 0
 
@@ -574,35 +532,24 @@ def patient():
 
     async def run():
         server = cache_server.Server(Place(), 4, 4)
-        asked = [server.ask(cache_server.Caller(it, None), "POST", "/import") for it in ("ann", "bob")]
-        return [it if isinstance(it, Exception) else it.status for it in
-                await asyncio.gather(*asked, return_exceptions=True)]
+        running = [server.ask(cache_server.Caller(it, None), "POST", "/import") for it in ("ann", "bob")]
+        return [it.status for it in await asyncio.gather(*running)]
 
-    same("a server that hung is started again, and both requests are answered", asyncio.run(run()), [404, 404])
+    assert asyncio.run(run()) == [404, 404], "a server that hung is started again, and both requests are answered"
 
 
-def encoded(words):
+def test_encoded_bodies(unit):
     """A body is what came, whatever it is said to be: none is unpacked, so a small one never fills the memory."""
-    with unit(words, "encoded") as store:
+    with unit() as store:
         peak = lambda: int(re.search(r"VmHWM:\s+(\d+)", Path(f"/proc/{store.running.pid}/status").read_text())[1])
         post = lambda given, *more: ask(store.place, "ann", "POST", "/text", given, *more)
         given = text("packed", zlib.compress(b"hello"))
         plain, before = post(given), peak()
-        same("a text", plain[0], 200)
+        assert plain[0] == 200, "a text"
         for coding in ("deflate", "gzip", "br", "zstd"):
-            same(f"is the same with the coding {coding}", post(given, "-H", f"content-encoding: {coding}"), plain)
+            assert post(given, "-H", f"content-encoding: {coding}") == plain, f"is the same with the coding {coding}"
         bomb = zlib.compress(text("bomb", bytes(30 << 20)), 9)
-        same(f"{len(bomb)} bytes that unpack to 30 MiB aren't unpacked",
-             post(bomb, "-H", "content-encoding: deflate"), (400, b"refused: 41 bad-body-head\n"))
-        check("and take no memory", peak() - before < 10_000, f"{peak() - before} KiB")
-        same("none of it is a fault", store.lines(), [])
-
-
-def all_of(words):
-    for it in (child, refused, lost, limited, shared, sessions, kept_in_turns, unread, crowded, left, stopped,
-               half_sent, held_up, encoded):
-        it(words)
-    turns()
-    patient()
-    memory_had(words)
-    memory_limit(words.folder)
+        assert post(bomb, "-H", "content-encoding: deflate") == (400, b"refused: 41 bad-body-head\n"), (
+            f"{len(bomb)} bytes that unpack to 30 MiB aren't unpacked")
+        assert peak() - before < 10_000, ("and take no memory", f"{peak() - before} KiB")
+        assert store.lines() == [], "none of it is a fault"

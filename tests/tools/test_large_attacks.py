@@ -13,22 +13,25 @@ import types
 from concurrent.futures import ThreadPoolExecutor
 from pathlib import Path
 
+import pytest
+
+pytest.importorskip("aiohttp", reason="needs python3-aiohttp (Debian: python3-aiohttp)")
 import parts
 from nixkeep_dev.testing import nar
 from nixkeep_tools import cache_blobs, cache_http, cache_overview, cache_records, cache_shares, cache_waiting
-from parts import body, check, same, some_path
-from tests.tools import cache_store, large_parts
-from tests.tools.large_stops import archive_of, is_sound, send_half
+from parts import body, some_path
+from tests.tools import cached, large
+from tests.tools.large import archive_of, is_sound, send_half
 
+pytestmark = pytest.mark.needs("curl", "python3-aiohttp", "python3-zstandard")
 TRUSTED = 'allowed-users = ["ann", "bob"]\ntrusted-users = ["build", "carl", "dora"]\n'
 
 
-class Team(large_parts.Team):
+class Team(large.Team):
     """A store with two trusted users, whose blobs a sweep deletes at once."""
 
-    def __init__(self, words, name, *more, **how):
-        super().__init__(words, name, "--grace", "0", *more, **how)
-        Path(f"{self.folder}/store.toml").write_text(TRUSTED)
+    def __init__(self, program, folder, *more, **how):
+        super().__init__(program, folder, "--grace", "0", *more, config=TRUSTED, **how)
 
     def import_(self, user, archive, *more):
         given = body(("path", self.path(archive)), ("nar-hash", nar.nar_hash(archive)), payload=archive)
@@ -37,6 +40,17 @@ class Team(large_parts.Team):
     def path(self, archive):
         """Where an archive is imported."""
         return some_path(random.Random(hashlib.sha256(archive).digest()), "it")
+
+
+@pytest.fixture
+def team_of(program, folder):
+    """Makes a team in the folder, with further options."""
+    return lambda *more, **how: Team(program, folder, *more, **how)
+
+
+@pytest.fixture
+def rng():
+    return random.Random(8)
 
 
 # ---- the folder of the blobs
@@ -54,16 +68,16 @@ def starts(team):
     return has_started, Path(f"{team.folder}/start").read_text()
 
 
-def links(words):
+def test_links_in_the_folder_of_the_blobs(team_of, folder):
     """Whoever may write the folder of the blobs leads nixkeep-cache to no other file."""
-    with Team(words, "links") as team:
-        same("an object", team("ann", "POST", "/text", cache_store.text("kept"))[0], 200)
+    with team_of() as team:
+        assert team("ann", "POST", "/text", cached.text("kept"))[0] == 200, "an object"
         victim = Path(f"{team.folder}/victim")
         victim.write_text("precious")
         for made in (os.symlink, os.link):
             made(victim, f"{team.blobs}/incoming/answer")
-            same("health is answered", team("ann", "GET", "/health")[0], 200)
-            same("and cuts off no file to which a link leads", victim.read_text(), "precious")
+            assert team("ann", "GET", "/health")[0] == 200, "health is answered"
+            assert victim.read_text() == "precious", "and cuts off no file to which a link leads"
             parts.until("it is asked again", lambda: not time.sleep(2.1))
     lock, store, incoming = f"{team.blobs}/lock", f"{team.folder}/store.db", f"{team.blobs}/incoming"
     before = Path(store).read_bytes()
@@ -71,58 +85,58 @@ def links(words):
         os.unlink(lock)
         made(store, lock)
         found = starts(team)[0]
-        same("the lock cuts off no file to which a link leads", Path(store).read_bytes()[:16], before[:16])
-        same("nor is a link locked", found, is_start if made == os.symlink else found)
+        assert Path(store).read_bytes()[:16] == before[:16], "the lock cuts off no file to which a link leads"
+        assert found == (is_start if made == os.symlink else found), "nor is a link locked"
     os.unlink(lock)
     os.mkdir(other := f"{team.folder}/others")
     Path(other, "precious").touch()
     os.rmdir(incoming)
     os.symlink(other, incoming)
     has_started, said = starts(team)
-    check("a link in the place of incoming is a line", not has_started and "Not a directory" in said, said)
-    same("and deletes nothing elsewhere", os.listdir(other), ["precious"])
+    assert not has_started and "Not a directory" in said, ("a link in the place of incoming is a line", said)
+    assert os.listdir(other) == ["precious"], "and deletes nothing elsewhere"
     os.unlink(incoming)
     with team:
-        same("the store is what it was", len(team("ann", "GET", "/paths")[1].split()), 1)
+        assert len(team("ann", "GET", "/paths")[1].split()) == 1, "the store is what it was"
 
 
-def odd_blobs(words, rng):
+def test_what_is_no_file_in_the_place_of_a_blob(rng, team_of):
     """What isn't a file in the place of a blob holds up nobody, and a sweep goes on after it."""
-    with Team(words, "odd") as team:
+    with team_of() as team:
         archive = archive_of(rng)
-        same("an archive is there", team.import_("build", archive)[0], 200)
+        assert team.import_("build", archive)[0] == 200, "an archive is there"
         file = team.file(archive)
         file.unlink()
         os.mkfifo(file)
         target = f"/nar/{team.path(archive)[11:]}"
-        same("a pipe is no blob", team("ann", "GET", target, None, "--max-time", "60")[0], 502)
-        same("an upload replaces it", team.import_("build", archive, "--max-time", "60")[0], 200)
-        is_sound(team, "after a pipe")
+        assert team("ann", "GET", target, None, "--max-time", "60")[0] == 502, "a pipe is no blob"
+        assert team.import_("build", archive, "--max-time", "60")[0] == 200, "an upload replaces it"
+        is_sound(team)
         file.unlink()
         file.symlink_to(file)
         status, lines = team.verify()
         named = any(it.startswith(f"damaged {file.name[:52]} ") for it in lines)
-        check("verify names a blob that can't be read", status == 1 and named and lines[-1].startswith("verified "),
-              lines)
+        assert status == 1 and named and lines[-1].startswith("verified "), (
+            "verify names a blob that can't be read", lines)
         file.unlink()
         unused = sorted((archive_of(rng) for _ in range(5)), key=lambda it: team.file(it).name)
-        same("archives whose records never come", {team.put(it)[0] for it in unused}, {201})
+        assert {team.put(it)[0] for it in unused} == {201}, "archives whose records never come"
         team.end()
         team.start()
         team.file(unused[1]).unlink()
         team.file(unused[1]).mkdir()
         status, lines = team.tool("sweep")
         found = [it.split()[0] for it in lines]
-        same("a sweep names what it can't delete, and deletes the others", (status, found),
-             (1, ["deleted", "failed", "deleted", "deleted", "deleted", "swept"]))
+        assert (status, found) == (1, ["deleted", "failed", "deleted", "deleted", "deleted", "swept"]), (
+            "a sweep names what it can't delete, and deletes the others")
         team.file(unused[1]).rmdir()
-        same("then it has nothing left", team.tool("sweep")[0], 0)
+        assert team.tool("sweep")[0] == 0, "then it has nothing left"
 
 
-def races(words):
+def test_uploads_sweeps_collections_and_kills_at_once(team_of):
     """Uploads of the same archives, sweeps without a time of grace, collections and `kill -9` at once: each object that
     is there is whole."""
-    with Team(words, "races", "--session-seconds", "1") as team:
+    with team_of("--session-seconds", "1") as team:
         archives, stop, replies = [archive_of(random.Random(at), 150_000) for at in range(5)], threading.Event(), []
 
         def upload(user, seed):
@@ -149,21 +163,20 @@ def races(words):
                 kill()
                 if not team.running:
                     team.start()
-        check("uploads were done meanwhile", replies.count(200) > 40, replies)
-        is_sound(team, "after uploads, sweeps, collections and kills at once")
+        assert replies.count(200) > 40, ("uploads were done meanwhile", replies)
+        is_sound(team)
         found = [team("ann", "GET", f"/nar/{it[11:]}")[1] in archives
                  for it in team("ann", "GET", "/paths")[1].decode().split()]
-        check("and each object is read", found and all(found), found)
+        assert found and all(found), ("and each object is read", found)
 
 
 # ---- what others need
 
 
-def crowd(words):
+@pytest.mark.needs("prlimit")
+def test_requests_that_never_end(team_of):
     """One user's requests that never end leave connections for others."""
-    if parts.skipped("many connections", "prlimit"):
-        return
-    with Team(words, "crowd", before=[parts.found("prlimit"), "--nofile=200"]) as team, contextlib.ExitStack() as held:
+    with team_of(before=[parts.found("prlimit"), "--nofile=200"]) as team, contextlib.ExitStack() as held:
         statuses = []
         for _ in range(60):
             client = socket.socket(socket.AF_UNIX)
@@ -173,13 +186,13 @@ def crowd(words):
         client.settimeout(30)
         with contextlib.suppress(TimeoutError):
             statuses.append(client.recv(1000).partition(b"\r\n")[0])
-        same("one user's sixtieth request at once is refused", statuses, [b"HTTP/1.1 429 Too Many Requests"])
-        same("and another user is answered", team("bob", "GET", "/paths", None, "--max-time", "30")[0], 200)
+        assert statuses == [b"HTTP/1.1 429 Too Many Requests"], "one user's sixtieth request at once is refused"
+        assert team("bob", "GET", "/paths", None, "--max-time", "30")[0] == 200, "and another user is answered"
 
 
-def slow_uploads(words, rng):
+def test_slow_uploads(rng, team_of):
     """The slow uploads of a user, and of two, hold up no upload of another one."""
-    with Team(words, "slow") as team, contextlib.ExitStack() as held:
+    with team_of() as team, contextlib.ExitStack() as held:
         for user, other, count in (("build", "carl", 8), ("carl", "dora", 10)):
             for _ in range(12):
                 archive = archive_of(rng)
@@ -188,38 +201,38 @@ def slow_uploads(words, rng):
                 held.enter_context(half)
             parts.until("uploads come", lambda: len(team.incoming()) >= count)
             came = team.import_(other, archive_of(rng), "--max-time", "30")
-            same(f"while {count} uploads don't come, one of another user is done", came[0], 200)
+            assert came[0] == 200, f"while {count} uploads don't come, one of another user is done"
 
 
-def shares(words, rng):
+def test_shares(rng, team_of):
     """A share has what comes at once, and blobs without a record, also after a restart."""
-    with Team(words, "shares", "--most-bytes-each", "450000") as team:
+    with team_of("--most-bytes-each", "450000") as team:
         with ThreadPoolExecutor(20) as pool:
-            adds = [*pool.map(lambda at: team("ann", "POST", "/text", cache_store.text(f"t{at}", bytes(100_000)))[0],
+            adds = [*pool.map(lambda at: team("ann", "POST", "/text", cached.text(f"t{at}", bytes(100_000)))[0],
                               range(20))]
-        same("of adds at once no more are done than the share has", (adds.count(200), {*adds}), (4, {200, 507}))
+        assert (adds.count(200), {*adds}) == (4, {200, 507}), "of adds at once no more are done than the share has"
         first, second = archive_of(rng, 300_000), archive_of(rng, 300_000)
-        same("an archive without its record", team.put(first)[0], 201)
-        same("counts for its user", team.put(second)[0], 507)
+        assert team.put(first)[0] == 201, "an archive without its record"
+        assert team.put(second)[0] == 507, "counts for its user"
         team.end()
         team.start()
-        same("also after a restart", (team.put(second)[0], team.import_("build", second)[0]), (507, 507))
-        same("and what is refused is no blob", team.file(second).exists(), False)
-        same("another user has a share", team.import_("carl", second)[0], 200)
-        same("its record counts no second time", team.record(some_path(rng, "first"), first)[0], 200)
-        same("the object counts", team.put(archive_of(rng, 300_000))[0], 507)
+        assert (team.put(second)[0], team.import_("build", second)[0]) == (507, 507), "also after a restart"
+        assert not team.file(second).exists(), "and what is refused is no blob"
+        assert team.import_("carl", second)[0] == 200, "another user has a share"
+        assert team.record(some_path(rng, "first"), first)[0] == 200, "its record counts no second time"
+        assert team.put(archive_of(rng, 300_000))[0] == 507, "the object counts"
         for user in ("build", "carl"):
             team(user, "DELETE", f"/temp/{user}/4194304")
-        same("once it is collected", team("build", "POST", "/collect")[0], 200)
+        assert team("build", "POST", "/collect")[0] == 200, "once it is collected"
         third = archive_of(rng, 300_000)
-        same("there is room", team.put(third)[0], 201)
+        assert team.put(third)[0] == 201, "there is room"
         team.end()
         team.start()
-        same("a sweep deletes what has no record", team.tool("sweep")[0], 0)
-        same("and then it counts no more", team.put(archive_of(rng, 300_000))[0], 201)
+        assert team.tool("sweep")[0] == 0, "a sweep deletes what has no record"
+        assert team.put(archive_of(rng, 300_000))[0] == 201, "and then it counts no more"
 
 
-def late(folder):
+def test_an_upload_that_takes_too_long(folder):
     """An upload that takes longer than archives may wait is refused by name, and leaves nothing."""
     waiting = cache_waiting.Waiting(f"{folder}/late", 10, 1000, 0.2)
 
@@ -229,16 +242,12 @@ def late(folder):
         waiting.expire()
         yield b"y"
 
-    try:
+    with pytest.raises(cache_records.Bad, match=f"^nar/{'0' * 52}.nar took longer than 0 seconds$"):
         asyncio.run(waiting.take("ann", f"{'0' * 52}.nar", 2, pieces()))
-        said = "nothing"
-    except cache_records.Bad as bad:
-        said = str(bad)
-    same("an upload that takes too long", said, f"nar/{'0' * 52}.nar took longer than 0 seconds")
-    same("leaves nothing", (os.listdir(f"{folder}/late"), waiting.files), ([], {}))
+    assert (os.listdir(f"{folder}/late"), waiting.files) == ([], {}), "leaves nothing"
 
 
-def many_roots():
+def test_many_roots():
     """The overview of a store with many roots takes no more memory than nixkeep-cache may have."""
     overviews = cache_overview.Overviews(None, "/nix/store", (False, True), None, None)
     counts = {"ann": (20_000, 10_000), "bob": (20_000, 10_000), "carl": (100_000, 10_738)}
@@ -261,15 +270,16 @@ def many_roots():
         return found
 
     *figures, refused = asyncio.run(run())
-    same("large figures of one user are kept at a time", figures, [("figures", ["ann"]), ("figures", ["bob"])])
+    assert figures == [("figures", ["ann"]), ("figures", ["bob"])], "large figures of one user are kept at a time"
     text = "the overview of 100000 objects and 10738 roots takes too much memory: drop roots\n"
-    same("larger ones are refused", refused, (503, text))
+    assert refused == (503, text), "larger ones are refused"
 
 
-def many_pages():
+@pytest.mark.needs("python3-jinja2")
+def test_many_pages(monkeypatch):
     """The many overviews of one user delay that of another by the page that is being made."""
     overviews = cache_overview.Overviews(None, "/nix/store", (False, True), cache_http.Sending(1 << 20, 1), "red")
-    made, order = cache_overview.overview_page.page, []
+    order = []
 
     async def figures(_):
         return None
@@ -289,15 +299,12 @@ def many_pages():
         time.sleep(0.1)
         return "page"
 
-    try:
-        cache_overview.overview_page.page = page
-        asyncio.run(run())
-    finally:
-        cache_overview.overview_page.page = made
-    check("another user's page comes before the many of one", order.index("bob") <= 5, order)
+    monkeypatch.setattr(cache_overview.overview_page, "page", page)
+    asyncio.run(run())
+    assert order.index("bob") <= 5, "another user's page comes before the many of one"
 
 
-def rooms(folder):
+def test_room_for_others(folder):
     """What one user, or two, upload without records leaves room for others. What is in the store makes room."""
     waiting = cache_waiting.Waiting(f"{folder}/rooms", 16, 10_000, 3600)
 
@@ -318,51 +325,35 @@ def rooms(folder):
         return names
 
     found = {owner: taken(owner, 100 * at) for at, owner in enumerate(("ann", "bob", "carl"))}
-    same("each user has half of what the others leave", [len(it) for it in found.values()], [8, 4, 2])
+    assert [len(it) for it in found.values()] == [8, 4, 2], "each user has half of what the others leave"
     for name in found["ann"]:
         waiting.use(name)
-    same("what is in the store makes room for another user", len(taken("dora", 1000)), 5)
+    assert len(taken("dora", 1000)) == 5, "what is in the store makes room for another user"
 
 
-def forgotten():
+def test_who_relied_on_a_blob():
     """Who relied on a blob is forgotten once no sweep asks for it."""
     kept = cache_blobs.Blobs.__new__(cache_blobs.Blobs)
     kept.relied = {"old": 99, "new": 100}
     kept.forget(100)
-    same("who relied on a blob before is forgotten", kept.relied, {"new": 100})
+    assert kept.relied == {"new": 100}, "who relied on a blob before is forgotten"
 
 
 # ---- a disk that fails
 
 
-def unwritten(folder):
+def test_a_list_that_cannot_be_written(folder, monkeypatch):
     """A list that can't be written is a line. What was done is answered so, and is counted right later."""
     lists = cache_shares.Shares(f"{folder}/unwritten.db", 1000)
-    said, cache_shares.cache_lists.warn = [], lambda line: said.append(line)
+    said = []
+    monkeypatch.setattr(cache_shares.cache_lists, "warn", said.append)
     lists.added("ann", b"/nix/store/a\n", 300)
     lists.conn.execute("PRAGMA query_only = 1")
     lists.added("ann", b"/nix/store/b\n", 300)
     lists.deleted(b"/nix/store/a\nfreed 1 paths 300 bytes\n")
     lists.listed([])
-    same("a share that can't be written stays as it was", (lists.used["ann"], len(said)), (300, 3))
+    assert (lists.used["ann"], len(said)) == (300, 3), "a share that can't be written stays as it was"
     lists.conn.execute("PRAGMA query_only = 0")
     lists.listed([])
-    same("and is right after the next listing", lists.used["ann"], 0)
+    assert lists.used["ann"] == 0, "and is right after the next listing"
     lists.conn.close()
-
-
-def all_of(words):
-    rng = random.Random(8)
-    links(words)
-    odd_blobs(words, rng)
-    races(words)
-    crowd(words)
-    slow_uploads(words, rng)
-    shares(words, rng)
-    late(words.folder)
-    many_roots()
-    if not parts.skipped("pages of overviews", "python3-jinja2"):
-        many_pages()
-    rooms(words.folder)
-    forgotten()
-    unwritten(words.folder)

@@ -5,7 +5,9 @@ after each step every pointer has to name a blob that is there. States that were
 """
 import collections
 
-import parts
+import pytest
+
+pytest.importorskip("aiohttp", reason="needs python3-aiohttp (Debian: python3-aiohttp)")
 from nixkeep_dev.testing import nar
 from nixkeep_tools import blob_reading, blobs, cache_blobs, cache_counts, cache_large, cache_server, cache_shares
 from nixkeep_tools import cache_sweep
@@ -151,7 +153,7 @@ class Run:
 
 
 def search(make):
-    """The first order of steps after which a pointer names no blob, or None; and how many states there are."""
+    """The first order of steps after which a pointer names no blob, or None."""
     known, left = set(), [()]
     while left:
         order = left.pop()
@@ -164,33 +166,51 @@ def search(make):
         ready, is_sound = run.ready(), world.is_sound()
         run.close()
         if not is_sound:
-            return order, len(known)
+            return order
         state = (tuple(tuple(histories[at]) for at in range(len(tasks))), tuple(world.blobs), tuple(world.pointers),
                  tuple(world.kept.relied), world.lock.is_taken)
         if state not in known:
             known.add(state)
             left += [(*order, at) for at in ready]
-    return None, len(known)
+    return None
 
 
-def scenes(lock):
-    """What is tried: a name, and what makes a world and its tasks."""
-
-    def scene(is_there, named, *works):
-        def make():
-            world = World(is_there, named, lock)
-            return world, [getattr(world, name)(*words) for name, *words in works]
-
-        return make
-
-    yield "an upload of an archive that nothing names", scene(True, [], ("upload", "a"), ("swept",))
-    yield "a new archive", scene(False, [], ("upload", "a"), ("swept",))
-    yield "two uploads", scene(True, [], ("upload", "a"), ("upload", "b"), ("swept",))
-    yield "an upload and a collection", scene(True, ["a"], ("upload", "a"), ("collect",), ("swept",))
-    yield "two sweeps and an upload", scene(True, ["a"], ("upload", "b"), ("collect",), ("swept",), ("swept",))
+# What is tried, next to a sweep: whether the blob is there, the objects that name it, and the tasks.
+SCENES = {
+    "an upload of an archive that nothing names": (True, [], ("upload", "a"), ("swept",)),
+    "a new archive": (False, [], ("upload", "a"), ("swept",)),
+    "two uploads": (True, [], ("upload", "a"), ("upload", "b"), ("swept",)),
+    "an upload and a collection": (True, ["a"], ("upload", "a"), ("collect",), ("swept",)),
+    "two sweeps and an upload": (True, ["a"], ("upload", "b"), ("collect",), ("swept",), ("swept",)),
+}
 
 
-def asked_again():
+def losing(lock, is_there, named, *works):
+    """An order of steps that loses a blob, or None."""
+    def make():
+        world = World(is_there, named, lock)
+        return world, [getattr(world, name)(*words) for name, *words in works]
+
+    return search(make)
+
+
+@pytest.fixture(autouse=True)
+def quiet(monkeypatch):
+    monkeypatch.setattr(blob_reading, "measured", measured)
+    for it in (cache_sweep, cache_blobs):
+        monkeypatch.setattr(it, "say", lambda _: None)
+
+
+@pytest.mark.parametrize("scene", SCENES)
+def test_no_order_loses_a_blob(scene):
+    assert losing(Lock, *SCENES[scene]) is None
+
+
+def test_without_the_lock_an_order_loses_one():
+    assert any(losing(NoLock, *it) for it in SCENES.values())
+
+
+def test_before_a_deletion_a_sweep_asks_again():
     """A sweep on which a pointer comes once pointers were listed, by another way than an upload, has to see it."""
     world = World(True, [], Lock)
     run = Run(world, [world.swept()])
@@ -199,18 +219,4 @@ def asked_again():
         if len(world.seen) == 3:
             # (blobs, objects and their pointers have been listed)
             world.pointers.add("a")
-    parts.same("before a deletion a sweep asks again", (NAME in world.blobs, len(world.seen) > 3), (True, True))
-
-
-def all_of():
-    usual, blob_reading.measured = blob_reading.measured, measured
-    say, cache_sweep.say, cache_blobs.say = cache_sweep.say, lambda _: None, lambda _: None
-    try:
-        for name, make in scenes(Lock):
-            found, count = search(make)
-            parts.same(f"{name}, next to a sweep: no order of {count} states loses a blob", found, None)
-        asked_again()
-        lost = [name for name, make in scenes(NoLock) if search(make)[0]]
-        parts.check("without the lock an order is found that loses one", lost, lost)
-    finally:
-        blob_reading.measured, cache_sweep.say, cache_blobs.say = usual, say, say
+    assert NAME in world.blobs and len(world.seen) > 3

@@ -12,8 +12,8 @@ import time
 
 import parts
 from parts import body, check, same, some_path
-from tests.tools import large_parts, large_watch, swift
-from tests.tools.large_stops import archive_of, blob_key
+from tests.tools import swift
+from tests.tools.large import NO_BLOBS, WELL, Team, archive_of, blob_key, health
 
 
 def fetched(team, found, rng):
@@ -61,11 +61,11 @@ def away(team, found, rng):
     came = team.upload(path, archive)
     check("without Swift an upload fails by name", came[0] == 503 and team.blobs.encode() in came[1], came)
     same("and leaves no pointer", team.fields(path)[0], 404)
-    same("the blobs don't answer", large_watch.health(team), (503, large_watch.NO_BLOBS))
+    same("the blobs don't answer", health(team), (503, NO_BLOBS))
     for it in found.running:
         it.start()
     same("with it the upload is done", team.upload(path, archive)[0], 200)
-    parts.until("the blobs answer", lambda: large_watch.health(team) == (200, large_watch.WELL))
+    parts.until("the blobs answer", lambda: health(team) == (200, WELL))
     same("all is whole", verify(team)[0], 0)
 
 
@@ -85,8 +85,7 @@ def main(words):
     rng, found = random.Random(6), swift.Swift(f"{words.folder}/swift")
     with found.started():
         endpoint = ["--blobs-endpoint", found.url]
-        with large_parts.Team(words, "store", *endpoint, "--grace", "1",
-                              blobs=f"s3://{swift.BUCKET}/here") as team:
+        with Team(words.program, words.folder, *endpoint, "--grace", "1", blobs=f"s3://{swift.BUCKET}/here") as team:
             team.endpoint = endpoint
             archive, path = fetched(team, found, rng)
             damaged(team, found, archive, path)

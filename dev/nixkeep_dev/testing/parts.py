@@ -60,7 +60,8 @@ def by_name():
         "faults": {it: file_of(f"faults/{it}") for it in scripts("faults")},
         "tools": {it: file_of(f"tools/test_{it}") for it in tools},
         "team": {"try": file_of(TEAM), "try_large": file_of(f"{TEAM}_large"), "swift": file_of("tools/try_swift"),
-                 **{it: file_of(f"tools/test_{it}") for it in ("cache", "overview", "hostile", "units")}},
+                 **{it: file_of(f"tools/test_{it}") for it in tools
+                    if it.startswith(("cache", "hostile", "overview", "units"))}},
         "package": {"clean_machine": file_of("package/clean_machine"), "files": file_of("tools/test_package"),
                     "scripts": file_of("tools/test_package_scripts")},
         "gate": {it: file_of(f"gate/{it}") for it in scripts("gate") if it != "gate"},

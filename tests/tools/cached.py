@@ -1,0 +1,28 @@
+"""A store as its units run it, with nixkeep-cache before it, and requests to that."""
+from parts import body, curl
+
+CONFIG = 'allowed-users = ["ann", "bob"]\ntrusted-users = ["build"]\n'
+
+
+def ask(place, user, method, target, given=None, *more):
+    sent = ["--data-binary", "@-"] if given is not None else []
+    return curl("--unix-socket", place, "-H", f"store-user: {user}", *sent, *more, "-X", method, f"http://red{target}",
+                given=given)
+
+
+def text(name, contents=b"x"):
+    return body(("name", name), payload=contents)
+
+
+def figures(store, user="prometheus"):
+    """The figures of /metrics, by Prometheus's own parser: values by name and labels."""
+    from prometheus_client.parser import text_string_to_metric_families
+
+    status, page = ask(store.place, user, "GET", "/metrics")
+    assert status == 200
+    found = {}
+    for family in text_string_to_metric_families(page.decode()):
+        for it in family.samples:
+            labels = [it.labels[key] for key in ("method", "route", "status", "found", "le") if key in it.labels]
+            found[it.name, *labels] = it.value
+    return found
