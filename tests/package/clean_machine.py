@@ -19,7 +19,6 @@ from nixkeep_dev.build import layout
 from nixkeep_dev.build.program import HERE
 from nixkeep_dev.testing import report
 from nixkeep_dev.testing.tracked import copy_to
-from tests.tools.checks import Checks
 
 SUITE = "bookworm"
 # Next to what is essential: what shows manual pages and completes, and what steps of cases use.
@@ -39,10 +38,10 @@ def run(words, text=None, **more):
 
 
 class Machine:
-    """A clean Debian in a folder, and the checks."""
+    """A clean Debian in a folder."""
 
-    def __init__(self, root, check):
-        self.root, self.check = root, check
+    def __init__(self, root):
+        self.root = root
 
     def run(self, *words):
         """Runs a command there, with namespaces of its own, as a machine's root."""
@@ -54,7 +53,7 @@ class Machine:
     def well(self, what, *words):
         """A command that has to succeed: what it printed."""
         status, said = self.run(*words)
-        self.check.true(what, status == 0, said[-3000:])
+        report.right(what, status and said[-3000:])
         return said
 
     def files(self):
@@ -75,17 +74,16 @@ def make(machine, other):
     return f"apt-get update fails there: {said.strip()[-300:]}" if status else None
 
 
-def try_lintian(check, deb):
+def try_lintian(deb):
     if not report.skips("lintian", what="lintian"):
         words = ["lintian", "--allow-root", "--tag-display-limit", "0", "--fail-on", "error,warning", deb]
-        status, said = run(words)
-        check.same("what lintian says of the package", (status, said), (0, ""))
+        report.same("what lintian says of the package", run(words), (0, ""))
 
 
 def try_use(machine):
     """The program, the cases, the pages and the completion, as the package has put them there."""
     said = machine.well("who", "nixkeep", "--user", "root", "who")
-    machine.check.same("its answer", said, "class: trusted\nconnect: yes\n")
+    report.same("its answer", said, "class: trusted\nconnect: yes\n")
     machine.well("a folder for a store", "mkdir", "-p", os.path.dirname(STORE))
     add = f"echo hello | nixkeep --db {STORE} --config /etc/nixkeep/store.toml --user root add-text greeting"
     machine.well("an add", "sh", "-c", add)
@@ -93,15 +91,15 @@ def try_use(machine):
     status, said = machine.run("sh", "-c", cases)
     last = said.splitlines()[-1] if said else ""
     report.tell(f"cases by the installed program: {last.replace(' skipped', ' need more than is installed there')}")
-    machine.check.true("cases by the installed program", status == 0, said[-3000:])
+    report.right("cases by the installed program", status and said[-3000:])
     for page in sorted(os.listdir(f"{HERE}/man")):
         name, _, section = page.rpartition(".")
         shown = machine.well(f"man {section} {name}", "man", section, name)
-        machine.check.true(f"{page} has its name", name in shown, shown[:500])
+        report.right(f"{page} has its name", name not in shown and shown[:500])
     complete = (". /usr/share/bash-completion/bash_completion; _completion_loader nixkeep; COMP_WORDS=(nixkeep ad); "
                 "COMP_CWORD=1; _nixkeep; printf '%s\\n' \"${COMPREPLY[@]}\"")
     said = machine.well("completion", "bash", "-c", complete)
-    machine.check.same("what bash completes", said.split(), ["add-text", "add-source"])
+    report.same("what bash completes", said.split(), ["add-text", "add-source"])
 
 
 def try_package(machine, deb):
@@ -115,10 +113,10 @@ def try_package(machine, deb):
     machine.well("apt-get remove", "apt-get", "remove", "-yq", "--autoremove", "nixkeep")
     left = {"etc/nixkeep", "etc/nixkeep/store.toml"}
     store = {"var/lib/nixkeep", "var/lib/nixkeep/clean", STORE[1:], f"{STORE[1:]}-wal"}
-    machine.check.same("what a removal leaves", sorted(machine.files() - before - store), sorted(left))
+    report.same("what a removal leaves", sorted(machine.files() - before - store), sorted(left))
     machine.well("apt-get purge", "apt-get", "purge", "-yq", "nixkeep")
-    machine.check.same("what a purge leaves but the store", sorted(machine.files() - before - store), [])
-    machine.check.true("the store stays", os.path.exists(f"{machine.root}{STORE}"))
+    report.same("what a purge leaves but the store", sorted(machine.files() - before - store), [])
+    report.right("the store stays", not os.path.exists(f"{machine.root}{STORE}") and "it is gone")
 
 
 def more(asked):
@@ -126,25 +124,20 @@ def more(asked):
 
 
 def try_all(words):
-    check, given = Checks(), ["--program", os.path.abspath(words.program)] if words.program else []
+    given = ["--program", os.path.abspath(words.program)] if words.program else []
     status, said = run([f"{HERE}/bin/package", "--to", words.folder, *given])
-    check.true("bin/package", status == 0, said)
-    if status:
-        return check.failed
+    report.right("bin/package", status and said)
     deb = said.split()[0]
-    try_lintian(check, deb)
+    try_lintian(deb)
     if os.geteuid():
-        report.skip("the clean Debian: needs root")
-        return check.failed
+        return report.skip("the clean Debian: needs root")
     if report.skips("mmdebstrap", what="the clean Debian"):
-        return check.failed
-    machine = Machine(f"{words.folder}/root", check)
+        return None
+    machine = Machine(f"{words.folder}/root")
     if why := make(machine, words.root):
-        report.skip(f"the clean Debian: {why}")
-        return check.failed
+        return report.skip(f"the clean Debian: {why}")
     copy_to(f"{machine.root}/checkout", ["release/"])
-    try_package(machine, deb)
-    return check.failed
+    return try_package(machine, deb)
 
 
 if __name__ == "__main__":

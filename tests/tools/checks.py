@@ -1,4 +1,4 @@
-"""What the tests of nixkeep-remote and nixkeep-closure share: checks that go on, servers, and a small proxy."""
+"""What the tests of nixkeep-remote, nixkeep-closure and nixkeep-backup share: servers, and a small proxy."""
 import base64
 import contextlib
 import fcntl
@@ -14,38 +14,7 @@ import termios
 import threading
 from http.server import BaseHTTPRequestHandler, ThreadingHTTPServer
 
-from nixkeep_dev.testing import report
 from tests.tools import shim
-
-
-
-class Checks:
-    """Comparisons, of which those that fail are printed and counted. A test goes on after one."""
-
-    def __init__(self, words=None):
-        self.failed, self.words = 0, words
-
-    def same(self, what, came, wanted):
-        self.true(what, came == wanted, f"{report.short(came)}\n  wanted {report.short(wanted)}")
-
-    def true(self, what, holds, came=""):
-        if holds:
-            report.passes()
-        else:
-            self.failed += 1
-            report.goes_wrong(f"{what}:\n  came   {came if isinstance(came, str) else report.short(came)}")
-
-
-def script(doc, parts, skip=(), start=lambda program, folder: program):
-    """Runs the parts of a test. Each gets what `start` makes, once, and the checks, with the words of the script."""
-
-    def run(words):
-        check, first = Checks(words), start(report.program_file(words), words.folder)
-        for part in words.parts:
-            part(first, check)
-        return check.failed
-
-    report.script(doc, run, parts=parts, skip=skip)
 
 
 def ran(command, given=b"", **more):
