@@ -12,11 +12,10 @@ from pathlib import Path
 import pytest
 
 from nixkeep_dev.build import release
-from nixkeep_dev.testing import by_pytest, cases, minutes, report
+from nixkeep_dev.testing import cases, minutes, report
 
 # What bin/test runs: these are no tests of pytest yet.
 collect_ignore = ["compare", "faults", "gate", "package", "sabotage", "stores"]
-collect_ignore += [str(it) for it in Path(__file__).parent.glob("tools/*.py") if not by_pytest.is_module(it)]
 
 
 def pytest_addoption(parser):

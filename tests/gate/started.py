@@ -17,7 +17,7 @@ from concurrent.futures import ThreadPoolExecutor
 from pathlib import Path
 
 from nixkeep_dev.build import program
-from nixkeep_dev.testing import by_pytest, report
+from nixkeep_dev.testing import report
 from nixkeep_dev.testing.runs import command, compile_modules
 from nixkeep_dev.testing.tracked import copy_to
 
@@ -58,7 +58,7 @@ class Copy:
                  in os.walk(f"{self.top}/{top}") for it in names if os.access(f"{at}/{it}", os.X_OK)]
         modules = [it for top in ("bench/*.py", "tests/*/*.py") for it in glob.glob(top, root_dir=self.top)]
         found += [it for it in modules if '__name__ == "__main__"' in Path(self.top, it).read_text()
-                  or by_pytest.is_module(f"{self.top}/{it}")]
+                  or Path(it).name.startswith("test_")]
         return sorted(it for it in found if "/cases/tools/" not in it and it != "tests/gate/started.py")
 
     def run(self, *words):

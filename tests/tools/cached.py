@@ -20,9 +20,9 @@ def figures(store, user="prometheus"):
 
     status, page = ask(store.place, user, "GET", "/metrics")
     assert status == 200
-    found = {}
+    values = {}
     for family in text_string_to_metric_families(page.decode()):
         for it in family.samples:
             labels = [it.labels[key] for key in ("method", "route", "status", "found", "le") if key in it.labels]
-            found[it.name, *labels] = it.value
-    return found
+            values[it.name, *labels] = it.value
+    return values

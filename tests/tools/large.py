@@ -1,11 +1,9 @@
 """A store with large archives, whose blobs are in a folder or a bucket, and what tests of it share."""
 import contextlib
-import http.server
 import json
 import os
 import socket
 import subprocess
-import threading
 from pathlib import Path
 
 import parts
@@ -13,6 +11,7 @@ from nixkeep_dev.testing import nar
 from nixkeep_tools import blobs
 from parts import curl
 from tests.tools import cached
+from tests.tools.servers import answering
 
 # An archive above this is large here.
 LEAST = 65_536
@@ -105,26 +104,13 @@ def send_half(team, method, target, data, length, user="build"):
 
 @contextlib.contextmanager
 def bucket(status, code):
-    """A server of S3 that answers everything so."""
+    """A server of S3 that answers everything so, but has no blob: its URL, and what it was asked."""
     os.environ |= {"AWS_ACCESS_KEY_ID": "a", "AWS_SECRET_ACCESS_KEY": "b", "AWS_DEFAULT_REGION": "us-east-1"}
-    asked = []
+    requests, text = [], f"<Error><Code>{code}</Code><Message>no</Message></Error>".encode()
 
-    class Handler(http.server.BaseHTTPRequestHandler):
-        def answer(self):
-            self.rfile.read(int(self.headers.get("content-length", 0)))
-            asked.append(f"{self.command} {self.path}")
-            text = f"<Error><Code>{code}</Code><Message>no</Message></Error>".encode()
-            self.send_response(404 if self.command == "HEAD" and self.path.endswith(".zst") else status)
-            self.send_header("content-length", str(len(text)))
-            self.end_headers()
-            self.wfile.write(b"" if self.command == "HEAD" else text)
+    def reply_to(method, target, _):
+        requests.append(f"{method} {target}")
+        return 404 if method == "HEAD" and target.endswith(".zst") else status, "application/xml", text
 
-        do_GET = do_PUT = do_HEAD = do_POST = do_DELETE = answer
-
-        def log_message(self, *_):
-            pass
-
-    with http.server.ThreadingHTTPServer(("127.0.0.1", 0), Handler) as server:
-        threading.Thread(target=server.serve_forever, daemon=True).start()
-        yield f"http://127.0.0.1:{server.server_port}", asked
-        server.shutdown()
+    with answering(reply_to) as url:
+        yield url, requests

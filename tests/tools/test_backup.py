@@ -5,14 +5,12 @@ systemctl is a script here, which notes what it is asked.
 import contextlib
 import datetime
 import fcntl
-import http.server
 import itertools
 import json
 import os
 import re
 import shutil
 import sqlite3
-import threading
 import time
 from pathlib import Path
 
@@ -22,8 +20,8 @@ import pytest
 from nixkeep_dev.build.program import HERE
 from nixkeep_dev.testing.store import killed
 from nixkeep_tools import backup_folder, backup_restore, http_client, objects, store_file
-from tests.tools import checks
-from tests.tools.checks import ran
+from tests.tools import servers
+from tests.tools.servers import ran
 
 BACKUP = f"{HERE}/tools/nixkeep-backup"
 # The names of the daily copies of a year.
@@ -37,7 +35,7 @@ builders = ["build"]
 """
 # Names of units that are active are files in a folder; what is asked is a line of a file.
 SYSTEMCTL = """#!/bin/sh
-echo "$*" >>"$UNITS/asked"
+echo "$*" >>"$UNITS/notes"
 for unit; do :; done
 case $1 in
 is-active)
@@ -69,8 +67,8 @@ class Store:
             self.paths = [add(ask, f"text{at}", f"text {at}\n" * 10_000 ** (at % 2)) for at in range(6)]
             self.set_roots(ask)
         # (a server that is killed leaves a change in the log)
-        asked = ("ann", "POST", "/temp/ann/7", objects.lines(("path", self.paths[4])))
-        killed(program, self.file, [asked], "--config", self.config)
+        request = ("ann", "POST", "/temp/ann/7", objects.lines(("path", self.paths[4])))
+        killed(program, self.file, [request], "--config", self.config)
 
     def set_roots(self, ask):
         at = lambda number: objects.lines(("path", self.paths[number]))
@@ -130,10 +128,10 @@ def add(ask, name, text, user="ann"):
 
 def all_of(ask):
     """All that a server says of its store, archives included."""
-    found = {it: ask("build", "GET", it) for it in ("/paths", "/roots", "/report", "/live", "/dead")}
-    bases = [it.rpartition("/")[2] for it in found["/paths"].splitlines()]
+    lists = {it: ask("build", "GET", it) for it in ("/paths", "/roots", "/report", "/live", "/dead")}
+    bases = [it.rpartition("/")[2] for it in lists["/paths"].splitlines()]
     objects_of = {f"{it} {base}": ask("build", "GET", f"/{it}/{base}") for base in bases for it in ("info", "nar")}
-    return {**found, **objects_of}
+    return {**lists, **objects_of}
 
 
 @pytest.fixture
@@ -161,14 +159,14 @@ def fails(came, pattern, store, good):
 def test_a_copy_is_the_store(store):
     before = store.bytes()
     status, output, errors = store.copy("--state", store.state)
-    found = re.fullmatch(rf"{store.to}/([\dTZ-]+\.db): 6 objects, (\d+) bytes, in [\d.]+ seconds\n", output)
-    assert status == 0 and found and not errors, (output, errors)
-    assert store.copies() == [found[1]], "it is one file"
-    assert Path(store.to, found[1]).stat().st_mode & 0o777 == 0o600, "which its owner alone reads"
+    line = re.fullmatch(rf"{store.to}/([\dTZ-]+\.db): 6 objects, (\d+) bytes, in [\d.]+ seconds\n", output)
+    assert status == 0 and line and not errors, (output, errors)
+    assert store.copies() == [line[1]], "it is one file"
+    assert Path(store.to, line[1]).stat().st_mode & 0o777 == 0o600, "which its owner alone reads"
     assert store.bytes() == before, "the store's files"
     state = json.loads(Path(store.state).read_text())
-    assert (state["copy"], state["objects"], state["bytes"]) == (found[1], 6, int(found[2]))
-    with store.opened(f"{store.to}/{found[1]}") as ask:
+    assert (state["copy"], state["objects"], state["bytes"]) == (line[1], 6, int(line[2]))
+    with store.opened(f"{store.to}/{line[1]}") as ask:
         of_copy = all_of(ask)
     with store.opened() as ask:
         assert of_copy == all_of(ask), "the copy answers as the store"
@@ -255,7 +253,7 @@ def test_copies_of_a_clock_that_went_back(folder, monkeypatch):
 
 
 class Units:
-    """A systemctl that has these units active; `env` is the environment with it, and `asked` the file of its notes."""
+    """A systemctl that has these units active; `env` is the environment with it, and `notes` the file of its notes."""
 
     def __init__(self, folder):
         self.folder = Path(folder, "units")
@@ -264,7 +262,7 @@ class Units:
         command.write_text(SYSTEMCTL)
         command.chmod(0o755)
         self.env = {"UNITS": str(self.folder), "PATH": f"{command.parent}:{os.environ['PATH']}"}
-        self.asked = self.folder / "asked"
+        self.notes = self.folder / "notes"
         self.set()
 
     def set(self, *active, memory="infinity"):
@@ -282,7 +280,7 @@ def units(folder):
 
 def test_a_check_of_a_server(store, units):
     note, unit, later = Path(store.folder, "note"), "nixkeep@red.service", of_later_schema(store)
-    with checks.server(store.program, "--config", store.config, "--db", store.file) as port:
+    with servers.server(store.program, "--config", store.config, "--db", store.file) as port:
         words = [*store.options("check"), "--db", store.file, "--server", f"http://127.0.0.1:{port}", "--note", note]
         of_unit = lambda: backup(*words, "--unit", unit, env=units.env)
         for memory in ("infinity", str(1 << 30)):
@@ -344,7 +342,7 @@ def is_the_copy(store, wanted):
 
 
 def test_a_copy_through_a_server(store):
-    with checks.server(store.program, "--config", store.config, "--db", store.file) as port:
+    with servers.server(store.program, "--config", store.config, "--db", store.file) as port:
         url = f"http://127.0.0.1:{port}"
         came = fetched(store, url, "--state", store.state)
         assert came[0] == 0 and ": 6 objects, " in came[1] and not came[2]
@@ -357,7 +355,7 @@ def test_a_copy_through_a_server(store):
 def test_a_copy_of_a_store_that_changes(store):
     """A proxy changes the store between two requests of a copy."""
     steps, count = [], itertools.count()
-    with checks.server(store.program, "--config", store.config, "--db", store.file) as port:
+    with servers.server(store.program, "--config", store.config, "--db", store.file) as port:
         place = http_client.Place(f"http://127.0.0.1:{port}")
 
         def change(method, target):
@@ -372,46 +370,16 @@ def test_a_copy_of_a_store_that_changes(store):
             steps.append(always)
             add(ask, f"always{next(count)}", "always")
 
-        with checks.proxy(port, everybody="build", hook=change) as made:
+        with servers.proxy(port, everybody="build", hook=change) as made:
             steps += [lambda ask: ask("ann", "POST", "/collect"), lambda ask: add(ask, "late", "late"),
                       lambda ask: ask("ann", "DELETE", "/root/user/ann/mine")]
-            came = fetched(store, checks.url(made), "--as", "build")
+            came = fetched(store, servers.url(made), "--as", "build")
             assert came[0] == 0 and not steps
             wanted = all_of_server(place)
             steps.append(always)
-            came = fetched(store, checks.url(made), "--as", "build")
+            came = fetched(store, servers.url(made), "--as", "build")
             assert came[0] == 1 and "changed in each of 10 passes" in came[2], "a store that never rests"
     is_the_copy(store, wanted)
-
-
-class Hostile(http.server.BaseHTTPRequestHandler):
-    """Answers what `server.texts` has for a target, and for any other one what no store has."""
-
-    protocol_version = "HTTP/1.1"
-
-    def do_GET(self):
-        text = self.server.texts.get(self.path, b"")
-        self.send_response(200)
-        self.send_header("content-type", "text/plain")
-        self.send_header("content-length", str(1 << 40 if text is None else len(text)))
-        self.end_headers()
-        with contextlib.suppress(OSError):
-            while text is None:
-                self.wfile.write(bytes(1 << 20))
-            self.wfile.write(text)
-
-    def log_message(self, *_):
-        pass
-
-
-@pytest.fixture(scope="module")
-def hostile():
-    made = http.server.ThreadingHTTPServer(("127.0.0.1", 0), Hostile)
-    made.daemon_threads = True
-    threading.Thread(target=made.serve_forever, args=(0.05,), daemon=True).start()
-    yield made
-    made.shutdown()
-    made.server_close()
 
 
 PATH = b"/nix/store/" + b"0" * 32 + b"-x"
@@ -432,12 +400,12 @@ NO_ANSWERS = {
 
 
 @pytest.mark.parametrize("what", NO_ANSWERS)
-def test_a_hostile_server(what, hostile, folder, program):
+def test_a_hostile_server(what, folder, program):
     """What no store answers is a line, within bounded time and memory, and no copy is there."""
-    texts, wanted = NO_ANSWERS[what]
-    hostile.texts = {"/report": b"class paths bytes\ntotal 0 0\n", **texts}
-    words = ["--server", f"http://127.0.0.1:{hostile.server_port}", "--as", "build", "--seconds", "100"]
-    status, output, errors = backup("fetch", "--program", program, "--to", folder, *words)
+    texts, wanted = {"/report": b"class paths bytes\ntotal 0 0\n", **NO_ANSWERS[what][0]}, NO_ANSWERS[what][1]
+    with servers.answering(lambda _, target, __: (200, "text/plain", texts.get(target, b""))) as url:
+        words = ["--server", url, "--as", "build", "--seconds", "100", "--program", program, "--to", folder]
+        status, output, errors = backup("fetch", *words)
     assert status in (1, 3) and errors.count("\n") == 1 and wanted in errors and not output
     assert os.listdir(folder) == []
 
@@ -461,7 +429,7 @@ def test_a_restore_from_what_is_no_copy_stops_nothing(store, restored, units):
                        (store.config, "not a database"), (pipe, "it is no file"), (store.folder, "it is no file")):
         status, _, errors = restored(file)
         assert status == 1 and line in errors and errors.count("\n") == 1, file
-    assert not units.asked.exists()
+    assert not units.notes.exists()
 
 
 def test_a_restore_without_room(store, restored, units):
@@ -484,9 +452,9 @@ def test_a_restore(store, restored, units):
     status, output, errors = restored(f"{store.to}/{store.copies()[0]}")
     assert status == 0 and output.startswith("restored 6 objects, ") and not errors, errors
     assert Path(store.config).read_text() == CONFIG, "a link in the place of the new file isn't followed"
-    asked = units.asked.read_text().splitlines()
-    assert [it.removeprefix("stop ") for it in asked if it.startswith("stop ")] == UNITS, "stopped in order"
-    started = [it.removeprefix("start ") for it in asked if it.startswith("start ")]
+    notes = units.notes.read_text().splitlines()
+    assert [it.removeprefix("stop ") for it in notes if it.startswith("stop ")] == UNITS, "stopped in order"
+    started = [it.removeprefix("start ") for it in notes if it.startswith("start ")]
     assert started == [*UNITS[1:], UNITS[0]], "started in order"
     aside = next(it for it in os.listdir(store.folder) if it.startswith("aside-"))
     assert sorted(os.listdir(f"{store.folder}/{aside}")) == ["store.db", "store.db-wal"], "the files before"

@@ -144,7 +144,7 @@ def test_the_limit_of_the_file(unit):
     """A file that is nearly as large as it may be takes no adds, until something is collected."""
     contents = random.Random(9).randbytes(100_000)
     with unit("--most-bytes", "1000000") as store:
-        ann = lambda *asked: ask(store.place, "ann", *asked)
+        ann = lambda *it: ask(store.place, "ann", *it)
         added = []
         while len(added) < 20 and (reply := ann("POST", "/text", text(f"t{len(added)}", contents)))[0] == 200:
             added.append(reply[1].decode().strip())
@@ -250,7 +250,7 @@ def test_sessions(unit, folder):
     """What is uploaded is kept until nothing has come for a while, also when the cache is restarted meanwhile."""
     rng = random.Random(10)
     with unit() as store:
-        as_of = lambda user: lambda *asked: ask(store.place, user, *asked)
+        as_of = lambda user: lambda *it: ask(store.place, user, *it)
         path, archive = some_path(rng, "uploaded"), nar.archive(b"uploaded")
         digest = nar.digest(archive)
         build = as_of("build")
@@ -384,11 +384,11 @@ def test_many_slow_clients(folder):
             slow = [asyncio.ensure_future(asks(b"bob", b"/", 40_000)) for _ in range(24)]
             await asyncio.sleep(1)
             await asyncio.gather(asks(b"ann", b"/"), asks(b"carol", b"/much"))
-            found = sorted(whole)
+            served = sorted(whole)
             for it in slow:
                 it.cancel()
             await asyncio.gather(*slow, return_exceptions=True)
-            return found
+            return served
 
     sending = cache_http.Sending(16 * size, 60)
     assert asyncio.run(run()) == [b"ann", b"carol"], (
@@ -477,11 +477,11 @@ def test_an_end_that_slow_clients_hold_up(unit):
     """Clients that send or take slowly hold up an end for less than a minute, and it ends well."""
     with unit() as store, contextlib.ExitStack() as held:
         path = ask(store.place, "ann", "POST", "/text", text("long", bytes(8_000_000)))[1].decode().strip()
-        asked = ("POST /text HTTP/1.1\r\n{}content-length: 10000\r\n\r\n",
-                 f"PUT /nar/{'0' * 52}.nar HTTP/1.1\r\n{{}}content-length: 10000\r\n\r\n",
-                 f"GET /nar/{path[11:]} HTTP/1.1\r\n{{}}\r\n")
-        clients = [held.enter_context(socket.socket(socket.AF_UNIX)) for _ in asked]
-        for client, head in zip(clients, asked):
+        requests = ("POST /text HTTP/1.1\r\n{}content-length: 10000\r\n\r\n",
+                    f"PUT /nar/{'0' * 52}.nar HTTP/1.1\r\n{{}}content-length: 10000\r\n\r\n",
+                    f"GET /nar/{path[11:]} HTTP/1.1\r\n{{}}\r\n")
+        clients = [held.enter_context(socket.socket(socket.AF_UNIX)) for _ in requests]
+        for client, head in zip(clients, requests):
             client.connect(store.place)
             client.sendall(head.format("host: red\r\nstore-user: ann\r\n").encode())
         parts.until("the heads are read", lambda: ask(store.place, "ann", "GET", "/paths")[0] == 200)

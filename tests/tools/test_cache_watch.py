@@ -26,20 +26,20 @@ def test_metrics(unit, folder):
         for target in ("/x/y", "/../etc", "/paths?a"):
             ask(store.place, "ann", "GET", target, None, "--path-as-is")
         ask(store.place, "eve", "GET", "/paths")
-        found = figures(store)
-        counts = [found.get(("nixkeep_requests_total", *it.split())) for it in
+        values = figures(store)
+        counts = [values.get(("nixkeep_requests_total", *it.split())) for it in
                   ("POST text 200", "GET record 200", "GET record 404")]
         assert counts == [1, 1, 2], "an add, a hit and two misses"
-        assert [found.get(("nixkeep_lookups_total", it)) for it in ("yes", "no")] == [1, 2], "the same as hits"
-        assert found.get(("nixkeep_requests_total", "GET", "other", "404")) == 2, "targets of no route have one word"
-        assert found.get(("nixkeep_requests_total", "GET", "paths", "403")) == 1, "a stranger's request is counted"
-        assert found["nixkeep_received_bytes_total", "POST", "text"] == len(text("one", bytes(10_000))), "bytes come"
-        assert found["nixkeep_request_seconds_count", "POST", "text"] == 1, ("and time is counted", found)
-        used = os.path.getsize(f"{folder}/store.db-wal")
-        assert 0 < found["nixkeep_store_bytes",] <= used, "the size of the file"
-        assert found["nixkeep_store_bytes_limit",] == 100_000_000, "and its limit"
-        assert [found[it,] for it in ("nixkeep_up", "nixkeep_queue")] == [1, 0], "it is there, and nothing waits"
-        assert ("nixkeep_backup_age_seconds",) not in found, "no copy has been made"
+        assert [values.get(("nixkeep_lookups_total", it)) for it in ("yes", "no")] == [1, 2], "the same as hits"
+        assert values.get(("nixkeep_requests_total", "GET", "other", "404")) == 2, "targets of no route have one word"
+        assert values.get(("nixkeep_requests_total", "GET", "paths", "403")) == 1, "a stranger's request is counted"
+        assert values["nixkeep_received_bytes_total", "POST", "text"] == len(text("one", bytes(10_000))), "bytes come"
+        assert values["nixkeep_request_seconds_count", "POST", "text"] == 1, ("and time is counted", values)
+        used = Path(folder, "store.db-wal").stat().st_size
+        assert 0 < values["nixkeep_store_bytes",] <= used, "the size of the file"
+        assert values["nixkeep_store_bytes_limit",] == 100_000_000, "and its limit"
+        assert [values[it,] for it in ("nixkeep_up", "nixkeep_queue")] == [1, 0], "it is there, and nothing waits"
+        assert ("nixkeep_backup_age_seconds",) not in values, "no copy has been made"
         Path(f"{folder}/backup.json").write_text(json.dumps({"succeeded": int(time.time()) - 1000}))
         age = figures(store)["nixkeep_backup_age_seconds",]
         assert 1000 <= age < 10_000, ("the age of the last copy", age)

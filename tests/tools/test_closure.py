@@ -19,8 +19,8 @@ from nixkeep_dev.build.program import HERE
 from nixkeep_dev.testing import nar
 from nixkeep_dev.testing import nix as real
 from nixkeep_tools import objects
-from tests.tools import checks, shim
-from tests.tools.checks import ran
+from tests.tools import servers, shim
+from tests.tools.servers import ran
 
 pytestmark = pytest.mark.needs(*real.TOOLS)
 CLOSURE = f"{HERE}/tools/nixkeep-closure"
@@ -226,7 +226,7 @@ def test_a_copy(made, kept):
     assert file.lines("roots") == [f"gcroots/per-user/root/mine {made.top}"]
     assert [line for line in kept.lines("roots") if "temp" in line] == []
     file, _ = made.fresh()
-    with checks.server(made.program, "--db", file.file) as port:
+    with servers.server(made.program, "--db", file.file) as port:
         came = closure(None, *own, "copy", "--to", f"http://127.0.0.1:{port}", made.top)
     assert came == (0, line_of("copied", COUNT, made.bytes, 0), ""), "a copy to a server"
     assert file.lines("list") == sorted(made.infos)
@@ -329,9 +329,9 @@ def broken(made, nix, what, at, how, file):
     target, running = {"push": "/import", "pull": "/nar/"}[what], []
     kill = lambda: running[0].send_signal(signal.SIGKILL) or True
     hook = Breaks(at, target, how == "gone", kill if how == "killed" else lambda: True)
-    with checks.server(made.program, "--db", file.file) as port, \
-            checks.proxy(port, hook=hook, everybody="root") as proxied:
-        own = ["--server", checks.url(proxied), "--me", "root", "--nix-store", nix.store, what, made.top]
+    with servers.server(made.program, "--db", file.file) as port, \
+            servers.proxy(port, hook=hook, everybody="root") as proxied:
+        own = ["--server", servers.url(proxied), "--me", "root", "--nix-store", nix.store, what, made.top]
         remote = Remote(port)
         running.append(subprocess.Popen([CLOSURE, *own], env=nix.env, stdout=subprocess.PIPE, stderr=subprocess.PIPE))
         errors = running[0].communicate(timeout=600)[1].decode()
@@ -362,15 +362,15 @@ def test_a_pull_that_breaks(at, how, made, kept):
 def test_a_push_while_somebody_collects(made):
     """Before every third of its requests."""
     file, freed, count = made.fresh()[0], [], itertools.count()
-    with checks.server(made.program, "--db", file.file) as port:
+    with servers.server(made.program, "--db", file.file) as port:
         remote = Remote(port)
 
         def collect(*_):
             if next(count) % 3 == 0:
                 freed.append(remote("gc")[1].count(b"/nix/store/"))
 
-        with checks.proxy(port, hook=collect, everybody="root") as proxied:
-            own = ["--server", checks.url(proxied), "--me", "root", "--nix-store", made.nix.store]
+        with servers.proxy(port, hook=collect, everybody="root") as proxied:
+            own = ["--server", servers.url(proxied), "--me", "root", "--nix-store", made.nix.store]
             status, output, errors = closure(made.nix, *own, "push", "--root", "top", made.top)
     assert status == 0 and output.startswith(f"done\npushed {COUNT} objects"), errors
     assert sum(freed) > 0, "which took something"
@@ -407,10 +407,10 @@ def test_words_that_are_refused(made, kept):
 def test_progress_on_a_terminal(made):
     """Of a push through a proxy that takes its time."""
     file, _ = made.fresh()
-    with checks.server(made.program, "--db", file.file) as port, \
-            checks.proxy(port, hook=lambda *_: time.sleep(0.1), everybody="root") as proxied:
-        words = ["--server", checks.url(proxied), "--me", "root", "--nix-store", made.nix.store, "push", made.top]
-        status, _, shown = checks.on_terminal([CLOSURE, *words], env=made.nix.env)
+    with servers.server(made.program, "--db", file.file) as port, \
+            servers.proxy(port, hook=lambda *_: time.sleep(0.1), everybody="root") as proxied:
+        words = ["--server", servers.url(proxied), "--me", "root", "--nix-store", made.nix.store, "push", made.top]
+        status, _, shown = servers.on_terminal([CLOSURE, *words], env=made.nix.env)
     assert status == 0
     assert re.search(rb"push [0-9]+ of 31 objects, [0-9.]+ \w+ of [0-9.]+ KiB [0-9]+:[0-9]+ left", shown), shown
     assert shown.endswith(b"\r\x1b[K"), "it is removed"

@@ -11,13 +11,11 @@ Logins: nginx with auth-request.conf and a program in place of the one that know
 store, and what forged fields, other domains and a missing login come to.
 """
 import base64
-import http.server
 import json
 import os
 import re
 import subprocess
 import tempfile
-import threading
 import time
 from pathlib import Path
 
@@ -26,6 +24,7 @@ import pytest
 import parts
 from nixkeep_dev.build.layout import version
 from nixkeep_dev.build.program import HERE
+from tests.tools.servers import answering
 
 MODULE, PACKAGE = f"{HERE}/examples/nixos/module.nix", f"{HERE}/examples/nixos/package.nix"
 CONTAINER = f"{HERE}/examples/container/Containerfile"
@@ -206,19 +205,11 @@ NOBODY = (400, b"refused: 20 bad-caller\n")
 needs_nginx = pytest.mark.needs("nginx", "openssl", "curl", "python3-aiohttp")
 
 
-class Knows(http.server.BaseHTTPRequestHandler):
+def login(_, target, fields):
     """What oauth2-proxy answers to nginx: 202 and the user, or 401."""
-
-    def do_GET(self):
-        login = base64.b64decode(self.headers.get("authorization", "").partition(" ")[2] or b"").decode()
-        self.send_response(202 if login in KNOWN and self.path == "/oauth2/auth" else 401)
-        if user := KNOWN.get(login):
-            self.send_header("x-auth-request-user", user)
-        self.send_header("content-length", "0")
-        self.end_headers()
-
-    def log_message(self, *_):
-        pass
+    words = base64.b64decode(fields.get("authorization", "").partition(" ")[2] or b"").decode()
+    status = 202 if words in KNOWN and target == "/oauth2/auth" else 401
+    return status, "text/plain", b"", *[("x-auth-request-user", it) for it in [KNOWN.get(words)] if it]
 
 
 def nginx_conf(folder, port, login):
@@ -237,41 +228,39 @@ def nginx_conf(folder, port, login):
 
 
 @pytest.fixture(scope="module")
-def asked(program):
+def who(program):
     """What nginx answers to a request with these words of curl."""
-    with tempfile.TemporaryDirectory() as folder, http.server.ThreadingHTTPServer(("127.0.0.1", 0), Knows) as knows:
+    with tempfile.TemporaryDirectory() as folder, answering(login) as url:
         port = parts.free_port()
-        threading.Thread(target=knows.serve_forever, daemon=True).start()
         made = "openssl req -x509 -newkey rsa:2048 -nodes -days 1 -subj /CN=red.example.org " \
                "-addext subjectAltName=DNS:red.example.org -keyout server.key -out server.pem"
         subprocess.run(made.split(), cwd=folder, check=True, capture_output=True)
         config = f"{folder}/red.toml"
         Path(config).write_text('allowed-users = ["ann", "bob"]\ntrusted-users = ["build"]\n')
-        conf = nginx_conf(folder, port, knows.server_port)
+        conf = nginx_conf(folder, port, url.rpartition(":")[2])
         nginx = [parts.found("nginx"), "-p", folder, "-e", "nginx.log", "-c", conf]
         site = ["--cacert", f"{folder}/server.pem", "--resolve", f"red.example.org:{port}:127.0.0.1"]
         unit = parts.Unit(program, folder, config, f"{folder}/store.db", f"{folder}/red.socket")
         with unit, parts.Part("nginx", nginx, port, f"{folder}/nginx.log"):
             yield lambda *more: parts.curl(*site, *more, f"https://red.example.org:{port}/who")
-        knows.shutdown()
 
 
 @needs_nginx
 @pytest.mark.parametrize("login, wanted", [("ann:secret", ALLOWED), ("bob:secret", ALLOWED), ("eve:secret", NOBODY),
                                            ("odd:secret", NOBODY), ("none:secret", NOBODY)],
                          ids=["of the team's domain", "without a domain", "of another domain", "not plain", "no name"])
-def test_who_a_login_is(asked, login, wanted):
-    assert asked("-u", login) == wanted
+def test_who_a_login_is(who, login, wanted):
+    assert who("-u", login) == wanted
 
 
 @needs_nginx
 @pytest.mark.parametrize("words", [["-u", "ann:wrong"], []], ids=["a wrong password", "no login"])
-def test_no_login(asked, words):
-    assert asked(*words)[0] == 401
+def test_no_login(who, words):
+    assert who(*words)[0] == 401
 
 
 @needs_nginx
 @pytest.mark.parametrize("field", ["store-user: build", "x-auth-request-user: build", "store_user: build"])
-def test_a_forged_field(asked, field):
-    assert asked("-u", "ann:secret", "-H", field) == ALLOWED
-    assert asked("-H", field)[0] == 401
+def test_a_forged_field(who, field):
+    assert who("-u", "ann:secret", "-H", field) == ALLOWED
+    assert who("-H", field)[0] == 401

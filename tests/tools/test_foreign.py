@@ -1,8 +1,5 @@
 """Tests the tools with a server and a bucket that answer what no store and no bucket does."""
-import contextlib
 import hashlib
-import http.server
-import threading
 import time
 
 import pytest
@@ -10,7 +7,7 @@ import pytest
 from nixkeep_dev.build.program import HERE
 from nixkeep_tools import blobs, http_client, nar, objects, paths
 from nixkeep_tools.failures import Stop
-from tests.tools.checks import ran
+from tests.tools.servers import answering, ran
 
 REMOTE = f"{HERE}/tools/nixkeep-remote"
 ARCHIVE = nar.regular_file(b"x")
@@ -30,40 +27,6 @@ def record(name, refs=(), size=len(ARCHIVE), more=""):
     digest = paths.nar_hash(hashlib.sha256(ARCHIVE).digest())
     return (f"StorePath: /nix/store/{name}\nURL: nar/{name}\nCompression: none\nNarHash: {digest}\nNarSize: {size}\n"
             f"References: {' '.join(refs)}\n{more}").encode()
-
-
-class Handler(http.server.BaseHTTPRequestHandler):
-    """Answers by a function of the method and the target: a status, a media type and a text, or None for a text without
-    an end."""
-
-    protocol_version = "HTTP/1.1"
-
-    def answer(self):
-        self.rfile.read(int(self.headers.get("content-length", 0)))
-        status, media, text, *fields = self.server.reply_to(self.command, self.path, self.headers)
-        self.send_response(status)
-        given = [("content-type", media), ("content-length", str(1 << 40 if text is None else len(text))), *fields]
-        for it in given:
-            self.send_header(*it)
-        self.end_headers()
-        with contextlib.suppress(OSError):
-            while text is None:
-                self.wfile.write(bytes(BYTES))
-            self.wfile.write(b"" if self.command == "HEAD" else text)
-
-    do_GET = do_POST = do_DELETE = do_HEAD = answer
-
-    def log_message(self, *_):
-        pass
-
-
-@contextlib.contextmanager
-def server(reply_to):
-    with http.server.ThreadingHTTPServer(("127.0.0.1", 0), Handler) as made:
-        made.reply_to, made.daemon_threads = reply_to, True
-        threading.Thread(target=made.serve_forever, args=(0.05,), daemon=True).start()
-        yield f"http://127.0.0.1:{made.server_port}"
-        made.shutdown()
 
 
 def text(status, given):
@@ -102,7 +65,7 @@ def test_records_of_a_closure(what, monkeypatch):
     """References without an end, records of other sizes and names than a store has."""
     monkeypatch.setattr(objects, "CLOSURE", OBJECTS)
     made, line = RECORDS[what]
-    with server(lambda method, target, _: text(200, made(target[6:]) if method == "GET" else b"done\n")) as url:
+    with answering(lambda method, target, _: text(200, made(target[6:]) if method == "GET" else b"done\n")) as url:
         closure = lambda: store(url).closure([base(0)])
         if line:
             stops(closure, line)
@@ -112,12 +75,12 @@ def test_records_of_a_closure(what, monkeypatch):
 
 def test_replies(monkeypatch):
     """A refusal with a long number, and a reply without an end."""
-    with server(lambda *_: text(400, b"refused: %s x\n" % (b"9" * 5000))) as url:
+    with answering(lambda *_: text(400, b"refused: %s x\n" % (b"9" * 5000))) as url:
         stops(lambda: store(url).ask("GET", "/paths"), "failed: proxy")
-    with server(lambda *_: text(200, b"\xff\n")) as url:
+    with answering(lambda *_: text(200, b"\xff\n")) as url:
         assert store(url).valid(["x"]) == set(), "paths that are no text"
     monkeypatch.setattr(http_client, "MOST_OF_REPLY", BYTES)
-    with server(lambda *_: text(200, None)) as url:
+    with answering(lambda *_: text(200, None)) as url:
         stops(lambda: store(url).ask("GET", "/paths"), f"more than {BYTES} bytes")
         stops(store(url).takes_large, f"more than {BYTES} bytes")
 
@@ -129,15 +92,15 @@ def remote(url, *words):
 @pytest.mark.parametrize("words", [["list"], ["roots"], ["gc"], ["info", base(0)], ["add-text", "x"]], ids=" ".join)
 def test_what_a_terminal_would_take_for_a_command(words):
     """It is printed as an escape."""
-    with server(lambda *_: text(200, ESCAPES)) as url:
+    with answering(lambda *_: text(200, ESCAPES)) as url:
         assert remote(url, *words) == (0, b"/nix/store/\\x1b]0;owned\\x07\\x1b[31m\\xff\\xc2\\x9b\\x0d\n")
 
 
 def test_escapes_elsewhere():
-    with server(lambda *_: text(200, ESCAPES)) as url:
+    with answering(lambda *_: text(200, ESCAPES)) as url:
         line = store(url).set_root("root", "x", base(0))
         assert not line.isprintable() and "\x1b" not in line
-    with server(lambda *_: (200, "application/octet-stream", ESCAPES)) as url:
+    with answering(lambda *_: (200, "application/octet-stream", ESCAPES)) as url:
         assert remote(url, "cat-nar", base(0)) == (0, ESCAPES), "an archive is printed as it is"
 
 
@@ -165,7 +128,7 @@ def part(at):
                                              (part(1000), False)],
                          ids=["that part", "all in the place of a part", "another part", "a part of another place"])
 def test_parts_of_a_blob_in_a_bucket(reply, is_right, bucket):
-    with server(lambda *_: reply) as url:
+    with answering(lambda *_: reply) as url:
         work = lambda: bucket(url).open("0" * 52, 100).read(1000)
         if is_right:
             assert work() == BLOB[100:]
@@ -176,7 +139,7 @@ def test_parts_of_a_blob_in_a_bucket(reply, is_right, bucket):
 
 @pytest.mark.needs("python3-boto3")
 def test_a_bucket_that_does_not_answer(bucket):
-    with server(lambda *_: time.sleep(2) or text(200, b"")) as url:
+    with answering(lambda *_: time.sleep(2) or text(200, b"")) as url:
         place = bucket(url)
         for work in (place.size, lambda name: place.put(__file__, name)):
             with pytest.raises(blobs.Failed, match="timeout"):

@@ -81,12 +81,12 @@ def test_links_in_the_folder_of_the_blobs(team_of, folder):
             parts.until("it is asked again", lambda: not time.sleep(2.1))
     lock, store, incoming = f"{team.blobs}/lock", f"{team.folder}/store.db", f"{team.blobs}/incoming"
     before = Path(store).read_bytes()
-    for made, is_start in ((os.symlink, False), (os.link, True)):
+    for made in (os.symlink, os.link):
         os.unlink(lock)
         made(store, lock)
-        found = starts(team)[0]
+        has_started = starts(team)[0]
         assert Path(store).read_bytes()[:16] == before[:16], "the lock cuts off no file to which a link leads"
-        assert found == (is_start if made == os.symlink else found), "nor is a link locked"
+        assert made == os.link or not has_started, "nor is a link locked"
     os.unlink(lock)
     os.mkdir(other := f"{team.folder}/others")
     Path(other, "precious").touch()
@@ -126,8 +126,8 @@ def test_what_is_no_file_in_the_place_of_a_blob(rng, team_of):
         team.file(unused[1]).unlink()
         team.file(unused[1]).mkdir()
         status, lines = team.tool("sweep")
-        found = [it.split()[0] for it in lines]
-        assert (status, found) == (1, ["deleted", "failed", "deleted", "deleted", "deleted", "swept"]), (
+        words = [it.split()[0] for it in lines]
+        assert (status, words) == (1, ["deleted", "failed", "deleted", "deleted", "deleted", "swept"]), (
             "a sweep names what it can't delete, and deletes the others")
         team.file(unused[1]).rmdir()
         assert team.tool("sweep")[0] == 0, "then it has nothing left"
@@ -165,9 +165,9 @@ def test_uploads_sweeps_collections_and_kills_at_once(team_of):
                     team.start()
         assert replies.count(200) > 40, ("uploads were done meanwhile", replies)
         is_sound(team)
-        found = [team("ann", "GET", f"/nar/{it[11:]}")[1] in archives
-                 for it in team("ann", "GET", "/paths")[1].decode().split()]
-        assert found and all(found), ("and each object is read", found)
+        is_there = [team("ann", "GET", f"/nar/{it[11:]}")[1] in archives
+                    for it in team("ann", "GET", "/paths")[1].decode().split()]
+        assert is_there and all(is_there), ("and each object is read", is_there)
 
 
 # ---- what others need
@@ -261,13 +261,13 @@ def test_many_roots():
 
     async def run():
         overviews.records, overviews.apart = types.SimpleNamespace(store=store), made
-        found = []
+        replies = []
         for user in counts:
             try:
-                found.append((await overviews.figures(user), [*overviews.made]))
+                replies.append((await overviews.figures(user), [*overviews.made]))
             except cache_http.Answered as answered:
-                found.append((answered.reply.status, answered.reply.text))
-        return found
+                replies.append((answered.reply.status, answered.reply.text))
+        return replies
 
     *figures, refused = asyncio.run(run())
     assert figures == [("figures", ["ann"]), ("figures", ["bob"])], "large figures of one user are kept at a time"
@@ -324,9 +324,9 @@ def test_room_for_others(folder):
                 names.append(put(owner, first + at))
         return names
 
-    found = {owner: taken(owner, 100 * at) for at, owner in enumerate(("ann", "bob", "carl"))}
-    assert [len(it) for it in found.values()] == [8, 4, 2], "each user has half of what the others leave"
-    for name in found["ann"]:
+    names = {owner: taken(owner, 100 * at) for at, owner in enumerate(("ann", "bob", "carl"))}
+    assert [len(it) for it in names.values()] == [8, 4, 2], "each user has half of what the others leave"
+    for name in names["ann"]:
         waiting.use(name)
     assert len(taken("dora", 1000)) == 5, "what is in the store makes room for another user"
 

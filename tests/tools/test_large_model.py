@@ -63,8 +63,8 @@ class World:
 
     async def step(self, work):
         await Wait()
-        self.seen.append(repr(found := work()))
-        return found
+        self.seen.append(repr(result := work()))
+        return result
 
     async def apart(self, work, *words):
         return await self.step(lambda: work(*words))
@@ -93,9 +93,9 @@ class World:
         return await self.step(lambda: sorted(self.pointers))
 
     async def among(self, _, bases):
-        found = lambda: {it: collections.namedtuple("Found", "nar_hash")(MADE.nar_hash) for it in bases
+        named = lambda: {it: collections.namedtuple("Found", "nar_hash")(MADE.nar_hash) for it in bases
                          if it in self.pointers}
-        return await self.step(found)
+        return await self.step(named)
 
     async def imported(self, caller, base, given, size, blob):
         await self.step(lambda: self.pointers.add(base))

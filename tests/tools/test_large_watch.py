@@ -29,8 +29,8 @@ def team(program):
 
 
 def figures(team, *names):
-    found = cached.figures(team, "ann")
-    return [found.get((f"nixkeep_{it}",)) for it in names]
+    values = cached.figures(team, "ann")
+    return [values.get((f"nixkeep_{it}",)) for it in names]
 
 
 @needs_metrics

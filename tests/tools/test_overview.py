@@ -5,14 +5,12 @@ widths, names for a screen reader, the keyboard.
 import asyncio
 import collections
 import html
-import http.server
 import json
 import os
 import random
 import resource
 import subprocess
 import tempfile
-import threading
 import time
 from pathlib import Path
 
@@ -22,6 +20,7 @@ import parts
 from nixkeep_dev.testing import nar
 from nixkeep_tools import overview, overview_source, store_file
 from parts import body
+from tests.tools import servers
 
 pytestmark = pytest.mark.needs("python3-jinja2")
 COMMAND = f"{parts.ROOT}/tools/nixkeep-overview"
@@ -32,14 +31,14 @@ HOSTILE = '</th><script>document.title="run"</script>&"\'{{1+1}}'
 
 def reached(kept, start):
     """The objects that one reaches, with the length of the shortest chain to each."""
-    found, left = {start: 0}, collections.deque([start])
+    lengths, left = {start: 0}, collections.deque([start])
     while left:
         at = left.popleft()
         for to in kept[at]:
-            if to not in found:
-                found[to] = found[at] + 1
+            if to not in lengths:
+                lengths[to] = lengths[at] + 1
                 left.append(to)
-    return found
+    return lengths
 
 
 @pytest.mark.parametrize("seed", range(20))
@@ -300,41 +299,23 @@ ATTACK = """<!DOCTYPE html><title>attack</title><iframe name="here"></iframe>
   document.querySelector('iframe').onload = () => document.title = 'done ' + seen.join(' '); }})()</script>"""
 
 
-def serve_attack(url):
-    """A server of that page: its port."""
-    class Handler(http.server.BaseHTTPRequestHandler):
-        def do_GET(self):
-            text = ATTACK.format(url=url).encode()
-            self.send_response(200)
-            self.send_header("content-type", "text/html")
-            self.send_header("content-length", str(len(text)))
-            self.end_headers()
-            self.wfile.write(text)
-
-        def log_message(self, *_):
-            pass
-
-    made = http.server.ThreadingHTTPServer(("127.0.0.1", 0), Handler)
-    threading.Thread(target=made.serve_forever, daemon=True).start()
-    return made
-
-
 async def attacked(browser, site):
     """Pages of another host and of another port of the same host ask for a collection: nothing is deleted."""
-    before, made = site.get("build", "/paths"), serve_attack(f"{site.url}/collect")
-    for host in ("localhost", "127.0.0.1"):
-        browser.events.clear()
-        await browser.open(f"http://{host}:{made.server_port}/")
-        for _ in range(1200):
-            title = await browser.value("document.title")
-            if title.startswith("done"):
-                break
-            await asyncio.sleep(0.1)
-        seen = [it["params"]["response"] for it in browser.events if it.get("method") == "Network.responseReceived"]
-        statuses = [it["status"] for it in seen if it["url"].startswith(site.url)]
-        assert title.startswith("done") and len(statuses) >= 2 and set(statuses) <= {403, 405}, (
-            f"a page of {host} asks for a collection by a form and by a script, and is denied", (title, statuses))
-    made.shutdown()
+    before, page = site.get("build", "/paths"), ATTACK.format(url=f"{site.url}/collect").encode()
+    with servers.answering(lambda *_: (200, "text/html", page)) as url:
+        for host in ("localhost", "127.0.0.1"):
+            browser.events.clear()
+            await browser.open(url.replace("127.0.0.1", host) + "/")
+            for _ in range(1200):
+                title = await browser.value("document.title")
+                if title.startswith("done"):
+                    break
+                await asyncio.sleep(0.1)
+            events = [it for it in browser.events if it.get("method") == "Network.responseReceived"]
+            seen = [it["params"]["response"] for it in events]
+            statuses = [it["status"] for it in seen if it["url"].startswith(site.url)]
+            assert title.startswith("done") and len(statuses) >= 2 and set(statuses) <= {403, 405}, (
+                f"a page of {host} asks for a collection by a form and by a script, and is denied", title, statuses)
     assert site.get("build", "/paths") == before and before[1].split(), "nothing is deleted"
     browser.events.clear()
     await browser.open(f"{site.url}/overview")

@@ -24,8 +24,8 @@ import pytest
 from nixkeep_dev.build.program import HERE
 from nixkeep_dev.testing import cases, nar
 from nixkeep_tools import credentials, failures, http_client, http_connection, http_place, subcommands
-from tests.tools import checks, replies, shim, stand_in
-from tests.tools.checks import ran
+from tests.tools import replies, servers, shim, stand_in
+from tests.tools.servers import ran
 
 REMOTE = f"{HERE}/tools/nixkeep-remote"
 STEPS = f"{HERE}/tests/tools/remote_steps.txt"
@@ -218,7 +218,7 @@ def trusted(folder, file):
 @pytest.fixture(scope="module")
 def port(program):
     """The port of a server of a store with an object."""
-    with tempfile.TemporaryDirectory() as folder, checks.server(program, "--db", f"{folder}/store.db") as made:
+    with tempfile.TemporaryDirectory() as folder, servers.server(program, "--db", f"{folder}/store.db") as made:
         assert Client(folder)(f"http://127.0.0.1:{made}", "--as", "ann", "add-text", "n", given=b"x")[0] == 0
         yield made
 
@@ -243,8 +243,8 @@ def tls(port, folder):
     """A proxy with TLS: its URL, and the file of its certificate."""
     pair = certificate(folder)
     users = {"ann": "secret:word", "bob": "b"}
-    with checks.proxy(port, certificate=pair, users=users, tokens={"t0ken": "carl"}, prefix="/team") as made:
-        yield checks.url(made, "https"), pair[0]
+    with servers.proxy(port, certificate=pair, users=users, tokens={"t0ken": "carl"}, prefix="/team") as made:
+        yield servers.url(made, "https"), pair[0]
 
 
 needs_openssl = pytest.mark.needs("openssl")
@@ -268,7 +268,7 @@ def test_proxies_credentials(tls, client, folder):
     token = {"NIXKEEP_CREDENTIALS": "Bearer t0ken", "NIXKEEP_CA": ca, "NIXKEEP_SERVER": at}
     assert client(None, "who", **token) == ALLOWED, "a token, and all else of the environment"
     assert client(None, "--me", "carl", "profile", "set", "p", path, **token) == (0, b"generation 1\n", b""), (
-        "a name beside a token")
+        "a name next to a token")
     assert client(None, "--me", "ann", "profile", "set", "p", path, **token) == (4, b"", b"denied: own-root\n"), (
         "another's name")
 
@@ -296,14 +296,14 @@ def test_proxies_credentials_that_are_refused(tls, client, folder):
 
 
 def test_proxies_https_where_http_is_spoken(port, client):
-    with checks.proxy(port) as made:
-        at = checks.url(made).replace("http", "https")
+    with servers.proxy(port) as made:
+        at = servers.url(made).replace("http", "https")
         fails(client(at, "list"), r"failed: unreachable: \S+: TLS: .*")
 
 
 def test_proxies_on_a_unix_socket(port, client, folder):
     at = f"unix:{folder}/socket"
-    with checks.proxy(port, path=f"{folder}/socket"):
+    with servers.proxy(port, path=f"{folder}/socket"):
         assert client(at, "who") == ALLOWED
     fails(client(at, "who"), r"failed: unreachable: unix:\S+: Connection refused")
     fails(client(f"unix:{folder}/none", "who"), r"failed: unreachable: unix:\S+: No such file or directory")
@@ -348,19 +348,19 @@ PAGES = {
 @pytest.mark.parametrize("name", PAGES)
 def test_proxies_that_answer_themselves(name, port, client):
     page, why = PAGES[name]
-    with checks.proxy(port, page=page) as made:
-        fails(client(checks.url(made), "add-text", "n", given=b"x"), rf"failed: proxy: http://\S+: {name}{why}")
+    with servers.proxy(port, page=page) as made:
+        fails(client(servers.url(made), "add-text", "n", given=b"x"), rf"failed: proxy: http://\S+: {name}{why}")
 
 
 def test_proxies_that_pass_nothing_on(port, client):
-    with checks.proxy(shim.free_port()) as made:
-        fails(client(checks.url(made), "list"),
+    with servers.proxy(shim.free_port()) as made:
+        fails(client(servers.url(made), "list"),
               r"failed: proxy: \S+: 502 Bad Gateway; the server behind it doesn't answer")
-    with checks.proxy(port, most=1_000_000) as made:
-        came = client(checks.url(made), "add-text", "n", given=bytes(8_000_000))
+    with servers.proxy(port, most=1_000_000) as made:
+        came = client(servers.url(made), "add-text", "n", given=bytes(8_000_000))
         fails(came, rf"failed: proxy: \S+: 413 .*{TOO_LARGE}")
-    with checks.proxy(port, cut=20) as made:
-        status, output, errors = client(checks.url(made), "list")
+    with servers.proxy(port, cut=20) as made:
+        status, output, errors = client(servers.url(made), "list")
         assert (status, len(output)) == (1, 20)
         assert re.fullmatch(rb"failed: unreachable: .* before the end of the answer\n", errors), errors
 
@@ -520,7 +520,7 @@ def test_streams_of_16_mib(port, client, folder):
     assert client(None, *at, "add-source", "large", given=archive) == (0, came.stdout, b""), "from a pipe"
     out = subprocess.run([REMOTE, *at, "cat-nar", path], **how)
     assert out.stdout == archive and out.returncode == 0, "it comes out as it was"
-    status, output, shown = checks.on_terminal([REMOTE, *at, "cat-nar", path], slowly)
+    status, output, shown = servers.on_terminal([REMOTE, *at, "cat-nar", path], slowly)
     assert (status, output == archive) == (0, True), "it comes out slowly"
     assert re.search(rb"received [0-9.]+ MiB of 16\.0 MiB 0:0[0-9] left", shown), "progress on a terminal"
     assert shown.endswith(b"\r\x1b[K"), "which is removed"

@@ -25,7 +25,7 @@ import pytest
 
 from nixkeep_dev.build.program import HERE
 from nixkeep_dev.testing.pages import command_blocks
-from tests.tools.checks import ran
+from tests.tools.servers import ran
 from tests.tools.ed25519 import VECTORS, coded
 from tests.tools.words import SUBCOMMANDS, options_in, options_of
 
@@ -56,13 +56,13 @@ DEBIAN = ["systemd", "systemd-sysv", "dbus", "adduser", "curl", "procps", "sqlit
 
 def settings_of(path):
     """The keys of a unit, each with its values."""
-    found = {}
+    settings = {}
     for key, value in re.findall(r"^(\w+)=(.*)$", Path(path).read_text(), re.M):
-        found.setdefault(key, []).append(value)
-    return found
+        settings.setdefault(key, []).append(value)
+    return settings
 
 
-of_unit = pytest.mark.parametrize("path", UNITS, ids=os.path.basename)
+of_unit = pytest.mark.parametrize("path", UNITS, ids=lambda it: Path(it).name)
 
 
 @of_unit
@@ -240,7 +240,7 @@ def machine(program):
     if os.geteuid():
         pytest.skip("a machine is booted by root alone")
     # (a tree of many small files is unpacked and deleted sooner in memory)
-    memory = "/dev/shm" if os.path.isdir("/dev/shm") and shutil.disk_usage("/dev/shm").free > 2 << 30 else None
+    memory = "/dev/shm" if Path("/dev/shm").is_dir() and shutil.disk_usage("/dev/shm").free > 2 << 30 else None
     with tempfile.TemporaryDirectory(dir=memory) as folder:
         root = f"{folder}/machine"
         os.mkdir(root)

@@ -1,7 +1,7 @@
 """Modules of tests that pytest runs, next to scripts: bin/run starts both, and what each prints at its end is the same.
 
-A module whose name begins with `test_` is one of pytest, unless it is a script. tests/conftest.py has the options and
-the fixtures. The words after the module are those of pytest, as `-k said`.
+A module whose name begins with `test_` is one of pytest. tests/conftest.py has the options and the fixtures. The words
+after the module are those of pytest, as `-k said`.
 """
 import ast
 import collections
@@ -18,11 +18,6 @@ OPTIONS = """usage: bin/run {name} [WORD OF PYTEST..] [--program FILE] [--seed N
 """
 # Each test is a line. What is skipped comes at the end.
 SHOWN = ["--verbose", "--no-header", "-rfE", "-p", "no:cacheprovider"]
-
-
-def is_module(file):
-    """Whether pytest runs a file: one that is no script."""
-    return Path(file).name.startswith("test_") and '__name__ == "__main__"' not in Path(file).read_text()
 
 
 class Counts:

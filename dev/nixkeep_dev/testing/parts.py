@@ -21,9 +21,10 @@ BOUNDED = {
 # The script that tries a team's deployment.
 TEAM = "../examples/team/try"
 # Those that take longest, the longest first: so at the end, when few are left, none of them goes on alone.
-LONGEST = [TEAM, "tools/test_cache", "gate/cases", "tools/test_remote", "tools/test_large", "faults/refuse_memory",
-           "faults/hostile_clients", "tools/test_closure", "faults/fail_streams", "faults/stop_writes",
-           "compare/nix_store", "compare/sqlite", "tools/test_explain", "tools/test_backup", "tools/test_overview"]
+LONGEST = [TEAM, "tools/test_remote", "gate/cases", "tools/test_overview", "faults/refuse_memory",
+           "faults/hostile_clients", "tools/test_large", "tools/test_closure", "faults/fail_streams",
+           "faults/stop_writes", "compare/nix_store", "compare/sqlite", "tools/test_explain", "tools/test_cache",
+           "tools/test_backup"]
 # What more is tried in the gate, where the proofs take longer anyway.
 MORE = {"compare/model": ["--count", "20000"]}
 # What only the gate tries, since it takes minutes, or has itself what `rt ci` has built: whether it is given the
@@ -108,5 +109,5 @@ def side_by_side(found, begun=()):
         others = [pool.submit(it.run) for it in found]
         for it in [*others, *first]:
             if ran := it.result():
-                runs.told(ran)
+                runs.show(ran)
         return [it.result() for it in [*first, *others]]

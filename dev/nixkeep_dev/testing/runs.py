@@ -132,7 +132,7 @@ def run(words, is_shown=True, each_second=lambda pid: None, limit=None):
     return Ran(words, status or counts is None, counts, "".join(kept), seconds, used)
 
 
-def told(ran):
+def show(ran):
     """Prints what a script printed that wasn't shown, and how long it took."""
     report.tell(f"\n{ran.name}: {60 * ran.minutes:.0f} s\n{ran.output}".rstrip("\n"))
 

@@ -1,4 +1,4 @@
-"""What the tests of nixkeep-remote, nixkeep-closure and nixkeep-backup share: servers, and a small proxy."""
+"""What tests of the tools share: servers of the program and of anything, a small proxy, and a terminal."""
 import base64
 import contextlib
 import fcntl
@@ -122,8 +122,8 @@ class UnixServer(ThreadingHTTPServer):
         self.server_name, self.server_port = "localhost", 0
 
     def get_request(self):
-        found, _ = super().get_request()
-        return found, ("unix", 0)
+        connection, _ = super().get_request()
+        return connection, ("unix", 0)
 
 
 class TcpServer(ThreadingHTTPServer):
@@ -158,3 +158,41 @@ def proxy(port, path=None, certificate=None, **more):
 
 def url(made, scheme="http"):
     return f"{scheme}://127.0.0.1:{made.server_address[1]}"
+
+
+# ---- a server of anything
+
+
+class Answers(BaseHTTPRequestHandler):
+    """Answers by a function of the method, the target and the fields: a status, a media type, a text or None for one
+    without an end, and further fields."""
+
+    protocol_version = "HTTP/1.1"
+
+    def answer(self):
+        self.rfile.read(int(self.headers.get("content-length", 0)))
+        status, media, text, *fields = self.server.reply_to(self.command, self.path, self.headers)
+        self.send_response(status)
+        length = 1 << 40 if text is None else len(text)
+        for it in [("content-type", media), ("content-length", str(length)), *fields]:
+            self.send_header(*it)
+        self.end_headers()
+        with contextlib.suppress(OSError):
+            while text is None:
+                self.wfile.write(bytes(1 << 20))
+            self.wfile.write(b"" if self.command == "HEAD" else text)
+
+    do_GET = do_HEAD = do_PUT = do_POST = do_DELETE = answer
+
+    def log_message(self, *_):
+        pass
+
+
+@contextlib.contextmanager
+def answering(reply_to):
+    """A server on a port of its own that answers by a function: its URL."""
+    with ThreadingHTTPServer(("127.0.0.1", 0), Answers) as made:
+        made.reply_to, made.daemon_threads = reply_to, True
+        threading.Thread(target=made.serve_forever, args=(0.05,), daemon=True).start()
+        yield url(made)
+        made.shutdown()
