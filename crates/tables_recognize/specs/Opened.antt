@@ -1,5 +1,5 @@
 -- What opening a connection says of it, and why a file isn't opened.
-use Rattle.std.specs.Prelude.{◌≡◌, ◌≢◌, ◌↔◌, ◌⊎◌, ⊤, true, false, ℤ, List, map, Option, Some, None, IsTrue}
+use Rattle.std.specs.Prelude.{◌≡◌, ◌≢◌, ◌↔◌, ◌⊎◌, ⊤, Bool, true, false, ℕ, ℤ, List, map, codes, Option, Some, None, IsTrue}
 use Rattle.std.specs.List.{AllByRecursion, IsDistinct}
 use Rattle.std.specs.Ordering.{eq_by_cmp, int_cmp}
 use Rattle.sqlite_value.specs.declared.value.Value.TheVariants.{Int}
@@ -28,6 +28,7 @@ use Rattle.sqlite.specs.declared.file.Leftover.{Leftover}
 use Rattle.sqlite.specs.declared.error.Error.{Error}
 use Rattle.sqlite.specs.declared.error.Error.TheVariants.{SqliteFailure}
 use Rattle.sqlite.specs.declared.error.ErrorCode.TheVariants.{CannotOpen, OutOfMemory, DatabaseBusy}
+use Rattle.paths.specs.Names.{begins}
 use Rattle.tables_sql.specs.declared.failure.Failed.{Failed}
 use Rattle.tables_sql.specs.declared.failure.Failed.TheVariants.{Memory}
 use Rattle.tables_recognize.specs.declared.file.UnopenedFile.{UnopenedFile}
@@ -52,6 +53,10 @@ IsOpeningError host.HotJournal e = e ≡ SqliteFailure CannotOpen
 IsOpeningError (host.Io fault) e =
     ((error_kind fault ≡ kind.OutOfMemory) × (e ≡ SqliteFailure OutOfMemory))
     ⊎ ((error_kind fault ≢ kind.OutOfMemory) × (e ≡ SqliteFailure CannotOpen))
+
+-- a path that is a URI for SQLite, and names no file here: it begins with `file:`
+abbrev pub is_uri : List ℕ → Bool
+is_uri path = begins path (codes "file:")
 
 -- by which schema the store's tables are there, if they are
 pub record IsRecognised (r : Recognised) (s : Schema) : Type 0 where

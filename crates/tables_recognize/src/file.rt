@@ -6,7 +6,7 @@ ghost use Rattle.sqlite.specs.Held.{state};
 ghost use Rattle.sqlite_wal.specs.Files.{image_at};
 ghost use Rattle.sqlite.specs.Files.{file_state};
 ghost use Rattle.sqlite.specs.Start.{FindsIn};
-ghost use Rattle.tables_recognize.specs.Opened.{IsFound, FailsToOpen, IsAsOpened, FailsToOpenFile};
+ghost use Rattle.tables_recognize.specs.Opened.{IsFound, FailsToOpen, IsAsOpened, FailsToOpenFile, is_uri};
 ghost use Rattle.tables_sql.specs.Calls.{KeepsShown};
 
 use crate::connection::connect;
@@ -87,6 +87,8 @@ pub fn open<S: Start>(
     start: S,
 ) -> Result<Opened<FileStore<FileFrom<S>>>, UnopenedFile<FileStore<FileFrom<S>>, FileFrom<S>>>
     ensures memory { path.now ≡ codes ":memory:"
+        → IsErrAnd result (λ e. (it : _) × (e ≡ UnopenedFile.Unfound it) × (it.failure ≡ None)) }
+    ensures uri { IsTrue (is_uri path.now)
         → IsErrAnd result (λ e. (it : _) × (e ≡ UnopenedFile.Unfound it) × (it.failure ≡ None)) }
     ensures idle { IfOk result (λ it. it.conn.in_transaction ≡ false) }
     ensures found { IfOk result (λ it. HasCleanDisk (file_state it.conn) → IsFound it.found (file_state it.conn)) }

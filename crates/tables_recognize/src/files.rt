@@ -3,7 +3,7 @@
 ghost use Rattle.std.specs.Prelude.{◌≡◌, ◌⊎◌, codes, None, IsTrue, IfOk, IfErr, IsErrAnd, false, true};
 ghost use Rattle.sqlite_std_file.specs.File.{file_is_usable, IsFresh};
 ghost use Rattle.tables_sql.specs.Failures.{opening_failure};
-ghost use Rattle.tables_recognize.specs.Opened.{IsOpeningError, IsUnfound};
+ghost use Rattle.tables_recognize.specs.Opened.{IsOpeningError, IsUnfound, is_uri};
 
 use crate::options::options;
 use sqlite::{Error, ErrorCode, FileFrom, Options, Start};
@@ -61,9 +61,17 @@ fn opening_error(error: OpenError) -> Error
     }
 }
 
+/// Whether a path is a URI for `sqlite`: it begins with `file:`.
+fn is_uri(path: &str) -> bool
+    ensures { result ≡ is_uri path.now }
+{
+    path.starts_with("file:")
+}
+
 /// The file at a path and its log. Neither memory nor a URI is one, as for `sqlite`.
 fn open_pair<S: Start>(rt: &HostRuntime, path: &str, start: S) -> Result<Files<FileFrom<S>>, Error>
     ensures memory { path.now ≡ codes ":memory:" → result ≡ Err (Error.SqliteFailure ErrorCode.CannotOpen) }
+    ensures uri { IsTrue (is_uri path.now) → result ≡ Err (Error.SqliteFailure ErrorCode.CannotOpen) }
     ensures usable { IfOk result
         (λ files. IsTrue (file_is_usable S.Start files.log) × IsTrue (file_is_usable S.Start files.db)) }
     ensures fresh { IfOk result (λ files. IsFresh true files.log × IsFresh false files.db) }
@@ -71,7 +79,7 @@ fn open_pair<S: Start>(rt: &HostRuntime, path: &str, start: S) -> Result<Files<F
         (λ e. (e ≡ Error.SqliteFailure ErrorCode.CannotOpen)
         ⊎ ((e ≡ Error.SqliteFailure ErrorCode.OutOfMemory) ⊎ (e ≡ Error.SqliteFailure ErrorCode.DatabaseBusy))) }
 {
-    if path == ":memory:" || path.starts_with("file:") {
+    if path == ":memory:" || is_uri(path) {
         return Err(CANNOT_OPEN);
     }
     match sqlite_std_file::open(rt, path, start) {
@@ -97,6 +105,7 @@ pub(crate) fn find<S: Start>(
     start: S,
 ) -> Result<Found<FileFrom<S>>, Unfound<FileFrom<S>>>
     ensures memory { path.now ≡ codes ":memory:" → IsErrAnd result (λ e. e.failure ≡ None) }
+    ensures uri { IsTrue (is_uri path.now) → IsErrAnd result (λ e. e.failure ≡ None) }
     ensures usable { IfOk result
         (λ it. IsTrue (file_is_usable S.Start it.files.log) × IsTrue (file_is_usable S.Start it.files.db)) }
     ensures fresh { IfOk result (λ it. IsFresh true it.files.log × IsFresh false it.files.db) }
