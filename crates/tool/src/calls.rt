@@ -1,5 +1,9 @@
 //! Subcommands that make a request to a store.
 ghost use Rattle.std.specs.Prelude.{◌≡◌, IsSome, Some};
+ghost use Rattle.model.specs.Reply.{Reply};
+ghost use Rattle.store_types.specs.View.{request_view};
+ghost use Rattle.store.specs.Calls.{Calls};
+ghost use Rattle.tool_pure.specs.Printing.{IsPrinted};
 ghost use Rattle.tool_words.specs.Asked.{asked_view};
 ghost use Rattle.tool_words.specs.Line.{line_view};
 ghost use Rattle.report.specs.Outputs.{change_of};
@@ -19,9 +23,34 @@ use std::alloc::Global;
 use std::io::{Read, Write};
 use std::rt::HostRuntime;
 use store::Store;
+use store_types::Request;
 use tables::{Close, Disk, Tables};
-use tool_pure::{parse_caller, say, serve, settings};
+use tool_pure::{parse_caller, print_reply, say, settings};
 use tool_words::{CommandLine, Task};
+
+/// Does a caller's request to a store, writes the reply on the two writers, and returns the exit status: 0 done, 1
+/// failed, 3 refused, 4 denied.
+///
+/// A request that was done stays done, also if a writer fails afterwards or memory for the text is refused.
+fn call_store<S: Alter, W: Write, E: Write>(
+    alloc: Global,
+    store: &mut Store<S>,
+    caller: &Caller,
+    request: Request,
+    output: &mut W,
+    errors: &mut E,
+) -> u8
+    // The store takes one step, and the reply of that step is printed.
+    ensures { (reply : Reply) × Calls S.Store caller.now (request_view request) reply store.old store.new
+        × IsPrinted store.old.settings.store_dir reply (record {
+          output = change_of W.contents output.old output.new;
+          errors = change_of E.contents errors.old errors.new;
+          status = result;
+        }) }
+{
+    let reply = store.call(caller, request);
+    print_reply(alloc, store_dir(store.config()), reply, output, errors)
+}
 
 /// Makes the request of a subcommand to a store over these tables, prints the reply, and returns the exit status.
 pub(crate) fn call_over<S: Alter + Drop + Close<Connection<S>>, R: Read, W: Write, E: Write>(
@@ -53,7 +82,7 @@ pub(crate) fn call_over<S: Alter + Drop + Close<Connection<S>>, R: Read, W: Writ
         Ok(request) => {
             let reads = reads(&request);
             let mut store = Store::new(alloc, config, tables);
-            let status = serve(alloc, &mut store, caller, request, output, errors);
+            let status = call_store(alloc, &mut store, caller, request, output, errors);
             end(store.release().release(), reads);
             status
         }

@@ -12,15 +12,15 @@ returns-in-Ok g c = record {
   answer = λ ask is.
       let input = change_of g.R.Read.remaining c.args.input.now c.request.new.input in
       let w : Written = record {
-        output = change_of g.W.Write.contents c.args.output.now c.serve-status.new.output;
-        errors = change_of g.E.Write.contents c.args.errors.now c.serve-status.new.errors;
-        status = c.serve-status.result;
+        output = change_of g.W.Write.contents c.args.output.now c.call_store-status.new.output;
+        errors = change_of g.E.Write.contents c.args.errors.now c.call_store-status.new.errors;
+        status = c.call_store-status.result;
       } in
       let caller = c.args.caller.now in
       let made = request_view c.in-Ok.request in
       asked (Serves g.S.Store c.args.config c.args.tables caller w) ask c.args.config.store_dir caller input c.in-Ok.request w
       (subst (λ (d : List ℕ). IsAskedBy ask d caller input (Ok c.in-Ok.request)) c.store_dir.ensures (c.in-Ok.ensures.asked ask is))
-      (λ r same. served g.S.Store caller w c.args.config c.args.tables made r c.new-store.result c.serve-status.new.store c.new-store.ensures same c.serve-status.ensures);
+      (λ r same. served g.S.Store caller w c.args.config c.args.tables made r c.new-store.result c.call_store-status.new.store c.new-store.ensures same c.call_store-status.ensures);
   reads = c.request.ensures.reads;
 }
 

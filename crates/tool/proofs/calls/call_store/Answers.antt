@@ -3,7 +3,7 @@ use Rattle.policy.specs.Settings.{Settings}
 use Rattle.store_types.specs.View.{reply_view}
 use Rattle.report.specs.Outputs.{change_of}
 use Rattle.tool_pure.specs.Printing.{IsPrinted}
-use Rattle.tool_pure.proofs.serving.serve.Goals as goal
+use Rattle.tool.proofs.calls.call_store.Goals as goal
 
 pub returns : goal.returns
 returns g c =
