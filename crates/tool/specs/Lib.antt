@@ -3,6 +3,7 @@ pub mod Bodies
 pub mod Callers
 pub mod Calls
 pub mod Files
+pub mod Laws
 pub mod Requests
 pub mod Serving
 pub mod Works

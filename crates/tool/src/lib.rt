@@ -10,6 +10,7 @@ mod ending;
 mod files;
 mod input_bodies;
 mod launch;
+pub mod laws;
 mod named;
 mod profiles;
 mod requests;

@@ -1,6 +1,7 @@
 pub mod Archive
 pub mod Configuration
 pub mod Faults
+pub mod Laws
 pub mod Object
 pub mod Stop
 pub mod Stream

@@ -6,6 +6,7 @@ mod callers;
 mod configuration;
 mod faults;
 mod input;
+pub mod laws;
 mod listings;
 mod object;
 mod printing;
