@@ -2,6 +2,7 @@
 use Rattle.std.proofs.Common.{◌≡◌, ℕ, ◌+◌, ◌<◌, Bool, false, List, [], ◌∷◌, ◌++◌, map, length, get_or, take, zero, suc, refl, sym, ap, subst, ◌∙◌, arith}
 use Rattle.std.specs.Prelude.{All, filter}
 use Rattle.std.specs.List.{list_any, range_with_len}
+use Rattle.std.specs.FinMap as finite
 use Rattle.std.proofs.lemmas.List.Elements.{All-filter}
 use Rattle.std.proofs.lemmas.List.FromFn.{get_or-range_with_len, length-range_with_len}
 use Rattle.live.specs.Graph.{references_only, same}
@@ -10,7 +11,7 @@ use Rattle.live.specs.Reach.{reaches, refers_to_any}
 use Rattle.model.specs.World.{Path, World}
 use Rattle.tables_outline.specs.Outline.{OutlineValue, outline_of}
 use Rattle.model.specs.Liveness as spec
-use Rattle.store_reach.specs.Linked.{rows_in}
+use Rattle.store_reach.specs.Linked.{graph_in, rows_in}
 use Rattle.store_reach.proofs.Places.{unreached}
 use Rattle.store_reach.proofs.Rising.{paths_in}
 use Rattle.store_reach.proofs.Reported.{graph_reported, paths_reported}
@@ -44,13 +45,15 @@ consumed_more f ks i h = consumed f ks i h ∙ ap (λ n. map f (take n ks)) one
 
 module _ (o : OutlineValue) (rows again : List Row) (is : rows ≡ rows_in o) (is_again : again ≡ rows_in o) (places passed : List ℕ) (same_places : passed ≡ places) (named : List Path)
     (those : (test : Path → Bool) → ((p : Path) → filter (same p) (paths_of rows) ≡ [] → test p ≡ false) → list_any test (map (path_at rows) places) ≡ list_any test named) where
-  goes : (p : Path) → refers_to_any (graph_of (rows_in o)) (map (path_at (rows_in o)) places) p ≡ refers_to_any (graph_of (rows_in o)) named p
+  goes : (p : Path) → refers_to_any (graph_in o) (map (path_at (rows_in o)) places) p ≡ refers_to_any (graph_in o) named p
   goes p =
-      ap (λ rs. list_any (reaches references_only (graph_of (rows_in o)) p) (map (path_at rs) places)) (sym is)
-      ∙ those (reaches references_only (graph_of (rows_in o)) p) (λ q none. unreached references_only o rows p q is none)
+      ap (λ rs. list_any (reaches references_only (graph_in o) p) (map (path_at rs) places)) (sym is)
+      ∙ those (reaches references_only (graph_in o) p) (λ q none. unreached references_only o rows p q is none)
 
-  pub deleted_reported : (w : World) → outline_of w ≡ o → filter (refers_to_any (graph_of again) (map (path_at again) passed)) (paths_of again) ≡ spec.deleted_paths w named
-  deleted_reported w reported =
+  pub deleted_in : filter (refers_to_any (graph_of again) (map (path_at again) passed)) (paths_of again) ≡ filter (refers_to_any (graph_in o) named) (finite.keys o.objects)
+  deleted_in =
       (λ i. filter (refers_to_any (graph_of (is_again i)) (map (path_at (is_again i)) (same_places i))) (paths_of (is_again i)))
       ∙ (λ i. filter (λ p. goes p i) (paths_in o i))
-      ∙ (λ i. filter (λ p. refers_to_any (graph_reported w o reported i) named p) (paths_reported w o reported i))
+
+pub deleted_reported : (o : OutlineValue) (named : List Path) (w : World) → outline_of w ≡ o → filter (refers_to_any (graph_in o) named) (finite.keys o.objects) ≡ spec.deleted_paths w named
+deleted_reported o named w reported = λ i. filter (λ p. refers_to_any (graph_reported w o reported i) named p) (paths_reported w o reported i)

@@ -1,5 +1,5 @@
 -- The first of some paths that lives, and the root that keeps it.
-use Rattle.std.proofs.Common.{◌≡◌, ℕ, ◌+◌, ◌<◌, Bool, true, cond, ◌||◌, List, [], ◌∷◌, length, take, get_or, slice_get, zero, suc, Option, Some, None, is_some, option_map, refl, sym, ap, subst, ◌∙◌, arith}
+use Rattle.std.proofs.Common.{◌≡◌, ℕ, ◌+◌, ◌<◌, ◌≤◌, Bool, true, false, cond, ◌||◌, List, [], ◌∷◌, length, take, get_or, slice_get, zero, suc, Option, Some, None, is_some, option_map, refl, sym, ap, subst, ◌∙◌, arith}
 use Rattle.std.specs.Prelude.{filter, find}
 use Rattle.std.specs.List.{list_any}
 use Rattle.std.specs.Option.{option_or}
@@ -7,26 +7,29 @@ use Rattle.std.proofs.lemmas.Bool.{false≢true}
 use Rattle.std.proofs.lemmas.List.{get_or-map}
 use Rattle.paths.specs.Root.{Root, in_order}
 use Rattle.live.specs.Exact.{IsExact}
-use Rattle.live.specs.Graph.{Keep}
-use Rattle.live.specs.Live.{first_root}
+use Rattle.live.specs.Graph.{Graph, Keep}
+use Rattle.live.specs.Live.{first_root, roots_that_reach}
 use Rattle.live.specs.Marking.{Marking, first_of}
 use Rattle.live.specs.Arguments.{root_view, roots_view}
-use Rattle.live.specs.Numbering.{Row, graph_of, no_root, path_at, root_at}
+use Rattle.live.specs.Numbering.{RootsRise, Row, graph_of, no_root, path_at, root_at}
 use Rattle.live.specs.Reach.{reaches}
+use Rattle.live.specs.Reaching.{reaches_any}
 use Rattle.live.specs.declared.numbered.rows.Root.{Root as Handed}
 use Rattle.live.proofs.Order.{in_order_is}
 use Rattle.policy.specs.Settings.{Settings}
 use Rattle.model.specs.World.{Path, World, roots_of}
 use Rattle.tables_outline.specs.Outline.{OutlineValue, outline_of}
-use Rattle.model.specs.Liveness.{first_root_of, keep_of, lives, roots_that_keep}
+use Rattle.model.specs.Liveness.{first_root_of, keep_of, lives}
 use Rattle.model.specs.Liveness as spec
 use Rattle.model.specs.Verdict.{root_of_first}
 use Rattle.model.proofs.WorldLives.{first_found, ordered_again}
 use Rattle.store_reach.specs.Keeping.{AreMarked, first_value}
-use Rattle.store_reach.specs.Linked.{rows_in}
+use Rattle.store_reach.specs.Linked.{graph_in, rows_in}
 use Rattle.tables_outline.specs.Rooted.{rooted}
 use Rattle.store_reach.proofs.Marked.{valid_rise}
-use Rattle.store_reach.proofs.Places.{keeping_reported, none_kept}
+use Rattle.store_reach.proofs.Places.{none_pass, none_reach, valid_reach}
+use Rattle.store_reach.proofs.WalksBack.{one_named}
+use Rattle.store_reach.proofs.Reported.{graph_reported, roots_reported}
 use Rattle.store_reach.proofs.Valid.{aims_well, some_found}
 
 -- ---- the first that has a value
@@ -91,30 +94,87 @@ module _ (s : Settings) (w : World) where
       by None e later = later ∙ ap (λ b. b || list_any (lives s w) ps) (sym (ap is_some e) ∙ lives_if p)
       by (Some r) e later = ap (λ b. b || list_any (lives s w) ps) (sym (ap is_some e) ∙ lives_if p)
 
-  -- the first root is the first of those that keep the path
-  first_keeping : (p : Path) → first_root_of s w p ≡ slice_get (roots_that_keep s w p) 0
-  first_keeping p =
-      let test : Root → Bool = λ r. reaches (keep_of s) (spec.graph_of w) r.target p in
-      ap (find test) (ordered_again w) ∙ sym (first_found test (roots_of w))
+-- ---- the first of some roots that reaches a path
 
--- ---- what the marks say of a world
+-- in order, it is the first of those that reach it
+first_reaching : (keep : Keep) (g : Graph) (roots : List Root) → RootsRise roots → (p : Path) → first_root keep g roots p ≡ slice_get (roots_that_reach keep g roots p) 0
+first_reaching keep g roots rise p =
+    let test : Root → Bool = λ r. reaches keep g r.target p in
+    ap (find test) (in_order_is roots rise) ∙ sym (first_found test roots)
 
-module _ (s : Settings) (o : OutlineValue) (keep : Keep) (rows : List Row) (valid : List Root) (kept : keep ≡ keep_of s) (is : rows ≡ rows_in o) (same : valid ≡ filter (aims_well o) (roots_of (rooted o)))
-    (w : World) (reported : outline_of w ≡ o) where
-  first_reported : (p : Path) → first_root keep (graph_of rows) valid p ≡ first_root_of s w p
-  first_reported p =
-      let test : Root → Bool = λ r. reaches keep (graph_of rows) r.target p in
-      ap (find test) (in_order_is valid (valid_rise o rows is valid same)) ∙ sym (first_found test valid)
-      ∙ ap (λ (rs : List Root). slice_get rs 0) (keeping_reported s o keep rows valid p p kept is same refl w reported) ∙ sym (first_keeping s w p)
+module _ (keep : Keep) (o : OutlineValue) (roots : List Root) (rise : RootsRise roots) (rows : List Row) (valid : List Root) (is : rows ≡ rows_in o) (same : valid ≡ filter (aims_well o) roots) where
+  -- roots whose targets aren't valid reach nothing
+  first_valid : (p : Path) → first_root keep (graph_of rows) valid p ≡ first_root keep (graph_in o) roots p
+  first_valid p =
+      first_reaching keep (graph_of rows) valid (valid_rise o rows is roots valid same rise) p
+      ∙ ap (λ (rs : List Root). slice_get rs 0) (valid_reach keep o rows valid roots p p is same refl) ∙ sym (first_reaching keep (graph_in o) roots rise p)
 
-  exactly : (m : Marking) → IsExact keep rows valid m → AreMarked rows m (root_at valid) (first_root_of s w)
+  exactly : (m : Marking) → IsExact keep rows valid m → AreMarked rows m (root_at valid) (first_root keep (graph_in o) roots)
   exactly m exact = record {
-    present = λ i l. sym (exact.first i l ∙ first_reported _);
-    nowhere = λ p none. first_keeping s w p ∙ ap (λ (rs : List Root). slice_get rs 0) (sym (none_kept s o rows p is none w reported));
+    present = λ i l. sym (exact.first i l ∙ first_valid _);
+    nowhere = λ p none. first_reaching keep (graph_in o) roots rise p ∙ ap (λ (rs : List Root). slice_get rs 0) (sym (none_reach keep o rows p roots is none));
   }
 
-  pub all_marked : (again : List Row) → again ≡ rows_in o → (m : Marking) → IsExact keep rows valid m → AreMarked again m (root_at valid) (first_root_of s w)
-  all_marked again also m exact = subst (λ (rs : List Row). AreMarked rs m (root_at valid) (first_root_of s w)) (is ∙ sym also) (exactly m exact)
+  -- the marks say so of rows that are borrowed again
+  pub all_marked : (again : List Row) → again ≡ rows_in o → (m : Marking) → IsExact keep rows valid m → AreMarked again m (root_at valid) (first_root keep (graph_in o) roots)
+  all_marked again also m exact = subst (λ (rs : List Row). AreMarked rs m (root_at valid) (first_root keep (graph_in o) roots)) (is ∙ sym also) (exactly m exact)
+
+-- ---- the first of those that reach some paths
+
+-- where nothing passes one of two tests, nothing passes the first, and nothing the second
+none_either : {X : Type 0} (f g : X → Bool) (xs : List X) → filter (λ x. f x || g x) xs ≡ [] → (filter f xs ≡ []) × (filter g xs ≡ [])
+none_either f g [] none = (refl, refl)
+none_either {X} f g (x ∷ xs) none = by (f x) (g x) (none_either f g xs) none
+  where
+    by : (a b : Bool) → (filter (λ y. f y || g y) xs ≡ [] → (filter f xs ≡ []) × (filter g xs ≡ []))
+        → cond (a || b) (x ∷ filter (λ y. f y || g y) xs) (filter (λ y. f y || g y) xs) ≡ []
+        → (cond a (x ∷ filter f xs) (filter f xs) ≡ []) × (cond b (x ∷ filter g xs) (filter g xs) ≡ [])
+    by true b later none = absurd cc
+    by false true later none = absurd cc
+    by false false later none = later none
+
+module _ (keep : Keep) (g : Graph) (roots : List Root) (rise : RootsRise roots) where
+  abbrev first : Path → Option Root
+  first = first_root keep g roots
+
+  abbrev keeping : List Path → List Root
+  keeping named = filter (λ r. reaches_any keep g named r.target) roots
+
+  none_living : (named : List Path) → keeping named ≡ [] → first_value first named ≡ None
+  none_living [] none = refl
+  none_living (p ∷ ps) none =
+      let parts = none_either (λ (r : Root). reaches keep g r.target p) (λ (r : Root). reaches_any keep g ps r.target) roots none in
+      ap (λ (o : Option Root). option_or o (first_value first ps)) (first_reaching keep g roots rise p ∙ ap (λ (rs : List Root). slice_get rs 0) parts.0) ∙ none_living ps parts.1
+
+  one_living : (p : Path) → slice_get (keeping (p ∷ [])) 0 ≡ first_value first (p ∷ [])
+  one_living p =
+      ap (λ (rs : List Root). slice_get rs 0) (one_named keep g (p ∷ []) p roots refl)
+      ∙ sym (first_reaching keep g roots rise p) ∙ or_none (first p)
+    where
+      or_none : (o : Option Root) → o ≡ option_or o None
+      or_none None = refl
+      or_none (Some r) = refl
+
+  -- if no root keeps one of the paths, none is the first
+  pub none_kept : (named : List Path) (found : List Root) → found ≡ keeping named → slice_get found 0 ≡ None → None ≡ first_value first named
+  none_kept named found is none = sym (none_living named (sym is ∙ empty found none))
+    where
+      empty : (rs : List Root) → slice_get rs 0 ≡ None → rs ≡ []
+      empty [] e = refl
+      empty (r ∷ rs) e = absurd (false≢true (sym (ap is_some e)))
+
+  -- of one path, the first that keeps it is
+  pub one_kept : (named : List Path) (found : List Root) → found ≡ keeping named → length named ≤ 1 → (r : Root) → slice_get found 0 ≡ Some r → Some r ≡ first_value first named
+  one_kept [] found is few r some =
+      absurd (false≢true (ap is_some (sym (ap (λ (rs : List Root). slice_get rs 0) (is ∙ none_pass (λ (r : Root). reaches_any keep g [] r.target) roots (λ r. refl))) ∙ some)))
+  one_kept (p ∷ []) found is few r some = sym some ∙ ap (λ rs. slice_get rs 0) is ∙ one_living p
+  one_kept (p ∷ q ∷ ps) found is few r some = absurd (omega (arith, few))
+
+-- ---- what an outline says of a world
+
+pub first_reported : (s : Settings) (o : OutlineValue) (keep : Keep) (roots : List Root) (named : List Path) → keep ≡ keep_of s → roots ≡ roots_of (rooted o) → (w : World) → outline_of w ≡ o
+    → first_value (first_root keep (graph_in o) roots) named ≡ first_value (first_root_of s w) named
+first_reported s o keep roots named kept is w reported = λ i. first_value (first_root (kept i) (graph_reported w o reported i) ((is ∙ roots_reported w o reported) i)) named
 
 -- the root at a place
 pub root_present : (given : List Handed) (k : ℕ) (r : Handed) → k < length given → r ≡ get_or given k r → root_at (roots_view given) k ≡ root_view r

@@ -7,6 +7,7 @@ pub mod Limited
 pub mod Marked
 pub mod Noted
 pub mod Pairs
+pub mod PathsFound
 pub mod Places
 pub mod Removed
 pub mod Rising
@@ -14,3 +15,4 @@ pub mod Shown
 pub mod Sized
 pub mod Reported
 pub mod Valid
+pub mod WalksBack

@@ -5,7 +5,9 @@ use Rattle.std.specs.List.{range_with_len}
 use Rattle.std.specs.FinMap as finite
 use Rattle.std.proofs.lemmas.List.{length-map, get_or-map}
 use Rattle.std.proofs.lemmas.List.Elements.{filter_more}
-use Rattle.paths.specs.Root.{Root}
+use Rattle.std.proofs.lemmas.List.Kept.{AllPairs-filter}
+use Rattle.std.specs.declared.cmp.Ordering.TheVariants.{Less}
+use Rattle.paths.specs.Root.{Root, root_cmp}
 use Rattle.live.specs.Exact.{IsExact}
 use Rattle.live.specs.Graph.{Keep}
 use Rattle.live.specs.Arguments.{row_view, rows_view}
@@ -21,28 +23,34 @@ use Rattle.tables_outline.specs.Rooted.{rooted}
 use Rattle.store_reach.proofs.Rising.{paths_in, roots_rise, rows_rise}
 use Rattle.store_reach.proofs.Valid.{aims_well, all_marked, valid_all}
 
+-- some of the roots rise, too
+some_rise : (roots : List Root) → RootsRise roots → (p : Root → Bool) → RootsRise (filter p roots)
+some_rise roots rise p = AllPairs-filter (λ a b. root_cmp a b ≡ Less) p roots rise
+
 module _ (o : OutlineValue) (rows : List Row) (is : rows ≡ rows_in o) where
   pub passed_rise : Rise (paths_of rows)
   passed_rise = subst (λ (rs : List Row). Rise (paths_of rs)) (sym is) (rows_rise o)
 
-  module _ (valid : List Root) (same : valid ≡ filter (aims_well o) (roots_of (rooted o))) where
-    pub valid_rise : RootsRise valid
-    valid_rise = subst RootsRise (sym same) (roots_rise o (aims_well o))
-
+  module _ (roots valid : List Root) (same : valid ≡ filter (aims_well o) roots) where
     pub valid_aimed : AreRootsOf rows valid
     valid_aimed = record {
       rows = passed_rise;
-      targets = subst (λ (rs : List Row). AllValid rs valid) (sym is) (subst (AllValid (rows_in o)) (sym same) (valid_all o (roots_of (rooted o))));
+      targets = subst (λ (rs : List Row). AllValid rs valid) (sym is) (subst (AllValid (rows_in o)) (sym same) (valid_all o roots));
     }
 
-    pub valid_listed : AreListed rows valid
-    valid_listed = record { aimed = valid_aimed; roots = valid_rise }
+    module _ (rise : RootsRise roots) where
+      pub valid_rise : RootsRise valid
+      valid_rise = subst RootsRise (sym same) (some_rise roots rise (aims_well o))
 
+      pub valid_listed : AreListed rows valid
+      valid_listed = record { aimed = valid_aimed; roots = valid_rise }
+
+  module _ (valid : List Root) (same : valid ≡ filter (aims_well o) (roots_of (rooted o))) where
     -- of each path whether it lives
     pub lives_marked : (s : Settings) (keep : Keep) (m : Marking) (n : ℕ) → keep ≡ keep_of s → IsExact keep rows valid m → n ≡ length rows
         → map (λ i. is_some (first_of m i)) (range_with_len 0 n) ≡ map (lives_in s o) (finite.keys o.objects)
     lives_marked s keep m n kept exact count =
-        all_marked (keep_of s) o (roots_of (rooted o)) (roots_rise o (aims_well o)) m
+        all_marked (keep_of s) o (roots_of (rooted o)) (some_rise (roots_of (rooted o)) (roots_rise o) (aims_well o)) m
         (subst (λ (k : Keep). IsExact k (rows_in o) (filter (aims_well o) (roots_of (rooted o))) m) kept
         (subst (λ (rs : List Row). IsExact keep rs (filter (aims_well o) (roots_of (rooted o))) m) is (subst (λ (vs : List Root). IsExact keep rows vs m) same exact)))
         n (count ∙ ap length is)

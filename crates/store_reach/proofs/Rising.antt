@@ -1,15 +1,18 @@
 -- Keys of a map rise.
 use Rattle.std.proofs.Common.{◌≡◌, List, [], ◌∷◌, map, get_or, sym, subst, arith, T}
-use Rattle.std.specs.Prelude.{AllPairs, filter}
+use Rattle.std.specs.Prelude.{AllPairs}
+use Rattle.std.specs.List.{AllByRecursion}
+use Rattle.std.specs.List.Sorted.{IsStrictlySortedBy}
+use Rattle.std.specs.Ordering.{is_lt}
 use Rattle.std.specs.declared.cmp.Ordering.{Ordering}
 use Rattle.std.specs.declared.cmp.Ordering.TheVariants.{Less}
 use Rattle.std.specs.Cmp.{IsTotalOrder}
 use Rattle.std.specs.FinMap as finite
 use Rattle.std.specs.FinMap.Entries.{is_sorted, below_all}
 use Rattle.std.proofs.lemmas.List.Elements.{Contains-get_or}
-use Rattle.std.proofs.lemmas.List.Kept.{AllPairs-cons, AllPairs-filter}
-use Rattle.paths.specs.Root.{Root, root_cmp, set_of, in_order}
-use Rattle.live.proofs.Members.{below}
+use Rattle.std.proofs.lemmas.List.Kept.{AllPairs-cons}
+use Rattle.paths.specs.Root.{root_cmp, set_of, in_order}
+use Rattle.live.proofs.Members.{below, lesser}
 use Rattle.live.proofs.Order.{root_total}
 use Rattle.live.specs.Numbering.{Rise, RootsRise, paths_of}
 use Rattle.tables_outline.specs.Outline.{OutlineValue}
@@ -31,6 +34,20 @@ module _ {K X : Type 0} {R : K → K → Ordering} (o : IsTotalOrder R) where
   pub keys_rise : (m : finite.FinMap R X) → AllPairs (λ a b. R a b ≡ Less) (finite.keys m)
   keys_rise m = sorted_rise (finite.entries m) (finite.entries_sorted m)
 
+-- keys are in order, as std says it of lists
+module _ {K X : Type 0} (R : K → K → Ordering) where
+  all_below : (k : K) (es : List (K × X)) → T (below_all R k es) → AllByRecursion (λ y. R k y ≡ Less) (map (λ (e : K × X). e.0) es)
+  all_below k [] h = tt
+  all_below k (e ∷ es) h = let parts = both_T (is_lt (R k e.0)) (below_all R k es) h in (lesser (R k e.0) parts.0, all_below k es parts.1)
+
+  entries_sorted : (es : List (K × X)) → T (is_sorted R es) → IsStrictlySortedBy R (map (λ (e : K × X). e.0) es)
+  unfolding IsStrictlySortedBy
+  entries_sorted [] h = tt
+  entries_sorted (e ∷ es) h = let parts = both_T (below_all R e.0 es) (is_sorted R es) h in (all_below e.0 es parts.0, entries_sorted es parts.1)
+
+  pub keys_sorted : (m : finite.FinMap R X) → IsStrictlySortedBy R (finite.keys m)
+  keys_sorted m = entries_sorted (finite.entries m) (finite.entries_sorted m)
+
 -- the paths of the rows
 pub paths_in : (o : OutlineValue) → paths_of (rows_in o) ≡ finite.keys o.objects
 paths_in o = map-map row_in (λ r. r.0) (finite.entries o.objects)
@@ -38,7 +55,7 @@ paths_in o = map-map row_in (λ r. r.0) (finite.entries o.objects)
 pub rows_rise : (o : OutlineValue) → Rise (paths_of (rows_in o))
 rows_rise o = subst Rise (sym (paths_in o)) (keys_rise bytes_total o.objects)
 
--- roots in order rise, and so do some of them
-pub roots_rise : (o : OutlineValue) (p : Root → _) → RootsRise (filter p (roots_of (rooted o)))
+-- roots in order rise
+pub roots_rise : (o : OutlineValue) → RootsRise (roots_of (rooted o))
 unfolding in_order
-roots_rise o p = AllPairs-filter (λ a b. root_cmp a b ≡ Less) p (roots_of (rooted o)) (keys_rise root_total (set_of root_cmp _))
+roots_rise o = keys_rise root_total (set_of root_cmp _)

@@ -22,7 +22,8 @@ use Rattle.tables_outline.specs.Outline.{OutlineValue}
 use Rattle.tables_outline.proofs.Orders.{bytes_total, bytes_antisymmetric}
 use Rattle.tables_outline.proofs.Puts.{tied_is}
 use Rattle.tables_outline.proofs.Reported.{has-reported}
-use Rattle.store_reach.specs.Linked.{links_in, rows_in}
+use Rattle.tables_outline.specs.Turned.{links_in}
+use Rattle.store_reach.specs.Linked.{rows_in}
 use Rattle.store_reach.proofs.Rising.{paths_in}
 
 -- whether the target of a root is valid

@@ -1,7 +1,7 @@
 -- What lives in an outline.
 use Rattle.std.specs.Prelude.{Bool, not, if◌then◌else◌, List, map}
 use Rattle.std.specs.FinMap as finite
-use Rattle.live.specs.Graph.{Links}
+use Rattle.live.specs.Graph.{Graph}
 use Rattle.live.specs.Live.{is_live}
 use Rattle.live.specs.Numbering.{AreRootsOf, RootsRise, Row, graph_of}
 use Rattle.paths.specs.Root.{Root}
@@ -10,10 +10,7 @@ use Rattle.model.specs.World.{Path, roots_of}
 use Rattle.tables_outline.specs.Outline.{OutlineValue, Outlined}
 use Rattle.model.specs.Liveness.{keep_of}
 use Rattle.tables_outline.specs.Rooted.{rooted}
-
--- what an object points to
-abbrev pub links_in : Outlined → Links
-links_in o = record { references = finite.keys o.references; outputs = finite.values o.outputs; deriver = o.deriver }
+use Rattle.tables_outline.specs.Turned.{links_in}
 
 abbrev pub row_in : Path × Outlined → Row
 row_in e = (e.0, links_in e.1)
@@ -22,6 +19,10 @@ row_in e = (e.0, links_in e.1)
 abbrev pub rows_in : OutlineValue → List Row
 rows_in o = map row_in (finite.entries o.objects)
 
+-- the graph of an outline's objects
+abbrev pub graph_in : OutlineValue → Graph
+graph_in o = graph_of (rows_in o)
+
 -- roots of rows, which rise themselves
 pub record AreListed (at : List Row) (of : List Root) : Type 0 where
   pub aimed : AreRootsOf at of
@@ -29,7 +30,7 @@ pub record AreListed (at : List Row) (of : List Root) : Type 0 where
 
 -- whether some root reaches a path
 abbrev pub lives_in : Settings → OutlineValue → Path → Bool
-lives_in s o p = is_live (keep_of s) (graph_of (rows_in o)) (roots_of (rooted o)) p
+lives_in s o p = is_live (keep_of s) (graph_in o) (roots_of (rooted o)) p
 
 -- whether a path is live, if live ones are asked for, or else dead
 abbrev pub is_wanted : Bool → Bool → Bool

@@ -2,6 +2,7 @@
 
 ghost use Rattle.std.specs.Prelude.{◌≡◌, ◌<◌, All, Bool, [], None, Ok, IfOk, false, filter, length, map, not};
 ghost use Rattle.std.specs.List.{list_any, list_all};
+ghost use Rattle.std.specs.FinMap as finite;
 ghost use Rattle.live.specs.Graph.{same};
 ghost use Rattle.live.specs.Arguments.{rows_view};
 ghost use Rattle.live.specs.Numbering.{Rise, graph_of, path_at, paths_of};
@@ -11,6 +12,7 @@ ghost use Rattle.tables_outline.specs.Outline.{outline_of};
 ghost use Rattle.model.specs.declared.refusal.Refusal.TheVariants.{NotValid};
 ghost use Rattle.model.specs.Tests.{unless};
 ghost use Rattle.store_reach.specs.Found.{IsDenial, deletes, found_view};
+ghost use Rattle.store_reach.specs.Linked.{graph_in};
 ghost use Rattle.store_types.specs.Tested.{Gives};
 ghost use Rattle.store_types.specs.View.{request_view};
 ghost use Rattle.policy.specs.Settings.{Settings};
@@ -24,9 +26,10 @@ ghost use Rattle.model.specs.Request as asked;
 
 use crate::keeping::first_live;
 use crate::linking::rows;
+use crate::reached::{paths_found, reached};
 use crate::removing::{Found, remove};
 use crate::sizes::bytes_in;
-use live::{Graph, Row, place_of, referrers};
+use live::{Graph, Keep, Row, place_of, referrers};
 use paths::StorePath;
 use policy::{Caller, Config, class};
 use sqlite::Alter;
@@ -82,7 +85,22 @@ fn referring(alloc: Global, rows: &[Row], places: &[usize]) -> Result<Vec<StoreP
     paths_at(alloc, rows, &deleted)
 }
 
-/// The named paths that are valid and all that reach one by references, named or not, in order.
+/// The named paths that are valid and all that reach one by references, by rows of all objects.
+fn deleted_by_rows(
+    alloc: Global,
+    outline: &Outline,
+    named: &[StorePath],
+) -> Result<Vec<StorePath>, AllocError>
+    ensures { IfOk result
+        (λ v. v.items ≡ filter (refers_to_any (graph_in outline.now) named.now) (finite.keys outline.now.objects)) }
+{
+    let rows = rows(alloc, outline)?;
+    let places = places(alloc, &rows, named)?;
+    referring(alloc, &rows, &places)
+}
+
+/// The named paths that are valid and all that reach one by references, named or not, in order: by one walk back from
+/// the named where the outline has its links turned round, or else by rows.
 pub fn deleted_paths(
     alloc: Global,
     outline: &Outline,
@@ -90,9 +108,15 @@ pub fn deleted_paths(
 ) -> Result<Vec<StorePath>, AllocError>
     ensures { IfOk result (λ v. (w : World) → outline_of w ≡ outline.now → v.items ≡ spec.deleted_paths w named.now) }
 {
-    let rows = rows(alloc, outline)?;
-    let places = places(alloc, &rows, named)?;
-    referring(alloc, &rows, &places)
+    let Some(links) = outline.links() else {
+        return deleted_by_rows(alloc, outline, named);
+    };
+    let references_only = Keep {
+        outputs: false,
+        derivations: false,
+    };
+    let reaching = reached(alloc, links, references_only, named)?;
+    paths_found(alloc, links, &reaching)
 }
 
 /// The root that denies a deletion: the first root of the first named path that is live, as the caller sees it. `None`

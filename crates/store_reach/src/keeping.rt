@@ -3,8 +3,10 @@
 ghost use Rattle.std.specs.Prelude.{◌≡◌, ◌<◌, ℕ, IfOk, IfSome, Option, find, is_some, length, option_map};
 ghost use Rattle.std.specs.List.{list_any};
 ghost use Rattle.paths.specs.Root.{Root as TheRoot};
-ghost use Rattle.live.specs.Arguments.{rows_view};
-ghost use Rattle.live.specs.Numbering.{Rise, paths_of};
+ghost use Rattle.live.specs.Arguments.{root_view, roots_view, rows_view};
+ghost use Rattle.live.specs.Keeping.{keep_view};
+ghost use Rattle.live.specs.Live.{first_root};
+ghost use Rattle.live.specs.Numbering.{Rise, RootsRise, paths_of};
 ghost use Rattle.model.specs.World.{Path, World};
 ghost use Rattle.tables_outline.specs.Maps.{labelled_bytes};
 ghost use Rattle.tables_outline.specs.Outline.{outline_of};
@@ -12,12 +14,14 @@ ghost use Rattle.model.specs.Liveness as spec;
 ghost use Rattle.model.specs.Seen as sights;
 ghost use Rattle.model.specs.Verdict.{root_of_first};
 ghost use Rattle.store_reach.specs.Keeping.{AreMarked, first_value};
+ghost use Rattle.store_reach.specs.Linked.{graph_in};
 
 use crate::borrowing::{borrowed_roots, of_valid};
 use crate::linking::rows;
 use crate::living::{keep_of, marks};
+use crate::reached::{reached, roots_found};
 use crate::seen::seen_root;
-use live::{Marks, Row, place_of};
+use live::{Keep, Marks, Root, Row, place_of};
 use paths::StorePath;
 use policy::{Class, Config};
 use std::alloc::{AllocError, Global};
@@ -43,6 +47,57 @@ fn first_mark(rows: &[Row], marks: &Marks, named: &[StorePath]) -> Option<usize>
     None
 }
 
+/// The first root of the first of some paths that lives, by the marks of all.
+fn first_by_marks<'a>(
+    alloc: Global,
+    keep: Keep,
+    outline: &Outline,
+    roots: &[Root<'a>],
+    named: &[StorePath],
+) -> Result<Option<Root<'a>>, AllocError>
+    requires { RootsRise (roots_view roots.now) }
+    ensures { IfOk result
+        (λ r. option_map root_view r
+        ≡ first_value (first_root (keep_view keep) (graph_in outline.now) (roots_view roots.now)) named.now) }
+{
+    let rows = rows(alloc, outline)?;
+    let valid = of_valid(alloc, outline, roots)?;
+    let marks = marks(alloc, keep, &rows, &valid)?;
+    let Some(place) = first_mark(&rows, &marks, named) else {
+        return Ok(None);
+    };
+    Ok(Some(valid[place]))
+}
+
+/// The first root of the first of some paths that lives. Where the outline has its links turned round, one walk back
+/// from all of them shows whether one lives, and of one path which root keeps it. Only if one of several lives, the
+/// marks of all show which is the first: a walk from each of many would be longer than marking.
+fn first_keeping<'a>(
+    alloc: Global,
+    keep: Keep,
+    outline: &Outline,
+    roots: &[Root<'a>],
+    named: &[StorePath],
+) -> Result<Option<Root<'a>>, AllocError>
+    requires { RootsRise (roots_view roots.now) }
+    ensures { IfOk result
+        (λ r. option_map root_view r
+        ≡ first_value (first_root (keep_view keep) (graph_in outline.now) (roots_view roots.now)) named.now) }
+{
+    let Some(links) = outline.links() else {
+        return first_by_marks(alloc, keep, outline, roots, named);
+    };
+    let reaching = reached(alloc, links, keep, named)?;
+    let found = roots_found(alloc, links, &reaching, roots)?;
+    let Some(root) = found.first() else {
+        return Ok(None);
+    };
+    if named.len() > 1 {
+        return first_by_marks(alloc, keep, outline, roots, named);
+    }
+    Ok(Some(*root))
+}
+
 /// The label and the target of the first root of the first of some paths that lives, as a caller of a class sees them.
 /// `None` if all paths are dead.
 pub fn first_live(
@@ -59,14 +114,12 @@ pub fn first_live(
     ensures lives { IfOk result
         (λ r. (w : World) → outline_of w ≡ outline.now → is_some r ≡ list_any (spec.lives config.now w) named.now) }
 {
-    let rows = rows(alloc, outline)?;
     let roots = root_list(alloc, outline)?;
     let given = borrowed_roots(alloc, &roots)?;
-    let valid = of_valid(alloc, outline, &given)?;
-    let marks = marks(alloc, keep_of(config), &rows, &valid)?;
-    let Some(place) = first_mark(&rows, &marks, named) else {
+    let first = first_keeping(alloc, keep_of(config), outline, &given, named)?;
+    let Some(root) = first else {
         return Ok(None);
     };
-    let root = seen_root(alloc, class, valid[place])?;
-    Ok(Some(root))
+    let shown = seen_root(alloc, class, root)?;
+    Ok(Some(shown))
 }

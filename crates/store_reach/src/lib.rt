@@ -7,6 +7,7 @@ pub mod deleting;
 mod keeping;
 mod linking;
 mod living;
+mod reached;
 mod reaching;
 mod removing;
 mod root_lists;

@@ -13,6 +13,7 @@ use Rattle.store_reach.specs.Sizes.{size_in}
 use Rattle.paths.specs.RootView.{root_view}
 use Rattle.store_reach.proofs.Limited.{limited_reported, sized}
 use Rattle.store_reach.proofs.Marked.{valid_listed}
+use Rattle.store_reach.proofs.Rising.{roots_rise}
 use Rattle.store_reach.proofs.Valid.{aims_well}
 use Rattle.store_reach.proofs.collecting.limited_paths.Goals as goal
 
@@ -22,7 +23,7 @@ places-requires-clause-listed c =
     let same : roots_view c.deref-5.result.now ≡ filter (aims_well o) (roots_of (rooted o)) =
     ap roots_view c.deref-5.ensures.value ∙ c.in_ok-valid.ensures
     ∙ ap (filter (aims_well o)) (ap roots_view c.deref-2.ensures.value ∙ c.in_ok-given.ensures ∙ ap (map root_view) c.deref.ensures.value ∙ c.in_ok-roots.ensures) in
-    valid_listed o (rows_view c.deref-4.result.now) (ap rows_view c.deref-4.ensures.value ∙ c.in_ok-rows.ensures) (roots_view c.deref-5.result.now) same
+    valid_listed o (rows_view c.deref-4.result.now) (ap rows_view c.deref-4.ensures.value ∙ c.in_ok-rows.ensures) (roots_of (rooted o)) (roots_view c.deref-5.result.now) same (roots_rise o)
 
 pub places-requires-clause-sizes : goal.places-requires-clause-sizes
 places-requires-clause-sizes c =

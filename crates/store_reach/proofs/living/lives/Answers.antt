@@ -8,6 +8,7 @@ use Rattle.model.specs.World.{roots_of}
 use Rattle.tables_outline.specs.Rooted.{rooted}
 use Rattle.paths.specs.RootView.{root_view}
 use Rattle.store_reach.proofs.Marked.{lives_marked, valid_listed}
+use Rattle.store_reach.proofs.Rising.{roots_rise}
 use Rattle.store_reach.proofs.Valid.{aims_well}
 use Rattle.store_reach.proofs.living.lives.Goals as goal
 
@@ -17,7 +18,7 @@ marks-requires c =
     let same : roots_view c.deref-3.result.now ≡ filter (aims_well o) (roots_of (rooted o)) =
     ap roots_view c.deref-3.ensures.value ∙ c.in_ok-valid.ensures
     ∙ ap (filter (aims_well o)) (ap roots_view c.deref-2.ensures.value ∙ c.in_ok-given.ensures ∙ ap (map root_view) c.deref.ensures.value ∙ c.in_ok-roots.ensures) in
-    valid_listed o (rows_view c.args.rows.now) c.requires (roots_view c.deref-3.result.now) same
+    valid_listed o (rows_view c.args.rows.now) c.requires (roots_of (rooted o)) (roots_view c.deref-3.result.now) same (roots_rise o)
 
 pub returns : goal.returns
 returns c =
