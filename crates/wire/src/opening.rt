@@ -8,7 +8,8 @@ use std::alloc::{AllocError, Global};
 use store::Store;
 use tables_writes::{Close, Tables};
 
-/// A server, and the store of these tables.
+/// A server, and the store of these tables, which keep their links turned round from now on: many ask, and a question
+/// about one path then doesn't read all objects. If memory is refused for the links, it does.
 ///
 /// # Errors
 ///
@@ -21,6 +22,8 @@ pub(crate) fn open<S: Alter + Drop>(
     requires { tables.dir ≡ config.store_dir }
     ensures { IfOk result (λ it. it.1 ≡ record { tables = tables; settings = config }) }
 {
+    let mut tables = tables;
+    tables.turn_links();
     match Server::new(alloc) {
         Ok(server) => Ok((server, Store::new(alloc, config, tables))),
         Err(fault) => {
