@@ -1,7 +1,10 @@
 //! Opening a file.
 
-ghost use Rattle.std.specs.Prelude.{◌≡◌, IfOk, IfErr};
+ghost use Rattle.std.specs.Prelude.{◌≡◌, codes, IsTrue, IsErrAnd, IfOk, IfErr};
 ghost use Rattle.sqlite_wal.specs.Files.{image_at};
+ghost use Rattle.tables_recognize.specs.Opened.{is_uri};
+ghost use Rattle.tables.specs.Causes.{cause_of};
+ghost use Rattle.tables.specs.declared.unopened.Cause.TheVariants.{BadSchema};
 ghost use Rattle.tables.specs.Opened.{Opens, IsUnopened};
 
 use crate::adoption::take;
@@ -33,6 +36,8 @@ pub fn open<S: Start>(
     dir: &StoreDir,
     start: S,
 ) -> Result<Tables<FileStore<FileFrom<S>>>, Unopened<FileStore<FileFrom<S>>, FileFrom<S>>>
+    ensures memory { path.now ≡ codes ":memory:" → IsErrAnd result (λ e. cause_of e ≡ BadSchema) }
+    ensures uri { IsTrue (is_uri path.now) → IsErrAnd result (λ e. cause_of e ≡ BadSchema) }
     ensures dir { IfOk result (λ t. t.dir ≡ dir.now) }
     ensures opens { IfOk result (λ t. Opens (image_at S.Start) dir.now t) }
     ensures cause { IfErr result (λ e. IsUnopened (image_at S.Start) dir.now e) }
