@@ -27,6 +27,7 @@ pub use tool_pure::{Failure, Stop, Verdict, judge, ls, source_path, text_path, w
 pub use tool_words::{
     Acting, CommandError, CommandLine, DeleteArguments, GcArguments, NamedRootKind,
     ObjectArguments, ProfileAction, ProfileArguments, RootArguments, ServeArguments, Task,
-    TempAction, TempArguments, UnrootArguments, Unrooted, UsageFault, command,
+    TempAction, TempArguments, UnrootArguments, Unrooted, UsageFault, arguments_have_defaults,
+    command,
 };
 pub use wire::serve_on;

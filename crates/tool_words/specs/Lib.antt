@@ -1,6 +1,7 @@
 pub mod Actions
 pub mod Arguments
 pub mod Asked
+pub mod Defaults
 pub mod Grammar
 pub mod Line
 pub mod Usage

@@ -5,6 +5,7 @@ mod actions;
 mod arguments;
 mod error;
 mod grammar;
+mod laws;
 mod line;
 mod parse;
 mod subcommands;
@@ -13,6 +14,7 @@ mod values;
 mod verb;
 
 pub use error::{Acting, CommandError, UsageFault};
+pub use laws::arguments_have_defaults;
 pub use line::{
     CommandLine, DeleteArguments, GcArguments, NamedRootKind, ObjectArguments, ProfileAction,
     ProfileArguments, RootArguments, ServeArguments, Task, TempAction, TempArguments,
