@@ -26,7 +26,8 @@ OptionsAreNone = (rs : List Row) (name : Text) (of : List Row) (asked : Asked)
     → IsLeftOut (codes "db") rs → IsLeftOut (codes "config") rs
     → IsLeftOut (codes "user") rs → IsLeftOut (codes "group") rs
     → asked_by name of ≡ Ok asked
-    → line_from rs (Some (name, of)) ≡ Ok (record { db = None; config = None; user = None; group = None; asked = asked })
+    → line_from rs (Some (name, of))
+    ≡ Ok (record { db = None; config = None; user = None; group = None; asked = asked })
 
 -- a collection without `--max-freed` has no limit
 abbrev pub CollectsAll : Type 0
