@@ -44,7 +44,6 @@ def program_file(config):
     try:
         file = os.path.abspath(config.getoption("--program") or release.ready())
     except SystemExit as stopped:
-        # (a failure of a fixture is kept, so the next test doesn't try to build the program again)
         pytest.fail(f"there is no program: status {stopped.code}", pytrace=False)
     if not os.access(file, os.X_OK):
         pytest.fail(f"there is no program {file}", pytrace=False)
@@ -52,9 +51,13 @@ def program_file(config):
 
 
 @pytest.fixture(scope="session")
-def program(pytestconfig):
-    """The file of the program that is tried."""
-    return program_file(pytestconfig)
+def program(request):
+    """The file of the program that is tried. Where there is none, nothing more is tried."""
+    try:
+        return program_file(request.config)
+    except pytest.fail.Exception as why:
+        request.session.shouldfail = str(why)
+        raise
 
 
 @pytest.fixture

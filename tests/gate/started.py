@@ -27,8 +27,8 @@ SAYS = "the stand-in proves nothing"
 STAND_IN = {"rt": f"[ $1 != version ] || exec echo '{program.TOOLCHAIN}'; echo {SAYS}; exit 1",
             "rattle": f"echo {SAYS}; exit 1"}
 # What takes the option --program and needs none.
-NEEDS_NONE = ("bin/test", "bin/bench", "tests/gate/", "tests/tools/test_launcher.py", "tests/tools/test_release.py",
-              "tools/")
+NEEDS_NONE = ("bin/test", "bin/bench", "tests/gate/", "tools/",
+              *(f"tests/tools/test_{it}.py" for it in ("foreign", "large_model", "launcher", "release")))
 # One name of each part of bin/test that needs the program; the others are of checks that need none.
 RUNS = (["cases", "who"], ["compare", "curl"], ["faults", "cut_heads"], ["tools", "remote"], ["team", "cache"],
         ["package", "files"], [])

@@ -149,17 +149,13 @@ def test_the_limit_of_the_file(unit):
         while len(added) < 20 and (reply := ann("POST", "/text", text(f"t{len(added)}", contents)))[0] == 200:
             added.append(reply[1].decode().strip())
         assert 5 < len(added) < 10, ("the file grows up to its limit", len(added))
-        assert reply[0] == 507 and reply[1].startswith(b"failed: full ") and reply[1].endswith(b"collect\n"), (
-            "then an add is refused, and the reply says why", reply)
+        assert reply[0] == 507 and reply[1].startswith(b"failed: full ") and reply[1].endswith(b"collect\n"), reply
         assert ann("PUT", f"/nar/{'0' * 52}.nar", contents)[0] == 507, "so is an upload"
-        assert ann("POST", "/root/user/ann/kept", body(("path", added[0])))[0] == 200, (
-            "a root is set, so that a collection can follow")
-        assert "warning: the store has" in Path(store.log).read_text(), (
-            "a line has warned", Path(store.log).read_text())
+        assert ann("POST", "/root/user/ann/kept", body(("path", added[0])))[0] == 200, "for a collection"
+        assert "warning: the store has" in Path(store.log).read_text(), Path(store.log).read_text()
         remote = subprocess.run([f"{parts.TOOLS}/nixkeep-remote", "--server", f"unix:{store.place}", "--as", "ann",
                                  "add-text", "more"], input=contents, capture_output=True)
-        assert remote.returncode == 1 and remote.stderr.startswith(b"failed: full "), (
-            "nixkeep-remote has the line too", remote)
+        assert remote.returncode == 1 and remote.stderr.startswith(b"failed: full "), remote
         assert ann("POST", "/collect")[0] == 200, "a collection"
         time.sleep(1.1)
         assert ann("POST", "/text", text("again", contents))[0] == 200, "makes room at once"
@@ -170,8 +166,7 @@ def test_the_share_of_a_user(unit, folder):
     contents = bytes(10_000)
     with unit("--most-bytes-each", "25000") as store:
         add = lambda user, name: ask(store.place, user, "POST", "/text", text(name, contents))
-        assert [add("ann", it)[0] for it in ("a", "b", "c")] == [200, 200, 507], (
-            "two adds of a user are within the share, and a third isn't")
+        assert [add("ann", it)[0] for it in ("a", "b", "c")] == [200, 200, 507], "a third isn't within the share"
         said = add("ann", "c")[1]
         assert said.endswith(b"of 25000 bytes are used by ann: drop roots, and collect\n"), ("the reply says so", said)
         assert add("bob", "c")[0] == 200, "another user has a share, too"
@@ -285,8 +280,7 @@ def test_paths_kept_in_turns(folder):
     collect = cache_sessions.Request(cache_sessions.Caller("bob", None), "POST", "/collect")
     made.asked(ann, None)
     assert asyncio.run(made.before(collect)) == "/collect", "the reply is that to the collection"
-    assert [len(it) for it in exchanges] == [100, 100, 52], (
-        "250 paths are kept a hundred at a time, and the last with one that is asked for meanwhile")
+    assert [len(it) for it in exchanges] == [100, 100, 52], "the last with one that is asked for meanwhile"
     asyncio.run(made.before(collect))
     assert exchanges[3] == ["/collect"], "and once"
     made.asked(ann, "ann's")
@@ -336,8 +330,7 @@ def test_replies_that_nobody_reads(folder):
         return text.partition(b"\r\n\r\n")[2]
 
     assert asyncio.run(run()) == bytes(size), "six clients take nothing, and another gets its reply of 4 MiB"
-    assert heads[0].endswith(b"\r\n\r\n") and b"Content-Length: %d\r\n" % size in heads[0], (
-        "HEAD of it has its length and no body", heads)
+    assert heads[0].endswith(b"\r\n\r\n") and b"Content-Length: %d\r\n" % size in heads[0], ("of HEAD", heads)
     assert max(held) <= most, ("never were there more bytes than there is room", held)
 
 
@@ -391,8 +384,7 @@ def test_many_slow_clients(folder):
             return served
 
     sending = cache_http.Sending(16 * size, 60)
-    assert asyncio.run(run()) == [b"ann", b"carol"], (
-        "of a user's 24 slow clients some lose their connections, and others get their replies")
+    assert asyncio.run(run()) == [b"ann", b"carol"], "others get their replies"
 
 
 def test_a_client_that_leaves(folder):
@@ -422,8 +414,7 @@ def test_a_client_that_leaves(folder):
                 await asyncio.sleep(0 if ended else 0.1)
         return is_reading, ended, blobs.sending.bytes
 
-    assert asyncio.run(run()) == (True, [True], 0), (
-        "a client asks for the end of a large archive, and leaves: it isn't read further")
+    assert asyncio.run(run()) == (True, [True], 0), "it isn't read further"
 
 
 def not_read_by(pid):

@@ -145,8 +145,7 @@ def test_the_ends_of_frames():
     bounds = [0, len(skipped)]
     for it in texts[:4]:
         bounds.append(bounds[-1] + len(made[3].compress(it)))
-    assert [end for end in range(len(data) + 1) if is_whole(data[:end], 11)] == [*bounds, len(data)], (
-        "frames one after another, and those to skip, end at their ends")
+    assert [end for end in range(len(data) + 1) if is_whole(data[:end], 11)] == [*bounds, len(data)]
     sizes = [len(it) for it in blob_packing.of_zstd(io.BytesIO(made[0].compress(bytes(64 << 20))))]
     assert (sum(sizes), max(sizes) <= 1 << 20) == (64 << 20, True), "64 MiB in a small file come in pieces"
 
@@ -250,8 +249,7 @@ def test_both_forms_whole_and_in_ranges(served):
         assert get(form, "-H", f"range: bytes={len(whole)}-")[0] == 416, "a range beyond the end"
     tag = nar.digest(archive)
     assert get(plain, "-H", f'if-none-match: "{tag}"')[0] == 304, "who has it is told so"
-    assert get(plain, "-H", "range: bytes=5-", "-H", 'if-range: "x"') == (200, archive), (
-        "a range of another archive is answered whole")
+    assert get(plain, "-H", "range: bytes=5-", "-H", 'if-range: "x"') == (200, archive), "of another archive"
     assert get(url.replace("/large/", f"/large/{'0' * 52}/")[:60] + url[60:])[0] == 404, "another hash isn't there"
     head = subprocess.run(["curl", "-sI", "--unix-socket", team.place, "-H", "store-user: bob", f"http://red{url}"],
                           capture_output=True, text=True).stdout.lower()
@@ -266,8 +264,7 @@ def test_own_requests_of_the_store_and_of_nix(served):
     assert f"\nNarSize: {len(archive)}\n" in record, ("info has the real size", record)
     assert team("bob", "GET", f"/nar/{path[11:]}") == (200, archive), "nar has the archive"
     name = nar.digest(archive)
-    assert team("bob", "GET", f"/nar/{name}.nar") == (200, archive), (
-        "who has kept the record of an upload gets its file")
+    assert team("bob", "GET", f"/nar/{name}.nar") == (200, archive), "by the record of an upload"
     packed = lzma.compress(other := nar.archive(random.Random(8).randbytes(100_000)), preset=0)
     file, path = nar.digest(packed), some_path(random.Random(8), "xz")
     assert team("build", "PUT", f"/nar/{file}.nar.xz", packed)[0] == 201, "an upload by xz"
@@ -286,23 +283,19 @@ def test_who_may_put_pointers_there(served):
     assert team.put(archive, "ann") == (403, b"denied: trusted-import\n"), "who isn't trusted uploads no large archive"
     assert not team.file(archive).exists() and not team.incoming(), "and nothing of it is kept"
     given = [("path", path), ("nar-hash", nar.nar_hash(archive))]
-    assert team("ann", "POST", "/import", body(*given, payload=archive)) == (403, b"denied: trusted-import\n"), (
-        "nor imports one")
-    assert team("build", "POST", "/import", body(*given, payload=archive)) == (200, f"{path}\n".encode()), (
-        "who is trusted does")
+    assert team("ann", "POST", "/import", body(*given, payload=archive)) == (403, b"denied: trusted-import\n")
+    assert team("build", "POST", "/import", body(*given, payload=archive)) == (200, f"{path}\n".encode())
     assert team("ann", "GET", f"/nar/{path[11:]}") == (200, archive), "and it is read"
     fake = lambda of: pointers.contents(pointers.Pointer(of, hashlib.sha256(archive).digest(), len(archive),
                                                          hashlib.sha256(b"").digest(), 5))
     digits = nar.text_path("fake", b"x")
     text = team("ann", "POST", "/text", body(("name", "fake"), payload=fake(f"/nix/store/{digits}")))[1]
     text = text.decode().strip()
-    assert team("bob", "GET", f"/nar/{text[11:]}")[1] == nar.archive(fake(f"/nix/store/{digits}")), (
-        "a text that looks like a pointer is a text")
+    assert team("bob", "GET", f"/nar/{text[11:]}")[1] == nar.archive(fake(f"/nix/store/{digits}")), "it is a text"
     mine = some_path(rng, "mine")
     data = nar.archive(fake(mine))
     given = [("path", mine), ("nar-hash", nar.nar_hash(data))]
-    assert team("build", "POST", "/import", body(*given, payload=data)) == (403, b"denied: pointer\n"), (
-        "nobody imports a pointer")
+    assert team("build", "POST", "/import", body(*given, payload=data)) == (403, b"denied: pointer\n")
     assert team.upload(mine, data) == (403, b"denied: pointer\n"), "nor uploads one"
     other = nar.archive(fake(path))
     assert team.upload(some_path(rng, "other"), other)[0] == 200, "the pointer of another path is a file like any other"
@@ -326,16 +319,13 @@ def test_a_sweep(served):
     assert file.exists(), "by a trial that deletes nothing"
     said = team.tool("sweep", "--grace", "200000")[1][-1]
     assert said == "swept 0 blobs 0 bytes, kept 4", "a longer grace keeps it"
-    assert team.tool("sweep") == (0, [f"deleted {file.name[:52]} {size}", f"swept 1 blob {size} bytes, kept 3"]), (
-        "and is deleted")
+    assert team.tool("sweep") == (0, [f"deleted {file.name[:52]} {size}", f"swept 1 blob {size} bytes, kept 3"])
     assert (file.exists(), team.verify()[0]) == (False, 0), "what objects name is there"
     assert team.record(some_path(rng, "late"), unused)[0] == 400, "its record comes too late"
     team("build", "DELETE", "/temp/build/4194304")
     assert team("build", "POST", "/delete", body(("path", path)))[0] == 200, "an object is deleted"
-    assert team.tool("sweep")[1][-1].split(" bytes")[0].split(" ")[:2] == ["swept", "1"], (
-        "and its blob by the next sweep")
-    assert (team.upload(path, archive)[0], team("bob", "GET", f"/nar/{path[11:]}")[1] == archive) == (200, True), (
-        "it is uploaded again")
+    assert team.tool("sweep")[1][-1].split(" bytes")[0].split(" ")[:2] == ["swept", "1"], "and its blob by a sweep"
+    assert (team.upload(path, archive)[0], team("bob", "GET", f"/nar/{path[11:]}")[1] == archive) == (200, True)
 
 
 # ---- Nix

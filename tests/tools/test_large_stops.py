@@ -40,8 +40,7 @@ def test_a_damaged_blob(team, rng, folder):
     get = lambda target, *more: team("ann", "GET", target, None, *more)
     file.write_bytes(whole[:-1])
     came = get(url)
-    assert came[0] == 502 and came[1].startswith(f"failed: blob-damaged {path}: ".encode()), (
-        "a blob of another size: its name", came)
+    assert came[0] == 502 and came[1].startswith(f"failed: blob-damaged {path}: ".encode()), came
     for at in (len(whole) // 2, len(whole) - 1, 0):
         file.write_bytes(whole[:at] + bytes([whole[at] ^ 1]) + whole[at + 1 :])
         for target, more in ((url, ()), (plain, ()), (url, ("-H", "range: bytes=9-"))):
@@ -49,14 +48,12 @@ def test_a_damaged_blob(team, rng, folder):
                                   f"http://red{target}"], capture_output=True)
             assert ran.returncode != 0, (f"byte {at} differs: {target[:6]} {more}: the reply fails", len(ran.stdout))
     status, lines = team.verify()
-    assert status == 1 and lines[0].startswith("damaged") and path in lines[0], (
-        "verify says that it is damaged", lines)
+    assert status == 1 and lines[0].startswith("damaged") and path in lines[0], ("verify", lines)
     assert team.upload(path, archive)[0] == 200, "an upload replaces it"
     assert (get(plain)[1] == archive, team.verify()[0]) == (True, 0), "and it is whole"
     file.unlink()
     came = team("ann", "GET", url)
-    assert came[0] == 502 and came[1].startswith(f"failed: blob-missing {path}: ".encode()), (
-        "a blob that is gone: its name", came)
+    assert came[0] == 502 and came[1].startswith(f"failed: blob-missing {path}: ".encode()), came
     team.end()
     team.start()
     came = get(f"/{path[11:43]}.narinfo")
@@ -68,8 +65,7 @@ def test_a_damaged_blob(team, rng, folder):
     file.parent.unlink()
     Path(f"{team.folder}/elsewhere").rename(file.parent)
     status, lines = team.verify()
-    assert (status, lines[0].split(" ")[0]) == (1, "missing") and path in lines[0], (
-        "verify says that it is missing", lines)
+    assert (status, lines[0].split(" ")[0]) == (1, "missing") and path in lines[0], ("verify", lines)
     assert "blob-damaged" in team.said() and "blob-missing" in team.said(), ("the log has both", team.said())
     assert team.upload(path, archive)[0] == 200, "an upload brings it back"
     assert get(plain)[1] == archive, "(whole)"
@@ -93,8 +89,7 @@ def test_uploads_that_differ(team, rng):
     given = [("path", path), ("nar-hash", nar.nar_hash(other))]
     assert team("build", "POST", "/import", body(*given, payload=archive))[0] == 400, "an import with another hash"
     assert team.fields(path)[0] == 404, "none of them is there"
-    assert [it["status"] for it in team.records()[-7:]] == [400, 201, 400, 201, 400, 400, 400], (
-        "each has a line with its status")
+    assert [it["status"] for it in team.records()[-7:]] == [400, 201, 400, 201, 400, 400, 400]
     is_sound(team)
 
 
@@ -120,8 +115,7 @@ def test_clients_that_leave(team, rng, program):
         client.close()
         parts.until("nothing is left of it", lambda: not team.incoming())
         parts.until("it has a line", lambda: team.records()[-1]["target"] == target)
-        assert (team.records()[-1]["user"], team.records()[-1]["status"] >= 400) == ("build", True), (
-            "that says what it was")
+        assert (team.records()[-1]["user"], team.records()[-1]["status"] >= 400) == ("build", True)
     assert team.upload(path, archive)[0] == 200, "an upload"
     client = send_half(team, "GET", "/" + team.fields(path)["URL"], b"", 0)
     client.recv(1000)
