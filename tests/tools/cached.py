@@ -1,4 +1,5 @@
 """A store as its units run it, with nixkeep-cache before it, and requests to that."""
+from nixkeep_dev.testing import nar
 from parts import body, curl
 
 CONFIG = 'allowed-users = ["ann", "bob"]\ntrusted-users = ["build"]\n'
@@ -12,6 +13,18 @@ def ask(place, user, method, target, given=None, *more):
 
 def text(name, contents=b"x"):
     return body(("name", name), payload=contents)
+
+
+def file_name(data, suffix=""):
+    """The name by which a client uploads a file."""
+    return f"{nar.digest(data)}.nar{suffix}"
+
+
+def record(path, archive, name, *more, compression="none"):
+    """A record as a client uploads it."""
+    lines = [("StorePath", path), ("URL", f"nar/{name}"), ("Compression", compression),
+             ("NarHash", nar.nar_hash(archive)), ("NarSize", len(archive)), *more]
+    return "".join(f"{key}: {value}\n" for key, value in lines).encode()
 
 
 def figures(store, user="prometheus"):

@@ -42,15 +42,12 @@ class Team(parts.Unit):
 
     def put(self, archive, user="build"):
         """Uploads an archive as Nix does, without its record: the reply."""
-        name = nar.digest(archive)
-        return self(user, "PUT", f"/nar/{name}.nar", archive)
+        return self(user, "PUT", f"/nar/{cached.file_name(archive)}", archive)
 
     def record(self, path, archive, *more, user="build"):
         """Uploads a record: the reply."""
-        digest = nar.digest(archive)
-        lines = [f"StorePath: {path}", f"URL: nar/{digest}.nar", "Compression: none", f"NarHash: sha256:{digest}",
-                 f"NarSize: {len(archive)}", *more]
-        return self(user, "PUT", f"/{path[11:43]}.narinfo", "".join(f"{it}\n" for it in lines).encode())
+        given = cached.record(path, archive, cached.file_name(archive), *more)
+        return self(user, "PUT", f"/{path[11:43]}.narinfo", given)
 
     def upload(self, path, archive, *more, user="build"):
         put = self.put(archive, user)

@@ -23,22 +23,10 @@ import pytest
 import parts
 from nixkeep_dev.testing import nar
 from parts import body, curl, some_path
-from tests.tools.cached import CONFIG
+from tests.tools.cached import CONFIG, file_name, record
 
 pytestmark = pytest.mark.needs("curl", "python3-aiohttp")
 NOWHERE = "1" * 32
-
-
-def file_name(data, suffix=""):
-    """The name by which a client uploads a file."""
-    return f"{nar.digest(data)}.nar{suffix}"
-
-
-def record(path, archive, name, *more, compression="none"):
-    """A record as a client uploads it."""
-    lines = [("StorePath", path), ("URL", f"nar/{name}"), ("Compression", compression),
-             ("NarHash", nar.nar_hash(archive)), ("NarSize", len(archive)), *more]
-    return "".join(f"{key}: {value}\n" for key, value in lines).encode()
 
 
 class Client:
@@ -125,8 +113,8 @@ def test_head_has_the_head_of_get_and_no_body(target, wanted, site, path):
 
 def test_an_archive(site, path):
     ann, base = site.ann, path[11:]
-    record = ann("GET", f"/{path[11:43]}.narinfo")[1].decode()
-    assert f"\nURL: nar/{DIGEST}/{base}\n" in record, "the record names it, with its hash"
+    text = ann("GET", f"/{path[11:43]}.narinfo")[1].decode()
+    assert f"\nURL: nar/{DIGEST}/{base}\n" in text, "the record names it, with its hash"
     assert ann("GET", f"/nar/{DIGEST}/{base}") == (200, CONTENTS)
     assert ann("GET", f"/nar/{base}") == (200, CONTENTS), "by the store's own request, too"
     kept = lambda tag: ann("GET", f"/nar/{DIGEST}/{base}", None, "-H", f"if-none-match: {tag}")[0]
@@ -223,8 +211,8 @@ def test_uploads(site, rng):
     assert ann.upload(output, ARCHIVE, address) == (400, b"refused: 16 ca-mismatch\n")
     references = ("References", f"{output[11:]} {source[11:]}")
     assert build.upload(output, ARCHIVE, references) == (200, f"{output}\n".encode())
-    record = build("GET", f"/{output[11:43]}.narinfo")[1].decode()
-    assert f"References: {' '.join(sorted([output[11:], source[11:]]))}\n" in record
+    text = build("GET", f"/{output[11:43]}.narinfo")[1].decode()
+    assert f"References: {' '.join(sorted([output[11:], source[11:]]))}\n" in text
     unknown = ("CA", f"fixed:{nar.nar_hash(ARCHIVE)}")
     assert build.upload(some_path(rng, "flat"), ARCHIVE, unknown)[0] == 200, "an address of another kind is left out"
     assert ann.upload(some_path(rng, "flat"), ARCHIVE, unknown)[0] == 403, "so only a trusted user uploads it"

@@ -23,7 +23,7 @@ from nixkeep_dev.testing import nar
 from nixkeep_tools import cache_child, cache_limit, cache_server, cache_sessions, store_size
 from nixkeep_tools.cache_turns import Turns
 from parts import body, curl, some_path
-from tests.tools.cached import ask, text
+from tests.tools.cached import ask, file_name, record, text
 
 pytestmark = pytest.mark.needs("curl", "python3-aiohttp")
 
@@ -247,11 +247,10 @@ def test_sessions(unit, folder):
     with unit() as store:
         as_of = lambda user: lambda *it: ask(store.place, user, *it)
         path, archive = some_path(rng, "uploaded"), nar.archive(b"uploaded")
-        digest = nar.digest(archive)
         build = as_of("build")
-        build("PUT", f"/nar/{digest}.nar", archive)
-        record = f"StorePath: {path}\nURL: nar/{digest}.nar\nCompression: none\nNarHash: sha256:{digest}\n"
-        assert build("PUT", f"/{path[11:43]}.narinfo", record.encode())[0] == 200, "an upload"
+        build("PUT", f"/nar/{file_name(archive)}", archive)
+        given = record(path, archive, file_name(archive))
+        assert build("PUT", f"/{path[11:43]}.narinfo", given)[0] == 200, "an upload"
         assert build("GET", "/roots")[1].decode() == f"{{temp:4194304}} {path}\n", "is kept by a session of its user"
         store.end()
         store.start()
@@ -292,48 +291,6 @@ def test_paths_kept_in_turns(folder):
     assert exchanges[3] == kept, "another user who asks for many makes none forgotten"
 
 
-def test_replies_that_nobody_reads(folder):
-    """Clients that take nothing of a large reply hold up nobody, and a bounded number of replies is in memory."""
-    from aiohttp import web
-    from nixkeep_tools import cache_http
-
-    size, most, held, heads = 4 << 20, 16 << 20, [], []
-
-    async def run():
-        sending = cache_http.Sending(most, 60)
-
-        async def answer(request):
-            reply = cache_http.reply(200, bytes(size))
-            await sending.room(request, reply)
-            held.append(sending.bytes)
-            return await sending.send(request, reply)
-
-        app = web.Application()
-        app.router.add_get("/", answer)
-        runner = web.AppRunner(app)
-        await runner.setup()
-        await web.UnixSite(runner, place := f"{folder}/unread").start()
-        silent = [await asyncio.open_unix_connection(place, limit=1000) for _ in range(6)]
-        for _, writer in silent:
-            writer.write(b"GET / HTTP/1.1\r\nhost: a\r\n\r\n")
-            await writer.drain()
-        reader, writer = await asyncio.open_unix_connection(place)
-        writer.write(b"GET / HTTP/1.1\r\nhost: a\r\nconnection: close\r\n\r\n")
-        text = await reader.read(-1)
-        head, asks = await asyncio.open_unix_connection(place)
-        asks.write(b"HEAD / HTTP/1.1\r\nhost: a\r\nconnection: close\r\n\r\n")
-        heads.append(await head.read(-1))
-        asks.close()
-        for _, it in [*silent, (reader, writer)]:
-            it.close()
-        await runner.cleanup()
-        return text.partition(b"\r\n\r\n")[2]
-
-    assert asyncio.run(run()) == bytes(size), "six clients take nothing, and another gets its reply of 4 MiB"
-    assert heads[0].endswith(b"\r\n\r\n") and b"Content-Length: %d\r\n" % size in heads[0], ("of HEAD", heads)
-    assert max(held) <= most, ("never were there more bytes than there is room", held)
-
-
 @contextlib.asynccontextmanager
 async def serving(answer, place):
     """Serves requests by a function at a socket."""
@@ -348,6 +305,41 @@ async def serving(answer, place):
         yield
     finally:
         await runner.cleanup()
+
+
+def test_replies_that_nobody_reads(folder):
+    """Clients that take nothing of a large reply hold up nobody, and a bounded number of replies is in memory."""
+    from nixkeep_tools import cache_http
+
+    size, most, held, heads, place = 4 << 20, 16 << 20, [], [], f"{folder}/unread"
+
+    async def run():
+        sending = cache_http.Sending(most, 60)
+
+        async def answer(request):
+            reply = cache_http.reply(200, bytes(size))
+            await sending.room(request, reply)
+            held.append(sending.bytes)
+            return await sending.send(request, reply)
+
+        async with serving(answer, place):
+            silent = [await asyncio.open_unix_connection(place, limit=1000) for _ in range(6)]
+            for _, writer in silent:
+                writer.write(b"GET / HTTP/1.1\r\nhost: a\r\n\r\n")
+                await writer.drain()
+            reader, writer = await asyncio.open_unix_connection(place)
+            writer.write(b"GET / HTTP/1.1\r\nhost: a\r\nconnection: close\r\n\r\n")
+            text = await reader.read(-1)
+            head, asks = await asyncio.open_unix_connection(place)
+            asks.write(b"HEAD / HTTP/1.1\r\nhost: a\r\nconnection: close\r\n\r\n")
+            heads.append(await head.read(-1))
+            for _, it in [*silent, (reader, writer), (head, asks)]:
+                it.close()
+            return text.partition(b"\r\n\r\n")[2]
+
+    assert asyncio.run(run()) == bytes(size), "six clients take nothing, and another gets its reply of 4 MiB"
+    assert heads[0].endswith(b"\r\n\r\n") and b"Content-Length: %d\r\n" % size in heads[0], ("of HEAD", heads)
+    assert max(held) <= most, ("never were there more bytes than there is room", held)
 
 
 def test_many_slow_clients(folder):
@@ -404,7 +396,11 @@ def test_a_client_that_leaves(folder):
 
     async def run():
         blobs = cache_blobs.Blobs(None, 1, cache_http.Sending(1 << 30, 60))
-        async with serving(lambda request: blobs.streamed(request, pieces(), web.StreamResponse()), place):
+
+        async def answer(request):
+            return await blobs.streamed(request, pieces(), web.StreamResponse())
+
+        async with serving(answer, place):
             _, writer = await asyncio.open_unix_connection(place)
             writer.write(b"GET / HTTP/1.1\r\nhost: a\r\n\r\n")
             await asyncio.sleep(0.5)

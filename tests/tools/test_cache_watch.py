@@ -11,7 +11,7 @@ import pytest
 import parts
 from nixkeep_dev.testing import nar
 from parts import body, curl
-from tests.tools.cached import ask, figures, text
+from tests.tools.cached import ask, figures, file_name, record, text
 
 pytestmark = pytest.mark.needs("curl", "python3-aiohttp")
 
@@ -88,11 +88,10 @@ def test_the_record_of_changes(unit):
         sent("build", "POST", "/runtime", body(("root", f"/proc/1/exe {path}")))
         sent("bob", "POST", '/x","user":"root')
         archive = nar.archive(b"uploaded")
-        digest, made = nar.digest(archive), f"/nix/store/{'3' * 32}-uploaded"
-        sent("build", "PUT", f"/nar/{digest}.nar", archive)
-        record = f"StorePath: {made}\nURL: nar/{digest}.nar\nCompression: none\nNarHash: sha256:{digest}\n"
+        name, made = file_name(archive), f"/nix/store/{'3' * 32}-uploaded"
+        sent("build", "PUT", f"/nar/{name}", archive)
         for user in ("ann", "build"):
-            sent(user, "PUT", f"/{made[11:43]}.narinfo", record.encode())
+            sent(user, "PUT", f"/{made[11:43]}.narinfo", record(made, archive, name))
         keys, records = ("user", "method", "route", "status", "paths"), store.records()
         assert [tuple(map(it.get, keys)) for it in records] == [
             ("ann", "POST", "text", 200, [base]), ("ann", "POST", "root", 200, [base]),

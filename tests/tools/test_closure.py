@@ -18,6 +18,7 @@ import pytest
 from nixkeep_dev.build.program import HERE
 from nixkeep_dev.testing import nar
 from nixkeep_dev.testing import nix as real
+from nixkeep_dev.testing.store import Store
 from nixkeep_tools import objects
 from tests.tools import servers, shim
 from tests.tools.servers import ran
@@ -69,22 +70,11 @@ def expression(folder):
 # ---- nixkeep, and what is run
 
 
-class Kept:
+class Kept(Store):
     """nixkeep on a file, and nixkeep-closure between it and stores of Nix."""
 
-    def __init__(self, program, file):
-        self.program, self.file = program, file
-
-    def __call__(self, *words, user="root", given=b""):
-        return ran([self.program, "--db", self.file, "--user", user, *words], given)
-
-    def lines(self, *words, user="root"):
-        status, output, errors = self(*words, user=user)
-        assert status == 0, errors
-        return output.decode().splitlines()
-
     def options(self, nix, user="root"):
-        own = ["--db", self.file, "--program", self.program, "--as", user]
+        own = ["--db", self.path, "--program", self.file, "--as", user]
         return [*own, "--nix-store", nix.store] if nix else own
 
 
@@ -104,14 +94,12 @@ def line_of(what, sent, size, there):
 
 def is_the_object(nix, kept, path, info):
     """A store has the object with all that Nix says of it."""
-    status, output, errors = kept("info", path)
-    assert (status, errors) == (0, b"")
-    record, base_of = objects.read_record(output.decode()), os.path.basename
+    record, base_of = objects.read_record(kept("info", path).decode()), os.path.basename
     digest = nar.base32(base64.b64decode(info["narHash"].removeprefix("sha256-")))
     assert (nar.base32(record.nar_hash), record.nar_size, record.ca) == (digest, info["narSize"], info.get("ca"))
     assert record.refs == sorted(map(base_of, info["references"]))
     assert record.deriver == (base_of(info["deriver"]) if "deriver" in info else None)
-    assert kept("cat-nar", base_of(path))[1] == nix.archive(path)
+    assert kept("cat-nar", base_of(path)) == nix.archive(path)
 
 
 class Made:
@@ -219,14 +207,14 @@ def test_a_pull(made, kept):
 def test_a_copy(made, kept):
     file, _ = made.fresh()
     own = kept.options(None)
-    assert closure(None, *own, "copy", "--to", file.file, "--root", "mine", made.top) == (
+    assert closure(None, *own, "copy", "--to", file.path, "--root", "mine", made.top) == (
         0, "done\n" + line_of("copied", COUNT, made.bytes, 0), "")
     for path, info in made.infos.items():
         is_the_object(made.nix, file, path, info)
     assert file.lines("roots") == [f"gcroots/per-user/root/mine {made.top}"]
     assert [line for line in kept.lines("roots") if "temp" in line] == []
     file, _ = made.fresh()
-    with servers.server(made.program, "--db", file.file) as port:
+    with servers.server(made.program, "--db", file.path) as port:
         came = closure(None, *own, "copy", "--to", f"http://127.0.0.1:{port}", made.top)
     assert came == (0, line_of("copied", COUNT, made.bytes, 0), ""), "a copy to a server"
     assert file.lines("list") == sorted(made.infos)
@@ -268,8 +256,8 @@ def test_stores_that_are_not_those_that_are_meant(made):
     Path(config := f"{made.folder}/other.toml").write_text('store-dir = "/a/store"\n')
     other, _ = made.fresh()
     assert closure(made.nix, *other.options(made.nix), "--config", config, "push", made.top) == (
-        1, "", f"failed: store-dir: {other.file}: it isn't a store of /nix/store\n")
-    Path(other.file).write_text("no database\n")
+        1, "", f"failed: store-dir: {other.path}: it isn't a store of /nix/store\n")
+    Path(other.path).write_text("no database\n")
     assert closure(made.nix, *other.options(made.nix), "push", made.top) == (3, "", "refused: 21 bad-schema\n")
     server = f"http://127.0.0.1:{shim.free_port()}"
     status, output, errors = closure(made.nix, "--server", server, "--nix-store", made.nix.store, "push", made.top)
@@ -329,7 +317,7 @@ def broken(made, nix, what, at, how, file):
     target, running = {"push": "/import", "pull": "/nar/"}[what], []
     kill = lambda: running[0].send_signal(signal.SIGKILL) or True
     hook = Breaks(at, target, how == "gone", kill if how == "killed" else lambda: True)
-    with servers.server(made.program, "--db", file.file) as port, \
+    with servers.server(made.program, "--db", file.path) as port, \
             servers.proxy(port, hook=hook, everybody="root") as proxied:
         own = ["--server", servers.url(proxied), "--me", "root", "--nix-store", nix.store, what, made.top]
         remote = Remote(port)
@@ -362,7 +350,7 @@ def test_a_pull_that_breaks(at, how, made, kept):
 def test_a_push_while_somebody_collects(made):
     """Before every third of its requests."""
     file, freed, count = made.fresh()[0], [], itertools.count()
-    with servers.server(made.program, "--db", file.file) as port:
+    with servers.server(made.program, "--db", file.path) as port:
         remote = Remote(port)
 
         def collect(*_):
@@ -391,7 +379,7 @@ def test_usage_errors(words, program, folder):
 
 
 def test_words_that_are_refused(made, kept):
-    own = ["--db", kept.file, "--program", made.program]
+    own = ["--db", kept.path, "--program", made.program]
     assert closure(None, *own, "pull", "no-path") == (3, "", "refused: 14 bad-store-path no-path\n")
     status, output, errors = closure(None, *own, "pull", *(f"{it}/store/{'0' * 32}-a" for it in ("/nix", "/a")))
     assert (status, output) == (3, "") and errors.startswith("refused: 14 ")
@@ -407,7 +395,7 @@ def test_words_that_are_refused(made, kept):
 def test_progress_on_a_terminal(made):
     """Of a push through a proxy that takes its time."""
     file, _ = made.fresh()
-    with servers.server(made.program, "--db", file.file) as port, \
+    with servers.server(made.program, "--db", file.path) as port, \
             servers.proxy(port, hook=lambda *_: time.sleep(0.1), everybody="root") as proxied:
         words = ["--server", servers.url(proxied), "--me", "root", "--nix-store", made.nix.store, "push", made.top]
         status, _, shown = servers.on_terminal([CLOSURE, *words], env=made.nix.env)

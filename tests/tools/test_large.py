@@ -190,7 +190,7 @@ class Served:
         self.path, small = some_path(rng, "large"), some_path(rng, "low")
         assert team.upload(small, nar.archive(b"low"))[0] == 200
         self.references, self.deriver = [self.path[11:], small[11:]], some_path(rng, "it.drv")[11:]
-        lines = f"References: {' '.join(self.references)}", f"Deriver: {self.deriver}"
+        lines = ("References", " ".join(self.references)), ("Deriver", self.deriver)
         assert team.upload(self.path, self.archive, *lines) == (200, f"{self.path}\n".encode())
         self.whole = team, self.path, self.archive
 
@@ -266,14 +266,12 @@ def test_own_requests_of_the_store_and_of_nix(served):
     name = nar.digest(archive)
     assert team("bob", "GET", f"/nar/{name}.nar") == (200, archive), "by the record of an upload"
     packed = lzma.compress(other := nar.archive(random.Random(8).randbytes(100_000)), preset=0)
-    file, path = nar.digest(packed), some_path(random.Random(8), "xz")
-    assert team("build", "PUT", f"/nar/{file}.nar.xz", packed)[0] == 201, "an upload by xz"
-    assert team("build", "HEAD", f"/nar/{file}.nar.xz", None, "-I")[0] == 200, "is there for the next"
-    lines = [f"StorePath: {path}", f"URL: nar/{file}.nar.xz", "Compression: xz", f"NarSize: {len(other)}",
-             f"NarHash: {nar.nar_hash(other)}"]
-    text = "".join(f"{it}\n" for it in lines).encode()
-    assert team("build", "PUT", f"/{path[11:43]}.narinfo", text)[0] == 200, "its record"
-    assert lzma.decompress(team("bob", "GET", f"/nar/{file}.nar.xz")[1]) == other, "its file"
+    file, path = cached.file_name(packed, ".xz"), some_path(random.Random(8), "xz")
+    assert team("build", "PUT", f"/nar/{file}", packed)[0] == 201, "an upload by xz"
+    assert team("build", "HEAD", f"/nar/{file}", None, "-I")[0] == 200, "is there for the next"
+    given = cached.record(path, other, file, compression="xz")
+    assert team("build", "PUT", f"/{path[11:43]}.narinfo", given)[0] == 200, "its record"
+    assert lzma.decompress(team("bob", "GET", f"/nar/{file}")[1]) == other, "its file"
 
 
 def test_who_may_put_pointers_there(served):

@@ -78,13 +78,13 @@ def test_uploads_that_differ(team, rng):
     came = team("build", "PUT", f"/nar/{name}.nar", other)
     assert came[0] == 400 and b"another SHA-256" in came[1], ("another archive than its name says", came)
     assert team.put(archive)[0] == 201, "an archive"
-    came = team.record(path, archive, f"NarHash: sha256:{'0' * 52}")
+    came = team.record(path, archive, ("NarHash", f"sha256:{'0' * 52}"))
     assert came == (400, b"refused: 25 nar-hash-mismatch\n"), "whose record has another hash"
     low = nar.archive(b"low")
     assert team.put(low)[0] == 201, "a small archive"
-    came = team.record(path, low, "NarSize: many")
+    came = team.record(path, low, ("NarSize", "many"))
     assert came[0] == 400 and b"NarSize: many" in came[1], ("whose record has no number as its size", came)
-    came = team.record(path, archive, "References: " + "1" * 32 + "-a")
+    came = team.record(path, archive, ("References", "1" * 32 + "-a"))
     assert came == (400, b"refused: 24 missing-reference\n"), "or a reference that isn't there"
     given = [("path", path), ("nar-hash", nar.nar_hash(other))]
     assert team("build", "POST", "/import", body(*given, payload=archive))[0] == 400, "an import with another hash"
