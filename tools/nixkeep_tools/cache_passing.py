@@ -3,6 +3,7 @@ import re
 
 from . import cache_changes
 from .cache_http import BODY, LARGE, Route, body, passed, reply
+from .cache_listings import Listings
 from .cache_room import Room
 from .cache_server import Request
 from .cache_sessions import target as session_of
@@ -24,7 +25,7 @@ class Passing:
     def __init__(self, server, names, sessions, limit, shares, sending, followers, idle):
         self.server, self.names, self.sessions, self.sending = server, names, sessions, sending
         self.limit, self.shares = limit, shares
-        self.followers, self.idle, self.coming = followers, idle, Room(COMING)
+        self.followers, self.idle, self.coming, self.listings = followers, idle, Room(COMING), Listings(server)
 
     def routes(self):
         return [Route(None, ANY, self.request)]
@@ -46,6 +47,7 @@ class Passing:
                 return looked
             made = Request(request["caller"], method, target, given)
             async with self.sending.reserved(request, bool(MUCH.fullmatch(target))):
+                await self.listings.demand(request["caller"], target)
                 answer = passed(await self.asked(made))
                 cache_changes.note(request, given, answer.body)
                 if held:

@@ -1,0 +1,46 @@
+"""Listings of archives. The server makes each whole, and a line has the whole path of its node. So an archive of 16 MiB
+can have a listing of gigabytes, which would fill the memory of all."""
+import asyncio
+import re
+
+from . import nar
+from .cache_http import Answered, reply
+from .cache_turns import Turns
+
+TARGET = re.compile(r"/ls/(.*)")
+# The bytes of the longest listing that is asked for, those of a line besides names, and the bytes that aren't escaped.
+MOST, LINE, PLAIN = nar.LIMIT, 16, bytes(it for it in range(33, 127) if it != 92)
+
+
+def shown(text):
+    """The length of a name in a listing, where an odd byte has four."""
+    return len(text) + 3 * len(text.translate(None, PLAIN))
+
+
+def is_long(archive):
+    """Whether the listing of an archive is longer than MOST, or nearly so. Nothing beyond that is looked at."""
+    size = 0
+    for node in nar.walk([archive]):
+        size += LINE + shown(node.path) + shown(node.target or b"")
+        if size > MOST:
+            return True
+    return False
+
+
+class Listings:
+    def __init__(self, server):
+        self.server, self.turns = server, Turns()
+
+    async def demand(self, caller, target):
+        """Raises Answered where a target is that of a listing that is too long. One archive is looked at at a time, and
+        users take turns."""
+        found = TARGET.fullmatch(target)
+        if not found:
+            return
+        async with self.turns.turn(caller.user):
+            answer = await self.server.ask(caller, "GET", f"/nar/{found[1]}")
+            if answer.status != 200:
+                # (the server says of a listing what is wrong)
+                return
+            if await asyncio.get_running_loop().run_in_executor(None, is_long, answer.text):
+                raise Answered(reply(503, "failed: size the listing is longer than an archive may be\n"))
