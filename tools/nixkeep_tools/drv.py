@@ -20,18 +20,21 @@ class _Text:
 
     def string(self):
         self.word(b'"')
-        found = bytearray()
+        found, quote = bytearray(), -1
         while not self.is_next(b'"'):
             if self.is_next(b"\\"):
                 escape = self.text[self.at:self.at + 2]
                 self.word(escape if escape in _ESCAPES else b"no escape")
                 found += _ESCAPES[escape]
             else:
-                ends = [it for it in (self.text.find(b'"', self.at), self.text.find(b"\\", self.at)) if it >= 0]
-                if not ends:
+                # (nothing is looked for beyond the next quote, nor that a second time: a text may have millions of strings)
+                quote = quote if quote >= self.at else self.text.find(b'"', self.at)
+                if quote < 0:
                     raise paths.Malformed(17, "bad-derivation")
-                found += self.text[self.at:min(ends)]
-                self.at = min(ends)
+                escape = self.text.find(b"\\", self.at, quote)
+                end = quote if escape < 0 else escape
+                found += self.text[self.at:end]
+                self.at = end
         self.word(b'"')
         return bytes(found)
 

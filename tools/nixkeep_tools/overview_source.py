@@ -1,6 +1,8 @@
 """What a store holds, for an overview: read from its file, or asked of its server."""
+import asyncio
 import os
 import re
+import sys
 import tomllib
 
 from . import drv, nar, paths, pointers, store_file
@@ -83,7 +85,8 @@ def root(label, target):
 def item(text):
     """The object of a record, without its outputs, which a record doesn't have."""
     record = dict(line.split(": ", 1) for line in text.decode().splitlines())
-    references = record["References"].split()
+    # (one text for all that refer to an object, since there may be millions of references)
+    references = [sys.intern(it) for it in record["References"].split()]
     deriver, address = record.get("Deriver"), record.get("CA")
     return store_file.Object(int(record["NarSize"]), None, deriver, address, references, {})
 
@@ -92,7 +95,7 @@ def outputs(archive, store_dir):
     """The outputs of a derivation, from its archive."""
     text = bytearray()
     list(nar.walk([archive], lambda _, part: text.extend(part)))
-    return dict(drv.outputs(bytes(text), store_dir))
+    return {name: sys.intern(path) for name, path in drv.outputs(bytes(text), store_dir)}
 
 
 class Records:
@@ -138,11 +141,18 @@ class Records:
                 fresh[base] = sized(fresh[base], it.text, paths.full(base, store_dir))
         self.found |= fresh
         if self.keeps_outputs:
-            derivations = [it for it in bases if it.endswith(".drv") and it in self.found]
-            replies = await self.server.gets(caller, [f"/nar/{it}" for it in derivations])
-            for base, it in zip(derivations, replies):
-                if it.status == 200:
-                    self.found[base] = self.found[base]._replace(outputs=outputs(it.text, store_dir))
+            for base in [it for it in bases if it.endswith(".drv")]:
+                await self.read_outputs(base, caller, store_dir)
+
+    async def read_outputs(self, base, caller, store_dir):
+        """Reads a derivation. One may be as long as an archive, so there is one at a time, and others are served
+        meanwhile."""
+        reply = await self.server.ask(caller, "GET", f"/nar/{base}")
+        if reply.status == 200:
+            found = await asyncio.to_thread(outputs, reply.text, store_dir)
+            # (it may have been deleted by now)
+            if base in self.found:
+                self.found[base] = self.found[base]._replace(outputs=found)
 
 
 __all__ = ["Denied", "Records", "Unreachable", "of_file", "settings"]
