@@ -11,7 +11,9 @@ All sizes are bytes of archives, as in `nixkeep report`. Paths are base names.
 import collections
 import contextlib
 import fcntl
+import functools
 import hashlib
+import operator
 import os
 import sqlite3
 import struct
@@ -280,20 +282,30 @@ def reach(kept, starts):
     return seen
 
 
-def _order(kept):
-    """The paths in an order in which each comes before what it keeps, except in cycles."""
-    seen, found = set(), []
+def _components(kept):
+    """The paths in groups, each group before what it keeps. Those of a cycle, which keep one another, are together.
+    (Tarjan's algorithm: nobody's chain of cycles takes longer than its length.)"""
+    numbers, lows, left, found, grouped = {}, {}, [], [], set()
     for start in kept:
-        open_ones = [] if start in seen else [(start, iter(kept[start]))]
-        seen.add(start)
+        open_ones = [] if start in numbers else [(start, iter(kept[start]))]
         while open_ones:
             at, rest = open_ones[-1]
-            to = next((it for it in rest if it not in seen), None)
+            if at not in numbers:
+                numbers[at] = lows[at] = len(numbers)
+                left.append(at)
+            to = next((it for it in rest if it not in grouped), None)
             if to is None:
-                found.append(at)
                 open_ones.pop()
+                if open_ones:
+                    lows[open_ones[-1][0]] = min(lows[open_ones[-1][0]], lows[at])
+                if lows[at] == numbers[at]:
+                    found.append([left.pop()])
+                    while found[-1][-1] != at:
+                        found[-1].append(left.pop())
+                    grouped.update(found[-1])
+            elif to in numbers:
+                lows[at] = min(lows[at], numbers[to])
             else:
-                seen.add(to)
                 open_ones.append((to, iter(kept[to])))
     return found[::-1]
 
@@ -301,17 +313,16 @@ def _order(kept):
 def keepers(store, kept, bit=lambda at, root: at):
     """A number for each path: bit N is set if `store.roots[N]` reaches it. The number of a dead path is 0. Other bits
     than these are given by `bit`, of a root and its place."""
-    bits, order, is_changed = dict.fromkeys(kept, 0), _order(kept), True
+    bits = dict.fromkeys(kept, 0)
     for at, root in enumerate(store.roots):
         if root.target in bits:
             bits[root.target] |= 1 << bit(at, root)
-    while is_changed:
-        is_changed = False
-        for at in order:
-            for to in kept[at]:
-                if bits[at] & ~bits[to]:
-                    bits[to] |= bits[at]
-                    is_changed = True
+    for group in _components(kept):
+        together = functools.reduce(operator.or_, (bits[at] for at in group))
+        bits.update(dict.fromkeys(group, together))
+        for to in (it for at in group for it in kept[at] if together):
+            if bits[to] != together:
+                bits[to] |= together
     return bits
 
 
