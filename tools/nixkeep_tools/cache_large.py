@@ -15,7 +15,8 @@ from .cache_who import class_of
 # Archives in blobs have addresses of their own, since a proxy needn't keep them.
 ARCHIVE = re.compile(rf"/large/({DIGITS}{{52}})/(none|zstd)/({DIGITS}{{32}}-[0-9A-Za-z+._?=-]+)")
 OWN = re.compile(rf"/(info|nar)/({DIGITS}{{32}}-[0-9A-Za-z+._?=-]+)")
-OLD = re.compile(r"\bNix/(1|2\.[0-3])\b")
+# (as the proxy reads it, which knows no other letters than those of ASCII)
+OLD = re.compile(r"\bNix/(1|2\.[0-3])\b", re.A)
 IMPORT, LISTING = re.compile(r"/import"), re.compile(r"/pointers")
 # The longest head of an import: as many references as an object may have, each of a long name.
 HEAD = 1_200_000
@@ -257,9 +258,10 @@ async def head_of(given):
     found = bytearray()
     async for piece in given:
         found += piece
-        head, end, rest = bytes(found).partition(b"\n\n")
-        if end:
-            return head + end, rest
+        # (a piece may be a byte, so what came before isn't looked at again)
+        end = found.find(b"\n\n", max(0, len(found) - len(piece) - 1)) + 2
+        if end > 1:
+            return bytes(found[:end]), bytes(found[end:])
         if len(found) > HEAD:
             break
     return None, b""

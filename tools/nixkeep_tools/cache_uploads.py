@@ -4,15 +4,17 @@ import re
 
 from . import cache_changes, cache_records, cache_waiting
 from .cache_archives import RECORD
-from .cache_http import UNKNOWN, Route, body, passed, pieces, reply
+from .cache_http import LARGE, UNKNOWN, Route, body, passed, pieces, reply
 from .cache_records import Bad
 from .cache_room import Room
 from .cache_server import Request
+from .cache_turns import Turns
 
 # The longest record: as many references as an object may have, each of a long name.
 INFO = 1_200_000
-# The archives that are unpacked at once.
-MANY = 8
+# The archives that are unpacked at once, the bytes of long records in memory, and how many times one is there: as it
+# came, its fields, and the head of an import.
+MANY, RECORDS, TIMES = 8, 64 << 20, 3
 ARCHIVE, OTHER = re.compile(r"/nar/(.*)"), re.compile(r".*")
 
 
@@ -22,6 +24,7 @@ class Uploads:
         self.sessions, self.signing, self.limit, self.shares = sessions, signing, limit, shares
         self.store, self.idle = store, idle
         self.unpacking, self.large = Room(MANY * UNKNOWN), large
+        self.records, self.reading = Room(RECORDS), Turns()
 
     def routes(self):
         handlers = [(ARCHIVE, self.archive), (RECORD, self.record), (OTHER, self.other)]
@@ -40,13 +43,26 @@ class Uploads:
 
     async def record(self, request, digits):
         """The archive that waits for this record is imported with what it says."""
-        text = await body(request, INFO, self.idle)
-        if text is None:
-            raise Bad(f"a record has at most {INFO} bytes")
-        record = cache_records.fields(text)
+        size = min(request.content_length or 0, INFO)
+        async with self.records.taken(request, TIMES * size if size > LARGE else 0) as held:
+            text = await body(request, INFO, self.idle, held)
+            if text is None:
+                raise Bad(f"a record has at most {INFO} bytes")
+            return await self.recorded(request, digits, text)
+
+    async def read(self, user, work, *words):
+        """The result of work on a record. A long one is read in a thread, one at a time, and users take turns."""
+        if max(map(len, words)) <= LARGE:
+            return work(*words)
+        async with self.reading.turn(user):
+            return await asyncio.get_running_loop().run_in_executor(None, work, *words)
+
+    async def recorded(self, request, digits, text):
+        caller = request["caller"]
+        record = await self.read(caller.user, cache_records.fields, text)
         cache_changes.note(request, f"path: {record['StorePath']}\n\n".encode())
-        name, head = cache_records.file_of(record), cache_records.import_head(record, digits, self.store)
-        caller, base = request["caller"], record["StorePath"].rpartition("/")[2]
+        name, base = cache_records.file_of(record), record["StorePath"].rpartition("/")[2]
+        head = await self.read(caller.user, lambda _: cache_records.import_head(record, digits, self.store), text)
         if self.large and await self.large.is_large(caller, name, record, self.waiting):
             answer = await self.large.recorded(caller, name, record, head)
         else:
