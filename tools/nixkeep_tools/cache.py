@@ -2,6 +2,7 @@
 import asyncio
 import collections
 import logging
+import os
 import resource
 import sqlite3
 import sys
@@ -273,4 +274,6 @@ def main(words=None):
         sys.exit(f"nixkeep-cache: {error}")
     finally:
         cache_listening.removed(where)
-    sys.exit(place.refused or 0)
+    # (Python itself would wait for threads, and one may wait for a bucket that hangs)
+    sys.stdout.flush()
+    os._exit(place.refused or 0)

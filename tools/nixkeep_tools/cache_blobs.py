@@ -166,14 +166,14 @@ class Blobs:
         """Sends pieces. A reader is never left with a part that looks like the whole: what fails in the middle breaks
         the connection."""
         held = await self.sending.take(request, HELD)
+        request["sent"] = 0
         try:
             with self.sent.timed():
                 return await self.stream(request, given, answer, held)
         finally:
             self.sending.give(held)
-            # (a generator that a thread still runs ends by itself)
-            with contextlib.suppress(ValueError):
-                await self.apart(given.close)
+            # (nobody waits for that: all threads may wait for a bucket that hangs)
+            self.threads.submit(closed, given)
 
     async def stream(self, request, given, answer, held):
         try:
@@ -200,7 +200,7 @@ class Blobs:
             try:
                 async with of_client(request, self.sending.idle):
                     await answer.write(piece)
-                request["sent"] = request.get("sent", 0) + len(piece)
+                request["sent"] += len(piece)
                 self.sent.bytes += len(piece)
                 held.moved()
             finally:
@@ -214,6 +214,12 @@ class Blobs:
                 raise ConnectionResetError("the client has closed its connection")
             held.moved()
         return piece
+
+
+def closed(given):
+    # (a generator that a thread still runs ends by itself)
+    with contextlib.suppress(ValueError):
+        given.close()
 
 
 def abort(transport):

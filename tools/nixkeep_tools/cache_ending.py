@@ -1,14 +1,16 @@
 """The end of nixkeep-cache: what has come is answered first."""
 import asyncio
 import contextlib
+import itertools
 
 from aiohttp import web
 
 # The seconds in which requests that have come are answered, which an exchange with the server may take, and those in
 # which a client that has just connected sends its request.
 FINISH, LINGER = 300, 0.2
-# The seconds between two looks at the clients that are waited for, and the bytes that each has to move meanwhile.
-LOOK, LEAST = 20, 20 << 20
+# The seconds between two looks at the clients that are waited for, the bytes that each has to move meanwhile, and the
+# number of looks after which no reply is waited for, however fast its client takes it.
+LOOK, LEAST, LAST = 20, 20 << 20, 2
 
 
 def moved(request):
@@ -30,12 +32,16 @@ class Ending:
         try:
             answer = await handler(request)
         finally:
-            del self.running[id(request)]
-            if not self.running:
-                self.is_idle.set()
+            self.left(id(request))
         if self.has_begun:
             answer.force_close()
         return answer
+
+    def left(self, key):
+        """Says that a request is waited for no more."""
+        self.running.pop(key, None)
+        if not self.running:
+            self.is_idle.set()
 
     async def begin(self, _):
         """Waits for what is on its way. aiohttp would cut off a body that hasn't come whole."""
@@ -48,10 +54,14 @@ class Ending:
         cutting.cancel()
 
     async def cut_slow(self):
-        """Closes the connections of slow clients, since all others wait for the next start."""
-        while True:
+        """Closes the connections of slow clients, since all others wait for the next start. The archives that a fast
+        one takes may be of any size, so it loses its connection as well, but later: Nix asks for the rest then."""
+        for look in itertools.count(1):
             before = {key: moved(it) for key, it in self.running.items()}
             await asyncio.sleep(LOOK)
             for key, it in [*self.running.items()]:
-                if it.get("waits") and it.transport and moved(it) - before.get(key, 0) < LEAST:
+                is_slow = it.get("waits") and moved(it) - before.get(key, 0) < LEAST
+                if it.transport and (is_slow or look >= LAST and "sent" in it):
                     it.transport.abort()
+                    # (what is read for it may not come either, as from a bucket that hangs)
+                    self.left(key)
