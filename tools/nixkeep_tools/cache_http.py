@@ -46,6 +46,11 @@ def passed(answer, kind=None, keep="no-store"):
     return reply(200, answer.text, kind or answer.kind, keep)
 
 
+def is_gone(request):
+    """Whether the client of a request has closed its connection, which doesn't end the request."""
+    return not request.transport or request.transport.is_closing()
+
+
 @contextlib.asynccontextmanager
 async def of_client(request, idle):
     """While the client of a request is waited for, `idle` seconds at most. Raises TimeoutError."""

@@ -4,7 +4,7 @@ import asyncio
 import re
 
 from . import nar
-from .cache_http import Answered, reply
+from .cache_http import Answered, is_gone, reply
 from .cache_turns import Turns
 
 TARGET = re.compile(r"/ls/(.*)")
@@ -31,13 +31,14 @@ class Listings:
     def __init__(self, server):
         self.server, self.turns = server, Turns()
 
-    async def demand(self, caller, target):
-        """Raises Answered where a target is that of a listing that is too long. One archive is looked at at a time, and
-        users take turns."""
-        found = TARGET.fullmatch(target)
+    async def demand(self, request):
+        """Raises Answered for a listing that is too long. One archive is looked at at a time, and users take turns."""
+        found, caller = TARGET.fullmatch(request.raw_path), request["caller"]
         if not found:
             return
         async with self.turns.turn(caller.user):
+            if is_gone(request):
+                raise Answered(reply(503, "the client has left\n"))
             answer = await self.server.ask(caller, "GET", f"/nar/{found[1]}")
             if answer.status != 200:
                 # (the server says of a listing what is wrong)

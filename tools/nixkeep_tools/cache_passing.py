@@ -47,7 +47,7 @@ class Passing:
                 return looked
             made = Request(request["caller"], method, target, given)
             async with self.sending.reserved(request, bool(MUCH.fullmatch(target))):
-                await self.listings.demand(request["caller"], target)
+                await self.listings.demand(request)
                 answer = passed(await self.asked(made))
                 cache_changes.note(request, given, answer.body)
                 if held:

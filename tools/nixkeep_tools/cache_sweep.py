@@ -1,5 +1,4 @@
 """Sweeps: blobs that no object names any more are deleted."""
-import asyncio
 import contextlib
 import json
 import os
@@ -11,7 +10,8 @@ from aiohttp import web
 from . import paths
 from .blobs import Failed
 from .cache_blobs import abort, say
-from .cache_http import Route, body, reply
+from .cache_http import Route, body, is_gone, reply
+from .cache_turns import Turns
 from .count_of import count_of
 
 SWEEP = re.compile(r"/sweep")
@@ -25,7 +25,7 @@ class Sweep:
     blob is imported. A file has when the last sweep ended, and what it has left."""
 
     def __init__(self, blobs, pointers, shares, grace, idle, file):
-        self.blobs, self.pointers, self.shares, self.turn = blobs, pointers, shares, asyncio.Lock()
+        self.blobs, self.pointers, self.shares, self.turns = blobs, pointers, shares, Turns()
         self.grace, self.idle = grace, idle
         # The number of blobs and of bytes that sweeps have deleted, and when the last one ended, with the number and
         # the bytes of the blobs that it has left.
@@ -43,7 +43,10 @@ class Sweep:
         if not found:
             return reply(400, "refused: 41 bad-body\n")
         grace, answer = max(self.grace, int(found[2] or 0)), web.StreamResponse(headers={"content-type": "text/plain"})
-        async with self.turn:
+        # (users take turns, and nothing is done for those who have left)
+        async with self.turns.turn(request["caller"].user):
+            if is_gone(request):
+                return answer
             lines = self.lines(request["caller"], grace, bool(found[3]))
             first = await anext(lines)
             await answer.prepare(request)
