@@ -164,6 +164,7 @@ def forms_of_large(site):
     same("a trusted user imports a large archive", build("POST", "/import", given)[0], 200)
     record = lambda agent: ann("GET", f"/{path[11:43]}.narinfo", None, "-H", f"user-agent: {agent}")[1].decode()
     form = lambda agent: re.search("^Compression: (.*)$", record(agent), re.M)[1]
+    same("a name with a letter that is none of ASCII is that of old Nix to both", form("Nix/2.3\u00e9"), "none")
     agents = "Nix/2.18.1", "Nix/2.3.16", "Nix/2.30.0", "Nix/1.11", "curl/8"
     same("old Nix gets it as it is, and others by zstd", [form(it) for it in agents * 2],
          ["zstd", "none", "zstd", "none", "zstd"] * 2)

@@ -153,10 +153,11 @@ def dear(site):
 
 def logged(site):
     """The log has who was used, and a word for each login that failed, which no client can forge."""
-    file, forged = f"{site.folder}/log/nixkeep.log", '/x","login":"failed","status":401'
+    file, forged, long = f"{site.folder}/log/nixkeep.log", '/x","login":"failed","status":401', "/" + '"' * 7_000
     size = os.path.getsize(file)
     site.user("ann", password="wrong")("GET", "/nix-cache-info")
     site.user(None)("GET", "/nix-cache-info")
+    site.user("ann")("GET", long)
     carol = site.user("carol", certificate="carol")
     carol("GET", "/nix-cache-info", None, "-u", "ann:ann-secret")
     site.user("ann", password="wrong")("POST", "/collect", None, "-H", "origin: https://evil.example")
@@ -166,8 +167,9 @@ def logged(site):
     parts.until("six lines", lambda: Path(file).read_bytes()[size:].count(b"\n") >= 6)
     lines = [json.loads(it) for it in Path(file).read_bytes()[size:].decode().splitlines()]
     came = [(it["status"], it["login"], it["user"]) for it in lines]
-    same("the log has the user that was used, and logins that failed", came,
-         [(401, "failed", ""), (401, "", ""), (200, "", "carol"), (403, "", ""), (404, "", "ann"), (403, "", "eve")])
+    same("the log has the user that was used, and logins that failed, and nothing of who names nobody", came,
+         [(401, "failed", ""), (404, "", "ann"), (200, "", "carol"), (403, "", ""), (404, "", "ann"), (403, "", "eve")])
+    same("a long target is cut", lines[1]["target"], long[:300])
     same("and the subject of a certificate", [it["subject"] for it in lines if it["subject"]], ["CN=carol,O=red"])
     same("a target is logged as it came", lines[4]["target"], forged)
     failed = [it for it in Path(file).read_text().splitlines(True) if json.loads(it)["login"] == "failed"]
