@@ -10,8 +10,8 @@ import sys
 from aiohttp import HttpVersion10, HttpVersion11, web
 from aiohttp.http_exceptions import HttpProcessingError
 
-from . import blobs, blobs_command, cache_child, cache_health, cache_limit, cache_listening, cache_metrics
-from . import cache_options, cache_origin, cache_signing, overview_source, paths
+from . import blobs, blobs_command, cache_child, cache_health, cache_limit, cache_listening, cache_lists
+from . import cache_metrics, cache_options, cache_origin, cache_signing, overview_source, paths
 from .cache_archives import Archives
 from .cache_ending import FINISH, Ending
 from .cache_blobs import Blobs
@@ -275,5 +275,6 @@ def main(words=None):
     finally:
         cache_listening.removed(where)
     # (Python itself would wait for threads, and one may wait for a bucket that hangs)
+    cache_lists.close()
     sys.stdout.flush()
     os._exit(place.refused or 0)

@@ -5,6 +5,10 @@ import sqlite3
 import sys
 
 
+# The connections to lists, which are closed at the end.
+OPENED = []
+
+
 def warn(text):
     print(f"nixkeep-cache: warning: {text}", file=sys.stderr, flush=True)
 
@@ -40,10 +44,18 @@ def connected(file, table):
         conn.execute("PRAGMA journal_mode = WAL")
         conn.execute("PRAGMA synchronous = NORMAL")
         conn.execute(f"CREATE TABLE IF NOT EXISTS {table}")
+        OPENED.append(conn)
         return conn
     except sqlite3.Error:
         conn.close()
         raise
+
+
+def close():
+    """Closes all lists, so that each is one file."""
+    while OPENED:
+        with contextlib.suppress(sqlite3.Error):
+            OPENED.pop().close()
 
 
 def add(conn, statement, row):
