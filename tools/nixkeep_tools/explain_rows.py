@@ -1,6 +1,7 @@
 """The rows of a file: read as far as its damage allows, and every rule that one breaks."""
 import collections
 import hashlib
+import sys
 
 from . import drv, nar, paths
 from .explain_schema import DAMAGED, Fault
@@ -30,21 +31,41 @@ def scanned(conn, text, parameters=()):
     found = []
     try:
         for row in conn.execute(text, parameters):
-            found.append(row)
+            # (one text for all rows that name an object, since there may be millions)
+            found.append(tuple([sys.intern(it) if type(it) is str else it for it in row]))
     except DAMAGED as error:
         return found, str(error)
     return found, None
 
 
-def by_key(conn, table):
-    """The keys of a table in the index of its key, by row number, and what SQLite says of damage, or None."""
+def keys_of(conn, table):
+    """The query of the keys of a table by the index of its key, or None without such an index."""
     columns, key = FORMS[table]
     names = ", ".join(it.split()[0] for it in columns[:key])
     index = [row[1] for row in scanned(conn, "SELECT * FROM pragma_index_list(?)", (table,))[0] if row[3] == "pk"]
-    if not index:
+    return f'SELECT rowid, {names} FROM {table} INDEXED BY "{index[0]}" ORDER BY {names}' if index else None
+
+
+def by_key(conn, table):
+    """The keys of a table in the index of its key, by row number, and what SQLite says of damage, or None."""
+    query = keys_of(conn, table)
+    if not query:
         return {}, "there is no index of the key"
-    found, problem = scanned(conn, f'SELECT rowid, {names} FROM {table} INDEXED BY "{index[0]}" ORDER BY {names}')
+    found, problem = scanned(conn, query)
     return {row[0]: row[1:] for row in found}, problem
+
+
+def is_intact(conn, table, rows):
+    """Whether the index of the key has these rows, and no others. None of them is kept: a file may have millions."""
+    query, width, count = keys_of(conn, table), FORMS[table][1], 0
+    try:
+        for rowid, *key in conn.execute(query) if query else ():
+            if rows.get(rowid, ())[:width] != tuple(key):
+                return False
+            count += 1
+    except DAMAGED:
+        return False
+    return bool(query) and count == len(rows)
 
 
 def read_table(conn, table):
@@ -52,6 +73,8 @@ def read_table(conn, table):
     columns, width = ", ".join(shown_columns(table)), FORMS[table][1]
     text = f"SELECT rowid, {columns} FROM {table} NOT INDEXED"
     found, problem = scanned(conn, text + " ORDER BY rowid")
+    if not problem and is_intact(conn, table, rows := {row[0]: row[1:] for row in found}):
+        return Read(rows, True, [])
     more = scanned(conn, text + " ORDER BY rowid DESC")[0] if problem else []
     rows = {row[0]: row[1:] for row in (*more, *found)}
     keys, key_problem = by_key(conn, table)

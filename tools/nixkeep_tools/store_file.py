@@ -17,6 +17,7 @@ import operator
 import os
 import sqlite3
 import struct
+import sys
 import urllib.parse
 
 # Each table of the third schema: its columns, `?` where NULL is allowed, and how many of them make its key.
@@ -224,13 +225,16 @@ def _lists(rows):
 
 def read_objects(conn):
     """The objects by path, in the order of paths."""
-    references = _lists(conn.execute("SELECT base, target FROM refs ORDER BY base, target"))
+    references = collections.defaultdict(list)
+    for base, target in conn.execute("SELECT base, target FROM refs ORDER BY base, target"):
+        # (one text for all that refer to an object, since there may be millions of references)
+        references[base].append(sys.intern(target))
     outputs = _lists(conn.execute("SELECT base, name, target FROM outs ORDER BY base, name"))
     more = {}
     if "piece" in tables_of(conn):
         more = dict(conn.execute("SELECT base, sum(length(bytes)) FROM piece GROUP BY base"))
     rows = conn.execute("SELECT base, length(nar), hash, deriver, ca FROM object ORDER BY base")
-    return {base: Object(size + more.get(base, 0), digest, deriver, address, [it for it, in references.get(base, [])],
+    return {base: Object(size + more.get(base, 0), digest, deriver, address, references.get(base, []),
                          dict(outputs.get(base, []))) for base, size, digest, deriver, address in rows}
 
 
