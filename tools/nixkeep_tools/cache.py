@@ -1,6 +1,7 @@
 """A binary cache of Nix over a store's server, on Debian's python3-aiohttp."""
 import asyncio
 import collections
+import contextlib
 import logging
 import os
 import resource
@@ -276,5 +277,6 @@ def main(words=None):
         cache_listening.removed(where)
     # (Python itself would wait for threads, and one may wait for a bucket that hangs)
     cache_lists.close()
-    sys.stdout.flush()
+    with contextlib.suppress(OSError, ValueError):
+        sys.stdout.flush()
     os._exit(place.refused or 0)
