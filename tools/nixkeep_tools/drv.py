@@ -27,7 +27,7 @@ class _Text:
                 self.word(escape if escape in _ESCAPES else b"no escape")
                 found += _ESCAPES[escape]
             else:
-                # (nothing is looked for beyond the next quote, nor that a second time: a text may have millions of strings)
+                # (nothing is looked for beyond the next quote, nor that twice: a text may have millions of strings)
                 quote = quote if quote >= self.at else self.text.find(b'"', self.at)
                 if quote < 0:
                     raise paths.Malformed(17, "bad-derivation")
