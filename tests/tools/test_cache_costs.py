@@ -24,18 +24,13 @@ subprocess.run([sys.executable, "-B", *sys.argv[1:]], check=True)
 print(resource.getrusage(resource.RUSAGE_CHILDREN).ru_maxrss)"""
 
 
-def spelled(*words):
-    """The strings of an archive, one after another."""
-    return b"".join(len(it).to_bytes(8, "little") + it + bytes(-len(it) % 8) for it in words)
-
-
 def nested(depth, count):
     """An archive with `count` links in a folder that is in others, each of which has a long name."""
-    links = [spelled(b"entry", b"(", b"name", b"%06d" % at, b"node", b"(", b"type", b"symlink", b"target", b"x", b")",
-                     b")") for at in range(count)]
-    before = spelled(b"(", b"type", b"directory", b"entry", b"(", b"name", b"n" * 255, b"node")
-    folder = spelled(b"(", b"type", b"directory") + b"".join(links) + spelled(b")")
-    return spelled(b"nix-archive-1") + before * depth + folder + spelled(b")", b")") * depth
+    links = [nar.strings(b"entry", b"(", b"name", b"%06d" % at, b"node", b"(", b"type", b"symlink", b"target", b"x",
+                         b")", b")") for at in range(count)]
+    before = nar.strings(b"(", b"type", b"directory", b"entry", b"(", b"name", b"n" * 255, b"node")
+    folder = nar.strings(b"(", b"type", b"directory") + b"".join(links) + nar.strings(b")")
+    return nar.strings(b"nix-archive-1") + before * depth + folder + nar.strings(b")", b")") * depth
 
 
 def test_no_listing_fills_the_memory(unit, program):

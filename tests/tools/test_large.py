@@ -39,15 +39,8 @@ compression: zstd
 """
 ABC, NOTHING = hashlib.sha256(b"abc").digest(), hashlib.sha256(b"").digest()
 PATH = "/nix/store/xv2iccirbrvklck36f1g7vldn5v58vck-myfile"
-
-
-def spelled(*words):
-    """The strings of an archive, one after another."""
-    return b"".join(len(it).to_bytes(8, "little") + it + bytes(-len(it) % 8) for it in words)
-
-
 PADDED = EXAMPLE + b"\n" * (1024 - len(EXAMPLE))
-ARCHIVE = spelled(b"nix-archive-1", b"(", b"type", b"regular", b"contents", PADDED, b")")
+ARCHIVE = nar.strings(b"nix-archive-1", b"(", b"type", b"regular", b"contents", PADDED, b")")
 
 
 def test_a_pointer_byte_by_byte():
