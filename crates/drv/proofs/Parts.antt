@@ -10,7 +10,8 @@ use Rattle.drv.proofs.Strings.{string_skips}
 use Rattle.drv.proofs.Loops.{Item, string_item}
 
 -- the same, where what is written has another form
-pub Skips-as : {X Y : Type 0} (skip : List ℕ → Option (List ℕ)) (s : X → List ℕ) (u : Y → List ℕ) (to : X → Y) (from : Y → X)
+pub Skips-as : {X Y : Type 0} (skip : List ℕ → Option (List ℕ)) (s : X → List ℕ) (u : Y → List ℕ) (to : X → Y)
+    (from : Y → X)
     → ((x : X) → s x ≡ u (to x)) → ((y : Y) → u y ≡ s (from y)) → Skips skip s → Skips skip u
 Skips-as skip s u to from is is_back skips = record {
   again = λ y rest. ap (λ (t : List ℕ). skip (t ++ rest)) (is_back y) ∙ skips.again (from y) rest;
@@ -28,9 +29,11 @@ VariableParts = ((Unit {0} × List Written) × List Written) × Unit {0}
 abbrev variable_spelled : VariableParts → List ℕ
 variable_spelled z = ((40 ∷ []) ++ string z.0.0.1 ++ (44 ∷ string z.0.1)) ++ 41 ∷ []
 
-variable_is : (name value : List Written) → ((40 ∷ []) ++ string name ++ (44 ∷ string value)) ++ 41 ∷ [] ≡ variable (record { name = name; value = value })
+variable_is : (name value : List Written)
+    → ((40 ∷ []) ++ string name ++ (44 ∷ string value)) ++ 41 ∷ [] ≡ variable (record { name = name; value = value })
 unfolding variable tuple commas
-variable_is name value = ap (λ (t : List ℕ). 40 ∷ ((string name ++ 44 ∷ t) ++ 41 ∷ [])) (sym (append-nil (string value)))
+variable_is name value =
+    ap (λ (t : List ℕ). 40 ∷ ((string name ++ 44 ∷ t) ++ 41 ∷ [])) (sym (append-nil (string value)))
 
 variable_skips : Skips variable_end variable
 unfolding variable_end
@@ -48,9 +51,12 @@ pub variable_item : Item variable_end variable
 unfolding variable tuple
 variable_item = record { skips = variable_skips; opens = λ v rest. refl }
 
-input_is : (path : List Written) (names : List (List Written)) → ((40 ∷ []) ++ string path ++ (44 ∷ list (map string names))) ++ 41 ∷ [] ≡ input (record { path = path; names = names })
+input_is : (path : List Written) (names : List (List Written))
+    → ((40 ∷ []) ++ string path ++ (44 ∷ list (map string names))) ++ 41 ∷ []
+    ≡ input (record { path = path; names = names })
 unfolding input tuple commas
-input_is path names = ap (λ (t : List ℕ). 40 ∷ ((string path ++ 44 ∷ t) ++ 41 ∷ [])) (sym (append-nil (list (map string names))))
+input_is path names =
+    ap (λ (t : List ℕ). 40 ∷ ((string path ++ 44 ∷ t) ++ 41 ∷ [])) (sym (append-nil (list (map string names))))
 
 abbrev InputParts : Type 0
 InputParts = ((Unit {0} × List Written) × List (List Written)) × Unit {0}

@@ -1,5 +1,7 @@
 -- Names and paths of outputs as bytes: what a path text is, and that those that are accepted are text.
-use Rattle.std.proofs.Common.{◌≡◌, ℕ, ◌+◌, ◌<◌, Bool, true, false, cond, eqb, ltb, not, ◌&&◌, List, [], ◌∷◌, ◌++◌, length, take, drop, get_or, Option, Some, None, refl, sym, ap, subst, ◌∙◌, append_assoc, arith, inl, inr, leb}
+use Rattle.std.proofs.Common.{◌≡◌, ℕ, ◌+◌, ◌<◌, Bool, true, false, cond, eqb, ltb, not, ◌&&◌, List, [], ◌∷◌, ◌++◌}
+use Rattle.std.proofs.Common.{length, take, drop, get_or, Option, Some, None, refl, sym, ap, subst, ◌∙◌, append_assoc}
+use Rattle.std.proofs.Common.{arith, inl, inr, leb}
 use Rattle.std.specs.Prelude.{codes}
 use Rattle.std.specs.List.{list_all, prefix_len}
 use Rattle.std.specs.Str.{IsUtf8, IsAscii}
@@ -33,12 +35,16 @@ store_bytes_ascii (b ∷ bs) h =
 
 store_name_bytes : (a b c d e f : Bool) → (a && b && c && d && e && f) ≡ true → c ≡ true
 store_name_bytes a b c d e f h =
-    (and_parts (a && b) c (and_parts (a && b && c) d (and_parts (a && b && c && d) e (and_parts (a && b && c && d && e) f h).0).0).0).1
+    (and_parts (a && b) c (and_parts (a && b && c) d
+    (and_parts (a && b && c && d) e (and_parts (a && b && c && d && e) f h).0).0).0).1
 
 store_name_ascii : (name : List ℕ) → is_store_name name ≡ true → IsAscii name
-store_name_ascii name h = store_bytes_ascii name (store_name_bytes (leb 1 (length name)) (leb (length name) 211) (list_all is_store_byte name) (not (is_dots name)) (not (begins name (codes ".-"))) (not (begins name (codes "..-"))) h)
+store_name_ascii name h =
+    store_bytes_ascii name (store_name_bytes (leb 1 (length name)) (leb (length name) 211) (list_all is_store_byte name)
+    (not (is_dots name)) (not (begins name (codes ".-"))) (not (begins name (codes "..-"))) h)
 
-position_small : (c : ℕ) (xs : List ℕ) → list_all (λ d. ltb d 128) xs ≡ true → prefix_len (λ d. not (eqb d c)) xs < length xs → c < 128
+position_small : (c : ℕ) (xs : List ℕ) → list_all (λ d. ltb d 128) xs ≡ true
+    → prefix_len (λ d. not (eqb d c)) xs < length xs → c < 128
 position_small c [] h lt = absurd (omega arith)
 position_small c (x ∷ xs) h lt =
     let parts = and_parts (ltb x 128) (list_all (λ d. ltb d 128) xs) h in
@@ -46,7 +52,8 @@ position_small c (x ∷ xs) h lt =
     elim (cases_Bool (eqb x c)) [
       | inl same ↦ let is = eqb-true x c same in omega arith
       | inr other ↦
-          let next : prefix_len (λ d. not (eqb d c)) (x ∷ xs) ≡ 1 + prefix_len (λ d. not (eqb d c)) xs = ap (λ b. cond (not b) (1 + prefix_len (λ d. not (eqb d c)) xs) 0) other in
+          let next : prefix_len (λ d. not (eqb d c)) (x ∷ xs) ≡ 1 + prefix_len (λ d. not (eqb d c)) xs =
+          ap (λ b. cond (not b) (1 + prefix_len (λ d. not (eqb d c)) xs) 0) other in
           position_small c xs parts.1 (omega arith)
     ]
 
@@ -69,12 +76,16 @@ base_tests a b c d h =
 
 base_ascii : (base : List ℕ) → is_base_name base ≡ true → IsAscii base
 base_ascii base h =
-    let tests = base_tests (leb 34 (length base)) (all_digits (take 32 base)) (eqb (get_or base 32 0) 45) (is_store_name (drop 33 base)) h in
+    let tests =
+    base_tests (leb 34 (length base)) (all_digits (take 32 base)) (eqb (get_or base 32 0) 45)
+    (is_store_name (drop 33 base)) h in
     let len = leb-true 34 (length base) tests.0 in
     let dash = eqb-true (get_or base 32 0) 45 tests.2 in
     let rest : drop 32 base ≡ get_or base 32 0 ∷ drop 33 base = drop_more base 32 0 (omega arith) in
     let front = digits_ascii (take 32 base) tests.1 in
-    let back : IsAscii (drop 32 base) = subst IsAscii (sym rest) (IsAscii-cons (get_or base 32 0) (drop 33 base) (omega arith) (store_name_ascii (drop 33 base) tests.3)) in
+    let back : IsAscii (drop 32 base) =
+    subst IsAscii (sym rest) (IsAscii-cons (get_or base 32 0) (drop 33 base) (omega arith)
+    (store_name_ascii (drop 33 base) tests.3)) in
     subst IsAscii (take-append-drop 32 base) (IsAscii-append (take 32 base) (drop 32 base) front back)
 
 -- ---- names
@@ -89,7 +100,9 @@ name_takes bytes name e =
     (subst (λ b. is_store_name b ≡ true) found.1 found.0, found.1)
 
 pub name_not_text : (bytes : List ℕ) → (IsUtf8 bytes → ⊥) → name_in bytes ≡ None
-name_not_text bytes h = none_if (name_in bytes) (λ name e. let found = name_takes bytes name e in h (IsUtf8-from_ascii bytes (subst IsAscii (sym found.1) (store_name_ascii name found.0))))
+name_not_text bytes h =
+    none_if (name_in bytes) (λ name e. let found = name_takes bytes name e in
+    h (IsUtf8-from_ascii bytes (subst IsAscii (sym found.1) (store_name_ascii name found.0))))
 
 -- ---- paths
 
@@ -105,14 +118,18 @@ full_path_is dir base = append_assoc dir (47 ∷ []) base
 front_len : (dir : List ℕ) → length (dir ++ 47 ∷ []) ≡ length dir + 1
 front_len dir = length-append dir (47 ∷ [])
 
-pub base_takes : (dir text base : List ℕ) → base_in dir text ≡ Some base → (is_base_name base ≡ true) × (text ≡ full_path dir base)
+pub base_takes : (dir text base : List ℕ) → base_in dir text ≡ Some base
+    → (is_base_name base ≡ true) × (text ≡ full_path dir base)
 unfolding base_in
 base_takes dir text base e =
     let front = dir ++ 47 ∷ [] in
-    let found = cond_some (begins text front && is_base_name (drop (length dir + 1) text)) (drop (length dir + 1) text) base e in
+    let found =
+    cond_some (begins text front && is_base_name (drop (length dir + 1) text)) (drop (length dir + 1) text) base
+    e in
     let tests = and_parts (begins text front) (is_base_name (drop (length dir + 1) text)) found.0 in (
       subst (λ b. is_base_name b ≡ true) found.1 tests.1,
-      split_at front text tests.0 ∙ ap (λ n. front ++ drop n text) (front_len dir) ∙ ap (λ (b : List ℕ). front ++ b) found.1,
+      split_at front text tests.0 ∙ ap (λ n. front ++ drop n text) (front_len dir)
+          ∙ ap (λ (b : List ℕ). front ++ b) found.1,
     )
 
 pub base_again : (dir base : List ℕ) → is_base_name base ≡ true → base_in dir (full_path dir base) ≡ Some base
@@ -137,10 +154,13 @@ pub base_not_text : (dir text : List ℕ) → IsUtf8 dir → (IsUtf8 text → �
 base_not_text dir text dir_text h =
     none_if (base_in dir text) (λ base e.
     let found = base_takes dir text base e in
-    let front = IsUtf8-append dir (47 ∷ []) dir_text (IsUtf8-from_ascii (47 ∷ []) (IsAscii-cons 47 [] (omega arith) IsAscii-nil)) in
-    h (subst IsUtf8 (sym found.1) (IsUtf8-append (dir ++ 47 ∷ []) base front (IsUtf8-from_ascii base (base_ascii base found.0)))))
+    let front =
+    IsUtf8-append dir (47 ∷ []) dir_text
+    (IsUtf8-from_ascii (47 ∷ []) (IsAscii-cons 47 [] (omega arith) IsAscii-nil)) in
+    h (subst IsUtf8 (sym found.1) (IsUtf8-append (dir ++ 47 ∷ []) base front
+    (IsUtf8-from_ascii base (base_ascii base found.0)))))
 
--- a text below which no base name stands
+-- a text below which no base name is
 pub base_not_base : (dir text : List ℕ) → is_base_name (base_of dir text) ≡ false → base_in dir text ≡ None
 base_not_base dir text h =
     none_if (base_in dir text) (λ base e.
@@ -149,14 +169,19 @@ base_not_base dir text h =
     both_ways (is_base_name base) (ap is_base_name (sym below) ∙ h) found.0)
 
 -- a text that a parser of paths refuses
-pub base_fails : (dir bytes text : List ℕ) (fault : StorePathError) → text ≡ bytes → (fault ≡ path.BadStorePath → is_base_name (base_of dir text) ≡ false) → Fails (path_fault fault) (base_in dir bytes)
-base_fails dir bytes text path.BadStorePath same bad = base_not_base dir bytes (ap (λ t. is_base_name (base_of dir t)) (sym same) ∙ bad refl)
+pub base_fails : (dir bytes text : List ℕ) (fault : StorePathError) → text ≡ bytes
+    → (fault ≡ path.BadStorePath → is_base_name (base_of dir text) ≡ false)
+    → Fails (path_fault fault) (base_in dir bytes)
+base_fails dir bytes text path.BadStorePath same bad =
+    base_not_base dir bytes (ap (λ t. is_base_name (base_of dir t)) (sym same) ∙ bad refl)
 base_fails dir bytes text path.Memory same bad = tt
 
 slash_no_base : (text : List ℕ) → is_base_name (47 ∷ text) ≡ true → ⊥
 unfolding value_of
 slash_no_base text h =
-    let tests = base_tests (leb 34 (length (47 ∷ text))) (all_digits (take 32 (47 ∷ text))) (eqb (get_or (47 ∷ text) 32 0) 45) (is_store_name (drop 33 (47 ∷ text))) h in
+    let tests =
+    base_tests (leb 34 (length (47 ∷ text))) (all_digits (take 32 (47 ∷ text))) (eqb (get_or (47 ∷ text) 32 0) 45)
+    (is_store_name (drop 33 (47 ∷ text))) h in
     let first = (and_parts (ltb (value_of 47) 32) (all_digits (take 31 text)) tests.1).0 in
     both_ways (ltb (value_of 47) 32) refl first
 
@@ -167,29 +192,35 @@ begins_slash : (dir : List ℕ) → eqb (get_or dir 0 0) 47 ≡ true → (d : Li
 begins_slash [] h = absurd cc
 begins_slash (b ∷ d) h = (d, ap (λ n. n ∷ d) (eqb-true b 47 h))
 
--- a text that begins with the directory, and below which a base name stands
-pub base_found : (dir text : List ℕ) → is_store_dir dir ≡ true → begins text dir ≡ true → is_base_name (base_of dir text) ≡ true → base_in dir text ≡ Some (base_of dir text)
+-- a text that begins with the directory, and below which a base name is
+pub base_found : (dir text : List ℕ) → is_store_dir dir ≡ true → begins text dir ≡ true
+    → is_base_name (base_of dir text) ≡ true → base_in dir text ≡ Some (base_of dir text)
 base_found dir text valid below h =
     let front = dir ++ 47 ∷ [] in
     elim (cases_Bool (begins text front)) [
       | inl at ↦
           let rest = drop (length front) text in
           let whole : text ≡ full_path dir rest = split_at front text at in
-          let is : base_of dir text ≡ rest = ap (base_of dir) (whole ∙ full_path_is dir rest) ∙ base_of-below dir rest in
+          let is : base_of dir text ≡ rest =
+          ap (base_of dir) (whole ∙ full_path_is dir rest) ∙ base_of-below dir rest in
           let named : is_base_name rest ≡ true = ap is_base_name (sym is) ∙ h in
           ap (base_in dir) whole ∙ base_again dir rest named ∙ ap (λ (b : List ℕ). Some b) (sym is)
       | inr other ↦
           let is : base_of dir text ≡ text = ap (λ b. cond b (drop (length dir + 1) text) text) other in
           let first = begins_slash dir (dir_tests _ (eqb (get_or dir 0 0) 47) _ valid) in
-          let whole : text ≡ 47 ∷ (first.0 ++ drop (length dir) text) = split_at dir text below ∙ ap (λ (d : List ℕ). d ++ drop (length dir) text) first.1 in
-          absurd (slash_no_base (first.0 ++ drop (length dir) text) (ap is_base_name (sym whole) ∙ ap is_base_name (sym is) ∙ h))
+          let whole : text ≡ 47 ∷ (first.0 ++ drop (length dir) text) =
+          split_at dir text below ∙ ap (λ (d : List ℕ). d ++ drop (length dir) text) first.1 in
+          absurd (slash_no_base (first.0 ++ drop (length dir) text)
+          (ap is_base_name (sym whole) ∙ ap is_base_name (sym is) ∙ h))
     ]
 
--- the same, as a call of a parser tells it
-pub base_not_text_at : (shown dir text : List ℕ) → shown ≡ dir → IsUtf8 shown → (IsUtf8 text → ⊥) → base_in dir text ≡ None
+-- the same, as a call of a parser reports it
+pub base_not_text_at : (shown dir text : List ℕ) → shown ≡ dir → IsUtf8 shown → (IsUtf8 text → ⊥)
+    → base_in dir text ≡ None
 base_not_text_at shown dir text is shown_text h = base_not_text dir text (subst IsUtf8 is shown_text) h
 
-pub base_found_at : (dir bytes text path : List ℕ) → is_store_dir dir ≡ true → begins bytes dir ≡ true → text ≡ bytes → path ≡ base_of dir text → is_base_name path ≡ true → base_in dir bytes ≡ Some path
+pub base_found_at : (dir bytes text path : List ℕ) → is_store_dir dir ≡ true → begins bytes dir ≡ true → text ≡ bytes
+    → path ≡ base_of dir text → is_base_name path ≡ true → base_in dir bytes ≡ Some path
 base_found_at dir bytes text path valid below same is named =
     let at : path ≡ base_of dir bytes = is ∙ ap (base_of dir) same in
     base_found dir bytes valid below (ap is_base_name (sym at) ∙ named) ∙ ap (λ (b : List ℕ). Some b) (sym at)

@@ -1,6 +1,7 @@
 -- The recorded outputs of a whole text, or what is wrong with it: as a relation, and as a function on bytes, which
 -- needn't be trusted, since a law says that it is the relation.
-use Rattle.std.specs.Prelude.{ℕ, ◌&&◌, Bool, true, not, List, [], ◌∷◌, Option, Some, None, Result, Ok, Err, if◌then◌else◌}
+use Rattle.std.specs.Prelude.{ℕ, ◌&&◌, Bool, true, not, List, [], ◌∷◌, Option, Some, None, Result, Ok, Err}
+use Rattle.std.specs.Prelude.{if◌then◌else◌}
 use Rattle.std.specs.List.{list_any}
 use Rattle.std.specs.Str.{bytes_eq}
 use Rattle.drv.specs.declared.error.DrvError.{DrvError}

@@ -1,6 +1,7 @@
 -- The result of reading from the beginning, as functions on bytes. They needn't be trusted: the laws relate the last
 -- of them to the text that a derivation is written as.
-use Rattle.std.specs.Prelude.{ℕ, zero, suc, ◌+◌, ◌==◌, ◌&&◌, Bool, true, false, List, [], ◌∷◌, ◌++◌, length, drop, codes, Option, Some, None, option_map, if◌then◌else◌}
+use Rattle.std.specs.Prelude.{ℕ, zero, suc, ◌+◌, ◌==◌, ◌&&◌, Bool, true, false, List, [], ◌∷◌, ◌++◌, length, drop}
+use Rattle.std.specs.Prelude.{codes, Option, Some, None, option_map, if◌then◌else◌}
 use Rattle.paths.specs.Names.{is_store_name, begins}
 use Rattle.paths.specs.StorePath.{is_base_name}
 

@@ -1,14 +1,13 @@
 //! The outputs that derivation texts record.
 #![tactic(auto)]
 
-mod distinct;
+mod derivation;
 mod error;
 pub mod laws;
 mod output;
-mod reading;
-mod recording;
-mod skipping;
+mod recorded_outputs;
+mod skipped_parts;
 mod string;
 
 pub use error::DrvError;
-pub use recording::outputs;
+pub use recorded_outputs::outputs;

@@ -1,16 +1,16 @@
 //! The outputs of a derivation, each with its name and its path.
-
-ghost use Rattle.std.specs.Prelude.{◌≡◌, string_bytes};
+ghost use Rattle.std.specs.Prelude.{◌≡◌, string_bytes, IfOk};
 ghost use Rattle.drv.specs.Answer.{Gives};
 ghost use Rattle.drv.specs.Reading as reading;
 ghost use Rattle.drv.specs.Reading.{name_at, base_in, path_at, output_at};
-ghost use Rattle.drv.specs.View.{view};
+ghost use Rattle.drv.specs.View.{view, views};
+ghost use Rattle.drv.specs.Outcome as outcome;
 
 use crate::error::DrvError;
-use crate::skipping::skip_hash;
+use crate::skipped_parts::skip_hash;
 use crate::string::{after, string_of};
 use paths::{Name, StoreDir, StorePath};
-use std::alloc::Global;
+use std::alloc::{AllocError, Global};
 
 /// An output: its name, and its path if it has one.
 #[derive(Drop)]
@@ -93,4 +93,17 @@ pub fn output_of<'a>(
     let (path, rest) = path_of(alloc, path, dir)?;
     let rest = skip_hash(rest).ok_or(DrvError::BadDerivation)?;
     Ok((Output { name, path }, rest))
+}
+
+/// Whether no two outputs share a name.
+pub fn have_own_names(alloc: Global, outputs: &[Output]) -> Result<bool, AllocError>
+    ensures { IfOk result (λ own. own ≡ outcome.have_own_names (views outputs.now)) }
+{
+    let mut names = Vec::with_capacity(alloc, outputs.len())?;
+    for output in outputs {
+        names.push(output.name.as_str())?;
+    }
+    names.sort_unstable();
+    names.dedup();
+    Ok(names.len() == outputs.len())
 }

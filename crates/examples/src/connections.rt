@@ -1,6 +1,5 @@
 //! A caller of `wire`: a store is served on streams.
 use crate::fixtures::{SETTINGS, new_store};
-use policy::{Config, store_dir};
 use std::alloc::Global;
 use std::test::Fail;
 use wire::{Count, WireError, serve, serve_streams};
@@ -45,9 +44,9 @@ fn served_without_a_message(rt: HostRuntime) -> Result<(), Fail> {
 fn replied(alloc: Global, messages: &[u8]) -> Result<(u8, Vec<u8>, Vec<u8>), Fail> {
     let mut input = messages;
     let (mut output, mut errors) = (Vec::new(alloc), Vec::new(alloc));
-    let config = Config::from_toml(alloc, SETTINGS)?;
-    let tables = tables::open_in_memory(alloc, store_dir(&config))?;
-    let status = serve_streams(alloc, config, tables, &mut input, &mut output, &mut errors);
+    let mut store = new_store(alloc, SETTINGS)?;
+    let status = serve_streams(alloc, &mut store, &mut input, &mut output, &mut errors);
+    drop(store.release().release());
     Ok((status, output, errors))
 }
 

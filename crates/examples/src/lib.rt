@@ -6,8 +6,6 @@ mod addresses;
 #[cfg(test)]
 mod archives;
 #[cfg(test)]
-mod asking;
-#[cfg(test)]
 mod bodies;
 #[cfg(test)]
 mod changes;
@@ -18,11 +16,19 @@ mod derivations;
 #[cfg(test)]
 mod fixtures;
 #[cfg(test)]
+mod imports;
+#[cfg(test)]
 mod liveness;
 #[cfg(test)]
 mod names;
 #[cfg(test)]
-mod opening;
+mod open_tables;
+#[cfg(test)]
+mod recorded;
+#[cfg(test)]
+mod removal;
+#[cfg(test)]
+mod replies;
 #[cfg(test)]
 mod requests;
 #[cfg(test)]

@@ -1,6 +1,6 @@
 //! A caller of `store`: objects are added, read and listed.
-use crate::asking::{Asked, Step, replies_to};
 use crate::fixtures::{ADDRESS, MY_FILE, MY_HASH, SETTINGS, SOURCE, TEXT, caller, new_store, path};
+use crate::replies::{Asked, Step, replies_to};
 use paths::{Ca, Name};
 use policy::Caller;
 use std::alloc::{AllocError, Global};

@@ -1,6 +1,6 @@
 //! A caller of `store`: roots, profiles and sessions, and what they keep alive.
-use crate::asking::{Asked, Step, replies_to};
 use crate::fixtures::{TEXT, path};
+use crate::replies::{Asked, Step, replies_to};
 use std::alloc::{AllocError, Global};
 use std::test::Fail;
 use store::Request;

@@ -1,6 +1,6 @@
 //! A caller of `store`, who passes on an intake to which memory was refused.
-use crate::asking::{Asked, Step, replies_to};
 use crate::fixtures::{ADDRESS, MY_FILE, SOURCE, path};
+use crate::replies::{Asked, Step, replies_to};
 use paths::{Ca, Name};
 use std::alloc::{AllocError, Global};
 use std::fs::read_to_string;

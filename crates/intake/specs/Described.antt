@@ -7,8 +7,8 @@ use Rattle.paths.specs.declared.content_address.Method.{Method}
 use Rattle.paths.specs.declared.content_address.Method.TheVariants.{Text, Source}
 use Rattle.paths.specs.declared.facts.Facts.{Facts}
 use Rattle.paths.specs.Facts.{facts_of}
-use Rattle.intake.specs.declared.arriving.Arrived.{Arrived}
-use Rattle.intake.specs.Arriving.{fault_of}
+use Rattle.intake.specs.declared.arrival.Arrived.{Arrived}
+use Rattle.intake.specs.Arrival.{fault_of}
 use Rattle.intake.specs.Contents.{contents_so_far}
 
 -- the digests and the fault of an archive that has come are those of its bytes

@@ -1,4 +1,4 @@
-pub mod Arriving
+pub mod Arrival
 pub mod Contents
 pub mod Described
 pub mod Recorded

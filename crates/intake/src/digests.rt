@@ -9,7 +9,7 @@ ghost use Rattle.paths.specs.ContentAddress.{plain_contents};
 ghost use Rattle.paths.specs.Facts.{hash_of};
 ghost use Rattle.streams.specs.Cut.{count_of};
 ghost use Rattle.intake.specs.Contents.{contents_so_far, hash_so_far};
-ghost use Rattle.intake.specs.Arriving.{MayHold, fault_of};
+ghost use Rattle.intake.specs.Arrival.{MayHold, fault_of};
 
 use crate::contents::{begins_plain, contents_in};
 use nar::NarError;

@@ -3,8 +3,8 @@
 ghost use Rattle.std.specs.Prelude.{◌≡◌, IfOk};
 ghost use Rattle.intake.specs.Described.{DescribesBytes};
 
-use crate::arriving::Arrived;
-use crate::checking::{fault_at_end, feed};
+use crate::arrival::Arrived;
+use crate::checker::{fault_at_end, feed};
 use nar::Checker;
 use sha2::{Digest, Sha256};
 use std::alloc::{AllocError, Global};

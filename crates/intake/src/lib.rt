@@ -1,17 +1,17 @@
 //! An archive on its way in: checked, hashed and stored as it arrives.
 #![tactic(auto)]
 
-mod arriving;
-mod checking;
+mod arrival;
+mod checker;
 mod contents;
 mod digests;
 mod held;
-mod reading;
-mod receiving;
+mod intake;
 mod recorded;
 mod text;
+mod whole_archive;
 
-pub use arriving::Arrived;
-pub use reading::{file_contents, list};
-pub use receiving::Intake;
+pub use arrival::Arrived;
+pub use intake::Intake;
 pub use recorded::recorded_outputs;
+pub use whole_archive::{file_contents, list};

@@ -5,7 +5,7 @@ ghost use Rattle.nar.specs.Tree.{regular};
 ghost use Rattle.nar.specs.Archive.{archive, spelling};
 
 use crate::contents::PREFIX;
-use crate::receiving::Intake;
+use crate::intake::Intake;
 use std::alloc::{AllocError, Global};
 
 const CLOSE: &[u8] = b"\x01\0\0\0\0\0\0\0)\0\0\0\0\0\0\0";

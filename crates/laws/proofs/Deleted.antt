@@ -17,12 +17,14 @@ exactly w named = record {
       ap is_some (get-keeping w.objects (λ x. not (is_deleted_with w named x)) p)
       ∙ ap (λ b. is_some (cond (not b) (finite.get w.objects p) None)) ((closure_decided (graph_of w) named p).1 r);
   kept = λ p other. kept_if w.objects (λ x. not (is_deleted_with w named x)) p
-      (not_from_false (is_deleted_with w named p) (false_from_ne_true (is_deleted_with w named p) (λ t. other ((closure_decided (graph_of w) named p).0 t))));
+      (not_from_false (is_deleted_with w named p)
+      (false_from_ne_true (is_deleted_with w named p) (λ t. other ((closure_decided (graph_of w) named p).0 t))));
   roots = record { permanent = refl; user_roots = refl; profiles = refl; runtime = refl; temporary = refl };
 }
 
 pub deletes : Deletes
-deletes s w c named ignores (done a) new h d = subst (λ (u : World). DeletesExactly named w u) (sym h.3) (exactly w named)
+deletes s w c named ignores (done a) new h d =
+    subst (λ (u : World). DeletesExactly named w u) (sym h.3) (exactly w named)
 deletes s w c named ignores (denied rule root) new h d = absurd d
 deletes s w c named ignores (refused t) new h d = absurd d
 deletes s w c named ignores (failed f) new h d = absurd d

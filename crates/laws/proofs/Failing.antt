@@ -5,7 +5,8 @@ use Rattle.policy.specs.Caller.{Caller}
 use Rattle.model.specs.World.{World}
 use Rattle.model.specs.Request.{Request}
 use Rattle.policy.specs.declared.kinds.Rule.{Rule}
-use Rattle.policy.specs.declared.kinds.Rule.TheVariants.{Connect, TrustedImport, TrustedPermanentRoot, TrustedRuntimeRoots, OwnRoot, NoIgnoreLiveness, Live}
+use Rattle.policy.specs.declared.kinds.Rule.TheVariants.{Connect, TrustedImport, TrustedPermanentRoot}
+use Rattle.policy.specs.declared.kinds.Rule.TheVariants.{TrustedRuntimeRoots, OwnRoot, NoIgnoreLiveness, Live}
 use Rattle.model.specs.Verdict.{verdict, shown}
 use Rattle.model.specs.Step.{IsNoneOrLive}
 use Rattle.laws.specs.Laws.{FailsPastTheRules, MayFail, OthersShowNoRoot}
@@ -33,7 +34,8 @@ may_fail s w c q f h = (
 )
 
 -- what a denial by another rule shows
-none_shown : (s : Settings) (w : World) (c : Caller) (q : Request) (rule : Rule) → (rule ≡ Live → ⊥) → shown s w c q rule ≡ None
+none_shown : (s : Settings) (w : World) (c : Caller) (q : Request) (rule : Rule) → (rule ≡ Live → ⊥)
+    → shown s w c q rule ≡ None
 none_shown s w c q Live other = absurd (other refl)
 none_shown s w c q Connect other = refl
 none_shown s w c q TrustedImport other = refl

@@ -6,7 +6,8 @@ use Rattle.std.specs.List.Sorted.{IsStrictlySortedBy}
 use Rattle.std.specs.declared.cmp.Ordering.{Ordering}
 use Rattle.std.specs.declared.cmp.Ordering.TheVariants.{Less, Equal, Greater}
 use Rattle.std.specs.Ordering.{ordering_then, nat_cmp}
-use Rattle.paths.specs.Root.{set_of, Kind, permanent, user, profile, runtime, temporary, Root, place, root_cmp, in_order}
+use Rattle.paths.specs.Root.{set_of, Kind, permanent, user, profile, runtime, temporary, Root, place, root_cmp}
+use Rattle.paths.specs.Root.{in_order}
 use Rattle.live.proofs.Members.{cases, no_member}
 use Rattle.model.specs.World.{explicit_roots, runtime_roots, temporary_roots}
 use Rattle.laws.specs.LabelsAndOrder.{AreLabelled, MayFollow, KindsInOrder}
@@ -21,7 +22,7 @@ are_labelled = record {
   temporary_ = λ t. refl;
 }
 
--- ---- what comes behind a root in a list that rises
+-- ---- what comes after a root in a list that rises
 
 pub member_all : {X : Type 0} (P : X → Type 0) (xs : List X) → AllByRecursion P xs → (x : X) → Contains xs x → P x
 member_all P [] h x c = absurd (no_member x c)
@@ -30,7 +31,8 @@ member_all P (y ∷ ys) h x c = elim (cases y x ys c) as (λ _. P x) [
   | inr later ↦ member_all P ys h.1 x later
 ]
 
-after_is_more : (front : List Root) (r : Root) (back : List Root) → IsStrictlySortedBy root_cmp (front ++ r ∷ back) → (next : Root) → Contains back next → root_cmp r next ≡ Less
+after_is_more : (front : List Root) (r : Root) (back : List Root) → IsStrictlySortedBy root_cmp (front ++ r ∷ back)
+    → (next : Root) → Contains back next → root_cmp r next ≡ Less
 unfolding IsStrictlySortedBy
 after_is_more [] r back h next c = member_all (λ y. root_cmp r y ≡ Less) back h.0 next c
 after_is_more (x ∷ front) r back h next c = after_is_more front r back h.1 next c
@@ -74,4 +76,5 @@ rise xs = keys_rise root_cmp (set_of root_cmp xs)
 pub kinds_in_order : KindsInOrder
 kinds_in_order w front r back e next c =
     may_follow r.kind next.kind (not_greater (nat_cmp (place r.kind) (place next.kind)) _
-    (after_is_more front r back (subst (λ (xs : List Root). IsStrictlySortedBy root_cmp xs) e (rise (explicit_roots w ++ runtime_roots w ++ temporary_roots w))) next c))
+    (after_is_more front r back (subst (λ (xs : List Root). IsStrictlySortedBy root_cmp xs) e
+    (rise (explicit_roots w ++ runtime_roots w ++ temporary_roots w))) next c))

@@ -1,5 +1,6 @@
 -- A denial for a live path is for the first of the named that lives.
-use Rattle.std.proofs.Common.{◌≡◌, List, [], ◌∷◌, ◌++◌, Bool, true, false, ◌&&◌, ◌||◌, not, cond, Some, None, Option, option_map, refl, sym, ap, ◌∙◌, IsTrue}
+use Rattle.std.proofs.Common.{◌≡◌, List, [], ◌∷◌, ◌++◌, Bool, true, false, ◌&&◌, ◌||◌, not, cond, Some, None, Option}
+use Rattle.std.proofs.Common.{option_map, refl, sym, ap, ◌∙◌, IsTrue}
 use Rattle.std.specs.Prelude.{IfSome, IsSome, Contains}
 use Rattle.std.specs.List.{list_any, find}
 use Rattle.std.proofs.lemmas.Bool.{false≢true, false_from_ne_true}
@@ -62,9 +63,12 @@ left_of false b h = absurd (false≢true h)
 
 module _ (s : Settings) (w : World) (c : Caller) (q : Request) (v : verdict s w c q ≡ Some Live) where
   one_lives : IsTrue (list_any (lives s w) (named_in q))
-  one_lives = left_of _ _ (found (λ (rule : Rule). not (allows (class_of s c) c (operation_of q) (list_any (lives s w) (named_in q)) rule)) rules Live v).1
+  one_lives =
+      left_of _ _ (found (λ (rule : Rule). not
+      (allows (class_of s c) c (operation_of q) (list_any (lives s w) (named_in q)) rule)) rules Live v).1
 
-  with_root : (f : First (lives s w) (named_in q)) (o : Option Root) → first_root (keep_of s) (graph_of w) (roots_of w) f.here ≡ o → IsSome o
+  with_root : (f : First (lives s w) (named_in q)) (o : Option Root)
+      → first_root (keep_of s) (graph_of w) (roots_of w) f.here ≡ o → IsSome o
       → IfSome o (λ r. IsFirstRoot (keep_of s) (graph_of w) (roots_of w) f.here r) → NamesTheLiving s w c q
   with_root f (Some r) e some first = record {
     before = f.before;
@@ -75,7 +79,9 @@ module _ (s : Settings) (w : World) (c : Caller) (q : Request) (v : verdict s w 
     alive = f.passes;
     root = r;
     first = first;
-    is_shown = ap (λ o. option_map (seen_root (class_of s c)) (root_of_first s w o)) f.is_found ∙ ap (option_map (seen_root (class_of s c))) e;
+    is_shown =
+        ap (λ o. option_map (seen_root (class_of s c)) (root_of_first s w o)) f.is_found
+        ∙ ap (option_map (seen_root (class_of s c))) e;
   }
   with_root f None e some first = absurd (false≢true some)
 
@@ -83,7 +89,8 @@ module _ (s : Settings) (w : World) (c : Caller) (q : Request) (v : verdict s w 
   named =
       let f = first_of (lives s w) (named_in q) one_lives in
       let said = as_said s w f.here in
-      with_root f (first_root (keep_of s) (graph_of w) (roots_of w) f.here) refl (said.first.live (said.decided.0 f.passes)) said.first.first
+      with_root f (first_root (keep_of s) (graph_of w) (roots_of w) f.here) refl
+      (said.first.live (said.decided.0 f.passes)) said.first.first
 
 pub denials_name_the_living : DenialsNameTheLiving
 denials_name_the_living s w c q v = named s w c q v

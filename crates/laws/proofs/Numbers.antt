@@ -1,5 +1,6 @@
 -- The highest generation of a profile, and the one before the current.
-use Rattle.std.proofs.Common.{◌≡◌, ℕ, ◌+◌, ◌<◌, ◌≤◌, List, [], ◌∷◌, Bool, true, false, Some, None, Option, refl, sym, ap, arith, ◌∙◌, IsTrue, subst, inl, inr, ◌⊎◌}
+use Rattle.std.proofs.Common.{◌≡◌, ℕ, ◌+◌, ◌<◌, ◌≤◌, List, [], ◌∷◌, Bool, true, false, Some, None, Option, refl, sym}
+use Rattle.std.proofs.Common.{ap, arith, ◌∙◌, IsTrue, subst, inl, inr, ◌⊎◌}
 use Rattle.std.specs.Prelude.{Contains, is_some, IsFalse, nat_lt, unwrap_or, if◌then◌else◌}
 use Rattle.std.specs.List.{filter, last_or}
 use Rattle.std.specs.List.Sorted.{IsStrictlySortedBy}
@@ -21,9 +22,11 @@ use Rattle.laws.proofs.Freed.{keys_rise}
 
 -- ---- the last of a list that rises
 
-greatest_after : (x : ℕ) (xs : List ℕ) (n : ℕ) → IsStrictlySortedBy nat_cmp (x ∷ xs) → last_or (Some x) xs ≡ Some n → (x ≤ n) × ((y : ℕ) → Contains xs y → y ≤ n)
+greatest_after : (x : ℕ) (xs : List ℕ) (n : ℕ) → IsStrictlySortedBy nat_cmp (x ∷ xs) → last_or (Some x) xs ≡ Some n
+    → (x ≤ n) × ((y : ℕ) → Contains xs y → y ≤ n)
 unfolding IsStrictlySortedBy
-greatest_after x [] n rise e = (let same : x ≡ n = same_Some x n e in omega (arith, same), λ y c. absurd (no_member y c))
+greatest_after x [] n rise e =
+    (let same : x ≡ n = same_Some x n e in omega (arith, same), λ y c. absurd (no_member y c))
 greatest_after x (z ∷ zs) n rise e =
     let later = greatest_after z zs n rise.1 e in
     let less : x < z = ranked x z Less (sym rise.0.0) in (
@@ -38,7 +41,8 @@ last_present : (x : ℕ) (xs : List ℕ) → is_some (last_or (Some x) xs) ≡ t
 last_present x [] = refl
 last_present x (z ∷ zs) = last_present z zs
 
-last_greatest : (xs : List ℕ) (n : ℕ) → IsStrictlySortedBy nat_cmp xs → last_or None xs ≡ Some n → (y : ℕ) → Contains xs y → y ≤ n
+last_greatest : (xs : List ℕ) (n : ℕ) → IsStrictlySortedBy nat_cmp xs → last_or None xs ≡ Some n → (y : ℕ)
+    → Contains xs y → y ≤ n
 unfolding IsStrictlySortedBy
 last_greatest [] n rise e y c = absurd (no_member y c)
 last_greatest (x ∷ xs) n rise e y c =
@@ -79,7 +83,9 @@ module _ (p : Profile) where
   is_top : (n : ℕ) → last_or None (numbers p) ≡ Some n → IsHighest p n
   is_top n e = record {
     present = listed_key nat_cmp_total p.generations n (last_in (numbers p) n e);
-    greatest = λ m h. last_greatest (numbers p) n (keys_rise nat_cmp p.generations) e m (key_listed nat_antisymmetric p.generations m h);
+    greatest =
+        λ m h. last_greatest (numbers p) n (keys_rise nat_cmp p.generations) e m
+        (key_listed nat_antisymmetric p.generations m h);
   }
 
   highest_top : (n : ℕ) → last_or None (numbers p) ≡ Some n → IsHighest p (highest p)
@@ -96,7 +102,8 @@ module _ (p : Profile) where
     pub highest_path : is_highest p t ≡ true → finite.get p.generations (highest p) ≡ Some t
     highest_path h = at_path (finite.get p.generations (highest p)) h
 
-    by_last : (o : Option ℕ) → last_or None (numbers p) ≡ o → (b : Bool) → is_highest p t ≡ b → IsNumberFor p t (if b then highest p else highest p + 1)
+    by_last : (o : Option ℕ) → last_or None (numbers p) ≡ o → (b : Bool) → is_highest p t ≡ b
+        → IsNumberFor p t (if b then highest p else highest p + 1)
     by_last (Some n) e true h = again (highest_top n e) (highest_path h)
     by_last (Some n) e false h = next (highest p) (highest_top n e) (not_at_path h) refl
     by_last None e true h = absurd (false≢true (sym (none_present e (highest p)) ∙ ap is_some (highest_path h)))
@@ -115,16 +122,24 @@ module _ (p : Profile) where
 
       by : (b : Bool) → nat_lt m p.current ≡ b → p.current ≤ m
       by true e = absurd (last_none (filter (λ k. nat_lt k p.current) (numbers p)) (none_of (previous p) h) m
-          (in_filtered (λ k. nat_lt k p.current) (numbers p) m (key_listed nat_antisymmetric p.generations m present) e))
+          (in_filtered (λ k. nat_lt k p.current) (numbers p) m (key_listed nat_antisymmetric p.generations m present)
+          e))
       by false e = ltb-false m p.current e
 
   pub before : (n : ℕ) → previous p ≡ Some n → IsPrevious p n
   before n e =
-      let in_both = from_filtered (λ m. nat_lt m p.current) (numbers p) n (last_in (filter (λ m. nat_lt m p.current) (numbers p)) n e) in record {
+      let in_both =
+      from_filtered (λ m. nat_lt m p.current) (numbers p) n
+      (last_in (filter (λ m. nat_lt m p.current) (numbers p)) n e) in record {
         present = listed_key nat_cmp_total p.generations n in_both.0;
         lower = ltb-true n p.current in_both.1;
-        none_between = λ m h above below. contradiction above (last_greatest (filter (λ k. nat_lt k p.current) (numbers p)) n (IsStrictlySortedBy-filter nat_cmp (λ k. nat_lt k p.current) (numbers p) (keys_rise nat_cmp p.generations)) e m
-            (in_filtered (λ k. nat_lt k p.current) (numbers p) m (key_listed nat_antisymmetric p.generations m h) (lt-ltb m p.current below)));
+        none_between =
+            λ m h above below. contradiction above
+            (last_greatest (filter (λ k. nat_lt k p.current) (numbers p)) n
+            (IsStrictlySortedBy-filter nat_cmp (λ k. nat_lt k p.current) (numbers p)
+            (keys_rise nat_cmp p.generations)) e m
+            (in_filtered (λ k. nat_lt k p.current) (numbers p) m (key_listed nat_antisymmetric p.generations m h)
+            (lt-ltb m p.current below)));
       }
     where
       contradiction : {a b : ℕ} → a < b → b ≤ a → ⊥
@@ -134,22 +149,28 @@ module _ (p : Profile) where
   pub some_below : IsTrue (is_some (previous p)) → (m : ℕ) × IsTrue (has_generation p m) × (m < p.current)
   some_below h = by (previous p) refl h
     where
-      by : (o : Option ℕ) → previous p ≡ o → IsTrue (is_some o) → (m : ℕ) × IsTrue (has_generation p m) × (m < p.current)
+      by : (o : Option ℕ) → previous p ≡ o → IsTrue (is_some o)
+          → (m : ℕ) × IsTrue (has_generation p m) × (m < p.current)
       by None e t = absurd (false≢true t)
       by (Some m) e t =
-          let inside = from_filtered (λ k. nat_lt k p.current) (numbers p) m (last_in (filter (λ k. nat_lt k p.current) (numbers p)) m e) in
+          let inside =
+          from_filtered (λ k. nat_lt k p.current) (numbers p) m
+          (last_in (filter (λ k. nat_lt k p.current) (numbers p)) m e) in
           (m, listed_key nat_cmp_total p.generations m inside.0, ltb-true m p.current inside.1)
 
   -- there is one highest
   one_highest : (n m : ℕ) → IsHighest p n → IsHighest p m → n ≡ m
-  one_highest n m h k = let less = k.greatest n h.present in let more = h.greatest m k.present in omega (arith, less, more)
+  one_highest n m h k = let less = k.greatest n h.present in let more =
+      h.greatest m k.present in omega (arith, less, more)
 
   -- a path gets one number
   pub one_number : (t : Path) (n m : ℕ) → IsNumberFor p t n → IsNumberFor p t m → n ≡ m
   one_number t n m (again h at) (again k on) = one_highest n m h k
-  one_number t n m (again h at) (next j k off is) = absurd (off (subst (λ (x : ℕ). finite.get p.generations x ≡ Some t) (one_highest n j h k) at))
+  one_number t n m (again h at) (next j k off is) =
+      absurd (off (subst (λ (x : ℕ). finite.get p.generations x ≡ Some t) (one_highest n j h k) at))
   one_number t n m (again h at) (first none is) = absurd (false≢true (sym (none n) ∙ h.present))
-  one_number t n m (next i h off is) (again k at) = absurd (off (subst (λ (x : ℕ). finite.get p.generations x ≡ Some t) (one_highest m i k h) at))
+  one_number t n m (next i h off is) (again k at) =
+      absurd (off (subst (λ (x : ℕ). finite.get p.generations x ≡ Some t) (one_highest m i k h) at))
   one_number t n m (next i h off is) (next j k out it) = let same = one_highest i j h k in omega (arith, same, is, it)
   one_number t n m (next i h off is) (first none it) = absurd (false≢true (sym (none i) ∙ h.present))
   one_number t n m (first none is) (again k at) = absurd (false≢true (sym (none m) ∙ k.present))

@@ -1,4 +1,4 @@
--- What only tells changes nothing, and a listing is that of the object's tree.
+-- What only reports changes nothing, and a listing is that of the object's tree.
 use Rattle.std.proofs.Common.{◌≡◌, [], Some, None, Option, refl, ap, ◌∙◌, IsTrue}
 use Rattle.std.specs.Prelude.{is_some, codes}
 use Rattle.std.specs.FinMap as finite
@@ -43,8 +43,15 @@ pub listings_are_the_objects : ListingsAreTheObjects
 listings_are_the_objects s w c p a new sound h = by (finite.get w.objects p) refl (met (has w p) _ (passed _ [] h.1).0)
   where
     by : (o : Option Object) → finite.get w.objects p ≡ o → IsTrue (is_some o)
-        → (x : Object) × (t : Tree) × (finite.get w.objects p ≡ Some x) × IsArchive t x.nar × (a ≡ listing_of (listing (codes ".") t))
+        → (x : Object) × (t : Tree) × (finite.get w.objects p ≡ Some x) × IsArchive t x.nar
+        × (a ≡ listing_of (listing (codes ".") t))
     by None e v = absurd (false≢true v)
     by (Some o) e v =
-        let is = sound.objects p o e in
-        (o, is.tree, e, is.archive, h.2 ∙ ap (λ x. listing_of (listing_at (outcome_of (archive_at x)))) e ∙ ap (λ r. listing_of (listing_at r)) (archive_is_read is.tree o.nar is.archive))
+        let is = sound.objects p o e in (
+          o,
+          is.tree,
+          e,
+          is.archive,
+          h.2 ∙ ap (λ x. listing_of (listing_at (outcome_of (archive_at x)))) e
+              ∙ ap (λ r. listing_of (listing_at r)) (archive_is_read is.tree o.nar is.archive),
+        )

@@ -1,5 +1,6 @@
 -- What requests that are done make of a profile.
-use Rattle.std.proofs.Common.{◌≡◌, ℕ, ◌+◌, Bool, true, false, not, Some, None, Option, refl, sym, ap, arith, ◌∙◌, IsTrue, subst}
+use Rattle.std.proofs.Common.{◌≡◌, ℕ, ◌+◌, Bool, true, false, not, Some, None, Option, refl, sym, ap, arith, ◌∙◌}
+use Rattle.std.proofs.Common.{IsTrue, subst}
 use Rattle.std.specs.Prelude.{◌==◌, is_some, if◌then◌else◌, unwrap_or}
 use Rattle.std.specs.Cmp.{nat_cmp_total}
 use Rattle.std.specs.FinMap as finite
@@ -8,10 +9,12 @@ use Rattle.std.proofs.Math.Dec.{eqb_refl}
 use Rattle.model.specs.World.{Path, Pair, Profile, World}
 use Rattle.model.specs.Request.{rollback, switch, delete_generation}
 use Rattle.model.specs.Reply.{generation}
-use Rattle.model.specs.Profiles.{profile_or_new, profile_at, has_profile, has_generation, highest, is_highest, number_for, previous, set_to, rolled_back, switched, without_generation}
+use Rattle.model.specs.Profiles.{profile_or_new, profile_at, has_profile, has_generation, highest, is_highest}
+use Rattle.model.specs.Profiles.{number_for, previous, set_to, rolled_back, switched, without_generation}
 use Rattle.model.specs.Tests.{tests}
 use Rattle.model.specs.Effects.{with_profile}
-use Rattle.laws.specs.Generations.{ChangesProfile, SetsProfile, SetsAsSpecified, MovesTo, RollsBack, RollsBackAsSpecified, SwitchesAsSpecified, LosesGeneration, DeletesGenerations}
+use Rattle.laws.specs.Generations.{ChangesProfile, SetsProfile, SetsAsSpecified, MovesTo, RollsBack}
+use Rattle.laws.specs.Generations.{RollsBackAsSpecified, SwitchesAsSpecified, LosesGeneration, DeletesGenerations}
 use Rattle.model.proofs.MapMembers.{nat_antisymmetric, pair_total, pair_antisymmetric}
 use Rattle.laws.proofs.Changed.{at_inserted, next_to_inserted, at_removed, next_to_removed}
 use Rattle.model.proofs.Passed.{met, each_passed}
@@ -70,7 +73,9 @@ sets s w c owner name t a new h =
 
 -- ---- another generation becomes the current one
 
-moves : (w : World) (owned : Pair) (n : ℕ) → IsTrue (has_profile w owned) → IsTrue (has_generation (profile_at w owned) n) → MovesTo w owned n (with_profile w owned (switched (profile_at w owned) n))
+moves : (w : World) (owned : Pair) (n : ℕ) → IsTrue (has_profile w owned)
+    → IsTrue (has_generation (profile_at w owned) n)
+    → MovesTo w owned n (with_profile w owned (switched (profile_at w owned) n))
 moves w owned n h present = record {
   was = profile_at w owned;
   existed = existed (finite.get w.profiles owned) h;
@@ -81,8 +86,10 @@ moves w owned n h present = record {
   generations = refl;
 }
 
-leads_back : (w : World) (owned : Pair) (o : Option ℕ) → previous (profile_at w owned) ≡ o → IsTrue (has_profile w owned) → IsTrue (is_some o)
-    → RollsBack w owned (generation (unwrap_or o (profile_at w owned).current)) (with_profile w owned (switched (profile_at w owned) (unwrap_or o (profile_at w owned).current)))
+leads_back : (w : World) (owned : Pair) (o : Option ℕ) → previous (profile_at w owned) ≡ o
+    → IsTrue (has_profile w owned) → IsTrue (is_some o)
+    → RollsBack w owned (generation (unwrap_or o (profile_at w owned).current))
+    (with_profile w owned (switched (profile_at w owned) (unwrap_or o (profile_at w owned).current)))
 unfolding moves
 leads_back w owned None e h some = absurd (false≢true some)
 leads_back w owned (Some n) e h some =
@@ -91,17 +98,21 @@ leads_back w owned (Some n) e h some =
 
 pub rolls_back : RollsBackAsSpecified
 rolls_back s w c owner name a new h =
-    subst (λ (u : World). RollsBack w (owner, name) a u) (sym h.3) (subst (λ x. RollsBack w (owner, name) x (with_profile w (owner, name) (rolled_back (profile_at w (owner, name))))) (sym h.2)
+    subst (λ (u : World). RollsBack w (owner, name) a u) (sym h.3)
+    (subst (λ x. RollsBack w (owner, name) x
+    (with_profile w (owner, name) (rolled_back (profile_at w (owner, name))))) (sym h.2)
     (leads_back w (owner, name) (previous (profile_at w (owner, name))) refl
     (met (has_profile w (owner, name)) _ (each_passed (tests s w (rollback owner name)) h.1 _ (1, omega arith, refl)))
-    (met (is_some (previous (profile_at w (owner, name)))) _ (each_passed (tests s w (rollback owner name)) h.1 _ (2, omega arith, refl)))))
+    (met (is_some (previous (profile_at w (owner, name)))) _
+    (each_passed (tests s w (rollback owner name)) h.1 _ (2, omega arith, refl)))))
 
 pub switches : SwitchesAsSpecified
 switches s w c owner name n a new h = (
   h.2,
   subst (λ (u : World). MovesTo w (owner, name) n u) (sym h.3) (moves w (owner, name) n
       (met (has_profile w (owner, name)) _ (each_passed (tests s w (switch owner name n)) h.1 _ (1, omega arith, refl)))
-      (met (has_generation (profile_at w (owner, name)) n) _ (each_passed (tests s w (switch owner name n)) h.1 _ (2, omega arith, refl)))),
+      (met (has_generation (profile_at w (owner, name)) n) _
+      (each_passed (tests s w (switch owner name n)) h.1 _ (2, omega arith, refl)))),
 )
 
 -- ---- a generation is deleted
@@ -118,13 +129,22 @@ deletes_generations s w c owner name n a new h = (
   h.2,
   subst (λ (u : World). LosesGeneration w (owner, name) n u) (sym h.3) (record {
     was = profile_at w (owner, name);
-    existed = existed (finite.get w.profiles (owner, name)) (met (has_profile w (owner, name)) _ (each_passed (tests s w (delete_generation owner name n)) h.1 _ (1, omega arith, refl)));
-    present = met (has_generation (profile_at w (owner, name)) n) _ (each_passed (tests s w (delete_generation owner name n)) h.1 _ (2, omega arith, refl));
-    not_current = differs (profile_at w (owner, name)).current n (met (not ((profile_at w (owner, name)).current == n)) _ (each_passed (tests s w (delete_generation owner name n)) h.1 _ (3, omega arith, refl)));
+    existed =
+        existed (finite.get w.profiles (owner, name))
+        (met (has_profile w (owner, name)) _
+        (each_passed (tests s w (delete_generation owner name n)) h.1 _ (1, omega arith, refl)));
+    present =
+        met (has_generation (profile_at w (owner, name)) n) _
+        (each_passed (tests s w (delete_generation owner name n)) h.1 _ (2, omega arith, refl));
+    not_current =
+        differs (profile_at w (owner, name)).current n
+        (met (not ((profile_at w (owner, name)).current == n)) _
+        (each_passed (tests s w (delete_generation owner name n)) h.1 _ (3, omega arith, refl)));
     now = without_generation (profile_at w (owner, name)) n;
     change = change w (owner, name) (without_generation (profile_at w (owner, name)) n);
     deleted = at_removed nat_cmp_total nat_antisymmetric (profile_at w (owner, name)).generations n;
-    others = λ m apart. next_to_removed nat_cmp_total nat_antisymmetric (profile_at w (owner, name)).generations n m apart;
+    others =
+        λ m apart. next_to_removed nat_cmp_total nat_antisymmetric (profile_at w (owner, name)).generations n m apart;
     current = refl;
   }),
 )

@@ -1,5 +1,6 @@
 -- How callers see roots: one, and many in their order.
-use Rattle.std.proofs.Common.{◌≡◌, List, [], ◌∷◌, map, Bool, true, false, ◌&&◌, ◌||◌, not, cond, Some, refl, sym, ap, ◌∙◌, IsTrue, subst, inl, inr, ◌⊎◌}
+use Rattle.std.proofs.Common.{◌≡◌, List, [], ◌∷◌, map, Bool, true, false, ◌&&◌, ◌||◌, not, cond, Some, refl, sym, ap}
+use Rattle.std.proofs.Common.{◌∙◌, IsTrue, subst, inl, inr, ◌⊎◌}
 use Rattle.std.specs.Prelude.{Contains, if◌then◌else◌}
 use Rattle.std.specs.List.{filter, list_any}
 use Rattle.std.proofs.lemmas.Bool.{false≢true, and_parts, and_from}
@@ -15,7 +16,8 @@ use Rattle.laws.specs.Sights.{HidesLabel, SeesRoot, AreFirsts, SeesRoots, ShowsT
 
 -- ---- one root
 
-label_seen : (r : Root) (k : Kind) → (k ≡ runtime → ⊥) → (k ≡ temporary → ⊥) → (if is_hidden k then hidden_label else r.label) ≡ r.label
+label_seen : (r : Root) (k : Kind) → (k ≡ runtime → ⊥) → (k ≡ temporary → ⊥)
+    → (if is_hidden k then hidden_label else r.label) ≡ r.label
 label_seen r permanent run temp = refl
 label_seen r user run temp = refl
 label_seen r profile run temp = refl
@@ -29,7 +31,8 @@ hides r = record {
   label = λ run temp. label_seen r r.kind run temp;
 }
   where
-    hidden : (r.kind ≡ runtime) ⊎ (r.kind ≡ temporary) → (if is_hidden r.kind then hidden_label else r.label) ≡ hidden_label
+    hidden : (r.kind ≡ runtime) ⊎ (r.kind ≡ temporary)
+        → (if is_hidden r.kind then hidden_label else r.label) ≡ hidden_label
     hidden (inl e) = ap (λ k. if is_hidden k then hidden_label else r.label) e
     hidden (inr e) = ap (λ k. if is_hidden k then hidden_label else r.label) e
 
@@ -58,25 +61,35 @@ has_come before q c = any_from (λ z. same_pair z q) before q c (same_pair_itsel
 
 is_among : (before : List Pair) (q : Pair) → IsTrue (came before q) → Contains before q
 unfolding came
-is_among before q h = let x = some_of_any (λ z. same_pair z q) before h in subst (λ y. Contains before y) (same_pair_is x.0 q x.2) x.1
+is_among before q h = let x =
+    some_of_any (λ z. same_pair z q) before h in subst (λ y. Contains before y) (same_pair_is x.0 q x.2) x.1
 
 -- what passes two tests passes a third that asks both
-both_tests : (f g h : Pair → Bool) → ((q : Pair) → h q ≡ (f q && g q)) → (ps : List Pair) → filter f (filter g ps) ≡ filter h ps
+both_tests : (f g h : Pair → Bool) → ((q : Pair) → h q ≡ (f q && g q)) → (ps : List Pair)
+    → filter f (filter g ps) ≡ filter h ps
 both_tests f g h is [] = refl
 both_tests f g h is (p ∷ ps) = by (f p) (g p) refl refl (both_tests f g h is ps)
   where
-    by : (a b : Bool) → f p ≡ a → g p ≡ b → filter f (filter g ps) ≡ filter h ps → filter f (cond b (p ∷ filter g ps) (filter g ps)) ≡ cond (h p) (p ∷ filter h ps) (filter h ps)
-    by true true e k later = ap (λ c. cond c (p ∷ filter f (filter g ps)) (filter f (filter g ps))) e ∙ ap (λ qs. p ∷ qs) later ∙ sym (ap (λ c. cond c (p ∷ filter h ps) (filter h ps)) (is p ∙ ap (λ c. c && g p) e ∙ k))
-    by false true e k later = ap (λ c. cond c (p ∷ filter f (filter g ps)) (filter f (filter g ps))) e ∙ later ∙ sym (ap (λ c. cond c (p ∷ filter h ps) (filter h ps)) (is p ∙ ap (λ c. c && g p) e))
-    by true false e k later = later ∙ sym (ap (λ c. cond c (p ∷ filter h ps) (filter h ps)) (is p ∙ ap (λ c. c && g p) e ∙ k))
-    by false false e k later = later ∙ sym (ap (λ c. cond c (p ∷ filter h ps) (filter h ps)) (is p ∙ ap (λ c. c && g p) e))
+    by : (a b : Bool) → f p ≡ a → g p ≡ b → filter f (filter g ps) ≡ filter h ps
+        → filter f (cond b (p ∷ filter g ps) (filter g ps)) ≡ cond (h p) (p ∷ filter h ps) (filter h ps)
+    by true true e k later =
+        ap (λ c. cond c (p ∷ filter f (filter g ps)) (filter f (filter g ps))) e ∙ ap (λ qs. p ∷ qs) later
+        ∙ sym (ap (λ c. cond c (p ∷ filter h ps) (filter h ps)) (is p ∙ ap (λ c. c && g p) e ∙ k))
+    by false true e k later =
+        ap (λ c. cond c (p ∷ filter f (filter g ps)) (filter f (filter g ps))) e ∙ later
+        ∙ sym (ap (λ c. cond c (p ∷ filter h ps) (filter h ps)) (is p ∙ ap (λ c. c && g p) e))
+    by true false e k later =
+        later ∙ sym (ap (λ c. cond c (p ∷ filter h ps) (filter h ps)) (is p ∙ ap (λ c. c && g p) e ∙ k))
+    by false false e k later =
+        later ∙ sym (ap (λ c. cond c (p ∷ filter h ps) (filter h ps)) (is p ∙ ap (λ c. c && g p) e))
 
 all_pass : (ps : List Pair) → filter (λ q. true) ps ≡ ps
 all_pass [] = refl
 all_pass (p ∷ ps) = ap (λ qs. p ∷ qs) (all_pass ps)
 
 -- an element that came before is left out anyway
-old_first : (before : List Pair) (x : Pair) → IsTrue (came before x) → (q : Pair) → not (came before q) ≡ (not (came before q) && not (same_pair x q))
+old_first : (before : List Pair) (x : Pair) → IsTrue (came before x) → (q : Pair)
+    → not (came before q) ≡ (not (came before q) && not (same_pair x q))
 old_first before x old q = by (same_pair x q) refl
   where
     kept : (b : Bool) → b ≡ (b && true)
@@ -84,7 +97,8 @@ old_first before x old q = by (same_pair x q) refl
     kept false = refl
 
     by : (b : Bool) → same_pair x q ≡ b → not (came before q) ≡ (not (came before q) && not b)
-    by true e = let is : came before q ≡ true = ap (came before) (sym (same_pair_is x q e)) ∙ old in ap (λ b. not b) is ∙ sym (ap (λ b. not b && false) is)
+    by true e = let is : came before q ≡ true =
+        ap (came before) (sym (same_pair_is x q e)) ∙ old in ap (λ b. not b) is ∙ sym (ap (λ b. not b && false) is)
     by false e = kept (not (came before q))
 
 not_either : (a b : Bool) → not (a || b) ≡ (not b && not a)
@@ -98,17 +112,25 @@ unfolding came
 firsts before [] = refl
 firsts before (x ∷ xs) = by (came before x) refl (λ old. firsts old xs)
   where
-    by : (b : Bool) → came before x ≡ b → ((old : List Pair) → AreFirsts old xs (filter (λ q. not (came old q)) (each_once xs))) → AreFirsts before (x ∷ xs) (cond (not b) (x ∷ filter (λ q. not (came before q)) (filter (λ q. not (same_pair x q)) (each_once xs))) (filter (λ q. not (came before q)) (filter (λ q. not (same_pair x q)) (each_once xs))))
+    by : (b : Bool) → came before x ≡ b
+        → ((old : List Pair) → AreFirsts old xs (filter (λ q. not (came old q)) (each_once xs)))
+        → AreFirsts before (x ∷ xs) (cond (not b)
+        (x ∷ filter (λ q. not (came before q)) (filter (λ q. not (same_pair x q)) (each_once xs)))
+        (filter (λ q. not (came before q)) (filter (λ q. not (same_pair x q)) (each_once xs))))
     by true e later = inl (
       is_among before x e,
-      subst (λ ys. AreFirsts before xs ys) (sym (both_tests (λ q. not (came before q)) (λ q. not (same_pair x q)) (λ q. not (came before q)) (old_first before x e) (each_once xs))) (later before),
+      subst (λ ys. AreFirsts before xs ys)
+          (sym (both_tests (λ q. not (came before q)) (λ q. not (same_pair x q)) (λ q. not (came before q))
+          (old_first before x e) (each_once xs))) (later before),
     )
     by false e later = inr (
       (λ c. false≢true (sym e ∙ has_come before x c)),
       (
         filter (λ q. not (came before q)) (filter (λ q. not (same_pair x q)) (each_once xs)),
         refl,
-        subst (λ ys. AreFirsts (x ∷ before) xs ys) (sym (both_tests (λ q. not (came before q)) (λ q. not (same_pair x q)) (λ q. not (came (x ∷ before) q)) (λ q. not_either (same_pair x q) (came before q)) (each_once xs))) (later (x ∷ before)),
+        subst (λ ys. AreFirsts (x ∷ before) xs ys)
+            (sym (both_tests (λ q. not (came before q)) (λ q. not (same_pair x q)) (λ q. not (came (x ∷ before) q))
+            (λ q. not_either (same_pair x q) (came before q)) (each_once xs))) (later (x ∷ before)),
       ),
     )
 
@@ -118,16 +140,23 @@ mapped_twice : (roots : List Root) → map plain (map censored roots) ≡ map (�
 mapped_twice [] = refl
 mapped_twice (r ∷ rs) = ap (λ ps. plain (censored r) ∷ ps) (mapped_twice rs)
 
-hidden_firsts : (roots : List Root) → AreFirsts [] (map (λ (r : Root). plain (censored r)) roots) (each_once (map plain (map censored roots)))
+hidden_firsts : (roots : List Root)
+    → AreFirsts [] (map (λ (r : Root). plain (censored r)) roots) (each_once (map plain (map censored roots)))
 unfolding came
 hidden_firsts roots =
     subst (λ ps. AreFirsts [] (map (λ (r : Root). plain (censored r)) roots) (each_once ps)) (sym (mapped_twice roots))
-    (subst (λ ys. AreFirsts [] (map (λ (r : Root). plain (censored r)) roots) ys) (all_pass (each_once (map (λ (r : Root). plain (censored r)) roots))) (firsts [] (map (λ (r : Root). plain (censored r)) roots)))
+    (subst (λ ys. AreFirsts [] (map (λ (r : Root). plain (censored r)) roots) ys)
+    (all_pass (each_once (map (λ (r : Root). plain (censored r)) roots)))
+    (firsts [] (map (λ (r : Root). plain (censored r)) roots)))
 
 pub sees_roots : (class : Class) (roots : List Root) → SeesRoots class roots
 sees_roots class roots = record {
-  trusted = λ h. ap (λ b. if b then map plain roots else each_once (map plain (map censored roots))) h ∙ sym (ap (λ b. map (λ (r : Root). plain (if b then r else censored r)) roots) h);
-  others = λ h. subst (λ b. AreFirsts [] (map (λ (r : Root). plain (if b then r else censored r)) roots) (if b then map plain roots else each_once (map plain (map censored roots)))) (sym h) (hidden_firsts roots);
+  trusted =
+      λ h. ap (λ b. if b then map plain roots else each_once (map plain (map censored roots))) h
+      ∙ sym (ap (λ b. map (λ (r : Root). plain (if b then r else censored r)) roots) h);
+  others =
+      λ h. subst (λ b. AreFirsts [] (map (λ (r : Root). plain (if b then r else censored r)) roots)
+      (if b then map plain roots else each_once (map plain (map censored roots)))) (sym h) (hidden_firsts roots);
 }
 
 pub shows_the_label : ShowsTheLabel

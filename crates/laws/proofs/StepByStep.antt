@@ -9,8 +9,10 @@ use Rattle.model.specs.Step.{Step, Run}
 use Rattle.laws.specs.Runs.{RunsGoStepByStep}
 
 module _ (s : Settings) where
-  splits : (w new : World) (first second : List (Caller × Request)) (replies others : List Reply) → length first ≡ length replies
-      → Run s w (first ++ second) (replies ++ others) new → (mid : World) × Run s w first replies mid × Run s mid second others new
+  splits : (w new : World) (first second : List (Caller × Request)) (replies others : List Reply)
+      → length first ≡ length replies
+      → Run s w (first ++ second) (replies ++ others) new
+      → (mid : World) × Run s w first replies mid × Run s mid second others new
   splits w new [] second [] others e h = (w, refl, h)
   splits w new [] second (reply ∷ replies) others e h = absurd (omega (arith, e))
   splits w new (call ∷ first) second [] others e h = absurd (omega (arith, e))
@@ -18,14 +20,18 @@ module _ (s : Settings) where
       let rest = splits h.0 new first second replies others (omega (arith, e)) h.2 in
       (rest.0, (h.0, h.1, rest.1), rest.2)
 
-  joins : (w new : World) (first second : List (Caller × Request)) (replies others : List Reply) → length first ≡ length replies
-      → (mid : World) × Run s w first replies mid × Run s mid second others new → Run s w (first ++ second) (replies ++ others) new
+  joins : (w new : World) (first second : List (Caller × Request)) (replies others : List Reply)
+      → length first ≡ length replies
+      → (mid : World) × Run s w first replies mid × Run s mid second others new
+      → Run s w (first ++ second) (replies ++ others) new
   joins w new [] second [] others e h = subst (λ (x : World). Run s x second others new) h.1 h.2
   joins w new [] second (reply ∷ replies) others e h = absurd (omega (arith, e))
   joins w new (call ∷ first) second [] others e h = absurd (omega (arith, e))
-  joins w new (call ∷ first) second (reply ∷ replies) others e h = (h.1.0, h.1.1, joins h.1.0 new first second replies others (omega (arith, e)) (h.0, h.1.2, h.2))
+  joins w new (call ∷ first) second (reply ∷ replies) others e h =
+      (h.1.0, h.1.1, joins h.1.0 new first second replies others (omega (arith, e)) (h.0, h.1.2, h.2))
 
-  as_many : (w new : World) (calls : List (Caller × Request)) (replies : List Reply) → Run s w calls replies new → length calls ≡ length replies
+  as_many : (w new : World) (calls : List (Caller × Request)) (replies : List Reply) → Run s w calls replies new
+      → length calls ≡ length replies
   as_many w new [] [] h = refl
   as_many w new [] (reply ∷ replies) h = absurd h
   as_many w new (call ∷ calls) [] h = absurd h
@@ -38,6 +44,8 @@ runs_go_step_by_step s w new = record {
     (λ h. subst (λ (x : World). Step s w c q reply x) (sym h.2) h.1),
     (λ h. (new, h, refl)),
   );
-  joined = λ first second replies others e. (splits s w new first second replies others e, joins s w new first second replies others e);
+  joined =
+      λ first second replies others
+      e. (splits s w new first second replies others e, joins s w new first second replies others e);
   alike = λ calls replies h. as_many s w new calls replies h;
 }

@@ -4,7 +4,7 @@ use Rattle.std.specs.Prelude.{if◌then◌else◌, nat_lt, map, sum_by}
 use Rattle.std.proofs.lemmas.List.Sums.{sum_by-cons}
 use Rattle.live.specs.Graph.{Keep}
 use Rattle.live.specs.Places.{Entries, counting}
-use Rattle.live.specs.Marking.{cost, marked_cost}
+use Rattle.live.specs.Marks.{cost, marked_cost}
 use Rattle.laws.specs.Steps.{steps_of, TakesFewSteps}
 
 at_most : (b : Bool) (w : ℕ) → (if b then w else 0) ≤ w
@@ -12,7 +12,8 @@ at_most true w = omega arith
 at_most false w = omega arith
 
 -- what the marked cost, all places cost at least
-cost_of_all : (keep : Keep) (none : ℕ) (rows : List Entries) (marks : List ℕ) → marked_cost none (map (cost keep) rows) marks ≤ steps_of keep rows
+cost_of_all : (keep : Keep) (none : ℕ) (rows : List Entries) (marks : List ℕ)
+    → marked_cost none (map (cost keep) rows) marks ≤ steps_of keep rows
 cost_of_all keep none [] marks = omega arith
 cost_of_all keep none (row ∷ rows) [] = omega arith
 cost_of_all keep none (row ∷ rows) (mark ∷ marks) =
@@ -22,6 +23,8 @@ cost_of_all keep none (row ∷ rows) (mark ∷ marks) =
 
 pub takes_few_steps : (keep : Keep) → TakesFewSteps keep
 takes_few_steps keep = record {
-  places = λ rows targets m is. (let steps = is.steps in let all = cost_of_all keep m.none rows m.first in omega (arith, steps, all));
+  places =
+      λ rows targets m is. (let steps = is.steps in let all = cost_of_all keep m.none rows m.first in
+      omega (arith, steps, all));
   paths = λ rows roots m is. is.most_steps;
 }

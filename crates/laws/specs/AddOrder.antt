@@ -20,7 +20,8 @@ use Rattle.policy.specs.Caller.{Caller}
 use Rattle.model.specs.Request.{Imported, Request, add_text, add_source, import_object}
 use Rattle.model.specs.Reply.{Reply}
 use Rattle.model.specs.declared.refusal.Refusal.{Refusal}
-use Rattle.model.specs.declared.refusal.Refusal.TheVariants.{TooLarge, CaMismatch, MissingReference, SelfReference, TooManyReferences}
+use Rattle.model.specs.declared.refusal.Refusal.TheVariants.{TooLarge, CaMismatch, MissingReference, SelfReference}
+use Rattle.model.specs.declared.refusal.Refusal.TheVariants.{TooManyReferences}
 use Rattle.model.specs.Faults.{archive_refusal, derivation_refusal}
 use Rattle.model.specs.Adds.{text_archive}
 use Rattle.model.specs.Step.{Step}

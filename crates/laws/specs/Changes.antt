@@ -1,5 +1,6 @@
 -- Laws of adds, deletions and collections that are done: exactly what comes, what is deleted, and what is answered.
-use Rattle.std.specs.Prelude.{◌≡◌, ◌↔◌, ℕ, ◌+◌, false, Bool, List, [], ◌∷◌, length, Option, Some, None, IsTrue, IsFalse, Contains}
+use Rattle.std.specs.Prelude.{◌≡◌, ◌↔◌, ℕ, ◌+◌, false, Bool, List, [], ◌∷◌, length, Option, Some, None, IsTrue, IsFalse}
+use Rattle.std.specs.Prelude.{Contains}
 use Rattle.std.specs.List.Sorted.{IsStrictlySortedBy}
 use Rattle.std.specs.FinMap as finite
 use Rattle.nar.specs.Tree.{regular}

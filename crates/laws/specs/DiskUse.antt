@@ -1,7 +1,10 @@
 -- Laws of what requests need of the disk.
 use Rattle.std.specs.Prelude.{IsTrue, IsFalse}
 use Rattle.model.specs.Disk.{reads_disk, touches_disk, puts_rows}
-use Rattle.model.specs.Request.{Request, add_text, add_source, import_object, info, nar, ls, list, list_live, list_dead, list_roots, list_roots_of, set_permanent, drop_permanent, set_user_root, drop_user_root, set_profile, rollback, switch, delete_generation, replace_runtime, add_temp, end_session, collect, delete, report}
+use Rattle.model.specs.Request.{Request, add_text, add_source, import_object, info, nar, ls, list, list_live, list_dead}
+use Rattle.model.specs.Request.{list_roots, list_roots_of, set_permanent, drop_permanent, set_user_root, drop_user_root}
+use Rattle.model.specs.Request.{set_profile, rollback, switch, delete_generation, replace_runtime, add_temp}
+use Rattle.model.specs.Request.{end_session, collect, delete, report}
 use Rattle.laws.specs.ReadOnly.{OnlyReads}
 
 -- the request is for an archive or its listing

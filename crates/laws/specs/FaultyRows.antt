@@ -1,6 +1,7 @@
 -- Faults of rows, said of the columns themselves. Each field of the records names a fault, and says that rows which
 -- have it aren't sound.
-use Rattle.std.specs.Prelude.{◌≡◌, ◌≢◌, ◌↔◌, ℕ, ◌<◌, ℤ, Bool, List, ◌++◌, length, codes, Some, None, IsTrue, IsFalse, IsSome, Contains, AllPairs}
+use Rattle.std.specs.Prelude.{◌≡◌, ◌≢◌, ◌↔◌, ℕ, ◌<◌, ℤ, Bool, List, ◌++◌, length, codes, Some, None, IsTrue, IsFalse}
+use Rattle.std.specs.Prelude.{IsSome, Contains, AllPairs}
 use Rattle.std.specs.FinMap as finite
 use Rattle.sha2.specs.Sha256.{sha256}
 use Rattle.nar.specs.Tree.{Tree, regular}

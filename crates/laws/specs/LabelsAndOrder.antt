@@ -1,7 +1,8 @@
 -- Laws of the labels of roots and of their order.
 use Rattle.std.specs.Prelude.{◌≡◌, ℕ, ◌++◌, List, ◌∷◌, codes, decimal, Contains}
 use Rattle.paths.specs.Root.{Kind, permanent, user, profile, runtime, temporary, Root}
-use Rattle.model.specs.World.{Path, Temporary, World, permanent_root, user_root, generation_root, runtime_root, temporary_root, roots_of}
+use Rattle.model.specs.World.{Path, Temporary, World, permanent_root, user_root, generation_root, runtime_root}
+use Rattle.model.specs.World.{temporary_root, roots_of}
 
 -- the root of each entry of a table: its kind, its target, and its label as it is written
 pub record AreLabelled : Type 0 where

@@ -15,7 +15,7 @@ use Rattle.model.specs.Verdict.{named_in, verdict, shown}
 use Rattle.policy.specs.declared.kinds.Rule.{Rule}
 use Rattle.policy.specs.declared.kinds.Rule.TheVariants.{Live}
 use Rattle.std.specs.List.{list_any}
-use Rattle.model.specs.Reply.{Failure, HasFailed, IsDone, Reply, Usage}
+use Rattle.model.specs.Reply.{Failed, HasFailed, IsDone, Reply, Usage}
 
 -- a call that isn't done leaves the world
 abbrev pub LeavesUnlessDone : Type 0
@@ -24,12 +24,12 @@ LeavesUnlessDone = (s : Settings) (w : World) (c : Caller) (q : Request) (reply 
 
 -- a call fails only where no rule denies it, or `Live` alone
 abbrev pub FailsPastTheRules : Type 0
-FailsPastTheRules = (s : Settings) (w : World) (c : Caller) (q : Request) (f : Failure) (new : World)
+FailsPastTheRules = (s : Settings) (w : World) (c : Caller) (q : Request) (f : Failed) (new : World)
     → Step s w c q (failed f) new → (verdict s w c q ≡ None) ⊎ (verdict s w c q ≡ Some Live)
 
 -- a call may fail for any cause where no rule denies it, or `Live` alone
 abbrev pub MayFail : Type 0
-MayFail = (s : Settings) (w : World) (c : Caller) (q : Request) (f : Failure)
+MayFail = (s : Settings) (w : World) (c : Caller) (q : Request) (f : Failed)
     → (verdict s w c q ≡ None) ⊎ (verdict s w c q ≡ Some Live) → Step s w c q (failed f) w
 
 -- a denial by a rule other than `Live` shows no root

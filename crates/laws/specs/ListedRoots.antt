@@ -5,7 +5,8 @@ use Rattle.policy.specs.Caller.{Caller}
 use Rattle.policy.specs.Class.{class_of}
 use Rattle.policy.specs.Rules.{is_trusted}
 use Rattle.model.specs.World.{Path, Pair, World, has}
-use Rattle.model.specs.Request.{list_roots, list_roots_of, set_permanent, set_user_root, set_profile, replace_runtime, add_temp}
+use Rattle.model.specs.Request.{list_roots, list_roots_of, set_permanent, set_user_root, set_profile, replace_runtime}
+use Rattle.model.specs.Request.{add_temp}
 use Rattle.model.specs.Reply.{Answer, roots, generation, done}
 use Rattle.model.specs.Step.{Step}
 

@@ -6,7 +6,9 @@ use Rattle.policy.specs.Caller.{Caller}
 use Rattle.policy.specs.Class.{class_of}
 use Rattle.policy.specs.Rules.{is_stranger, is_trusted}
 use Rattle.model.specs.World.{Path, Pair, Profile, World}
-use Rattle.model.specs.Request.{Imported, Request, import_object, set_permanent, drop_permanent, set_user_root, drop_user_root, set_profile, rollback, switch, delete_generation, replace_runtime, add_temp, end_session}
+use Rattle.model.specs.Request.{Imported, Request, import_object, set_permanent, drop_permanent, set_user_root}
+use Rattle.model.specs.Request.{drop_user_root, set_profile, rollback, switch, delete_generation, replace_runtime}
+use Rattle.model.specs.Request.{add_temp, end_session}
 use Rattle.model.specs.Reply.{Reply}
 use Rattle.model.specs.Verdict.{verdict}
 use Rattle.model.specs.Step.{Step}

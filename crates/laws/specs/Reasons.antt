@@ -1,6 +1,7 @@
 -- Laws of reasons: a request is refused for a fault that it has, and a deletion denied for the first of the named that
 -- lives.
-use Rattle.std.specs.Prelude.{◌≡◌, ℕ, ◌<◌, ◌≤◌, ◌++◌, Bool, List, ◌∷◌, length, Option, Some, Ok, Err, IsTrue, IsFalse, Contains}
+use Rattle.std.specs.Prelude.{◌≡◌, ℕ, ◌<◌, ◌≤◌, ◌++◌, Bool, List, ◌∷◌, length, Option, Some, Ok, Err, IsTrue, IsFalse}
+use Rattle.std.specs.Prelude.{Contains}
 use Rattle.std.specs.FinMap as finite
 use Rattle.sha2.specs.Sha256.{sha256}
 use Rattle.nar.specs.declared.error.NarError.{NarError}
@@ -20,10 +21,16 @@ use Rattle.policy.specs.Caller.{Caller}
 use Rattle.policy.specs.Class.{class_of}
 use Rattle.policy.specs.declared.kinds.Rule.TheVariants.{Live}
 use Rattle.model.specs.World.{Path, Pair, World, has, roots_of}
-use Rattle.model.specs.Request.{Request, add_text, add_source, import_object, info, nar, ls, list_roots_of, set_permanent, drop_permanent, set_user_root, drop_user_root, set_profile, rollback, switch, delete_generation, replace_runtime, add_temp, end_session, delete}
+use Rattle.model.specs.Request.{Request, add_text, add_source, import_object, info, nar, ls, list_roots_of}
+use Rattle.model.specs.Request.{set_permanent, drop_permanent, set_user_root, drop_user_root, set_profile, rollback}
+use Rattle.model.specs.Request.{switch, delete_generation, replace_runtime, add_temp, end_session, delete}
 use Rattle.model.specs.Reply.{Answer, done, denied, refused}
 use Rattle.model.specs.declared.refusal.Refusal.{Refusal}
-use Rattle.model.specs.declared.refusal.Refusal.TheVariants.{TooLarge, CaMismatch, BadDerivation, DoubleOutput, NotValid, MissingReference, NarHashMismatch, SelfReference, NoRoot, NoProfile, NoGeneration, CurrentGeneration, NoOlderGeneration, GenerationLimit, TooManyReferences, BadRootName, BadLabel, BadSession}
+use Rattle.model.specs.declared.refusal.Refusal.TheVariants.{TooLarge, CaMismatch, BadDerivation, DoubleOutput}
+use Rattle.model.specs.declared.refusal.Refusal.TheVariants.{NotValid, MissingReference, NarHashMismatch, SelfReference}
+use Rattle.model.specs.declared.refusal.Refusal.TheVariants.{NoRoot, NoProfile, NoGeneration, CurrentGeneration}
+use Rattle.model.specs.declared.refusal.Refusal.TheVariants.{NoOlderGeneration, GenerationLimit, TooManyReferences}
+use Rattle.model.specs.declared.refusal.Refusal.TheVariants.{BadRootName, BadLabel, BadSession}
 use Rattle.model.specs.Faults.{archive_refusal}
 use Rattle.model.specs.Liveness.{graph_of, keep_of, lives}
 use Rattle.model.specs.Seen.{seen_root}

@@ -1,15 +1,19 @@
 -- Laws of what listings of roots have after a call: what came, what was dropped, and nothing else.
 use Rattle.std.specs.Prelude.{◌≡◌, ◌⊎◌, ℕ, ◌++◌, List, codes, decimal, IsTrue, Contains}
 use Rattle.std.specs.FinMap as finite
-use Rattle.paths.specs.Root.{Kind, permanent, user, profile, runtime, temporary, Root, permanent_label, user_label, generation_label, temporary_label}
+use Rattle.paths.specs.Root.{Kind, permanent, user, profile, runtime, temporary, Root, permanent_label, user_label}
+use Rattle.paths.specs.Root.{generation_label, temporary_label}
 use Rattle.live.specs.Reach.{Reaches}
 use Rattle.policy.specs.Settings.{Settings}
 use Rattle.policy.specs.Caller.{Caller}
 use Rattle.policy.specs.Class.{class_of}
 use Rattle.policy.specs.Rules.{is_trusted}
-use Rattle.model.specs.World.{Path, Pair, World, has, permanent_root, user_root, generation_root, runtime_root, temporary_root, roots_of}
+use Rattle.model.specs.World.{Path, Pair, World, has, permanent_root, user_root, generation_root, runtime_root}
+use Rattle.model.specs.World.{temporary_root, roots_of}
 use Rattle.model.specs.Sound.{IsSound}
-use Rattle.model.specs.Request.{list_roots, list_roots_of, set_permanent, drop_permanent, set_user_root, drop_user_root, set_profile, rollback, switch, delete_generation, replace_runtime, add_temp, end_session}
+use Rattle.model.specs.Request.{list_roots, list_roots_of, set_permanent, drop_permanent, set_user_root, drop_user_root}
+use Rattle.model.specs.Request.{set_profile, rollback, switch, delete_generation, replace_runtime, add_temp}
+use Rattle.model.specs.Request.{end_session}
 use Rattle.model.specs.Reply.{Answer, generation, done}
 use Rattle.model.specs.Liveness.{graph_of, keep_of}
 use Rattle.model.specs.Step.{Step}

@@ -5,7 +5,8 @@ use Rattle.std.specs.FinMap as finite
 use Rattle.model.specs.World.{Path, Pair, Temporary, temporary_cmp, World, has}
 use Rattle.policy.specs.Settings.{Settings}
 use Rattle.policy.specs.Caller.{Caller}
-use Rattle.model.specs.Request.{set_permanent, drop_permanent, set_user_root, drop_user_root, replace_runtime, add_temp, end_session}
+use Rattle.model.specs.Request.{set_permanent, drop_permanent, set_user_root, drop_user_root, replace_runtime, add_temp}
+use Rattle.model.specs.Request.{end_session}
 use Rattle.model.specs.Reply.{Answer, changed, runtime_count, temporary_count, done}
 use Rattle.model.specs.Step.{Step}
 

@@ -4,7 +4,7 @@ use Rattle.paths.specs.Root.{Root}
 use Rattle.live.specs.Graph.{Keep}
 use Rattle.live.specs.Places.{Entries, counting}
 use Rattle.live.specs.Numbering.{Row, numbered}
-use Rattle.live.specs.Marking.{Marking, IsMarking}
+use Rattle.live.specs.Marks.{Marking, IsMarking}
 use Rattle.live.specs.Exact.{IsExact}
 
 -- a step for each object and for each of its entries that count

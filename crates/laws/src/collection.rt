@@ -1,15 +1,15 @@
-//! Laws of collection.
-
+//! Laws of collection and deletion.
 ghost use Rattle.std.specs.Prelude.{Bool, List, Option, ℕ};
 ghost use Rattle.policy.specs.Settings.{Settings};
 ghost use Rattle.model.specs.World.{Path};
-ghost use Rattle.model.specs.Collection.{Collects, CollectsUpToALimit};
+ghost use Rattle.model.specs.Collection.{Collects, CollectsUpToALimit, CollectsByBytes, LeavesNoReference};
 ghost use Rattle.model.specs.Request.{collect, delete};
-ghost use Rattle.laws.specs.Changes.{FreesAsReported};
-ghost use Rattle.model.specs.Collection.{CollectsByBytes};
+ghost use Rattle.laws.specs.Changes.{FreesAsReported, Deletes};
 ghost use Rattle.laws.specs.KeepSettings.{EdgesAsSet, LivingKeep};
 ghost use Rattle.laws.specs.OneByOne.{ReferrersAreDeletedFirst};
 ghost use Rattle.laws.specs.Cycles.{CyclesAreDeletedByTheLeast};
+ghost use Rattle.live.specs.Graph.{Keep};
+ghost use Rattle.laws.specs.Steps.{TakesFewSteps};
 
 /// A collection deletes exactly the dead paths, and a second one frees nothing. With a limit it deletes some of them,
 /// and no reference that is left leads to one.
@@ -43,4 +43,19 @@ pub fn referrers_are_deleted_first()
 pub fn settings_say_what_is_kept()
     ensures edges { EdgesAsSet }
     ensures living { LivingKeep }
+{}
+
+/// A deletion deletes exactly the paths that reach a named path by references.
+pub fn deletions_are_exact()
+    ensures { Deletes }
+{}
+
+/// After a deletion no reference that is left points at a path that was deleted.
+pub fn deletion_leaves_no_reference()
+    ensures { LeavesNoReference }
+{}
+
+/// Marking takes at most a step for each object, each of its entries that counts, and each root.
+pub fn marking_takes_few_steps()
+    ensures { (keep : Keep) → TakesFewSteps keep }
 {}

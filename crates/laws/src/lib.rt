@@ -3,15 +3,12 @@
 
 pub mod adds;
 pub mod collection;
-pub mod deletion;
 pub mod faulty_rows;
 pub mod listings;
-pub mod marks;
 pub mod privacy;
 pub mod profiles;
 pub mod refusals;
 pub mod roots;
 pub mod rows;
 pub mod runs;
-pub mod sessions;
 pub mod trust;

@@ -1,10 +1,9 @@
-//! Laws of roots.
-
+//! Laws of roots and sessions.
 ghost use Rattle.model.specs.World.{World};
 ghost use Rattle.model.specs.Entries.{HasEachRoot};
 ghost use Rattle.model.specs.Pinning.{LeadsOn, Pins, PinsOverRuns};
 ghost use Rattle.laws.specs.LabelsAndOrder.{AreLabelled, KindsInOrder};
-ghost use Rattle.laws.specs.RootChanges.{DropsPermanent, DropsUserRoots, ReplacesAsSpecified, SetsPermanent, SetsUserRoots};
+ghost use Rattle.laws.specs.RootChanges.{DropsPermanent, DropsUserRoots, ReplacesAsSpecified, SetsPermanent, SetsUserRoots, AddsForSessions, EndsSessions};
 ghost use Rattle.laws.specs.ListedRoots.{RootsSetAreListed};
 ghost use Rattle.laws.specs.Relisted.{DropsAreListed, DroppedLabelsAreNotListed, SetsAreListed};
 
@@ -53,4 +52,12 @@ pub fn a_root_pins_what_it_reaches()
     ensures step { Pins }
     ensures after { LeadsOn }
     ensures run { PinsOverRuns }
+{}
+
+/// A session that adds a temporary root keeps its path from then on; a session that ends keeps none of its paths, and
+/// the number of these is the reply. Nothing else changed: the temporary roots of other sessions and of other owners
+/// stay.
+pub fn sessions_change_exactly()
+    ensures add_temporary { AddsForSessions }
+    ensures end_session { EndsSessions }
 {}

@@ -1,5 +1,6 @@
 -- Texts are ordered as the numbers that their first bytes are, where these differ.
-use Rattle.std.proofs.Common.{◌≡◌, ℕ, zero, suc, ◌+◌, ◌*◌, ◌^◌, ◌<◌, ◌≤◌, List, [], ◌∷◌, refl, ap, ◌∙◌, inl, inr, ◌⊎◌, arith}
+use Rattle.std.proofs.Common.{◌≡◌, ℕ, zero, suc, ◌+◌, ◌*◌, ◌^◌, ◌<◌, ◌≤◌, List, [], ◌∷◌, refl, ap, ◌∙◌, inl, inr, ◌⊎◌}
+use Rattle.std.proofs.Common.{arith}
 use Rattle.std.specs.List.{slice_index}
 use Rattle.std.specs.declared.cmp.Ordering.{Ordering}
 use Rattle.std.specs.declared.cmp.Ordering.TheVariants.{Less, Greater}
@@ -9,7 +10,7 @@ use Rattle.std.proofs.Math.Nat.{pow-suc, mul-le-mul_left}
 use Rattle.paths.specs.Root.{bytes_cmp}
 use Rattle.live.specs.Heads.{digits_from, head_of, IsBytes}
 
--- behind the first byte
+-- after the first byte
 digits_after : (n k x : ℕ) (xs : List ℕ) → digits_from n (suc k) (x ∷ xs) ≡ digits_from n k xs
 digits_after zero k x xs = refl
 digits_after (suc n) k x xs = ap (λ d. slice_index xs k * 256 ^ n + d) (digits_after n (suc k) x xs)
@@ -33,11 +34,12 @@ less_first x y o h = grind arith
 same_first : (x y : ℕ) (o : Ordering) → x ≡ y → o ≡ Less → ordering_then (nat_cmp x y) o ≡ Less
 same_first x y o e h = grind arith
 
--- a number of digits that is less, by its first digit or by those behind
+-- a number of digits that is less, by its first digit or by those after it
 order : (x y : ℕ) → (x < y) ⊎ ((x ≡ y) ⊎ (y < x))
 order x y = grind arith
 
-by_digits : (n : ℕ) (xs ys : List ℕ) → IsBytes xs → IsBytes ys → digits_from n 0 xs < digits_from n 0 ys → bytes_cmp xs ys ≡ Less
+by_digits : (n : ℕ) (xs ys : List ℕ) → IsBytes xs → IsBytes ys → digits_from n 0 xs < digits_from n 0 ys
+    → bytes_cmp xs ys ≡ Less
 by_digits zero xs ys b c h = absurd (omega arith)
 by_digits (suc n) [] [] b c h = absurd (omega arith)
 by_digits (suc n) [] (y ∷ ys) b c h = refl
@@ -49,7 +51,8 @@ by_digits (suc n) (x ∷ xs) (y ∷ ys) b c h =
       | inl lt ↦ less_first x y (bytes_cmp xs ys) lt
       | inr (inl same) ↦
           let top = ap (λ z. z * 256 ^ n) same in
-          same_first x y (bytes_cmp xs ys) same (by_digits n xs ys (λ k. b (suc k)) (λ k. c (suc k)) (omega (arith, h, behind_x, behind_y, top)))
+          same_first x y (bytes_cmp xs ys) same
+          (by_digits n xs ys (λ k. b (suc k)) (λ k. c (suc k)) (omega (arith, h, behind_x, behind_y, top)))
       | inr (inr gt) ↦
           let below = small n 0 ys (λ k. c (suc k)) in
           let more : y + 1 ≤ x = omega arith in

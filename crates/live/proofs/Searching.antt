@@ -1,5 +1,6 @@
 -- The search for a path among rows that rise.
-use Rattle.std.proofs.Common.{◌≡◌, ℕ, ◌+◌, ◌<◌, ◌≤◌, false, cond, List, [], ◌∷◌, length, get_or, Some, None, refl, sym, ap, ◌∙◌, inl, inr, arith}
+use Rattle.std.proofs.Common.{◌≡◌, ℕ, ◌+◌, ◌<◌, ◌≤◌, false, cond, List, [], ◌∷◌, length, get_or, Some, None, refl, sym}
+use Rattle.std.proofs.Common.{ap, ◌∙◌, inl, inr, arith}
 use Rattle.std.specs.Prelude.{nat_lt}
 use Rattle.std.specs.List.{AllWithin}
 use Rattle.std.specs.List.Sorted.{IsNonDecreasingBy}
@@ -34,39 +35,57 @@ module _ (rows : List Row) (rise : Rise (paths_of (rows_view rows))) where
   pub count : length (paths_of (rows_view rows)) ≡ length rows
   count = length-map (rows_view rows) (λ (r : NumberedRow). r.0) ∙ length-map rows row_view
 
-  pub path_is : (k : ℕ) (d : Row) → k < length rows → get_or (paths_of (rows_view rows)) k [] ≡ (get_or rows k d).path.now
+  pub path_is : (k : ℕ) (d : Row) → k < length rows
+      → get_or (paths_of (rows_view rows)) k [] ≡ (get_or rows k d).path.now
   path_is k d h =
-      get_or-map (λ (r : NumberedRow). r.0) (rows_view rows) k no_row [] (let n = length-map rows row_view in omega arith)
+      get_or-map (λ (r : NumberedRow). r.0) (rows_view rows) k no_row []
+      (let n = length-map rows row_view in omega arith)
       ∙ ap (λ (r : NumberedRow). r.0) (get_or-map row_view rows k d no_row h)
 
-  up : (k : ℕ) (d : Row) → 0 ≤ k → k + 1 < length rows → is_lt (bytes_cmp (get_or rows (k + 1) d).path.now (get_or rows k d).path.now) ≡ false
+  up : (k : ℕ) (d : Row) → 0 ≤ k → k + 1 < length rows
+      → is_lt (bytes_cmp (get_or rows (k + 1) d).path.now (get_or rows k d).path.now) ≡ false
   up k d z h =
       let a = path_is k d (omega arith) in
       let b = path_is (k + 1) d h in
       let r = rise k (k + 1) [] (omega arith) (omega (arith, count)) in
-      let e = nat_list_cmp_total.antisymm (get_or (paths_of (rows_view rows)) (k + 1) []) (get_or (paths_of (rows_view rows)) k []) in
-      ap is_lt (ap (λ p. bytes_cmp p (get_or rows k d).path.now) (sym b) ∙ ap (bytes_cmp (get_or (paths_of (rows_view rows)) (k + 1) [])) (sym a) ∙ e ∙ ap ordering_reverse r)
+      let e =
+      nat_list_cmp_total.antisymm (get_or (paths_of (rows_view rows)) (k + 1) [])
+      (get_or (paths_of (rows_view rows)) k []) in
+      ap is_lt (ap (λ p. bytes_cmp p (get_or rows k d).path.now) (sym b)
+      ∙ ap (bytes_cmp (get_or (paths_of (rows_view rows)) (k + 1) [])) (sym a) ∙ e ∙ ap ordering_reverse r)
 
   pub searchable : (p : Path) → IsNonDecreasingBy (λ (r : Row). ordering_index (bytes_cmp r.path.now p)) rows
   searchable p = searchable_from_sorted nat_list_cmp_total (λ (r : Row). r.path.now) rows p up
 
-  pub is_place : (p : Path) (i : ℕ) → i < length rows → ((d : Row) → bytes_cmp (get_or rows i d).path.now p ≡ Equal) → Some i ≡ place_of (paths_of (rows_view rows)) p
+  pub is_place : (p : Path) (i : ℕ) → i < length rows → ((d : Row) → bytes_cmp (get_or rows i d).path.now p ≡ Equal)
+      → Some i ≡ place_of (paths_of (rows_view rows)) p
   is_place p i h all =
       let d = some_row rows i h in
       let e = all (some_row rows i h) in
-      let same : get_or (paths_of (rows_view rows)) i [] ≡ p = path_is i d h ∙ finite.slice_cmp-IsAntisymmetric finite.nat_cmp-IsAntisymmetric (get_or rows i d).path.now p e in
-      sym (ap (place_of (paths_of (rows_view rows))) (sym same) ∙ place_at (paths_of (rows_view rows)) rise i (omega (arith, count)))
+      let same : get_or (paths_of (rows_view rows)) i [] ≡ p =
+      path_is i d h ∙ finite.slice_cmp-IsAntisymmetric finite.nat_cmp-IsAntisymmetric (get_or rows i d).path.now p
+      e in
+      sym (ap (place_of (paths_of (rows_view rows))) (sym same)
+      ∙ place_at (paths_of (rows_view rows)) rise i (omega (arith, count)))
 
-  pub no_place : (p : Path) (i : ℕ) → AllWithin (λ (r : Row). bytes_cmp r.path.now p ≡ Less) rows 0 i → AllWithin (λ (r : Row). bytes_cmp r.path.now p ≡ Greater) rows i (length rows) → None ≡ place_of (paths_of (rows_view rows)) p
+  pub no_place : (p : Path) (i : ℕ) → AllWithin (λ (r : Row). bytes_cmp r.path.now p ≡ Less) rows 0 i
+      → AllWithin (λ (r : Row). bytes_cmp r.path.now p ≡ Greater) rows i (length rows)
+      → None ≡ place_of (paths_of (rows_view rows)) p
   no_place p i less greater =
-      let none = position_or_len_is (same p) (paths_of (rows_view rows)) (length (paths_of (rows_view rows))) [] (omega arith)
-      (λ k h. false_from_ne_true (same p (get_or (paths_of (rows_view rows)) k [])) (λ e. differs k (omega (arith, count)) (same_is p (get_or (paths_of (rows_view rows)) k []) e))) (λ h. absurd (omega arith)) in
-      sym (ap (λ k. cond (nat_lt k (length (paths_of (rows_view rows)))) (Some k) None) none ∙ ap (λ b. cond b (Some (length (paths_of (rows_view rows)))) None) (le-ltb (length (paths_of (rows_view rows))) (length (paths_of (rows_view rows))) (omega arith)))
+      let none =
+      position_or_len_is (same p) (paths_of (rows_view rows)) (length (paths_of (rows_view rows))) [] (omega arith)
+      (λ k h. false_from_ne_true (same p (get_or (paths_of (rows_view rows)) k []))
+      (λ e. differs k (omega (arith, count)) (same_is p (get_or (paths_of (rows_view rows)) k []) e)))
+      (λ h. absurd (omega arith)) in
+      sym (ap (λ k. cond (nat_lt k (length (paths_of (rows_view rows)))) (Some k) None) none
+      ∙ ap (λ b. cond b (Some (length (paths_of (rows_view rows)))) None)
+      (le-ltb (length (paths_of (rows_view rows))) (length (paths_of (rows_view rows))) (omega arith)))
     where
       differs : (k : ℕ) → k < length rows → p ≡ get_or (paths_of (rows_view rows)) k [] → ⊥
       differs k h e =
           let d = some_row rows k h in
-          let tie : bytes_cmp (get_or rows k d).path.now p ≡ Equal = ap (λ q. bytes_cmp q p) (sym (e ∙ path_is k d h)) ∙ tied_itself nat_list_cmp_total p in
+          let tie : bytes_cmp (get_or rows k d).path.now p ≡ Equal =
+          ap (λ q. bytes_cmp q p) (sym (e ∙ path_is k d h)) ∙ tied_itself nat_list_cmp_total p in
           elim (cases_lt k i) as (λ _. ⊥) [
             | inl lt ↦ (let l = less k d (omega arith) lt in cc)
             | inr ge ↦ (let g = greater k d ge h in cc)
@@ -84,44 +103,64 @@ highest Greater h = refl
 
 module _ (rows : List Row) (rise : Rise (paths_of (rows_view rows))) (p : Path) where
   pub searched_none : IsSearched rows p 0 (length rows)
-  searched_none = record { rise = rise; ordered = omega arith; within = omega arith; less = λ k d a b. absurd (omega arith); greater = λ k d a b. absurd (omega arith) }
+  searched_none =
+      record {
+        rise = rise;
+        ordered = omega arith;
+        within = omega arith;
+        less = λ k d a b. absurd (omega arith);
+        greater = λ k d a b. absurd (omega arith);
+      }
 
-  pub searched_up : (low high middle : ℕ) → IsSearched rows p low high → low ≤ middle → middle < high → ((d : Row) → bytes_cmp (get_or rows middle d).path.now p ≡ Less) → IsSearched rows p (middle + 1) high
+  pub searched_up : (low high middle : ℕ) → IsSearched rows p low high → low ≤ middle → middle < high
+      → ((d : Row) → bytes_cmp (get_or rows middle d).path.now p ≡ Less) → IsSearched rows p (middle + 1) high
   searched_up low high middle s a b e = record {
     rise = rise;
     ordered = omega arith;
     within = s.within;
-    less = λ k d x y. lowest (bytes_cmp (get_or rows k d).path.now p) (let n = searchable rows rise p k middle d (omega arith) (let w = s.within in omega arith) in let i = ap ordering_index (e d) in omega arith);
+    less =
+        λ k d x y. lowest (bytes_cmp (get_or rows k d).path.now p)
+        (let n = searchable rows rise p k middle d (omega arith) (let w = s.within in omega arith) in
+        let i = ap ordering_index (e d) in omega arith);
     greater = s.greater;
   }
 
-  pub searched_down : (low high middle : ℕ) → IsSearched rows p low high → low ≤ middle → middle < high → ((d : Row) → bytes_cmp (get_or rows middle d).path.now p ≡ Greater) → IsSearched rows p low middle
+  pub searched_down : (low high middle : ℕ) → IsSearched rows p low high → low ≤ middle → middle < high
+      → ((d : Row) → bytes_cmp (get_or rows middle d).path.now p ≡ Greater) → IsSearched rows p low middle
   searched_down low high middle s a b e = record {
     rise = rise;
     ordered = a;
     within = (let w = s.within in omega arith);
     less = s.less;
-    greater = λ k d x y. highest (bytes_cmp (get_or rows k d).path.now p) (let n = searchable rows rise p middle k d x y in let i = ap ordering_index (e d) in omega arith);
+    greater =
+        λ k d x y. highest (bytes_cmp (get_or rows k d).path.now p)
+        (let n = searchable rows rise p middle k d x y in let i = ap ordering_index (e d) in omega arith);
   }
 
 -- what a row's path compares as, at any default
-pub compared : (rows : List Row) (p : Path) (i : ℕ) (x : Row) (o : Ordering) → i < length rows → bytes_cmp (get_or rows i x).path.now p ≡ o → (d : Row) → bytes_cmp (get_or rows i d).path.now p ≡ o
+pub compared : (rows : List Row) (p : Path) (i : ℕ) (x : Row) (o : Ordering) → i < length rows
+    → bytes_cmp (get_or rows i x).path.now p ≡ o → (d : Row) → bytes_cmp (get_or rows i d).path.now p ≡ o
 compared rows p i x o h e d = ap (λ (r : Row). bytes_cmp r.path.now p) (get_or_default rows i d x h) ∙ e
 
 -- ---- by heads
 
-module _ (rows : List Row) (rise : Rise (paths_of (rows_view rows))) (heads : List ℕ) (are : AreHeads (paths_of (rows_view rows)) heads) (p : Path) (bytes : IsBytes p) where
+module _ (rows : List Row) (rise : Rise (paths_of (rows_view rows))) (heads : List ℕ)
+    (are : AreHeads (paths_of (rows_view rows)) heads) (p : Path) (bytes : IsBytes p) where
   pub heads_count : length heads ≡ length rows
   heads_count = are.count ∙ count rows rise
 
-  pub below_head : (k : ℕ) → k < length rows → slice_index heads k < head_of p → (d : Row) → bytes_cmp (get_or rows k d).path.now p ≡ Less
+  pub below_head : (k : ℕ) → k < length rows → slice_index heads k < head_of p → (d : Row)
+      → bytes_cmp (get_or rows k d).path.now p ≡ Less
   below_head k h less d =
       let b : k < length (paths_of (rows_view rows)) = (let n = count rows rise in omega arith) in
       let e = are.head k b in
-      ap (λ q. bytes_cmp q p) (sym (path_is rows rise k d h)) ∙ less_by_head (get_or (paths_of (rows_view rows)) k []) p (are.bytes k b) bytes (omega (arith, e, less))
+      ap (λ q. bytes_cmp q p) (sym (path_is rows rise k d h))
+      ∙ less_by_head (get_or (paths_of (rows_view rows)) k []) p (are.bytes k b) bytes (omega (arith, e, less))
 
-  pub above_head : (k : ℕ) → k < length rows → head_of p < slice_index heads k → (d : Row) → bytes_cmp (get_or rows k d).path.now p ≡ Greater
+  pub above_head : (k : ℕ) → k < length rows → head_of p < slice_index heads k → (d : Row)
+      → bytes_cmp (get_or rows k d).path.now p ≡ Greater
   above_head k h more d =
       let b : k < length (paths_of (rows_view rows)) = (let n = count rows rise in omega arith) in
       let e = are.head k b in
-      ap (λ q. bytes_cmp q p) (sym (path_is rows rise k d h)) ∙ greater_by_head (get_or (paths_of (rows_view rows)) k []) p (are.bytes k b) bytes (omega (arith, e, more))
+      ap (λ q. bytes_cmp q p) (sym (path_is rows rise k d h))
+      ∙ greater_by_head (get_or (paths_of (rows_view rows)) k []) p (are.bytes k b) bytes (omega (arith, e, more))

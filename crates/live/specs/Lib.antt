@@ -7,11 +7,11 @@ pub mod Arguments
 pub mod Heads
 pub mod Keeping
 pub mod Laws
-pub mod Remaining
+pub mod Remainder
 pub mod Limited
 pub mod Listed
 pub mod Live
-pub mod Marking
+pub mod Marks
 pub mod Numbering
 pub mod Places
 pub mod Reach

@@ -1,6 +1,6 @@
 -- The search for waiting places: the blocks of neighbours in which places wait are listed.
 use Rattle.std.specs.Prelude.{◌≡◌, ℕ, Bool, List, ◌*◌, ◌/◌, ◌<◌, ◌≤◌, ◌⊎◌, length, Contains}
-use Rattle.live.specs.Marking.{Waits}
+use Rattle.live.specs.Marks.{Waits}
 
 -- the places that wait, the blocks that are listed, the list of these blocks, and what is left of the current block
 pub record Waiting : Type 0 where

@@ -4,7 +4,7 @@ use Rattle.std.specs.List.{filter, list_any, range_with_len, slice_index, sum_by
 use Rattle.paths.specs.Root.{Root}
 use Rattle.live.specs.Backward.{IsBackward}
 use Rattle.live.specs.Graph.{Graph, IsEdge, Keep, Path, is_valid}
-use Rattle.live.specs.Marking.{Frontier, all_reached, marked_cost, reported}
+use Rattle.live.specs.Marks.{Frontier, all_reached, marked_cost, reported}
 use Rattle.live.specs.Numbering.{root_at}
 use Rattle.live.specs.Places.{Entries, edges_at}
 use Rattle.live.specs.Reach.{reaches}
@@ -22,7 +22,8 @@ abbrev pub costs_to : Keep → List Entries → List ℕ
 costs_to keep rows = map (cost_to keep rows) (range_with_len 0 (length rows))
 
 -- a place was visited: what has an edge to it is reached, and it is counted, with each edge to it
-pub record IsVisited (keep : Keep) (rows : List Entries) (place : ℕ) (old new : Frontier) (before after : ℕ) : Type 0 where
+pub record IsVisited (keep : Keep) (rows : List Entries) (place : ℕ) (old new : Frontier) (before after : ℕ) : Type
+    0 where
   pub sources : List ℕ
   pub each : (a : ℕ) → times_among sources a ≡ times_among (edges_at keep rows a) place
   pub reached : new ≡ all_reached 1 0 old sources
@@ -44,7 +45,8 @@ pub record IsReaching (keep : Keep) (rows : List Entries) (named : List ℕ) (r 
 
 -- ---- by paths
 
--- Numbers that stand for the valid paths of a graph. Each valid path has one number, and edges are entries. A number may
+-- Numbers that stand for the valid paths of a graph. Each valid path has one number, and edges are entries. A number
+-- may
 -- be free: then it stands for no valid path, and has no entries.
 pub record AreNumbers (g : Graph) (rows : List Entries) (name : ℕ → Path) : Type 0 where
   pub all : (p : Path) → IsTrue (is_valid g p) → (i : ℕ) × (i < length rows) × (name i ≡ p)

@@ -3,9 +3,9 @@ ghost use Rattle.std.specs.Prelude.{◌<◌, length, All, IfOk};
 ghost use Rattle.live.specs.Keeping.{keep_view};
 ghost use Rattle.live.specs.Backward.{IsBackward};
 
-use crate::keeping::Keep;
+use crate::keep::Keep;
 use crate::numbered::{Graph, Walker};
-use crate::turning::{Kinds, turned};
+use crate::reversed_graph::{Kinds, turned};
 use crate::walk::Walk;
 use std::alloc::{AllocError, Global};
 

@@ -2,12 +2,12 @@
 ghost use Rattle.std.specs.Prelude.{◌≡◌, ℕ, ◌+◌, ◌<◌, ◌++◌, List, length, map, nat_lt};
 ghost use Rattle.live.specs.Places.{AllInside, Entries, entries_at, held};
 ghost use Rattle.live.specs.Flat.{IsFlat, entries_in};
-ghost use Rattle.live.specs.Marking.{IsRead, reported};
+ghost use Rattle.live.specs.Marks.{IsRead, reported};
 
 mod conditions;
+mod construction;
 mod guesses;
 mod heads;
-mod making;
 mod places;
 mod rows;
 mod texts;

@@ -5,7 +5,7 @@ ghost use Rattle.live.specs.Places.{AllInside, Entries};
 ghost use Rattle.live.specs.Sources.{AreSources};
 
 use crate::numbered::Graph;
-use crate::turning::{Kinds, Reversed, turned};
+use crate::reversed_graph::{Kinds, Reversed, turned};
 use std::alloc::{AllocError, Global};
 use std::marker::Model;
 

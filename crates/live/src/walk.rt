@@ -1,8 +1,8 @@
 //! The marks of a walk, and what waits.
 ghost use Rattle.std.specs.Prelude.{◌≡◌, ◌<◌, length, replicate, false, All, IfNone, IfOk, IfSome, OnOk};
-ghost use Rattle.live.specs.Marking.{Frontier, IsDone, IsTaken, all_reached, reached};
+ghost use Rattle.live.specs.Marks.{Frontier, IsDone, IsTaken, all_reached, reached};
 
-use crate::waiting::Waiting;
+use crate::queue::Waiting;
 use std::alloc::{AllocError, Global};
 use std::marker::Model;
 

@@ -40,7 +40,8 @@ agree (denied a e) _ _ h j = tt
 agree (refused a) _ _ h j = tt
 
 -- two steps of one request
-pub steps_look_alike : (s : Settings) (w v new next : World) (c : Caller) (q : Request) (a b : Reply) → DifferInLabels w v → Step s w c q a new → Step s v c q b next
+pub steps_look_alike : (s : Settings) (w v new next : World) (c : Caller) (q : Request) (a b : Reply)
+    → DifferInLabels w v → Step s w c q a new → Step s v c q b next
     → FailAlike a b → LookAlike s c a b × DifferInLabels new next
 steps_look_alike s w v new next c q a b d h k e =
     let m = mirrors_steps s w v d c q a new h in
@@ -48,7 +49,12 @@ steps_look_alike s w v new next c q a b d h k e =
     (subst (λ (r : Reply). LookAlike s c a r) one.0 m.3, subst (λ (u : World). DifferInLabels new u) one.1 m.4)
 
 pub runs_look_alike : RunsLookAlike
-runs_look_alike s w v new next [] [] [] d h k e = record { look = tt; worlds = subst (λ (u : World). DifferInLabels new u) (sym k) (subst (λ (u : World). DifferInLabels u v) (sym h) d) }
+runs_look_alike s w v new next [] [] [] d h k e =
+    record {
+      look = tt;
+      worlds = subst (λ (u : World). DifferInLabels new u) (sym k)
+          (subst (λ (u : World). DifferInLabels u v) (sym h) d);
+    }
 runs_look_alike s w v new next (call ∷ calls) (a ∷ replies) (b ∷ others) d h k e =
     let first = steps_look_alike s w v h.0 k.0 call.0 call.1 a b d h.1 k.1 e.0 in
     let rest = runs_look_alike s h.0 k.0 new next calls replies others first.1 h.2 k.2 e.1 in

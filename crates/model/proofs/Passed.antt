@@ -1,5 +1,6 @@
 -- What follows where no test fails.
-use Rattle.std.proofs.Common.{◌≡◌, List, [], ◌∷◌, Bool, true, false, Some, None, Option, refl, sym, ap, ◌∙◌, IsTrue, inl, inr}
+use Rattle.std.proofs.Common.{◌≡◌, List, [], ◌∷◌, Bool, true, false, Some, None, Option, refl, sym, ap, ◌∙◌, IsTrue}
+use Rattle.std.proofs.Common.{inl, inr}
 use Rattle.std.specs.Prelude.{Contains, is_none}
 use Rattle.std.specs.List.{list_all}
 use Rattle.std.proofs.lemmas.Bool.{and_parts, false≢true}
@@ -7,7 +8,8 @@ use Rattle.live.proofs.Members.{cases, no_member}
 use Rattle.model.specs.declared.refusal.Refusal.{Refusal}
 use Rattle.model.specs.Tests.{unless, first_failing}
 
-pub passed : (t : Option Refusal) (ts : List (Option Refusal)) → first_failing (t ∷ ts) ≡ None → (t ≡ None) × (first_failing ts ≡ None)
+pub passed : (t : Option Refusal) (ts : List (Option Refusal)) → first_failing (t ∷ ts) ≡ None
+    → (t ≡ None) × (first_failing ts ≡ None)
 passed None ts e = (refl, e)
 passed (Some r) ts e = absurd (false≢true (ap is_none e))
 
@@ -17,7 +19,8 @@ met true r e = refl
 met false r e = absurd (false≢true (ap is_none e))
 
 -- each test passes
-pub each_passed : (ts : List (Option Refusal)) → first_failing ts ≡ None → (t : Option Refusal) → Contains ts t → t ≡ None
+pub each_passed : (ts : List (Option Refusal)) → first_failing ts ≡ None → (t : Option Refusal) → Contains ts t
+    → t ≡ None
 each_passed [] e t c = absurd (no_member t c)
 each_passed (x ∷ xs) e t c =
     let both = passed x xs e in
@@ -27,7 +30,8 @@ each_passed (x ∷ xs) e t c =
     ]
 
 -- what holds of all holds of a member
-pub all_member : {X : Type 0} (f : X → Bool) (xs : List X) (x : X) → IsTrue (list_all f xs) → Contains xs x → IsTrue (f x)
+pub all_member : {X : Type 0} (f : X → Bool) (xs : List X) (x : X) → IsTrue (list_all f xs) → Contains xs x
+    → IsTrue (f x)
 all_member f [] x a c = absurd (no_member x c)
 all_member f (y ∷ ys) x a c =
     let parts = and_parts (f y) (list_all f ys) a in

@@ -1,10 +1,12 @@
 -- What passes its test is read: no archive and no derivation text has out of memory for its fault.
-use Rattle.std.proofs.Common.{◌≡◌, ℕ, zero, suc, List, [], ◌∷◌, length, Bool, true, false, cond, Some, None, Option, Ok, Err, Result, refl, sym, ap, ◌∙◌, IsTrue}
+use Rattle.std.proofs.Common.{◌≡◌, ℕ, zero, suc, List, [], ◌∷◌, length, Bool, true, false, cond, Some, None, Option, Ok}
+use Rattle.std.proofs.Common.{Err, Result, refl, sym, ap, ◌∙◌, IsTrue}
 use Rattle.std.specs.Prelude.{◌-◌, ◌==◌, nat_lt, take, drop, is_none, IsOk}
 use Rattle.std.specs.List.{list_all}
 use Rattle.std.proofs.lemmas.Bool.{false≢true}
 use Rattle.nar.specs.declared.error.NarError.{NarError}
-use Rattle.nar.specs.declared.error.NarError.TheVariants.{Truncated, BadTag, BadPadding, BadName, NotSorted, TooDeep, Trailing, TooLarge, Memory}
+use Rattle.nar.specs.declared.error.NarError.TheVariants.{Truncated, BadTag, BadPadding, BadName, NotSorted, TooDeep}
+use Rattle.nar.specs.declared.error.NarError.TheVariants.{Trailing, TooLarge, Memory}
 use Rattle.nar.specs.String.{padded, size_of, string_of_length, string_at}
 use Rattle.nar.specs.Steps.{Symbol, word, any, kind, file, entries, entry_name, node_word, start, check}
 use Rattle.nar.specs.Tree.{Tree}
@@ -42,11 +44,13 @@ this : (A : Type 0) (e : NarError) → IsTrue (is_of_bytes e) → FaultIsOfBytes
 unfolding FaultIsOfBytes
 this A e h = h
 
-chosen : {A : Type 0} (b : Bool) (x y : Result A NarError) → FaultIsOfBytes x → FaultIsOfBytes y → FaultIsOfBytes (cond b x y)
+chosen : {A : Type 0} (b : Bool) (x y : Result A NarError) → FaultIsOfBytes x → FaultIsOfBytes y
+    → FaultIsOfBytes (cond b x y)
 chosen true x y p q = p
 chosen false x y p q = q
 
-goes_on : {A B : Type 0} (r : Result A NarError) (f : A → Result B NarError) → FaultIsOfBytes r → ((x : A) → FaultIsOfBytes (f x)) → FaultIsOfBytes (and_then r f)
+goes_on : {A B : Type 0} (r : Result A NarError) (f : A → Result B NarError) → FaultIsOfBytes r
+    → ((x : A) → FaultIsOfBytes (f x)) → FaultIsOfBytes (and_then r f)
 unfolding FaultIsOfBytes
 goes_on (Ok x) f h k = k x
 goes_on (Err e) f h k = h
@@ -57,7 +61,8 @@ of_string n room bytes =
     chosen (nat_lt (length bytes) 8) _ _ (this _ Truncated refl)
     (chosen (nat_lt room (size_of n)) _ _ (this _ TooLarge refl)
     (chosen (nat_lt (length bytes) (size_of n)) _ _ (this _ Truncated refl)
-    (chosen (list_all (λ b. b == 0) (take (padded n - n) (drop n (drop 8 bytes)))) _ _ (none (take n (drop 8 bytes), drop (size_of n) bytes)) (this _ BadPadding refl))))
+    (chosen (list_all (λ b. b == 0) (take (padded n - n) (drop n (drop 8 bytes)))) _ _
+    (none (take n (drop 8 bytes), drop (size_of n) bytes)) (this _ BadPadding refl))))
 
 of_check : (x : Symbol) (s : List ℕ) → FaultIsOfBytes (check x s)
 of_check (entry_name d last) s = chosen _ _ _ (chosen _ _ _ (none _) (this _ NotSorted refl)) (this _ BadName refl)
@@ -79,7 +84,8 @@ of_parts (suc steps) (x ∷ κ) room bytes =
 
 of_outcome : (bytes : List ℕ) → FaultIsOfBytes (outcome_of bytes)
 unfolding outcome_of
-of_outcome bytes = goes_on (parts_from (length bytes) start limit bytes) _ (of_parts (length bytes) start limit bytes) (λ ps. none _)
+of_outcome bytes =
+    goes_on (parts_from (length bytes) start limit bytes) _ (of_parts (length bytes) start limit bytes) (λ ps. none _)
 
 passes : (r : Result Tree NarError) → FaultIsOfBytes r → archive_fault r ≡ None → (t : Tree) × (r ≡ Ok t)
 unfolding FaultIsOfBytes
@@ -94,14 +100,16 @@ passes (Err Trailing) h e = absurd (some_refusal refusals.Trailing e)
 passes (Err TooLarge) h e = absurd (some_refusal refusals.TooLarge e)
 passes (Err Memory) h e = absurd (false≢true h)
 
-pub archive_is_read : (bytes : List ℕ) → archive_fault (outcome_of bytes) ≡ None → (t : Tree) × (outcome_of bytes ≡ Ok t)
+pub archive_is_read : (bytes : List ℕ) → archive_fault (outcome_of bytes) ≡ None
+    → (t : Tree) × (outcome_of bytes ≡ Ok t)
 archive_is_read bytes e = passes (outcome_of bytes) (of_outcome bytes) e
 
 not_read : {B : Type 0} (t : Tree) (e : NarError) → Ok t ≡ Err e → B
 not_read t e is = absurd cc
 
 -- and each fault of an archive has a refusal
-pub fault_is_refused : (bytes : List ℕ) (e : NarError) → outcome_of bytes ≡ Err e → (r : Refusal) × (archive_refusal e ≡ Some r)
+pub fault_is_refused : (bytes : List ℕ) (e : NarError) → outcome_of bytes ≡ Err e
+    → (r : Refusal) × (archive_refusal e ≡ Some r)
 fault_is_refused bytes e is = by (archive_refusal e) refl
   where
     by : (o : Option Refusal) → archive_refusal e ≡ o → (r : Refusal) × (archive_refusal e ≡ Some r)
@@ -110,7 +118,8 @@ fault_is_refused bytes e is = by (archive_refusal e) refl
 
 -- ---- derivation texts
 
-pub outputs_are_read : (dir contents : List ℕ) → outputs_fault (outputs_of dir contents) ≡ None → IsOk (outputs_of dir contents)
+pub outputs_are_read : (dir contents : List ℕ) → outputs_fault (outputs_of dir contents) ≡ None
+    → IsOk (outputs_of dir contents)
 outputs_are_read dir contents e = by (outputs_of dir contents) refl e
   where
     by : (r : Result (List (List ℕ × Path)) DrvError) → outputs_of dir contents ≡ r → outputs_fault r ≡ None → IsOk r

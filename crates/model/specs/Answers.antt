@@ -11,9 +11,14 @@ use Rattle.model.specs.World.{Path, Object, World, all_paths, roots_of}
 use Rattle.policy.specs.Settings.{Settings}
 use Rattle.policy.specs.Caller.{Caller}
 use Rattle.policy.specs.Class.{class_of}
-use Rattle.model.specs.Request.{Request, add_text, add_source, import_object, info, nar, ls, list, list_live, list_dead, list_roots, list_roots_of, set_permanent, drop_permanent, set_user_root, drop_user_root, set_profile, rollback, switch, delete_generation, replace_runtime, add_temp, end_session, collect, delete, report}
-use Rattle.model.specs.Reply.{Info, Answer, path, record_of, archive_of, listing_of, paths, roots, changed, generation, runtime_count, temporary_count, freed, usage}
-use Rattle.model.specs.Liveness.{roots_that_keep, live_paths, dead_paths, collected_paths, deleted_paths, bytes_in, usage_of}
+use Rattle.model.specs.Request.{Request, add_text, add_source, import_object, info, nar, ls, list, list_live, list_dead}
+use Rattle.model.specs.Request.{list_roots, list_roots_of, set_permanent, drop_permanent, set_user_root, drop_user_root}
+use Rattle.model.specs.Request.{set_profile, rollback, switch, delete_generation, replace_runtime, add_temp}
+use Rattle.model.specs.Request.{end_session, collect, delete, report}
+use Rattle.model.specs.Reply.{Info, Answer, path, record_of, archive_of, listing_of, paths, roots, changed, generation}
+use Rattle.model.specs.Reply.{runtime_count, temporary_count, freed, usage}
+use Rattle.model.specs.Liveness.{roots_that_keep, live_paths, dead_paths, collected_paths, deleted_paths, bytes_in}
+use Rattle.model.specs.Liveness.{usage_of}
 use Rattle.model.specs.Seen.{seen}
 use Rattle.model.specs.Profiles.{profile_at, number_for, rolled_back}
 use Rattle.model.specs.Effects.{valid_pairs, of_session}

@@ -1,7 +1,10 @@
 -- What a request needs of the disk. Each request is named, so that a new one may not fail for the disk because it was
 -- forgotten here.
 use Rattle.std.specs.Prelude.{Bool, true, false}
-use Rattle.model.specs.Request.{Request, add_text, add_source, import_object, info, nar, ls, list, list_live, list_dead, list_roots, list_roots_of, set_permanent, drop_permanent, set_user_root, drop_user_root, set_profile, rollback, switch, delete_generation, replace_runtime, add_temp, end_session, collect, delete, report}
+use Rattle.model.specs.Request.{Request, add_text, add_source, import_object, info, nar, ls, list, list_live, list_dead}
+use Rattle.model.specs.Request.{list_roots, list_roots_of, set_permanent, drop_permanent, set_user_root, drop_user_root}
+use Rattle.model.specs.Request.{set_profile, rollback, switch, delete_generation, replace_runtime, add_temp}
+use Rattle.model.specs.Request.{end_session, collect, delete, report}
 
 -- whether a request is answered from the disk: one for an archive or its listing; all others are answered from memory
 abbrev pub reads_disk : Request → Bool

@@ -6,7 +6,10 @@ use Rattle.paths.specs.Root.{Set, set_of}
 use Rattle.model.specs.World.{Path, Pair, pair_cmp, Profile, Temporary, temporary_cmp, World, has}
 use Rattle.live.specs.Graph.{same, holds}
 use Rattle.policy.specs.Settings.{Settings}
-use Rattle.model.specs.Request.{Request, add_text, add_source, import_object, info, nar, ls, list, list_live, list_dead, list_roots, list_roots_of, set_permanent, drop_permanent, set_user_root, drop_user_root, set_profile, rollback, switch, delete_generation, replace_runtime, add_temp, end_session, collect, delete, report}
+use Rattle.model.specs.Request.{Request, add_text, add_source, import_object, info, nar, ls, list, list_live, list_dead}
+use Rattle.model.specs.Request.{list_roots, list_roots_of, set_permanent, drop_permanent, set_user_root, drop_user_root}
+use Rattle.model.specs.Request.{set_profile, rollback, switch, delete_generation, replace_runtime, add_temp}
+use Rattle.model.specs.Request.{end_session, collect, delete, report}
 use Rattle.model.specs.Liveness.{lives, collected_paths, is_deleted_with}
 use Rattle.model.specs.Adds.{Added, added_text, added_source, added_import}
 use Rattle.model.specs.Profiles.{profile_at, set_to, switched, rolled_back, without_generation}

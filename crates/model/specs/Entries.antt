@@ -2,7 +2,8 @@
 use Rattle.std.specs.Prelude.{◌≡◌, ℕ, List, Some, IsTrue, Contains}
 use Rattle.std.specs.FinMap as finite
 use Rattle.paths.specs.Root.{Root}
-use Rattle.model.specs.World.{Path, Pair, Profile, Temporary, World, permanent_root, user_root, generation_root, runtime_root, temporary_root, roots_of}
+use Rattle.model.specs.World.{Path, Pair, Profile, Temporary, World, permanent_root, user_root, generation_root}
+use Rattle.model.specs.World.{runtime_root, temporary_root, roots_of}
 
 -- the root is that of an entry of a table of roots: every generation of every profile is one
 pub data IsEntry (w : World) (r : Root) : Type 0 where

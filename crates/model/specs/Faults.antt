@@ -5,7 +5,8 @@ use Rattle.nar.specs.declared.error.NarError.TheVariants as archive
 use Rattle.drv.specs.declared.error.DrvError.{DrvError}
 use Rattle.drv.specs.declared.error.DrvError.TheVariants as text
 use Rattle.model.specs.declared.refusal.Refusal.{Refusal}
-use Rattle.model.specs.declared.refusal.Refusal.TheVariants.{Truncated, BadTag, BadPadding, BadName, NotSorted, TooDeep, Trailing, TooLarge, BadDerivation, DoubleOutput}
+use Rattle.model.specs.declared.refusal.Refusal.TheVariants.{Truncated, BadTag, BadPadding, BadName, NotSorted, TooDeep}
+use Rattle.model.specs.declared.refusal.Refusal.TheVariants.{Trailing, TooLarge, BadDerivation, DoubleOutput}
 
 abbrev pub archive_refusal : NarError → Option Refusal
 archive_refusal archive.Truncated = Some Truncated

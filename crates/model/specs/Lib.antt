@@ -4,6 +4,7 @@ pub mod Collection
 pub mod Disk
 pub mod Effects
 pub mod Entries
+pub mod Failures
 pub mod Faults
 pub mod Labels
 pub mod Liveness
@@ -12,6 +13,7 @@ pub mod Objects
 pub mod Pinning
 pub mod Profiles
 pub mod Reply
+pub mod Refusals
 pub mod Request
 pub mod Seen
 pub mod Sound

@@ -6,10 +6,10 @@ use Rattle.model.specs.declared.refusal.Refusal.{Refusal}
 use Rattle.policy.specs.declared.kinds.Rule.{Rule}
 
 -- what a call may want
-pub data Failure : Type 0 where
-  memory : Failure
-  size : Failure
-  disk : Failure
+pub data Failed : Type 0 where
+  memory : Failed
+  size : Failed
+  disk : Failed
 
 -- the record of an object: its path, the SHA-256 digest and the number of bytes of its archive, its references in the
 -- order of paths, its deriver and its content address
@@ -54,7 +54,7 @@ pub data Reply : Type 0 where
   denied : Rule → Option Pair → Reply
   -- what the first test that fails is refused with
   refused : Refusal → Reply
-  failed : Failure → Reply
+  failed : Failed → Reply
 
 abbrev pub IsDone : Reply → Type 0
 IsDone (done a) = Unit {0}

@@ -1,5 +1,6 @@
 -- The tests of each request, and the refusal of the first that fails.
-use Rattle.std.specs.Prelude.{ℕ, Bool, true, false, not, ◌&&◌, ◌||◌, ◌==◌, nat_le, if◌then◌else◌, List, [], ◌∷◌, length, Option, Some, None, is_some, is_none, Result, Ok, Err}
+use Rattle.std.specs.Prelude.{ℕ, Bool, true, false, not, ◌&&◌, ◌||◌, ◌==◌, nat_le, if◌then◌else◌, List, [], ◌∷◌, length}
+use Rattle.std.specs.Prelude.{Option, Some, None, is_some, is_none, Result, Ok, Err}
 use Rattle.std.specs.List.{list_all}
 use Rattle.std.specs.FinMap as finite
 use Rattle.sha2.specs.Sha256.{sha256}
@@ -18,9 +19,16 @@ use Rattle.drv.specs.Outcome.{outputs_of}
 use Rattle.model.specs.World.{Path, Object, World, has}
 use Rattle.model.specs.Objects.{most_references}
 use Rattle.policy.specs.Settings.{Settings}
-use Rattle.model.specs.Request.{Imported, Request, add_text, add_source, import_object, info, nar, ls, list, list_live, list_dead, list_roots, list_roots_of, set_permanent, drop_permanent, set_user_root, drop_user_root, set_profile, rollback, switch, delete_generation, replace_runtime, add_temp, end_session, collect, delete, report}
+use Rattle.model.specs.Request.{Imported, Request, add_text, add_source, import_object, info, nar, ls, list, list_live}
+use Rattle.model.specs.Request.{list_dead, list_roots, list_roots_of, set_permanent, drop_permanent, set_user_root}
+use Rattle.model.specs.Request.{drop_user_root, set_profile, rollback, switch, delete_generation, replace_runtime}
+use Rattle.model.specs.Request.{add_temp, end_session, collect, delete, report}
 use Rattle.model.specs.declared.refusal.Refusal.{Refusal}
-use Rattle.model.specs.declared.refusal.Refusal.TheVariants.{TooLarge, CaMismatch, BadDerivation, NotValid, MissingReference, NarHashMismatch, SelfReference, NoRoot, NoProfile, NoGeneration, CurrentGeneration, NoOlderGeneration, GenerationLimit, TooManyReferences, BadRootName, BadLabel, BadSession}
+use Rattle.model.specs.declared.refusal.Refusal.TheVariants.{TooLarge, CaMismatch, BadDerivation, NotValid}
+use Rattle.model.specs.declared.refusal.Refusal.TheVariants.{MissingReference, NarHashMismatch, SelfReference, NoRoot}
+use Rattle.model.specs.declared.refusal.Refusal.TheVariants.{NoProfile, NoGeneration, CurrentGeneration}
+use Rattle.model.specs.declared.refusal.Refusal.TheVariants.{NoOlderGeneration, GenerationLimit, TooManyReferences}
+use Rattle.model.specs.declared.refusal.Refusal.TheVariants.{BadRootName, BadLabel, BadSession}
 use Rattle.model.specs.Faults.{archive_refusal, derivation_refusal}
 use Rattle.model.specs.Adds.{added_import, text_archive_size}
 use Rattle.model.specs.Profiles.{profile_at, has_profile, has_generation, number_for, previous}

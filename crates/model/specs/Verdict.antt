@@ -7,11 +7,15 @@ use Rattle.policy.specs.Settings.{Settings}
 use Rattle.policy.specs.Caller.{Caller}
 use Rattle.policy.specs.Class.{class_of}
 use Rattle.policy.specs.declared.kinds.Rule.{Rule}
-use Rattle.policy.specs.declared.kinds.Rule.TheVariants.{Connect, TrustedImport, TrustedPermanentRoot, TrustedRuntimeRoots, OwnRoot, NoIgnoreLiveness, Live}
+use Rattle.policy.specs.declared.kinds.Rule.TheVariants.{Connect, TrustedImport, TrustedPermanentRoot}
+use Rattle.policy.specs.declared.kinds.Rule.TheVariants.{TrustedRuntimeRoots, OwnRoot, NoIgnoreLiveness, Live}
 use Rattle.policy.specs.Operation.{Operation, plain}
 use Rattle.policy.specs.Operation as operations
 use Rattle.policy.specs.Rules as rules
-use Rattle.model.specs.Request.{Request, add_text, add_source, import_object, info, nar, ls, list, list_live, list_dead, list_roots, list_roots_of, set_permanent, drop_permanent, set_user_root, drop_user_root, set_profile, rollback, switch, delete_generation, replace_runtime, add_temp, end_session, collect, delete, report}
+use Rattle.model.specs.Request.{Request, add_text, add_source, import_object, info, nar, ls, list, list_live, list_dead}
+use Rattle.model.specs.Request.{list_roots, list_roots_of, set_permanent, drop_permanent, set_user_root, drop_user_root}
+use Rattle.model.specs.Request.{set_profile, rollback, switch, delete_generation, replace_runtime, add_temp}
+use Rattle.model.specs.Request.{end_session, collect, delete, report}
 use Rattle.model.specs.Liveness.{lives, first_root_of}
 use Rattle.model.specs.Seen.{seen_root}
 

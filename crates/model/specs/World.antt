@@ -4,7 +4,8 @@ use Rattle.std.specs.List.{flat_map}
 use Rattle.std.specs.declared.cmp.Ordering.{Ordering}
 use Rattle.std.specs.Ordering.{on, then_cmp, nat_cmp}
 use Rattle.std.specs.FinMap as finite
-use Rattle.paths.specs.Root.{bytes_cmp, Set, Root, permanent, user, profile, runtime, temporary, in_order, permanent_label, user_label, generation_label, temporary_label}
+use Rattle.paths.specs.Root.{bytes_cmp, Set, Root, permanent, user, profile, runtime, temporary, in_order}
+use Rattle.paths.specs.Root.{permanent_label, user_label, generation_label, temporary_label}
 use Rattle.paths.specs.ContentAddress.{ContentAddress}
 
 -- a store path, by its base name

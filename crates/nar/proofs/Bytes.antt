@@ -1,5 +1,6 @@
 -- Bytes, and a name above another.
-use Rattle.std.proofs.Common.{◌≡◌, ◌≢◌, ℕ, zero, suc, ◌+◌, ◌<◌, Bool, true, false, eqb, ltb, ◌&&◌, not, List, [], ◌∷◌, ◌++◌, Option, Some, None, refl, sym, ap, ◌∙◌, arith, lit<}
+use Rattle.std.proofs.Common.{◌≡◌, ◌≢◌, ℕ, zero, suc, ◌+◌, ◌<◌, Bool, true, false, eqb, ltb, ◌&&◌, not, List, [], ◌∷◌}
+use Rattle.std.proofs.Common.{◌++◌, Option, Some, None, refl, sym, ap, ◌∙◌, arith, lit<}
 use Rattle.std.specs.Prelude.{IsTrue, codes, ⊤}
 use Rattle.std.specs.List.{AllByRecursion, list_all}
 use Rattle.std.specs.Str.{bytes_eq}
@@ -8,7 +9,8 @@ use Rattle.std.specs.Cmp.Lexicographic.{slice_cmp}
 use Rattle.std.proofs.lemmas.Bool.{and_parts, ltb-true}
 use Rattle.std.proofs.lemmas.List.Folds.{list_all-append}
 use Rattle.std.proofs.lemmas.Slice.Eq.{bytes_eq-Decides}
-use Rattle.nar.specs.Tree.{Tree, regular, symlink, directory, Entries, no_entries, entry, IsBytes, is_name, rises, IsLegal, AreLegal}
+use Rattle.nar.specs.Tree.{Tree, regular, symlink, directory, Entries, no_entries, entry, IsBytes, is_name, rises}
+use Rattle.nar.specs.Tree.{IsLegal, AreLegal}
 use Rattle.nar.specs.Archive.{Part, node, other, spelled, mark, kind_parts, entries_parts, archive}
 use Rattle.nar.specs.Steps.{AreBytes}
 
@@ -36,11 +38,14 @@ IsBytes-prefix (x ∷ front) rest h (suc i) = IsBytes-prefix front rest (λ j. h
 -- bytes by a test that computes, as of a fixed word
 pub tested_bytes : (s : List ℕ) → list_all (λ b. ltb b 256) s ≡ true → IsBytes s
 tested_bytes [] e = IsBytes-nil
-tested_bytes (b ∷ s) e = let both = and_parts (ltb b 256) (list_all (λ b. ltb b 256) s) e in IsBytes-cons b s (ltb-true b 256 both.0) (tested_bytes s both.1)
+tested_bytes (b ∷ s) e = let both =
+    and_parts (ltb b 256) (list_all (λ b. ltb b 256) s) e in
+    IsBytes-cons b s (ltb-true b 256 both.0) (tested_bytes s both.1)
 
 -- ---- all of two lists
 
-pub all_append : {X : Type 0} (P : X → Type 0) (xs ys : List X) → AllByRecursion P xs → AllByRecursion P ys → AllByRecursion P (xs ++ ys)
+pub all_append : {X : Type 0} (P : X → Type 0) (xs ys : List X) → AllByRecursion P xs → AllByRecursion P ys
+    → AllByRecursion P (xs ++ ys)
 all_append P [] ys h k = k
 all_append P (x ∷ xs) ys h k = (h.0, all_append P xs ys h.1 k)
 
@@ -66,12 +71,20 @@ mark_bytes false = tt
 close_bytes : AreBytes (other (codes ")") ∷ [])
 close_bytes = (tested_bytes (codes ")") refl, tt)
 
-bracketed_bytes : (kind : List Part) → AreBytes kind → AreBytes (other (codes "(") ∷ other (codes "type") ∷ (kind ++ other (codes ")") ∷ []))
-bracketed_bytes kind h = (tested_bytes (codes "(") refl, (tested_bytes (codes "type") refl, all_append OfBytes kind (other (codes ")") ∷ []) h close_bytes))
+bracketed_bytes : (kind : List Part) → AreBytes kind
+    → AreBytes (other (codes "(") ∷ other (codes "type") ∷ (kind ++ other (codes ")") ∷ []))
+bracketed_bytes kind h = (
+  tested_bytes (codes "(") refl,
+  (tested_bytes (codes "type") refl, all_append OfBytes kind (other (codes ")") ∷ []) h close_bytes),
+)
 
 mutual
   kind_bytes : (d : ℕ) (t : Tree) → IsLegal t → AreBytes (kind_parts d t)
-  kind_bytes d (regular x c) h = (tested_bytes (codes "regular") refl, all_append OfBytes (mark x) (other (codes "contents") ∷ other c ∷ []) (mark_bytes x) (tested_bytes (codes "contents") refl, (h, tt)))
+  kind_bytes d (regular x c) h = (
+    tested_bytes (codes "regular") refl,
+    all_append OfBytes (mark x) (other (codes "contents") ∷ other c ∷ []) (mark_bytes x)
+        (tested_bytes (codes "contents") refl, (h, tt)),
+  )
   kind_bytes d (symlink target) h = (tested_bytes (codes "symlink") refl, (tested_bytes (codes "target") refl, (h, tt)))
   kind_bytes d (directory es) h = (tested_bytes (codes "directory") refl, entries_bytes d None es h)
 
@@ -79,7 +92,8 @@ mutual
   entries_bytes d last no_entries h = tt
   entries_bytes d last (entry n t es) h =
       let inner = bracketed_bytes (kind_parts (d + 1) t) (kind_bytes (d + 1) t h.3) in
-      let others : AreBytes (other (codes ")") ∷ entries_parts d es) = (tested_bytes (codes ")") refl, entries_bytes d (Some n) es h.4) in (
+      let others : AreBytes (other (codes ")") ∷ entries_parts d es) =
+      (tested_bytes (codes ")") refl, entries_bytes d (Some n) es h.4) in (
         tested_bytes (codes "entry") refl,
         (
           tested_bytes (codes "(") refl,
@@ -89,7 +103,14 @@ mutual
               h.0,
               (
                 node_bytes (d + 1),
-                (inner.0, (inner.1.0, all_append OfBytes (kind_parts (d + 1) t ++ other (codes ")") ∷ []) (other (codes ")") ∷ entries_parts d es) inner.1.1 others)),
+                (
+                  inner.0,
+                  (
+                    inner.1.0,
+                    all_append OfBytes (kind_parts (d + 1) t ++ other (codes ")") ∷ [])
+                        (other (codes ")") ∷ entries_parts d es) inner.1.1 others,
+                  ),
+                ),
               ),
             ),
           ),
@@ -128,20 +149,25 @@ no_dots s = list_all-append (λ b. eqb b 46) s (97 ∷ []) ∙ and_false (list_a
     and_false false = refl
 
 ends_in_no_dot : {A : Type 0} (s w : List ℕ) → list_all (λ b. eqb b 46) w ≡ true → s ++ 97 ∷ [] ≡ w → A
-ends_in_no_dot s w dots e = (let q : true ≡ false = sym dots ∙ ap (list_all (λ b. eqb b 46)) (sym e) ∙ no_dots s in absurd cc)
+ends_in_no_dot s w dots e =
+    (let q : true ≡ false = sym dots ∙ ap (list_all (λ b. eqb b 46)) (sym e) ∙ no_dots s in absurd cc)
 
 plain : ℕ → Bool
 plain b = not (eqb b 47) && not (eqb b 0)
 
 -- some name is above
-pub a_name_above : (last : Option (List ℕ)) → IsLast last → (n : List ℕ) × IsBytes n × IsTrue (is_name n) × IsTrue (rises last n)
+pub a_name_above : (last : Option (List ℕ)) → IsLast last
+    → (n : List ℕ) × IsBytes n × IsTrue (is_name n) × IsTrue (rises last n)
 a_name_above None h = (97 ∷ [], tested_bytes (97 ∷ []) refl, refl, refl)
 a_name_above (Some s) h =
-    let tests = and_parts (not (bytes_eq s []) && not (bytes_eq s (codes ".")) && not (bytes_eq s (codes ".."))) (list_all (λ b. not (eqb b 47) && not (eqb b 0)) s) h.1 in
+    let tests =
+    and_parts (not (bytes_eq s []) && not (bytes_eq s (codes ".")) && not (bytes_eq s (codes "..")))
+    (list_all (λ b. not (eqb b 47) && not (eqb b 0)) s) h.1 in
     let n : List ℕ = s ++ 97 ∷ [] in
     let empty : bytes_eq n [] ≡ false = differ n [] (λ e. ends_in_no_dot s [] refl e) in
     let dot : bytes_eq n (codes ".") ≡ false = differ n (codes ".") (λ e. ends_in_no_dot s (codes ".") refl e) in
     let dots : bytes_eq n (codes "..") ≡ false = differ n (codes "..") (λ e. ends_in_no_dot s (codes "..") refl e) in
-    let unbroken : list_all (λ b. not (eqb b 47) && not (eqb b 0)) n ≡ true = list_all-append (λ b. not (eqb b 47) && not (eqb b 0)) s (97 ∷ []) ∙ rw (tests.1) refl in
+    let unbroken : list_all (λ b. not (eqb b 47) && not (eqb b 0)) n ≡ true =
+    list_all-append (λ b. not (eqb b 47) && not (eqb b 0)) s (97 ∷ []) ∙ rw (tests.1) refl in
     let legal : is_name n ≡ true = rw (empty, dot, dots, unbroken) refl in
     (n, IsBytes-append s (97 ∷ []) h.0 (tested_bytes (97 ∷ []) refl), legal, longer_rises s 97)

@@ -1,17 +1,21 @@
--- The test of a tree is right: some room is left exactly where the tree is legal, not too deep and small enough.
-use Rattle.std.proofs.Common.{◌≡◌, ℕ, suc, ◌+◌, ◌-◌, ◌<◌, ◌≤◌, Bool, true, false, cond, ltb, ◌&&◌, List, [], ◌∷◌, ◌++◌, length, drop, get_or, add-one, drop-cons, Option, Some, None, refl, sym, ap, ◌∙◌, arith, inl, inr}
+-- The test of a tree is right: some room is left if and only if the tree is legal, not too deep and small enough.
+use Rattle.std.proofs.Common.{◌≡◌, ℕ, suc, ◌+◌, ◌-◌, ◌<◌, ◌≤◌, Bool, true, false, cond, ltb, ◌&&◌, List, [], ◌∷◌, ◌++◌}
+use Rattle.std.proofs.Common.{length, drop, get_or, add-one, drop-cons, Option, Some, None, refl, sym, ap, ◌∙◌, arith}
+use Rattle.std.proofs.Common.{inl, inr}
 use Rattle.std.specs.Prelude.{IsTrue, codes, option_and_then, is_some, unwrap_or, ◌↔◌}
 use Rattle.std.specs.List.{AllByRecursion}
 use Rattle.std.specs.Option.{SomeIff}
 use Rattle.std.proofs.lemmas.Bool.{cases_lt, ltb-true, ltb-false, le-ltb, lt-ltb, and_parts}
 use Rattle.std.proofs.lemmas.List.{length-append}
 use Rattle.nar.specs.String.{string, size_of}
-use Rattle.nar.specs.Tree.{Tree, regular, symlink, directory, Entries, no_entries, entry, IsBytes, is_name, rises, IsLegal, AreLegal}
-use Rattle.nar.specs.Archive.{Part, name, node, other, spelled, bracketed, kind_parts, entries_parts, archive, spelling, IsShallow, IsWritable}
+use Rattle.nar.specs.Tree.{Tree, regular, symlink, directory, Entries, no_entries, entry, IsBytes, is_name, rises}
+use Rattle.nar.specs.Tree.{IsLegal, AreLegal}
+use Rattle.nar.specs.Archive.{Part, name, node, other, spelled, bracketed, kind_parts, entries_parts, archive, spelling}
+use Rattle.nar.specs.Archive.{IsShallow, IsWritable}
 use Rattle.nar.specs.declared.node.Entry.{Entry}
 use Rattle.nar.specs.View.{tree_of, trees_of}
 use Rattle.nar.proofs.Trees.{pair-is}
-use Rattle.nar.specs.Fitting.{are_bytes, less, file_size, may_enter, room_after, entries_room}
+use Rattle.nar.specs.Room.{are_bytes, less, file_size, may_enter, room_after, entries_room}
 use Rattle.nar.proofs.Bytes.{tested_bytes, all_append, all_prefix}
 use Rattle.nar.proofs.Strings.{length-string}
 use Rattle.nar.proofs.Grammar.{chosen, none_is_some, some_is, and_then_some}
@@ -21,8 +25,11 @@ use Rattle.nar.proofs.Grammar.{chosen, none_is_some, some_is, and_then_some}
 pub parts_size : List Part → ℕ
 parts_size ps = length (spelling ps)
 
-parts_size-cons : (p : Part) (ps : List Part) → length (spelling (p ∷ ps)) ≡ size_of (length (spelled p)) + length (spelling ps)
-parts_size-cons p ps = length-append (string (spelled p)) (spelling ps) ∙ ap (λ (k : ℕ). k + length (spelling ps)) (length-string (spelled p))
+parts_size-cons : (p : Part) (ps : List Part)
+    → length (spelling (p ∷ ps)) ≡ size_of (length (spelled p)) + length (spelling ps)
+parts_size-cons p ps =
+    length-append (string (spelled p)) (spelling ps)
+    ∙ ap (λ (k : ℕ). k + length (spelling ps)) (length-string (spelled p))
 
 spelling-append : (ps qs : List Part) → length (spelling (ps ++ qs)) ≡ length (spelling ps) + length (spelling qs)
 spelling-append [] qs = omega arith
@@ -43,10 +50,13 @@ bracketed_size kind =
     let e = close_size in
     omega arith
 
-regular_size : (d : ℕ) (x : Bool) (c : List ℕ) → length (spelling (bracketed (kind_parts d (regular x c)))) ≡ file_size x + size_of (length c)
+regular_size : (d : ℕ) (x : Bool) (c : List ℕ)
+    → length (spelling (bracketed (kind_parts d (regular x c)))) ≡ file_size x + size_of (length c)
 regular_size d true c =
     let z = bracketed_size (kind_parts d (regular true c)) in
-    let a = parts_size-cons (other (codes "regular")) (other (codes "executable") ∷ other [] ∷ other (codes "contents") ∷ other c ∷ []) in
+    let a =
+    parts_size-cons (other (codes "regular"))
+    (other (codes "executable") ∷ other [] ∷ other (codes "contents") ∷ other c ∷ []) in
     let b = parts_size-cons (other (codes "executable")) (other [] ∷ other (codes "contents") ∷ other c ∷ []) in
     let e = parts_size-cons (other []) (other (codes "contents") ∷ other c ∷ []) in
     let f = parts_size-cons (other (codes "contents")) (other c ∷ []) in
@@ -67,18 +77,23 @@ symlink_size d s =
     let g = parts_size-cons (other s) [] in
     omega arith
 
-directory_size : (d : ℕ) (es : Entries) → length (spelling (bracketed (kind_parts d (directory es)))) ≡ 72 + length (spelling (entries_parts d es))
+directory_size : (d : ℕ) (es : Entries)
+    → length (spelling (bracketed (kind_parts d (directory es)))) ≡ 72 + length (spelling (entries_parts d es))
 directory_size d es =
     let z = bracketed_size (kind_parts d (directory es)) in
     let a = parts_size-cons (other (codes "directory")) (entries_parts d es) in
     omega arith
 
 entry_size : (d : ℕ) (n : List ℕ) (t : Tree) (es : Entries)
-    → length (spelling (entries_parts d (entry n t es))) ≡ (80 + size_of (length n)) + length (spelling (bracketed (kind_parts (d + 1) t))) + length (spelling (entries_parts d es))
+    → length (spelling (entries_parts d (entry n t es)))
+    ≡ (80 + size_of (length n)) + length (spelling (bracketed (kind_parts (d + 1) t)))
+    + length (spelling (entries_parts d es))
 entry_size d n t es =
     let inner : List Part = bracketed (kind_parts (d + 1) t) in
     let tail : List Part = other (codes ")") ∷ entries_parts d es in
-    let a = parts_size-cons (other (codes "entry")) (other (codes "(") ∷ other (codes "name") ∷ name n ∷ node (d + 1) ∷ (inner ++ tail)) in
+    let a =
+    parts_size-cons (other (codes "entry"))
+    (other (codes "(") ∷ other (codes "name") ∷ name n ∷ node (d + 1) ∷ (inner ++ tail)) in
     let b = parts_size-cons (other (codes "(")) (other (codes "name") ∷ name n ∷ node (d + 1) ∷ (inner ++ tail)) in
     let e = parts_size-cons (other (codes "name")) (name n ∷ node (d + 1) ∷ (inner ++ tail)) in
     let f = parts_size-cons (name n) (node (d + 1) ∷ (inner ++ tail)) in
@@ -94,7 +109,8 @@ archive_size t = parts_size-cons (other (codes "nix-archive-1")) (bracketed (kin
 
 pub bytes_tested : (s : List ℕ) → IsBytes s → are_bytes s ≡ true
 bytes_tested [] h = refl
-bytes_tested (b ∷ s) h = (let first : ltb b 256 ≡ true = lt-ltb b 256 (h 0) in rw first (bytes_tested s (λ i. h (suc i))))
+bytes_tested (b ∷ s) h =
+    (let first : ltb b 256 ≡ true = lt-ltb b 256 (h 0) in rw first (bytes_tested s (λ i. h (suc i))))
 
 -- ---- room
 
@@ -102,7 +118,8 @@ less_is : (room size left : ℕ) → less room size ≡ Some left → size + lef
 less_is room size left e =
     elim (chosen (ltb room size) None (Some (room - size)) (Some left) e) [
       | inl c ↦ none_is_some left c.1
-      | inr c ↦ (let le : size ≤ room = ltb-false room size c.0 in let is : room - size ≡ left = some_is (room - size) left c.1 in omega arith)
+      | inr c ↦ (let le : size ≤ room = ltb-false room size c.0 in
+          let is : room - size ≡ left = some_is (room - size) left c.1 in omega arith)
     ]
 
 is_less : (room size left : ℕ) → size + left ≡ room → less room size ≡ Some left
@@ -118,13 +135,14 @@ less_checked None room size h =
       | inl lt ↦ (let few : ltb room size ≡ true = lt-ltb room size lt in rw few refl)
       | inr le ↦ absurd (h le)
     ]
-less_checked (Some x) room size h = (let within : ltb room size ≡ false = le-ltb room size h.0 in rw within (ap Some h.1))
+less_checked (Some x) room size h =
+    (let within : ltb room size ≡ false = le-ltb room size h.0 in rw within (ap Some h.1))
 
 if_some : {A : Type 0} (b : Bool) (o : Option A) (x : A) → cond b o None ≡ Some x → (b ≡ true) × (o ≡ Some x)
 if_some true o x e = (refl, e)
 if_some false o x e = none_is_some x e
 
--- a part's front and back
+-- a part's beginning and end
 abbrev AllShallow : List Part → Type 0
 AllShallow ps = AllByRecursion IsShallow ps
 
@@ -166,14 +184,18 @@ mutual
       let inner : length (spelling (entries_parts d es)) + left ≡ a.0 = h.size in
       record { legal = h.legal; shallow = (tt, h.shallow); size = omega (arith, directory_size d es) }
 
-  all_fit : (d : ℕ) (last : Option (List ℕ)) (room left : ℕ) (es : Entries) → entries_room d last room es ≡ Some left → AllFit d last room left es
-  all_fit d last room left no_entries e = record { legal = tt; shallow = tt; size = (let is : room ≡ left = some_is room left e in omega arith) }
+  all_fit : (d : ℕ) (last : Option (List ℕ)) (room left : ℕ) (es : Entries) → entries_room d last room es ≡ Some left
+      → AllFit d last room left es
+  all_fit d last room left no_entries e =
+      record { legal = tt; shallow = tt; size = (let is : room ≡ left = some_is room left e in omega arith) }
   all_fit d last room left (entry n t es) e =
       let a = if_some (may_enter d last n) _ left e in
       let may = and_parts (are_bytes n && is_name n) (rises last n && ltb d 256) a.0 in
       let one = and_parts (are_bytes n) (is_name n) may.0 in
       let two = and_parts (rises last n) (ltb d 256) may.1 in
-      let b = and_then_some (less room (80 + size_of (length n))) (λ left. option_and_then (λ more. entries_room d (Some n) more es) (room_after (d + 1) left t)) left a.1 in
+      let b =
+      and_then_some (less room (80 + size_of (length n)))
+      (λ left. option_and_then (λ more. entries_room d (Some n) more es) (room_after (d + 1) left t)) left a.1 in
       let g = and_then_some (room_after (d + 1) b.0 t) (λ more. entries_room d (Some n) more es) left b.2 in
       let first = less_is room (80 + size_of (length n)) b.0 b.1 in
       let inner = fits (d + 1) b.0 g.0 t g.1 in
@@ -183,7 +205,23 @@ mutual
       let others_size : length (spelling (entries_parts d es)) + left ≡ g.0 = others.size in
       record {
         legal = (tested_bytes n one.0, one.1, two.0, inner.legal, others.legal);
-        shallow = (tt, (tt, (tt, (tt, (omega arith, all_append IsShallow (bracketed (kind_parts (d + 1) t)) (other (codes ")") ∷ entries_parts d es) (bracketed_shallow (kind_parts (d + 1) t) inner.shallow) (tt, others.shallow))))));
+        shallow = (
+          tt,
+          (
+            tt,
+            (
+              tt,
+              (
+                tt,
+                (
+                  omega arith,
+                  all_append IsShallow (bracketed (kind_parts (d + 1) t)) (other (codes ")") ∷ entries_parts d es)
+                      (bracketed_shallow (kind_parts (d + 1) t) inner.shallow) (tt, others.shallow),
+                ),
+              ),
+            ),
+          ),
+        );
         size = omega (arith, entry_size d n t es);
       }
 
@@ -198,10 +236,12 @@ mutual
   fitted d room left (directory es) h =
       let inner : ℕ = length (spelling (entries_parts d es)) + left in
       let first : less room 72 ≡ Some inner = is_less room 72 inner (omega (arith, directory_size d es, h.size)) in
-      let more : entries_room d None inner es ≡ Some left = all_fitted d None inner left es (record { legal = h.legal; shallow = h.shallow.1; size = refl }) in
+      let more : entries_room d None inner es ≡ Some left =
+      all_fitted d None inner left es (record { legal = h.legal; shallow = h.shallow.1; size = refl }) in
       ap (option_and_then (λ left. entries_room d None left es)) first ∙ more
 
-  all_fitted : (d : ℕ) (last : Option (List ℕ)) (room left : ℕ) (es : Entries) → AllFit d last room left es → entries_room d last room es ≡ Some left
+  all_fitted : (d : ℕ) (last : Option (List ℕ)) (room left : ℕ) (es : Entries) → AllFit d last room left es
+      → entries_room d last room es ≡ Some left
   all_fitted d last room left no_entries h = (let size : 0 + left ≡ room = h.size in ap Some (omega arith))
   all_fitted d last room left (entry n t es) h =
       let k : List Part = bracketed (kind_parts (d + 1) t) in
@@ -216,16 +256,27 @@ mutual
       let above : rises last n ≡ true = h.legal.2 in
       let two : ℕ = length (spelling (entries_parts d es)) + left in
       let one : ℕ = length (spelling k) + two in
-      let first : less room (80 + size_of (length n)) ≡ Some one = is_less room (80 + size_of (length n)) one (omega (arith, entry_size d n t es, h.size)) in
-      let middle : room_after (d + 1) one t ≡ Some two = fitted (d + 1) one two t (record { legal = h.legal.3; shallow = all_prefix IsShallow (kind_parts (d + 1) t) (other (codes ")") ∷ []) inner.1.1; size = refl }) in
-      let last_one : entries_room d (Some n) two es ≡ Some left = all_fitted d (Some n) two left es (record { legal = h.legal.4; shallow = others; size = refl }) in
+      let first : less room (80 + size_of (length n)) ≡ Some one =
+      is_less room (80 + size_of (length n)) one (omega (arith, entry_size d n t es, h.size)) in
+      let middle : room_after (d + 1) one t ≡ Some two =
+      fitted (d + 1) one two t (record {
+        legal = h.legal.3;
+        shallow = all_prefix IsShallow (kind_parts (d + 1) t) (other (codes ")") ∷ []) inner.1.1;
+        size = refl;
+      }) in
+      let last_one : entries_room d (Some n) two es ≡ Some left =
+      all_fitted d (Some n) two left es (record { legal = h.legal.4; shallow = others; size = refl }) in
       let may : may_enter d last n ≡ true = rw (bytes, legal, above, within) refl in
-      ap (λ (b : Bool). cond b (option_and_then (λ left. option_and_then (λ more. entries_room d (Some n) more es) (room_after (d + 1) left t)) (less room (80 + size_of (length n)))) None) may
-      ∙ ap (option_and_then (λ left. option_and_then (λ more. entries_room d (Some n) more es) (room_after (d + 1) left t))) first
+      ap (λ (b : Bool). cond b (option_and_then
+      (λ left. option_and_then (λ more. entries_room d (Some n) more es) (room_after (d + 1) left t))
+      (less room (80 + size_of (length n)))) None) may
+      ∙ ap (option_and_then (λ left. option_and_then (λ more. entries_room d (Some n) more es)
+      (room_after (d + 1) left t))) first
       ∙ ap (option_and_then (λ more. entries_room d (Some n) more es)) middle ∙ last_one
 
 -- what the archive of a tree leaves
-room_of : (t : Tree) → IsWritable t → room_after 1 16777192 t ≡ Some (16777192 - length (spelling (bracketed (kind_parts 1 t))))
+room_of : (t : Tree) → IsWritable t
+    → room_after 1 16777192 t ≡ Some (16777192 - length (spelling (bracketed (kind_parts 1 t))))
 room_of t w =
     let small : length (spelling (archive t)) ≤ 16777216 = w.small in
     fitted 1 16777192 (16777192 - length (spelling (bracketed (kind_parts 1 t)))) t (record {
@@ -243,28 +294,42 @@ writable t b is = (λ e. by_room (room_after 1 16777192 t) refl (sym is ∙ e), 
     by_room (Some left) at e =
         let h = fits 1 16777192 left t at in
         let size : length (spelling (bracketed (kind_parts 1 t))) + left ≡ 16777192 = h.size in
-        record { legal = h.legal; shallow = (tt, bracketed_shallow (kind_parts 1 t) h.shallow); small = omega (arith, archive_size t) }
+        record {
+          legal = h.legal;
+          shallow = (tt, bracketed_shallow (kind_parts 1 t) h.shallow);
+          small = omega (arith, archive_size t);
+        }
 
 -- the size of its archive
-pub size_by_room : (t : Tree) (left size : ℕ) → IsWritable t → left ≡ unwrap_or (room_after 1 16777192 t) 0 → size ≡ 16777216 - left → size ≡ length (spelling (archive t))
+pub size_by_room : (t : Tree) (left size : ℕ) → IsWritable t → left ≡ unwrap_or (room_after 1 16777192 t) 0
+    → size ≡ 16777216 - left → size ≡ length (spelling (archive t))
 size_by_room t left size w is sized =
     let small : length (spelling (archive t)) ≤ 16777216 = w.small in
-    let same : left ≡ 16777192 - length (spelling (bracketed (kind_parts 1 t))) = is ∙ ap (λ (o : Option ℕ). unwrap_or o 0) (room_of t w) in
+    let same : left ≡ 16777192 - length (spelling (bracketed (kind_parts 1 t))) =
+    is ∙ ap (λ (o : Option ℕ). unwrap_or o 0) (room_of t w) in
     omega (arith, archive_size t)
 
 -- one entry more
-pub entry_room : (d : ℕ) (last : Option (List ℕ)) (room : ℕ) (es : List Entry) (i : ℕ) (e : Entry) (inner : Option ℕ) → i < length es → e ≡ get_or es i e → may_enter d last e.name.now ≡ true → inner ≡ less room (80 + size_of (length e.name.now))
-    → entries_room d last room (trees_of (drop i es)) ≡ option_and_then (λ left. option_and_then (λ more. entries_room d (Some e.name.now) more (trees_of (drop (i + 1) es))) (room_after (d + 1) left (tree_of e.node))) inner
+pub entry_room : (d : ℕ) (last : Option (List ℕ)) (room : ℕ) (es : List Entry) (i : ℕ) (e : Entry) (inner : Option ℕ)
+    → i < length es → e ≡ get_or es i e → may_enter d last e.name.now ≡ true
+    → inner ≡ less room (80 + size_of (length e.name.now))
+    → entries_room d last room (trees_of (drop i es))
+    ≡ option_and_then (λ left. option_and_then
+    (λ more. entries_room d (Some e.name.now) more (trees_of (drop (i + 1) es)))
+    (room_after (d + 1) left (tree_of e.node))) inner
 entry_room d last room es i e inner lt is may less_is =
-    let split : drop i es ≡ e ∷ drop (i + 1) es = rw add-one (drop-cons es i e lt ∙ ap (λ (x : Entry). x ∷ drop (suc i) es) (sym is)) in
+    let split : drop i es ≡ e ∷ drop (i + 1) es =
+    rw add-one (drop-cons es i e lt ∙ ap (λ (x : Entry). x ∷ drop (suc i) es) (sym is)) in
     let pair = pair-is e in
     ap (λ (xs : List Entry). entries_room d last room (trees_of xs)) split
     ∙ ap (λ (p : List ℕ × Tree). entries_room d last room (entry p.0 p.1 (trees_of (drop (i + 1) es)))) pair
     ∙ rw (may, sym less_is) refl
 
-pub entry_refused : (d : ℕ) (last : Option (List ℕ)) (room : ℕ) (es : List Entry) (i : ℕ) (e : Entry) → i < length es → e ≡ get_or es i e → may_enter d last e.name.now ≡ false → entries_room d last room (trees_of (drop i es)) ≡ None
+pub entry_refused : (d : ℕ) (last : Option (List ℕ)) (room : ℕ) (es : List Entry) (i : ℕ) (e : Entry) → i < length es
+    → e ≡ get_or es i e → may_enter d last e.name.now ≡ false → entries_room d last room (trees_of (drop i es)) ≡ None
 entry_refused d last room es i e lt is may =
-    let split : drop i es ≡ e ∷ drop (i + 1) es = rw add-one (drop-cons es i e lt ∙ ap (λ (x : Entry). x ∷ drop (suc i) es) (sym is)) in
+    let split : drop i es ≡ e ∷ drop (i + 1) es =
+    rw add-one (drop-cons es i e lt ∙ ap (λ (x : Entry). x ∷ drop (suc i) es) (sym is)) in
     ap (λ (xs : List Entry). entries_room d last room (trees_of xs)) split
     ∙ ap (λ (p : List ℕ × Tree). entries_room d last room (entry p.0 p.1 (trees_of (drop (i + 1) es)))) (pair-is e)
     ∙ rw may refl

@@ -1,12 +1,14 @@
--- A piece taken from its front.
-use Rattle.std.proofs.Common.{◌≡◌, ℕ, ◌≤◌, List, [], ◌++◌, take, drop, Option, Some, None, sym, ap, ap₂, ◌∙◌, subst, append_assoc, append-nil, arith}
+-- A piece taken from its beginning.
+use Rattle.std.proofs.Common.{◌≡◌, ℕ, ◌≤◌, List, [], ◌++◌, take, drop, Option, Some, None, sym, ap, ap₂, ◌∙◌, subst}
+use Rattle.std.proofs.Common.{append_assoc, append-nil, arith}
 use Rattle.std.proofs.lemmas.List.{take-append-drop}
 use Rattle.nar.specs.declared.count.Count.{Count}
 use Rattle.nar.specs.declared.progress.Progress.{Progress}
 use Rattle.nar.specs.Progress.{HasRead, HasReadBefore, turns_by}
 
--- the front of a piece is taken
-pub cut : (all consumed piece front rest : List ℕ) (n : ℕ) → all ≡ consumed ++ piece → front ≡ take n piece → rest ≡ drop n piece → all ≡ (consumed ++ front) ++ rest
+-- the prefix of a piece is taken
+pub cut : (all consumed piece front rest : List ℕ) (n : ℕ) → all ≡ consumed ++ piece → front ≡ take n piece
+    → rest ≡ drop n piece → all ≡ (consumed ++ front) ++ rest
 cut all consumed piece front rest n is a b =
     let both : front ++ rest ≡ piece = ap₂ (λ (x y : List ℕ). x ++ y) a b ∙ take-append-drop n piece in
     is ∙ ap (λ (v : List ℕ). consumed ++ v) (sym both) ∙ sym (append_assoc consumed front rest)

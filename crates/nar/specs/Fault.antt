@@ -2,7 +2,8 @@
 use Rattle.std.specs.Prelude.{◌≡◌, ◌≢◌, ℕ, ◌-◌, ◌<◌, ◌≤◌, List, [], ◌∷◌, ◌++◌, length, IsTrue, MatchResult, codes, ◌⊎◌}
 use Rattle.std.specs.List.{AllByRecursion}
 use Rattle.nar.specs.declared.error.NarError.{NarError}
-use Rattle.nar.specs.declared.error.NarError.TheVariants.{Truncated, BadTag, BadPadding, BadName, NotSorted, TooDeep, Trailing, TooLarge, Memory}
+use Rattle.nar.specs.declared.error.NarError.TheVariants.{Truncated, BadTag, BadPadding, BadName, NotSorted, TooDeep}
+use Rattle.nar.specs.declared.error.NarError.TheVariants.{Trailing, TooLarge, Memory}
 use Rattle.nar.specs.String.{string_at}
 use Rattle.nar.specs.Tree.{Tree, is_name, IsLegal}
 use Rattle.nar.specs.Archive.{Part, name, node, spelled, archive, IsShallow, spelling, limit}

@@ -1,5 +1,6 @@
 -- What a checker that is fed an archive in pieces knows of the bytes so far.
-use Rattle.std.specs.Prelude.{◌≡◌, ◌≢◌, ℕ, ◌+◌, ◌-◌, ◌<◌, ◌≤◌, List, [], ◌∷◌, ◌++◌, length, drop, Option, Some, None, Err, IsTrue, ◌==◌}
+use Rattle.std.specs.Prelude.{◌≡◌, ◌≢◌, ℕ, ◌+◌, ◌-◌, ◌<◌, ◌≤◌, List, [], ◌∷◌, ◌++◌, length, drop, Option, Some, None}
+use Rattle.std.specs.Prelude.{Err, IsTrue, ◌==◌}
 use Rattle.std.specs.List.{AllByRecursion, list_all}
 use Rattle.nar.specs.declared.error.NarError.TheVariants.{Truncated}
 use Rattle.nar.specs.declared.count.Count.{Count}

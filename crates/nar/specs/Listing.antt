@@ -1,5 +1,6 @@
 -- The listing of a tree: one line a node, parents first, entries in order.
-use Rattle.std.specs.Prelude.{ℕ, ◌+◌, ◌/◌, ◌%◌, List, [], ◌∷◌, ◌++◌, length, Bool, true, false, codes, nat_lt, if◌then◌else◌, ◌||◌, ◌==◌, decimal}
+use Rattle.std.specs.Prelude.{ℕ, ◌+◌, ◌/◌, ◌%◌, List, [], ◌∷◌, ◌++◌, length, Bool, true, false, codes, nat_lt}
+use Rattle.std.specs.Prelude.{if◌then◌else◌, ◌||◌, ◌==◌, decimal}
 use Rattle.std.specs.List.{flat_map}
 use Rattle.nar.specs.Tree.{Tree, regular, symlink, directory, Entries, no_entries, entry}
 

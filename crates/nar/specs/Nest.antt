@@ -1,5 +1,6 @@
 -- Where in an archive a checker is, as the symbols that are to come.
-use Rattle.std.specs.Prelude.{◌≡◌, ℕ, ◌+◌, List, [], ◌∷◌, ◌++◌, length, Option, Some, None, Result, Ok, Err, codes, ⊤, Bool, true, false, nat_lt}
+use Rattle.std.specs.Prelude.{◌≡◌, ℕ, ◌+◌, List, [], ◌∷◌, ◌++◌, length, Option, Some, None, Result, Ok, Err, codes, ⊤}
+use Rattle.std.specs.Prelude.{Bool, true, false, nat_lt}
 use Rattle.nar.specs.declared.error.NarError.{NarError}
 use Rattle.nar.specs.declared.error.NarError.TheVariants.{BadTag, Trailing}
 use Rattle.nar.specs.declared.nest.Phase.{Phase}

@@ -1,6 +1,7 @@
 -- The tree of which the bytes are the archive, or their fault, as a function. It needn't be trusted: the laws say that
 -- it agrees with `IsArchive` and `IsFault`.
-use Rattle.std.specs.Prelude.{ℕ, zero, suc, ◌-◌, List, [], ◌∷◌, ◌++◌, length, map, drop, true, false, Result, Ok, Err, codes, unwrap_or, if◌then◌else◌, slice_index_or}
+use Rattle.std.specs.Prelude.{ℕ, zero, suc, ◌-◌, List, [], ◌∷◌, ◌++◌, length, map, drop, true, false, Result, Ok, Err}
+use Rattle.std.specs.Prelude.{codes, unwrap_or, if◌then◌else◌, slice_index_or}
 use Rattle.std.specs.Str.{bytes_eq}
 use Rattle.nar.specs.declared.error.NarError.{NarError}
 use Rattle.nar.specs.declared.error.NarError.TheVariants.{Truncated, Trailing}

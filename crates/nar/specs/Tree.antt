@@ -1,5 +1,6 @@
 -- Trees of files, and the rule of names.
-use Rattle.std.specs.Prelude.{ℕ, List, [], Bool, true, not, ◌&&◌, ◌==◌, Option, Some, None, IsTrue, ⊤, codes, slice_index, ◌<◌}
+use Rattle.std.specs.Prelude.{ℕ, List, [], Bool, true, not, ◌&&◌, ◌==◌, Option, Some, None, IsTrue, ⊤, codes}
+use Rattle.std.specs.Prelude.{slice_index, ◌<◌}
 use Rattle.std.specs.List.{list_all}
 use Rattle.std.specs.Ordering.{nat_cmp, is_lt}
 use Rattle.std.specs.Cmp.Lexicographic.{slice_cmp}

@@ -1,26 +1,26 @@
 //! Nix archives (NAR): reading, writing, listing, and checking in pieces.
 #![tactic(auto)]
 
-mod checking;
+mod checker;
 mod count;
 mod error;
-mod fitting;
 pub mod laws;
 mod listing;
 mod name;
 mod nest;
 mod node;
 mod progress;
-mod reading;
+mod reader;
+mod room;
 mod string;
 mod words;
-mod writing;
+mod writer;
 
-pub use checking::Checker;
+pub use checker::Checker;
 pub use error::NarError;
-pub use fitting::is_writable;
 pub use listing::list;
 pub use node::{Entry, Node};
-pub use reading::read;
+pub use reader::read;
+pub use room::is_writable;
 pub use streams::Pieces;
-pub use writing::write;
+pub use writer::write;

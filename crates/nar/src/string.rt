@@ -5,7 +5,7 @@ ghost use Rattle.std.specs.List.{list_all};
 ghost use Rattle.nar.specs.String.{string_at, length_at as number_at};
 ghost use Rattle.nar.specs.Archive.{other};
 ghost use Rattle.nar.specs.Steps.{word as fixed};
-ghost use Rattle.nar.specs.Reading.{ReadsString, Reads, FaultOf};
+ghost use Rattle.nar.specs.Reader.{ReadsString, Reads, FaultOf};
 
 use crate::error::NarError;
 

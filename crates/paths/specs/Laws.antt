@@ -6,7 +6,8 @@ use Rattle.paths.specs.Names.{is_store_name}
 use Rattle.paths.specs.StorePath.{is_base_name}
 use Rattle.paths.specs.Base32.{Spells, base32}
 use Rattle.paths.specs.Path.{InPathOrder, in_path_order, IsPathOf, path_of, text_path, source_path}
-use Rattle.paths.specs.ContentAddress.{ContentAddress, IsAddressText, address_of, text_address, source_address, Verifies, verifies}
+use Rattle.paths.specs.ContentAddress.{ContentAddress, IsAddressText, address_of, text_address, source_address}
+use Rattle.paths.specs.ContentAddress.{Verifies, verifies}
 
 -- bytes are spelled by one text
 abbrev pub OneSpelling : Type 0

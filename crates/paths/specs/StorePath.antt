@@ -1,5 +1,6 @@
 -- Base names of store paths, and the path texts that name them.
-use Rattle.std.specs.Prelude.{ℕ, ◌+◌, ◌==◌, ◌&&◌, nat_eq, nat_le, Bool, if◌then◌else◌, List, ◌++◌, length, take, drop, slice_index, codes}
+use Rattle.std.specs.Prelude.{ℕ, ◌+◌, ◌==◌, ◌&&◌, nat_eq, nat_le, Bool, if◌then◌else◌, List, ◌++◌, length, take, drop}
+use Rattle.std.specs.Prelude.{slice_index, codes}
 use Rattle.std.specs.List as lists
 use Rattle.paths.specs.Names.{is_store_name, begins}
 use Rattle.paths.specs.Base32.{all_digits}

@@ -1,13 +1,13 @@
 //! The store paths that objects are given by what they are made of.
-ghost use Rattle.std.specs.Prelude.{◌≡◌, ◌++◌, List, ℕ, IfOk, OnOk, map, codes, string_bytes, true};
+ghost use Rattle.std.specs.Prelude.{◌≡◌, ◌++◌, List, ℕ, IfOk, OnOk, map, codes, string_bytes, true, length};
 ghost use Rattle.std.specs.List.{flat_map};
 ghost use Rattle.sha2.specs.Sha256.{sha256};
 ghost use Rattle.paths.specs.Names.{is_store_name};
 ghost use Rattle.paths.specs.Path as spec;
 ghost use Rattle.paths.specs.Path.{InPathOrder, reference_part, fingerprint_of, HasFingerprint, IsPathOf, path_of};
+ghost use Rattle.paths.specs.Fold.{fold20};
 
 use crate::digits::base32;
-use crate::fold::fold20;
 use crate::store_dir::StoreDir;
 use crate::store_name::Name;
 use crate::store_path::StorePath;
@@ -202,4 +202,26 @@ pub fn source_path_of(
         → IfOk result (λ p. p ≡ spec.source_path dir.now name.now refs.now nar) }
 {
     path_of(alloc, "source", dir, name.as_str(), refs, nar_hash)
+}
+
+/// Folds a digest of 32 bytes to 20: byte i is the exclusive or of the bytes at places congruent to i modulo 20.
+///
+/// ```rust
+/// let mut digest = [0; 32];
+/// digest[0] = 0x01;
+/// digest[20] = 0xff;
+/// assert_eq!(rt; paths::fold20(&digest)[0], 0xfe);
+/// ```
+pub fn fold20(digest: &[u8; 32]) -> [u8; 20]
+    ensures { result ≡ fold20 digest.now }
+{
+    let mut folded = [0u8; 20];
+    for i in 0..20 {
+        folded[i] = if i < 12 {
+            digest[i] ^ digest[i + 20]
+        } else {
+            digest[i]
+        };
+    }
+    folded
 }

@@ -8,10 +8,13 @@ use Rattle.toml.specs.Parse.{parse_document}
 use Rattle.policy.specs.Toml.{document_of, config_of}
 use Rattle.policy.specs.declared.error.KeyWord.TheVariants.{Syntax}
 
-pub document-present : (bytes : List ℕ) (t : Members) → length bytes ≤ 1048576 → IsUtf8 bytes → parse_document bytes ≡ Some t → document_of bytes ≡ Some t
-document-present bytes t small text parsed = rw (le-leb (length bytes) 1048576 small, is_utf8-from_IsUtf8 bytes text) parsed
+pub document-present : (bytes : List ℕ) (t : Members) → length bytes ≤ 1048576 → IsUtf8 bytes
+    → parse_document bytes ≡ Some t → document_of bytes ≡ Some t
+document-present bytes t small text parsed =
+    rw (le-leb (length bytes) 1048576 small, is_utf8-from_IsUtf8 bytes text) parsed
 
-pub document-none : (bytes : List ℕ) → length bytes ≤ 1048576 → (IsUtf8 bytes → parse_document bytes ≡ None) → document_of bytes ≡ None
+pub document-none : (bytes : List ℕ) → length bytes ≤ 1048576 → (IsUtf8 bytes → parse_document bytes ≡ None)
+    → document_of bytes ≡ None
 document-none bytes small refused =
     elim (cases_Bool (is_utf8 bytes)) [
       | inl text ↦ rw (le-leb (length bytes) 1048576 small, text) (refused (IsUtf8-from_is_utf8 bytes text))

@@ -2,7 +2,8 @@
 use Rattle.std.proofs.Common.{◌≡◌, Bool, true, false, cond, not, Option, Some, None, refl}
 use Rattle.std.specs.Option.{option_or}
 use Rattle.policy.specs.declared.kinds.Rule.{Rule}
-use Rattle.policy.specs.declared.kinds.Rule.TheVariants.{Connect, TrustedImport, TrustedPermanentRoot, TrustedRuntimeRoots, OwnRoot, NoIgnoreLiveness, Live}
+use Rattle.policy.specs.declared.kinds.Rule.TheVariants.{Connect, TrustedImport, TrustedPermanentRoot}
+use Rattle.policy.specs.declared.kinds.Rule.TheVariants.{TrustedRuntimeRoots, OwnRoot, NoIgnoreLiveness, Live}
 
 -- the first of the six rules that is broken, else what comes after them
 abbrev pub first_of_six : (a b c d e f : Bool) → Option Rule → Option Rule
@@ -12,7 +13,8 @@ first_of_six a b c d e f rest =
 
 -- what comes after them, or nothing and then that
 pub first_of_six-rest : (a b c d e f live : Bool)
-    → first_of_six a b c d e f (cond (not (not live)) (Some Live) None) ≡ option_or (first_of_six a b c d e f None) (cond live (Some Live) None)
+    → first_of_six a b c d e f (cond (not (not live)) (Some Live) None)
+    ≡ option_or (first_of_six a b c d e f None) (cond live (Some Live) None)
 first_of_six-rest true b c d e f live = refl
 first_of_six-rest false true c d e f live = refl
 first_of_six-rest false false true d e f live = refl

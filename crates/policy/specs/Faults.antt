@@ -1,11 +1,14 @@
 -- What is wrong with a configuration: what each key word means, and the order in which they are looked for.
-use Rattle.std.specs.Prelude.{◌≡◌, ℕ, Bool, true, false, not, is_none, List, [], ◌∷◌, Option, Some, None, Result, Ok, Err}
+use Rattle.std.specs.Prelude.{◌≡◌, ℕ, Bool, true, false, not, is_none, List, [], ◌∷◌, Option, Some, None, Result, Ok}
+use Rattle.std.specs.Prelude.{Err}
 use Rattle.std.specs.List.{find}
 use Rattle.toml.specs.Data.{Members}
 use Rattle.policy.specs.Settings.{Settings}
-use Rattle.policy.specs.Toml.{document_of, has_only_keys, store_dir_in, allowed_users_in, trusted_users_in, keep_outputs_in, keep_derivations_in, groups_in, config_of}
+use Rattle.policy.specs.Toml.{document_of, has_only_keys, store_dir_in, allowed_users_in, trusted_users_in}
+use Rattle.policy.specs.Toml.{keep_outputs_in, keep_derivations_in, groups_in, config_of}
 use Rattle.policy.specs.declared.error.KeyWord.{KeyWord}
-use Rattle.policy.specs.declared.error.KeyWord.TheVariants.{Syntax, UnknownKey, StoreDir, AllowedUsers, TrustedUsers, KeepOutputs, KeepDerivations, Groups}
+use Rattle.policy.specs.declared.error.KeyWord.TheVariants.{Syntax, UnknownKey, StoreDir, AllowedUsers, TrustedUsers}
+use Rattle.policy.specs.declared.error.KeyWord.TheVariants.{KeepOutputs, KeepDerivations, Groups}
 
 -- whether a key word applies to a document, where the text is one
 abbrev pub applies : Option Members → KeyWord → Bool

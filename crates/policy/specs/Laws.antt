@@ -4,13 +4,16 @@ use Rattle.std.specs.Option.{option_or}
 use Rattle.std.specs.FinMap.{empty}
 use Rattle.toml.specs.Data.{no_members}
 use Rattle.policy.specs.Caller.{Caller, caller_of}
-use Rattle.policy.specs.Operation.{Operation, plain, import_object, set_permanent, drop_permanent, replace_runtime, set_user_root, drop_user_root, set_profile, rollback, switch, delete_generation, add_temp, end_session, collect, delete, deletes}
+use Rattle.policy.specs.Operation.{Operation, plain, import_object, set_permanent, drop_permanent, replace_runtime}
+use Rattle.policy.specs.Operation.{set_user_root, drop_user_root, set_profile, rollback, switch, delete_generation}
+use Rattle.policy.specs.Operation.{add_temp, end_session, collect, delete, deletes}
 use Rattle.policy.specs.Rules.{verdict, first_broken, is_stranger}
 use Rattle.policy.specs.Settings.{everyone, user}
 use Rattle.policy.specs.Toml.{settings_of}
 use Rattle.policy.specs.declared.kinds.Class.{Class}
 use Rattle.policy.specs.declared.kinds.Class.TheVariants.{Stranger, Allowed, Trusted}
-use Rattle.policy.specs.declared.kinds.Rule.TheVariants.{Connect, TrustedImport, TrustedPermanentRoot, TrustedRuntimeRoots, OwnRoot, NoIgnoreLiveness, Live}
+use Rattle.policy.specs.declared.kinds.Rule.TheVariants.{Connect, TrustedImport, TrustedPermanentRoot}
+use Rattle.policy.specs.declared.kinds.Rule.TheVariants.{TrustedRuntimeRoots, OwnRoot, NoIgnoreLiveness, Live}
 
 -- The world is asked last, and only of a deletion by name: it changes no verdict but that nothing forbids.
 abbrev pub LiveIsAskedLast : Type 0

@@ -2,7 +2,9 @@
 -- so that a new one isn't let through because it was forgotten.
 use Rattle.std.specs.Prelude.{ℕ, Bool, true, false, not, List, Option, Some, None}
 use Rattle.policy.specs.declared.kinds.Op.{Op}
-use Rattle.policy.specs.declared.kinds.Op.TheVariants.{Plain, Import, SetPermanent, DropPermanent, ReplaceRuntime, SetUserRoot, DropUserRoot, SetProfile, Rollback, Switch, DeleteGeneration, AddTemp, EndSession, Collect, Delete}
+use Rattle.policy.specs.declared.kinds.Op.TheVariants.{Plain, Import, SetPermanent, DropPermanent, ReplaceRuntime}
+use Rattle.policy.specs.declared.kinds.Op.TheVariants.{SetUserRoot, DropUserRoot, SetProfile, Rollback, Switch}
+use Rattle.policy.specs.declared.kinds.Op.TheVariants.{DeleteGeneration, AddTemp, EndSession, Collect, Delete}
 
 pub data Operation : Type 0 where
   -- what every caller who may connect may ask

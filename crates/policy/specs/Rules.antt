@@ -3,11 +3,13 @@ use Rattle.std.specs.Prelude.{ℕ, Bool, true, false, not, ◌&&◌, ◌||◌, L
 use Rattle.std.specs.List.{find}
 use Rattle.std.specs.Str.{bytes_eq}
 use Rattle.policy.specs.Caller.{Caller}
-use Rattle.policy.specs.Operation.{Operation, owner_of, drops_owned, imports_without_address, changes_permanent, replaces_runtime, ignore_liveness, deletes}
+use Rattle.policy.specs.Operation.{Operation, owner_of, drops_owned, imports_without_address, changes_permanent}
+use Rattle.policy.specs.Operation.{replaces_runtime, ignore_liveness, deletes}
 use Rattle.policy.specs.declared.kinds.Class.{Class}
 use Rattle.policy.specs.declared.kinds.Class.TheVariants.{Stranger, Allowed, Trusted}
 use Rattle.policy.specs.declared.kinds.Rule.{Rule}
-use Rattle.policy.specs.declared.kinds.Rule.TheVariants.{Connect, TrustedImport, TrustedPermanentRoot, TrustedRuntimeRoots, OwnRoot, NoIgnoreLiveness, Live}
+use Rattle.policy.specs.declared.kinds.Rule.TheVariants.{Connect, TrustedImport, TrustedPermanentRoot}
+use Rattle.policy.specs.declared.kinds.Rule.TheVariants.{TrustedRuntimeRoots, OwnRoot, NoIgnoreLiveness, Live}
 
 -- whether a class is that of strangers, and that of trusted callers
 abbrev pub is_stranger : Class → Bool

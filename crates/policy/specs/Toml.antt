@@ -1,13 +1,17 @@
 -- What a configuration text says: a TOML document with six keys, each of its kind, each with a default.
-use Rattle.std.specs.Prelude.{◌≡◌, ℕ, Bool, true, false, ◌&&◌, ◌||◌, ◌==◌, not, nat_le, if◌then◌else◌, List, [], ◌∷◌, length, drop, slice_index, codes, Option, Some, None, option_map, option_and_then, Result, Ok, Err}
+use Rattle.std.specs.Prelude.{◌≡◌, ℕ, Bool, true, false, ◌&&◌, ◌||◌, ◌==◌, not, nat_le, if◌then◌else◌, List, [], ◌∷◌}
+use Rattle.std.specs.Prelude.{length, drop, slice_index, codes, Option, Some, None, option_map, option_and_then, Result}
+use Rattle.std.specs.Prelude.{Ok, Err}
 use Rattle.std.specs.Str.{bytes_eq, is_utf8}
 use Rattle.std.specs.FinMap.{empty, insert}
-use Rattle.toml.specs.Data.{Data, as_str, as_bool, as_array, as_table, Items, no_items, item, Members, no_members, member, get_member}
+use Rattle.toml.specs.Data.{Data, as_str, as_bool, as_array, as_table, Items, no_items, item, Members, no_members}
+use Rattle.toml.specs.Data.{member, get_member}
 use Rattle.toml.specs.Parse.{parse_document}
 use Rattle.paths.specs.Names.{is_plain_name, is_store_dir}
 use Rattle.policy.specs.Settings.{Entry, everyone, user, group, Users, Groups, Settings}
 use Rattle.policy.specs.declared.error.KeyWord.{KeyWord}
-use Rattle.policy.specs.declared.error.KeyWord.TheVariants.{Syntax, UnknownKey, StoreDir, AllowedUsers, TrustedUsers, KeepOutputs, KeepDerivations, Groups as InGroups}
+use Rattle.policy.specs.declared.error.KeyWord.TheVariants.{Syntax, UnknownKey, StoreDir, AllowedUsers, TrustedUsers}
+use Rattle.policy.specs.declared.error.KeyWord.TheVariants.{KeepOutputs, KeepDerivations, Groups as InGroups}
 use Rattle.policy.specs.declared.error.ConfigError.{ConfigError}
 use Rattle.policy.specs.declared.error.ConfigError.TheVariants.{Bad, Memory}
 

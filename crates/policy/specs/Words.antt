@@ -1,11 +1,13 @@
 -- The words for key words, classes and rules.
 use Rattle.std.specs.Prelude.{ℕ, List, codes}
 use Rattle.policy.specs.declared.error.KeyWord.{KeyWord}
-use Rattle.policy.specs.declared.error.KeyWord.TheVariants.{Syntax, UnknownKey, StoreDir, AllowedUsers, TrustedUsers, KeepOutputs, KeepDerivations, Groups}
+use Rattle.policy.specs.declared.error.KeyWord.TheVariants.{Syntax, UnknownKey, StoreDir, AllowedUsers, TrustedUsers}
+use Rattle.policy.specs.declared.error.KeyWord.TheVariants.{KeepOutputs, KeepDerivations, Groups}
 use Rattle.policy.specs.declared.kinds.Class.{Class}
 use Rattle.policy.specs.declared.kinds.Class.TheVariants.{Stranger, Allowed, Trusted}
 use Rattle.policy.specs.declared.kinds.Rule.{Rule}
-use Rattle.policy.specs.declared.kinds.Rule.TheVariants.{Connect, TrustedImport, TrustedPermanentRoot, TrustedRuntimeRoots, OwnRoot, NoIgnoreLiveness, Live}
+use Rattle.policy.specs.declared.kinds.Rule.TheVariants.{Connect, TrustedImport, TrustedPermanentRoot}
+use Rattle.policy.specs.declared.kinds.Rule.TheVariants.{TrustedRuntimeRoots, OwnRoot, NoIgnoreLiveness, Live}
 
 -- the word for what is wrong with a configuration
 abbrev pub key_word : KeyWord → List ℕ

@@ -13,7 +13,8 @@ pub joined : (x : List ℕ) (xs : List (List ℕ)) → join_with_byte 32 (x ∷ 
 joined x [] = sym (append-nil x)
 joined x (y ∷ ys) = ap (λ v. x ++ (32 ∷ v)) (joined y ys)
 
-pub joined_parts : (x : List ℕ) (xs : List (List ℕ)) → 1 ≤ length xs → x ≡ get_or xs 0 x → join_with_byte 32 xs ≡ x ++ flat_map (λ p. 32 ∷ p) (take (length xs - 1) (drop 1 xs))
+pub joined_parts : (x : List ℕ) (xs : List (List ℕ)) → 1 ≤ length xs → x ≡ get_or xs 0 x
+    → join_with_byte 32 xs ≡ x ++ flat_map (λ p. 32 ∷ p) (take (length xs - 1) (drop 1 xs))
 joined_parts x [] h e = absurd (omega arith)
 joined_parts x (y ∷ ys) h e =
     let long : length ys ≤ length (y ∷ ys) - 1 = omega arith in

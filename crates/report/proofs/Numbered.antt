@@ -1,5 +1,6 @@
 -- Refusals by their numbers.
-use Rattle.std.proofs.Common.{◌≡◌, ◌≢◌, ℕ, ◌+◌, List, [], ◌++◌, Result, Ok, Err, ◌==◌, get_or, codes, refl, sym, ap, ◌∙◌, ◌<◌}
+use Rattle.std.proofs.Common.{◌≡◌, ◌≢◌, ℕ, ◌+◌, List, [], ◌++◌, Result, Ok, Err, ◌==◌, get_or, codes, refl, sym, ap}
+use Rattle.std.proofs.Common.{◌∙◌, ◌<◌}
 use Rattle.std.specs.Prelude.{OnOk, is_ok, if◌then◌else◌}
 use Rattle.std.specs.List.{find}
 use Rattle.std.specs.Option.{option_map_or}
@@ -9,14 +10,25 @@ use Rattle.std.proofs.lemmas.List.FromFn.{get_or-range_with_len}
 use Rattle.policy.specs.declared.error.KeyWord.{KeyWord}
 use Rattle.policy.specs.declared.error.KeyWord.TheVariants.{Syntax}
 use Rattle.model.specs.declared.refusal.Refusal.{Refusal}
-use Rattle.model.specs.declared.refusal.Refusal.TheVariants.{Truncated, BadTag, BadPadding, BadName, NotSorted, TooDeep, Trailing, TooLarge, BadDigit, BadLength, Overflow, BadStoreName, BadStoreDir, BadStorePath, BadCa, CaMismatch, BadDerivation, DoubleOutput, BadConfig, BadCaller, BadSchema, OtherStoreDir, NotValid, MissingReference, NarHashMismatch, SelfReference, NoRoot, NoProfile, NoGeneration, CurrentGeneration, NoOlderGeneration, GenerationLimit, TooManyReferences, BadRootName, BadLabel, BadHead, BadBodyLength, BodyTooLarge, NoRoute, BadMethod, BadBodyHead, BadSession}
-use Rattle.report.specs.Refusals.{number, known_text, refusal_line}
+use Rattle.model.specs.declared.refusal.Refusal.TheVariants.{Truncated, BadTag, BadPadding, BadName, NotSorted, TooDeep}
+use Rattle.model.specs.declared.refusal.Refusal.TheVariants.{Trailing, TooLarge, BadDigit, BadLength, Overflow}
+use Rattle.model.specs.declared.refusal.Refusal.TheVariants.{BadStoreName, BadStoreDir, BadStorePath, BadCa, CaMismatch}
+use Rattle.model.specs.declared.refusal.Refusal.TheVariants.{BadDerivation, DoubleOutput, BadConfig, BadCaller}
+use Rattle.model.specs.declared.refusal.Refusal.TheVariants.{BadSchema, OtherStoreDir, NotValid, MissingReference}
+use Rattle.model.specs.declared.refusal.Refusal.TheVariants.{NarHashMismatch, SelfReference, NoRoot, NoProfile}
+use Rattle.model.specs.declared.refusal.Refusal.TheVariants.{NoGeneration, CurrentGeneration, NoOlderGeneration}
+use Rattle.model.specs.declared.refusal.Refusal.TheVariants.{GenerationLimit, TooManyReferences, BadRootName, BadLabel}
+use Rattle.model.specs.declared.refusal.Refusal.TheVariants.{BadHead, BadBodyLength, BodyTooLarge, NoRoute, BadMethod}
+use Rattle.model.specs.declared.refusal.Refusal.TheVariants.{BadBodyHead, BadSession}
+use Rattle.model.specs.Refusals.{number, known_text, refusal_line}
 use Rattle.report.specs.Laws.{refusals}
 use Rattle.report.proofs.Table.{numbered}
 
 -- the refusal at a place of the table has the number after that place
 pub number_at : (i : ℕ) → i < 42 → (d : Refusal) → number (get_or refusals i d) ≡ 1 + i
-number_at i below d = sym (get_or-map number refusals i d 0 below) ∙ ap (λ ns. get_or ns i 0) numbered ∙ get_or-range_with_len 1 42 i 0 below
+number_at i below d =
+    sym (get_or-map number refusals i d 0 below) ∙ ap (λ ns. get_or ns i 0) numbered
+    ∙ get_or-range_with_len 1 42 i 0 below
 
 -- what is known of a line hangs on the number alone
 text_by : ℕ → List ℕ
@@ -121,6 +133,7 @@ whole BadBodyHead other = refl
 whole BadSession other = refl
 
 -- bytes that were appended, by a call that may be refused memory
-pub appended : {T E : Type 0} (result : Result T E) (old new bytes : List ℕ) → new ≡ (if is_ok result then old ++ bytes else old) → OnOk result (new ≡ old ++ bytes)
+pub appended : {T E : Type 0} (result : Result T E) (old new bytes : List ℕ)
+    → new ≡ (if is_ok result then old ++ bytes else old) → OnOk result (new ≡ old ++ bytes)
 appended (Ok x) old new bytes e = e
 appended (Err fault) old new bytes e = tt

@@ -52,7 +52,21 @@ refusals = record {
 
 pub answers : HasWorkedAnswers
 unfolding digits
-answers = record { path = refl; none = refl; two = refl; roots = refl; archive = refl; listing = refl; changed = refl; generation = refl; runtime = refl; temporary = refl; nothing = refl; freed = refl }
+answers =
+    record {
+      path = refl;
+      none = refl;
+      two = refl;
+      roots = refl;
+      archive = refl;
+      listing = refl;
+      changed = refl;
+      generation = refl;
+      runtime = refl;
+      temporary = refl;
+      nothing = refl;
+      freed = refl;
+    }
 
 pub usages : HasWorkedUsage
 unfolding digits
@@ -72,4 +86,6 @@ unfolding digits
 new_store s c = ap text no_paths
   where
     text : List Path → List ℕ
-    text ps = answer_text s.store_dir (usage (usage_of no_world (filter (lives s no_world) ps)) (usage_of no_world (filter (λ p. not (lives s no_world p)) ps)) (usage_of no_world ps))
+    text ps =
+        answer_text s.store_dir (usage (usage_of no_world (filter (lives s no_world) ps))
+        (usage_of no_world (filter (λ p. not (lives s no_world p)) ps)) (usage_of no_world ps))

@@ -1,8 +1,6 @@
-pub mod Failures
 pub mod Laws
 pub mod Narinfo
 pub mod Outputs
-pub mod Refusals
 pub mod Replies
 pub mod Stops
 pub mod Usage

@@ -2,9 +2,9 @@
 use Rattle.std.specs.Prelude.{◌≡◌, ◌⊎◌, ℕ, List, Option}
 use Rattle.std.specs.Io.KnownBytes.{Appends, Keeps}
 use Rattle.streams.specs.Sends.{AppendsPrefix}
-use Rattle.report.specs.declared.failures.Failure.{Failure}
-use Rattle.report.specs.declared.failures.Failure.TheVariants.{Memory, Output}
-use Rattle.report.specs.Failures.{failure_line}
+use Rattle.model.specs.declared.failures.Failure.{Failure}
+use Rattle.model.specs.declared.failures.Failure.TheVariants.{Memory, Output}
+use Rattle.model.specs.Failures.{failure_line}
 
 -- a stream before a call and after it: the bytes that a reader has left, or those that a writer was given, if the
 -- stream states them

@@ -3,8 +3,9 @@ use Rattle.std.specs.Prelude.{ℕ, List, ◌++◌, length, codes, decimal}
 use Rattle.std.specs.List.{flat_map}
 use Rattle.paths.specs.StorePath.{full_path}
 use Rattle.model.specs.World.{Path, Pair}
-use Rattle.model.specs.Reply.{Answer, path, record_of, archive_of, listing_of, paths, roots, changed, generation, runtime_count, temporary_count, freed, usage, Reply, done, denied, refused, failed}
-use Rattle.report.specs.Refusals.{refusal_line}
+use Rattle.model.specs.Reply.{Answer, path, record_of, archive_of, listing_of, paths, roots, changed, generation}
+use Rattle.model.specs.Reply.{runtime_count, temporary_count, freed, usage, Reply, done, denied, refused, failed}
+use Rattle.model.specs.Refusals.{refusal_line}
 use Rattle.report.specs.Stops.{root_text, denial_text, failure_text}
 use Rattle.report.specs.Narinfo.{narinfo}
 use Rattle.report.specs.Usage.{usage_text}

@@ -1,11 +1,11 @@
--- The lines of denials and failures, which say that a request wasn't done. `Refusals.antt` has those of refusals.
+-- The lines of denials and failures, which say that a request wasn't done. Those of refusals are in `model`.
 use Rattle.std.specs.Prelude.{ℕ, List, [], ◌++◌, codes, Option, Some, None}
 use Rattle.paths.specs.StorePath.{full_path}
 use Rattle.policy.specs.declared.kinds.Rule.{Rule}
 use Rattle.policy.specs.Words.{rule_word}
 use Rattle.model.specs.World.{Pair}
-use Rattle.model.specs.Reply.{Failure}
-use Rattle.report.specs.Failures.{failure_line, of_store}
+use Rattle.model.specs.Reply.{Failed}
+use Rattle.model.specs.Failures.{failure_line, of_store}
 
 -- ---- denials
 
@@ -29,5 +29,5 @@ plain_denial rule = denial_text [] rule None
 -- ---- failures
 
 -- the line of a failure
-abbrev pub failure_text : Failure → List ℕ
+abbrev pub failure_text : Failed → List ℕ
 failure_text f = failure_line (of_store f)

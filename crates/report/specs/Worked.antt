@@ -5,10 +5,15 @@ use Rattle.drv.specs.declared.error.DrvError.TheVariants as derivations
 use Rattle.paths.specs.declared.content_address.Method.TheVariants.{Source, Text}
 use Rattle.policy.specs.declared.error.KeyWord.TheVariants.{StoreDir}
 use Rattle.policy.specs.declared.kinds.Rule.TheVariants.{Connect, Live}
-use Rattle.model.specs.Reply.{path, record_of, archive_of, listing_of, paths, roots, changed, generation, runtime_count, temporary_count, freed, usage, done, denied, refused, failed, memory, size, disk}
-use Rattle.model.specs.declared.refusal.Refusal.TheVariants.{CaMismatch, NotValid, MissingReference, NarHashMismatch, SelfReference, NoRoot, NoProfile, NoGeneration, CurrentGeneration, NoOlderGeneration, GenerationLimit, TooManyReferences, BadRootName, BadLabel, BadSession, BadConfig, BadHead, BadBodyLength}
+use Rattle.model.specs.Reply.{path, record_of, archive_of, listing_of, paths, roots, changed, generation, runtime_count}
+use Rattle.model.specs.Reply.{temporary_count, freed, usage, done, denied, refused, failed, memory, size, disk}
+use Rattle.model.specs.declared.refusal.Refusal.TheVariants.{CaMismatch, NotValid, MissingReference, NarHashMismatch}
+use Rattle.model.specs.declared.refusal.Refusal.TheVariants.{SelfReference, NoRoot, NoProfile, NoGeneration}
+use Rattle.model.specs.declared.refusal.Refusal.TheVariants.{CurrentGeneration, NoOlderGeneration, GenerationLimit}
+use Rattle.model.specs.declared.refusal.Refusal.TheVariants.{TooManyReferences, BadRootName, BadLabel, BadSession}
+use Rattle.model.specs.declared.refusal.Refusal.TheVariants.{BadConfig, BadHead, BadBodyLength}
 use Rattle.model.specs.Faults.{archive_refusal, derivation_refusal}
-use Rattle.report.specs.Refusals.{refusal_line}
+use Rattle.model.specs.Refusals.{refusal_line}
 use Rattle.report.specs.Narinfo.{narinfo}
 use Rattle.report.specs.Replies.{reply_text}
 

@@ -1,7 +1,7 @@
 //! Laws of the texts: each is the contract of a function that does nothing.
 ghost use Rattle.std.specs.Prelude.{IsTrue, List, map, ℕ, ◌≡◌};
 ghost use Rattle.std.specs.List.{range_with_len};
-ghost use Rattle.report.specs.Refusals.{number};
+ghost use Rattle.model.specs.Refusals.{number};
 ghost use Rattle.report.specs.Laws.{
   ANewStoreUsesNothing,
   ListingsDiffer,

@@ -10,22 +10,20 @@ mod lists;
 mod numbers;
 mod outputs;
 mod records;
-mod refusals;
 mod replies;
 mod usage;
 
 pub use answers::answer_text;
 pub use denials::{denial_line, push_denial};
-pub use failures::Failure;
+pub use failures::{failure_line, failure_of};
 pub use laws::{
     a_new_store_uses_nothing, listings_lose_nothing, numbers_are_one_to_forty_two, refusals_differ,
     stops_are_lines, worked_lines, worked_narinfo, worked_usage,
 };
 pub use lists::{path_line, paths_text, roots_text};
-pub use model::Refusal;
+pub use model::{Failure, Refusal, refusal_line};
 pub use numbers::refusal_text;
 pub use outputs::{print, print_failure};
 pub use records::narinfo;
-pub use refusals::{failure_line, refusal_line};
 pub use replies::{reply_pieces, reply_text};
 pub use usage::usage_text;

@@ -1,10 +1,9 @@
 //! Refusals by their numbers.
 ghost use Rattle.std.specs.Prelude.{◌≡◌, ◌≤◌, ◌++◌, OnErr, OnOk};
 ghost use Rattle.model.specs.declared.refusal.Refusal.{Refusal as TheRefusal};
-ghost use Rattle.report.specs.Refusals.{number as number_of, known_text};
+ghost use Rattle.model.specs.Refusals.{number as number_of, known_text};
 
-use crate::refusals::refusal_line;
-use model::Refusal;
+use model::{Refusal, refusal_line};
 use policy::KeyWord;
 use std::alloc::AllocError;
 

@@ -1,7 +1,7 @@
 //! Printing of texts on writers.
 ghost use Rattle.report.specs.Outputs.{Prints, PrintsFailure, change_of};
 
-use crate::failures::Failure;
+use model::{FAILED, Failure};
 use std::io::Write;
 use streams::send_bytes;
 
@@ -17,7 +17,7 @@ pub fn print<W: Write>(text: &str, status: u8, writer: &mut W) -> u8
 {
     match send_bytes(writer, text.as_bytes()) {
         Ok(()) => status,
-        Err(_) => 1,
+        Err(_) => FAILED,
     }
 }
 
@@ -33,5 +33,5 @@ pub fn print<W: Write>(text: &str, status: u8, writer: &mut W) -> u8
 pub fn print_failure<W: Write>(failure: Failure, writer: &mut W) -> u8
     ensures { PrintsFailure failure (record { writer = change_of W.contents writer.old writer.new; status = result }) }
 {
-    print(failure.line(), 1, writer)
+    print(failure.line(), FAILED, writer)
 }

@@ -5,7 +5,8 @@ ghost use Rattle.store_types.specs.View.{reply_view};
 
 use crate::answers::{answer_bytes, answer_text};
 use crate::denials::denied_line;
-use crate::refusals::{failure_line, refusal_line};
+use crate::failures::failure_line;
+use model::refusal_line;
 use paths::StoreDir;
 use std::alloc::{AllocError, Global};
 use store_types::Reply;

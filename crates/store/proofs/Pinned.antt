@@ -18,11 +18,19 @@ pub record LeadsAndPins (s : Settings) (w : World) (q : Request) (reply : Reply)
   pub pins : (r : Root) → Contains (roots_of w) r → KeepsReached s r w new
 
 module _ (is_clean : Type 0) (s : Settings) where
-  step_over : (w : World) (c : Caller) (q : Request) (reply : Reply) (new : World) → StepOver is_clean s w c q reply new → LeadsAndPins s w q reply new
-  step_over w c q (done a) new h = record { leads = leads_on s w c q (done (answer s w c q)) new h.0; pins = pins s w c q (done (answer s w c q)) new h.0 }
-  step_over w c q (denied rule root) new h = record { leads = leads_on s w c q (denied rule root) new h; pins = pins s w c q (denied rule root) new h }
-  step_over w c q (refused x) new h = record { leads = leads_on s w c q (refused x) new h; pins = pins s w c q (refused x) new h }
-  step_over w c q (failed f) new h = record { leads = leads_on s w c q (failed f) new h; pins = pins s w c q (failed f) new h }
+  step_over : (w : World) (c : Caller) (q : Request) (reply : Reply) (new : World) → StepOver is_clean s w c q reply new
+      → LeadsAndPins s w q reply new
+  step_over w c q (done a) new h =
+      record {
+        leads = leads_on s w c q (done (answer s w c q)) new h.0;
+        pins = pins s w c q (done (answer s w c q)) new h.0;
+      }
+  step_over w c q (denied rule root) new h =
+      record { leads = leads_on s w c q (denied rule root) new h; pins = pins s w c q (denied rule root) new h }
+  step_over w c q (refused x) new h =
+      record { leads = leads_on s w c q (refused x) new h; pins = pins s w c q (refused x) new h }
+  step_over w c q (failed f) new h =
+      record { leads = leads_on s w c q (failed f) new h; pins = pins s w c q (failed f) new h }
 
   pub run_pins : (w new : World) (r : Root) (calls : List (Caller × Request)) (replies : List Reply)
       → RunOver is_clean s w calls replies new → RemainsThroughout s w r calls replies → KeepsReached s r w new
@@ -30,6 +38,7 @@ module _ (is_clean : Type 0) (s : Settings) where
   run_pins w new r (call ∷ calls) (reply ∷ replies) run stays =
       let first = step_over w call.0 call.1 reply run.0 run.1 in
       kept_on s r w run.0 new (first.pins r stays.0)
-      (run_pins run.0 new r calls replies run.2 (subst (λ (v : World). RemainsThroughout s v r calls replies) (sym first.leads) stays.1))
+      (run_pins run.0 new r calls replies run.2
+      (subst (λ (v : World). RemainsThroughout s v r calls replies) (sym first.leads) stays.1))
   run_pins w new r [] (reply ∷ replies) run stays = absurd run
   run_pins w new r (call ∷ calls) [] run stays = absurd run

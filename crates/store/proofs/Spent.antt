@@ -1,5 +1,6 @@
 -- Requests whose archive was lost to memory.
-use Rattle.std.proofs.Common.{◌≡◌, ◌++◌, [], ◌∷◌, ℕ, List, append_assoc, append-nil, subst, true, false, Option, Some, None, refl, sym, ap, ◌∙◌, IsTrue}
+use Rattle.std.proofs.Common.{◌≡◌, ◌++◌, [], ◌∷◌, ℕ, List, append_assoc, append-nil, subst, true, false, Option, Some}
+use Rattle.std.proofs.Common.{None, refl, sym, ap, ◌∙◌, IsTrue}
 use Rattle.std.specs.Prelude.{is_none, option_map}
 use Rattle.std.specs.Option.{option_map_or}
 use Rattle.std.proofs.lemmas.Bool.{false≢true}
@@ -34,12 +35,14 @@ abbrev denial_by : Rule → Reply
 denial_by rule = denied rule None
 
 -- it is denied by the first rule that forbids it
-pub spent_denied : (rule : Option Rule) (reply : Reply) → Some reply ≡ option_map denial_by rule → reply ≡ option_map_or denial_by rule (failed memory)
+pub spent_denied : (rule : Option Rule) (reply : Reply) → Some reply ≡ option_map denial_by rule
+    → reply ≡ option_map_or denial_by rule (failed memory)
 spent_denied (Some rule) reply is = same_Some reply (denied rule None) is
 spent_denied None reply is = let no : ⊥ = cc in absurd no
 
 -- and where none does, it fails
-pub spent_fails : (rule : Option Rule) → None ≡ option_map denial_by rule → failed memory ≡ option_map_or denial_by rule (failed memory)
+pub spent_fails : (rule : Option Rule) → None ≡ option_map denial_by rule
+    → failed memory ≡ option_map_or denial_by rule (failed memory)
 spent_fails None is = refl
 spent_fails (Some rule) is = let no : ⊥ = cc in absurd no
 
@@ -59,25 +62,34 @@ module _ (s : Settings) (all : List (Caller × Request)) where
   abbrev IsAnswered : Caller × Request → Reply → Type 0
   IsAnswered call reply = IsTrue (is_spent call.1) → reply ≡ spent_reply s call.0 (request_view call.1)
 
-  behind : (made : List (Caller × Request)) (reported : List Reply) (call : Caller × Request) (reply : Reply) → SpentAreAnswered s made reported → IsAnswered call reply
+  behind : (made : List (Caller × Request)) (reported : List Reply) (call : Caller × Request) (reply : Reply)
+      → SpentAreAnswered s made reported → IsAnswered call reply
       → SpentAreAnswered s (made ++ call ∷ []) (reported ++ reply ∷ [])
   behind [] [] call reply h last = (last, tt)
   behind (c ∷ made) (r ∷ reported) call reply h last = (h.0, behind made reported call reply h.1 last)
   behind [] (r ∷ reported) call reply h last = absurd h
   behind (c ∷ made) [] call reply h last = absurd h
 
-  pub none_so_far : (left : List (Caller × Request)) (reported : List Reply) → left ≡ all → reported ≡ [] → SpentSoFar s all left reported
-  none_so_far left reported same none = record { made = []; whole = same; answered = subst (SpentAreAnswered s []) (sym none) tt }
+  pub none_so_far : (left : List (Caller × Request)) (reported : List Reply) → left ≡ all → reported ≡ []
+      → SpentSoFar s all left reported
+  none_so_far left reported same none =
+      record { made = []; whole = same; answered = subst (SpentAreAnswered s []) (sym none) tt }
 
-  pub one_so_far : (left after : List (Caller × Request)) (call : Caller × Request) (reported : List Reply) (reply : Reply)
-      → left ≡ call ∷ after → SpentSoFar s all left reported → IsAnswered call reply → SpentSoFar s all after (reported ++ reply ∷ [])
+  pub one_so_far : (left after : List (Caller × Request)) (call : Caller × Request) (reported : List Reply)
+      (reply : Reply)
+      → left ≡ call ∷ after → SpentSoFar s all left reported → IsAnswered call reply
+      → SpentSoFar s all after (reported ++ reply ∷ [])
   one_so_far left after call reported reply first before last = record {
     made = before.made ++ call ∷ [];
-    whole = append_assoc before.made (call ∷ []) after ∙ ap (λ (l : List (Caller × Request)). before.made ++ l) (sym first) ∙ before.whole;
+    whole =
+        append_assoc before.made (call ∷ []) after ∙ ap (λ (l : List (Caller × Request)). before.made ++ l) (sym first)
+        ∙ before.whole;
     answered = behind before.made reported call reply before.answered last;
   }
 
-  pub all_so_far : (left : List (Caller × Request)) (reported : List Reply) → left ≡ [] → SpentSoFar s all left reported → SpentAreAnswered s all reported
+  pub all_so_far : (left : List (Caller × Request)) (reported : List Reply) → left ≡ [] → SpentSoFar s all left reported
+      → SpentAreAnswered s all reported
   all_so_far left reported none before =
       subst (λ (calls : List (Caller × Request)). SpentAreAnswered s calls reported)
-      (sym (append-nil before.made) ∙ ap (λ (l : List (Caller × Request)). before.made ++ l) (sym none) ∙ before.whole) before.answered
+      (sym (append-nil before.made) ∙ ap (λ (l : List (Caller × Request)). before.made ++ l) (sym none) ∙ before.whole)
+      before.answered

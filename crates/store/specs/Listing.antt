@@ -1,5 +1,5 @@
--- What is read of the archive of an object, and why an archive that was read can't be listed.
-use Rattle.std.specs.Prelude.{Result, IfOk, IsTrue}
+-- What is read of the archive of an object, what its listing is, and why an archive that was read can't be listed.
+use Rattle.std.specs.Prelude.{◌≡◌, ℕ, List, Result, IfOk, IsOkAnd, IsTrue, codes}
 use Rattle.sqlite_trees.specs.declared.store.Store.{Ghosts}
 use Rattle.sqlite.specs.State.{HasCleanDisk}
 use Rattle.sqlite.specs.Held.{state}
@@ -7,10 +7,15 @@ use Rattle.model.specs.World.{Path, World, has}
 use Rattle.tables_writes.specs.Frames.{FailsToAsk}
 use Rattle.tables_writes.specs.TablesValue.{TablesValue, HasWorld}
 use Rattle.store_promises.specs.Meets.{OnlyReads}
+use Rattle.nar.specs.Listing.{listing}
 use Rattle.nar.specs.Tree.{Tree}
 use Rattle.nar.specs.declared.error.NarError.{NarError}
 use Rattle.tables_sql.specs.declared.failure.Failed.{Failed}
 use Rattle.tables_sql.specs.declared.failure.Failed.TheVariants.{Memory, Size, Disk}
+
+-- the bytes are an archive, and this is the listing of its tree
+abbrev pub Lists : Result Tree NarError → List ℕ → Type 0
+Lists outcome text = IsOkAnd outcome (λ tree. text ≡ listing (codes ".") tree)
 
 -- memory ran out, or the disk gave back what is no archive
 abbrev pub FailsToList : Failed → Result Tree NarError → Type 0

@@ -12,7 +12,7 @@ ghost use Rattle.policy.specs.Caller.{Caller};
 ghost use Rattle.store_promises.specs.Meets.{IsMet};
 ghost use Rattle.model.specs.Request as asked;
 ghost use Rattle.std.specs.FinMap as finite;
-ghost use Rattle.store.specs.Listing.{FailsToList, ReadsArchive};
+ghost use Rattle.store.specs.Listing.{FailsToList, Lists, ReadsArchive};
 
 use nar::NarError;
 use paths::StorePath;
@@ -36,7 +36,7 @@ pub(crate) fn may_read(outline: &Outline, path: &StorePath) -> Result<(), Refusa
 
 /// The listing of an archive. `Disk` if the bytes aren't an archive, which only a faulty disk returns.
 pub(crate) fn list(alloc: Global, nar: &Pieces) -> Result<String, Failed>
-    ensures listing { IfOk result (λ text. string_bytes text ≡ listing_at (outcome_of nar.now)) }
+    ensures listing { IfOk result (λ text. Lists (outcome_of nar.now) (string_bytes text)) }
     ensures failed { IfErr result (λ failure. FailsToList failure (outcome_of nar.now)) }
 {
     let mut text = String::new(alloc);

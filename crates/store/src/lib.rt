@@ -1,16 +1,15 @@
 //! The store: each call is one step of the model.
 #![tactic(auto)]
 
-mod acting;
-mod calling;
 mod disk;
+mod dispatch;
 pub mod laws;
-mod living;
-mod reading;
+mod liveness;
 mod records;
-mod root_listing;
-mod running;
+mod root_lists;
+mod run;
+mod store;
 
-pub use calling::Store;
 pub use intake::Intake;
+pub use store::Store;
 pub use store_types::{Answer, Failed, Info, Refusal, Reply, Request, Usage};

@@ -1,46 +1,30 @@
 //! Records of objects.
-
-ghost use Rattle.std.specs.Prelude.{◌≡◌, IfOk, option_map};
+ghost use Rattle.std.specs.Prelude.{◌≡◌, IfOk};
 ghost use Rattle.std.specs.FinMap as finite;
 ghost use Rattle.store_promises.specs.Summaries.{info_in};
 ghost use Rattle.store_types.specs.View.{info_view};
+ghost use Rattle.policy.specs.Settings.{Settings};
+ghost use Rattle.policy.specs.Caller.{Caller};
+ghost use Rattle.model.specs.Request as asked;
+ghost use Rattle.store_types.specs.Meets.{Reads};
 
 use paths::StorePath;
 use std::alloc::{AllocError, Global};
-use store_types::Info;
+use store_types::{Answer, Info, Refusal, Stop};
 use tables_outline::{Outline, Summary};
-
-/// Owned copies of paths.
-fn owned_paths(alloc: Global, paths: &[StorePath]) -> Result<Vec<StorePath>, AllocError>
-    ensures { IfOk result (λ v. v.items ≡ paths.now) }
-{
-    let mut copies = Vec::new(alloc);
-    for path in paths {
-        copies.push(path.clone()?)?;
-    }
-    Ok(copies)
-}
-
-/// An owned copy of a path, or `None` for `None`.
-fn owned_path(path: Option<&StorePath>) -> Result<Option<StorePath>, AllocError>
-    ensures { IfOk result (λ p. p ≡ option_map (λ q. q.now) path.entry) }
-{
-    match path {
-        Some(path) => Ok(Some(path.clone()?)),
-        None => Ok(None),
-    }
-}
 
 /// The record of an object.
 pub(crate) fn record(alloc: Global, path: StorePath, object: &Summary) -> Result<Info, AllocError>
     ensures { IfOk result (λ info. info_view info ≡ info_in path object.now) }
 {
+    let references = object.references().to_vec(alloc)?;
+    let deriver = object.deriver().cloned()?;
     Ok(Info {
         path,
         hash: *object.hash(),
         size: object.size(),
-        references: owned_paths(alloc, object.references())?,
-        deriver: owned_path(object.deriver())?,
+        references,
+        deriver,
         ca: object.ca(),
     })
 }
@@ -55,4 +39,22 @@ pub(crate) fn all_paths(alloc: Global, outline: &Outline) -> Result<Vec<StorePat
         paths.push(path.clone()?)?;
     }
     Ok(paths)
+}
+
+/// The record of an object.
+pub(crate) fn info(alloc: Global, outline: &Outline, path: StorePath) -> Result<Answer, Stop>
+    ensures { (s : Settings) (c : Caller) → Reads s c outline.now (asked.info path) result }
+{
+    let Some(object) = outline.object(&path) else {
+        return Err(Stop::Refused(Refusal::NotValid));
+    };
+    Ok(Answer::Record(record(alloc, path, object)?))
+}
+
+/// All paths.
+pub(crate) fn list(alloc: Global, outline: &Outline) -> Result<Answer, Stop>
+    ensures { (s : Settings) (c : Caller) → Reads s c outline.now asked.list result }
+{
+    let paths = all_paths(alloc, outline)?;
+    Ok(Answer::Paths(paths))
 }

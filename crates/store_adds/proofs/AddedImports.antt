@@ -20,15 +20,20 @@ abbrev pub IsImport : List ℕ → World → Imported → Added → Type 0
 IsImport dir w i a = (first_failing (import_tests dir w i) ≡ None) × (a ≡ added_import dir i)
 
 module _ (i : Imported) (o k : OutlineValue) (d e : List ℕ) (same : o ≡ k) (dir : d ≡ e) where
-  pub import_given : (a : Added) → ((w : World) → outline_of w ≡ o → IsImport d w i a) → (w : World) → outline_of w ≡ k → IsImport e w i a
+  pub import_given : (a : Added) → ((w : World) → outline_of w ≡ o → IsImport d w i a) → (w : World) → outline_of w ≡ k
+      → IsImport e w i a
   import_given a h w is = subst (λ (x : List ℕ). IsImport x w i a) dir (h w (is ∙ sym same))
 
-  pub import_stopped : (stop : Stop) → ((w : World) → outline_of w ≡ o → Stops stop (first_failing (import_tests d w i)))
+  pub import_stopped : (stop : Stop)
+      → ((w : World) → outline_of w ≡ o → Stops stop (first_failing (import_tests d w i)))
       → (w : World) → outline_of w ≡ k → Stops stop (first_failing (import_tests e w i))
-  import_stopped stop h w is = subst (λ (x : List ℕ). Stops stop (first_failing (import_tests x w i))) dir (h w (is ∙ sym same))
+  import_stopped stop h w is =
+      subst (λ (x : List ℕ). Stops stop (first_failing (import_tests x w i))) dir (h w (is ∙ sym same))
 
-pub import_stays_sound : {S : Type 0} (g : Ghosts S) (k : TablesValue S) (s : Settings) (i : Imported) (a : Added) → k.dir ≡ s.store_dir
-    → IsWellFormedImport i → ((w : World) → outline_of w ≡ k.outline → IsImport s.store_dir w i a) → (w : World) → HasWorld g k w → IsSound k.dir (with_object w a)
+pub import_stays_sound : {S : Type 0} (g : Ghosts S) (k : TablesValue S) (s : Settings) (i : Imported) (a : Added)
+    → k.dir ≡ s.store_dir
+    → IsWellFormedImport i → ((w : World) → outline_of w ≡ k.outline → IsImport s.store_dir w i a) → (w : World)
+    → HasWorld g k w → IsSound k.dir (with_object w a)
 import_stays_sound g k s i a dir formed gives w t =
     subst (λ (d : List ℕ). IsSound d (with_object w a)) (sym dir)
     (subst (λ (x : Added). IsSound s.store_dir (with_object w x)) (sym (gives w t.outline).1)

@@ -13,7 +13,7 @@ use Rattle.model.specs.declared.refusal.Refusal.{Refusal}
 use Rattle.model.specs.declared.refusal.Refusal.TheVariants.{BadDerivation}
 use Rattle.model.specs.Faults.{archive_refusal}
 use Rattle.model.specs.Tests.{archive_fault, outputs_fault, tree_fault}
-use Rattle.intake.specs.Arriving.{fault_of}
+use Rattle.intake.specs.Arrival.{fault_of}
 use Rattle.intake.specs.Contents.{contents_of}
 use Rattle.store_types.specs.declared.replies.Stop.{Stop}
 use Rattle.store_types.specs.Stops.{derivation_stop}
@@ -25,7 +25,8 @@ no_fault (Ok t) f is none = refl
 no_fault (Err e) f is none = let no : ⊥ = cc in absurd no
 
 -- and with one it is refused for it
-pub a_fault : (r : Result Tree NarError) (f : Option NarError) (e : NarError) → f ≡ fault_of r → f ≡ Some e → archive_refusal e ≡ archive_fault r
+pub a_fault : (r : Result Tree NarError) (f : Option NarError) (e : NarError) → f ≡ fault_of r → f ≡ Some e
+    → archive_refusal e ≡ archive_fault r
 a_fault (Ok t) f e is some = let no : ⊥ = cc in absurd no
 a_fault (Err x) f e is some = ap archive_refusal (sym (same_Some x e (sym is ∙ some)))
 
@@ -36,14 +37,18 @@ double_distinct : texts.DoubleOutput ≢ texts.Memory
 double_distinct is = cc
 
 -- and one of a derivation text that of its outputs
-pub outputs_stop : (dir text : List ℕ) (e : DrvError) → (e ≢ texts.Memory → IsFault dir text e) → Stops (derivation_stop e) (outputs_fault (outputs_of dir text))
-outputs_stop dir text texts.BadDerivation h = ap outputs_fault ((one_outcome dir text (Err texts.BadDerivation)).0 (h bad_distinct))
-outputs_stop dir text texts.DoubleOutput h = ap outputs_fault ((one_outcome dir text (Err texts.DoubleOutput)).0 (h double_distinct))
+pub outputs_stop : (dir text : List ℕ) (e : DrvError) → (e ≢ texts.Memory → IsFault dir text e)
+    → Stops (derivation_stop e) (outputs_fault (outputs_of dir text))
+outputs_stop dir text texts.BadDerivation h =
+    ap outputs_fault ((one_outcome dir text (Err texts.BadDerivation)).0 (h bad_distinct))
+outputs_stop dir text texts.DoubleOutput h =
+    ap outputs_fault ((one_outcome dir text (Err texts.DoubleOutput)).0 (h double_distinct))
 outputs_stop dir text texts.Memory h = refl
 
 -- a regular file has its contents as a text
 pub with_text : (dir : List ℕ) (r : Result Tree NarError) (text : List ℕ) → Some text ≡ contents_of r
-    → (outputs_fault (outputs_of dir text) ≡ tree_fault dir r) × (outputs_if_sound (outputs_of dir text) ≡ tree_outputs dir r)
+    → (outputs_fault (outputs_of dir text) ≡ tree_fault dir r)
+    × (outputs_if_sound (outputs_of dir text) ≡ tree_outputs dir r)
 with_text dir (Ok (regular executable contents)) text is =
     let same = same_Some text contents is in (
       ap (λ t. outputs_fault (outputs_of dir t)) same,
@@ -61,5 +66,6 @@ no_text dir (Ok (directory _)) is = refl
 no_text dir (Err e) is = refl
 
 -- what is given, in other words
-pub given_as : {A B : Type 0} (r : Result A Stop) (view : A → B) (f h : Option Refusal) (a b : B) → f ≡ h → a ≡ b → Gives view r f a → Gives view r h b
+pub given_as : {A B : Type 0} (r : Result A Stop) (view : A → B) (f h : Option Refusal) (a b : B) → f ≡ h → a ≡ b
+    → Gives view r f a → Gives view r h b
 given_as r view f h a b e k gives = subst (λ x. Gives view r x b) e (subst (λ y. Gives view r f y) k gives)

@@ -5,5 +5,4 @@ pub mod Addresses
 pub mod ArchiveFaults
 pub mod Complete
 pub mod Ordered
-pub mod Parted
 pub mod TextArchives

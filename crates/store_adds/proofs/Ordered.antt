@@ -22,8 +22,12 @@ from_T false h = absurd h
 
 -- the keys of a set rise
 pub keys_of_set_rise : (m : Set bytes_cmp) → IsTrue (rise (finite.keys m))
-keys_of_set_rise m = from_T _ (subst (λ (l : List Key). T (is_sorted bytes_cmp l)) (sym (keys_again (finite.entries m))) (finite.entries_sorted m))
+keys_of_set_rise m =
+    from_T _ (subst (λ (l : List Key). T (is_sorted bytes_cmp l)) (sym (keys_again (finite.entries m)))
+    (finite.entries_sorted m))
 
 -- and make it
 pub set_again : (m : Set bytes_cmp) → set_of bytes_cmp (finite.keys m) ≡ m
-set_again m = same_set nat_list_cmp_total bytes_antisymmetric (set_of bytes_cmp (finite.keys m)) m (λ k. contains_key-set_of nat_list_cmp_total (finite.keys m) k ∙ sym (finite.contains_key-keys m k))
+set_again m =
+    same_set nat_list_cmp_total bytes_antisymmetric (set_of bytes_cmp (finite.keys m)) m
+    (λ k. contains_key-set_of nat_list_cmp_total (finite.keys m) k ∙ sym (finite.contains_key-keys m k))

@@ -1,3 +1,3 @@
-pub mod Adding
+pub mod Additions
 pub mod Delivered
 pub mod Parts

@@ -6,10 +6,12 @@ ghost use Rattle.nar.specs.Archive.{limit};
 ghost use Rattle.nar.specs.View.{tree_of};
 ghost use Rattle.model.specs.Adds as adds;
 ghost use Rattle.model.specs.Adds.{text_archive_size};
-ghost use Rattle.model.specs.Tests.{unless};
+ghost use Rattle.model.specs.Tests.{unless, archive_fault};
 ghost use Rattle.store_types.specs.Tested.{Tested};
+ghost use Rattle.nar.specs.Outcome.{outcome_of};
+ghost use Rattle.intake.specs.Arrival.{fault_of};
 
-use intake::Intake;
+use intake::{Arrived, Intake};
 use nar::Node;
 use sha2::{Digest, Sha256};
 use std::alloc::{AllocError, Global};
@@ -68,4 +70,19 @@ pub(crate) fn text_archive(alloc: Global, contents: &[u8]) -> Result<TextArchive
         hash,
         contents_hash,
     })
+}
+
+/// Tests that the bytes are an archive.
+pub(crate) fn is_archive(nar: &Arrived) -> Result<(), Refusal>
+    requires { nar.now.fault ≡ fault_of (outcome_of nar.now.pieces) }
+    ensures { Tested result (archive_fault (outcome_of nar.now.pieces)) }
+{
+    let Some(fault) = nar.fault else {
+        return Ok(());
+    };
+    // Out of memory isn't a fault of bytes that have arrived.
+    match Refusal::of_archive(fault) {
+        Some(refusal) => Err(refusal),
+        None => Ok(()),
+    }
 }

@@ -20,8 +20,8 @@ ghost use Rattle.store_promises.specs.Meets.{IsMet};
 ghost use Rattle.model.specs.Objects as objects;
 ghost use Rattle.model.specs.Request as asked;
 
-use crate::adding::add;
-use crate::arrivals::is_archive;
+use crate::adds::add;
+use crate::archives::is_archive;
 use crate::delivered::{Delivered, at_end};
 use crate::derivations::outputs_by;
 use crate::references::{are_few, are_valid};

@@ -1,16 +1,15 @@
 //! Adds: texts, sources and imports.
 #![tactic(auto)]
 
-pub mod adding;
+pub mod adds;
 mod archives;
-mod arrivals;
 mod delivered;
 mod derivations;
-mod examining;
 pub mod imports;
 mod references;
 pub mod sources;
 mod summaries;
+mod text_tests;
 pub mod texts;
 
 pub use summaries::Added;

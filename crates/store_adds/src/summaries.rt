@@ -1,11 +1,8 @@
 //! Objects to add, and their summaries.
 
-ghost use Rattle.std.specs.Prelude.{◌≡◌, IfOk, IsTrue, length, map, string_bytes};
-ghost use Rattle.std.specs.List.{zip};
-ghost use Rattle.std.specs.FinMap as finite;
+ghost use Rattle.std.specs.Prelude.{◌≡◌, IfOk, length};
 ghost use Rattle.sha2.specs.Sha256.{sha256};
 ghost use Rattle.paths.specs.Root.{bytes_cmp, set_of};
-ghost use Rattle.tables_outline.specs.Outline.{rise};
 ghost use Rattle.intake.specs.Recorded.{outputs_view};
 
 use crate::references::in_order;
@@ -13,7 +10,7 @@ use paths::{Ca, StorePath};
 use std::alloc::{AllocError, Global};
 use std::collections::BTreeMap;
 use streams::Pieces;
-use tables_outline::Summary;
+use tables_outline::{Outputs, Summary};
 
 /// An object to add: its path, its archive, and the summary of its other facts.
 #[derive(Drop)]
@@ -26,28 +23,6 @@ pub struct Added {
     pub object: Summary,
     ghost size: { object.size ≡ length nar },
     ghost hash: { object.hash ≡ sha256 nar },
-}
-
-/// The names and the paths of outputs: `paths[i]` belongs to `names[i]`, and the names rise.
-fn parted(
-    alloc: Global,
-    outputs: BTreeMap<String, StorePath>,
-) -> Result<(Vec<String>, Vec<StorePath>), AllocError>
-    ensures names { IfOk result (λ p. IsTrue (rise (map string_bytes p.0.items))) }
-    ensures paths { IfOk result (λ p. length p.1.items ≡ length p.0.items) }
-    ensures value { IfOk result
-        (λ p. finite.from_entries {R = bytes_cmp} (zip (map string_bytes p.0.items) p.1.items)
-        ≡ outputs_view outputs.entries) }
-{
-    // Names rise.
-    let _count = outputs.len();
-    let mut names = Vec::new(alloc);
-    let mut paths = Vec::new(alloc);
-    for (name, path) in outputs {
-        names.push(name)?;
-        paths.push(path)?;
-    }
-    Ok((names, paths))
 }
 
 /// The summary of an object whose archive has this size and this SHA-256.
@@ -71,7 +46,7 @@ pub(crate) fn summary(
               outputs_view outputs.entries;
         }) }
 {
-    let (names, paths) = parted(alloc, outputs)?;
+    let Outputs { names, paths } = Outputs::of_map(alloc, outputs)?;
     let object = Summary::new(alloc, size, hash, in_order(refs), deriver, ca, names, paths)?;
     Ok(object)
 }

@@ -12,9 +12,9 @@ ghost use Rattle.store_types.specs.Tested.{Gives};
 ghost use Rattle.store_adds.specs.Parts.{added_view};
 
 use crate::archives::{has_archive, text_archive};
-use crate::examining::examine_text;
 use crate::references::are_few;
 use crate::summaries::{Added, summary};
+use crate::text_tests::examine_text;
 use paths::{Ca, Method, Name, StoreDir, StorePath, text_path_of};
 use std::alloc::Global;
 use store_types::Stop;

@@ -28,7 +28,14 @@ use Rattle.store_promises.proofs.Caused.{memory_only}
 pub survives_still : (s : State) (P : Trees → Type 0) → Survives s s P
 survives_still s P =
     let none = survives_none s in
-    record { clean = none.clean; shield = none.shield; counts = none.counts; limit = none.limit; closes = none.closes; crash = λ clean db left. inl left }
+    record {
+      clean = none.clean;
+      shield = none.shield;
+      counts = none.counts;
+      limit = none.limit;
+      closes = none.closes;
+      crash = λ clean db left. inl left;
+    }
 
 -- the same of a crash, with less said of what it may leave
 pub survives_as : (s t : State) (P Q : Trees → Type 0) → ((db : Trees) → P db → Q db) → Survives s t P → Survives s t Q
@@ -48,25 +55,37 @@ pub others_still : {S : Type 0} (g : Ghosts S) (k : TablesValue S) → LeavesOth
 others_still g k clean up = (up, nothing_changed (state g k.connection).now (state g k.connection).now refl)
 
 -- what other programs have is as it was where the connection shows what it showed
-pub others_shown : {S : Type 0} (g : Ghosts S) (old new : TablesValue S) → (HasCleanDisk (state g new.connection) → KeepsShown (state g old.connection) (state g new.connection)) → LeavesOthers g old new
-others_shown g old new shown clean up = let it = shown clean in (it.was_open up, nothing_changed (state g old.connection).now (state g new.connection).now (it.now up))
+pub others_shown : {S : Type 0} (g : Ghosts S) (old new : TablesValue S)
+    → (HasCleanDisk (state g new.connection) → KeepsShown (state g old.connection) (state g new.connection))
+    → LeavesOthers g old new
+others_shown g old new shown clean up = let it =
+    shown clean in (
+      it.was_open up,
+      nothing_changed (state g old.connection).now (state g new.connection).now (it.now up),
+    )
 
 -- and over two steps
-pub others_both : {S : Type 0} (g : Ghosts S) (a b c : TablesValue S) (P : Trees → Type 0) → LeavesOthers g a b → Survives (state g b.connection) (state g c.connection) P → LeavesOthers g b c → LeavesOthers g a c
+pub others_both : {S : Type 0} (g : Ghosts S) (a b c : TablesValue S) (P : Trees → Type 0) → LeavesOthers g a b
+    → Survives (state g b.connection) (state g c.connection) P → LeavesOthers g b c → LeavesOthers g a c
 others_both g a b c P first survives next clean up =
     let last = next clean up in
-    let before = first (clean_before (state g b.connection) (state g c.connection) P survives clean) last.0 in
-    (before.0, others_then (state g a.connection).now (state g b.connection).now (state g c.connection).now before.1 last.1)
+    let before = first (clean_before (state g b.connection) (state g c.connection) P survives clean) last.0 in (
+      before.0,
+      others_then (state g a.connection).now (state g b.connection).now (state g c.connection).now before.1
+          last.1,
+    )
 
 -- an answer that is right is so over any disk
-pub over : (is_clean : Type 0) (s : Settings) (w : World) (c : Caller) (q : Request) (r : Result Answer Stop) (next : World) → Meets s w c q r next → MeetsOver is_clean s w c q r next
+pub over : (is_clean : Type 0) (s : Settings) (w : World) (c : Caller) (q : Request) (r : Result Answer Stop)
+    (next : World) → Meets s w c q r next → MeetsOver is_clean s w c q r next
 over is_clean s w c q (Ok a) next m = (m.0, λ _. m.1, m.2)
 over is_clean s w c q (Err (Refused r)) next m = m
 over is_clean s w c q (Err (Failed f)) next m = m.1
 
 module _ {S : Type 0} (g : Ghosts S) where
   -- what is answered from the outline alone
-  pub met_by_reading : (s : Settings) (c : Caller) (q : Request) (r : Result Answer Stop) (k : TablesValue S) (o : OutlineValue) → o ≡ k.outline → Reads s c o q r → IsMet g s c q r k k
+  pub met_by_reading : (s : Settings) (c : Caller) (q : Request) (r : Result Answer Stop) (k : TablesValue S)
+      (o : OutlineValue) → o ≡ k.outline → Reads s c o q r → IsMet g s c q r k k
   met_by_reading s c q r k o same h = record {
     dir = refl;
     world = λ w t. (w, over _ s w c q r w (h w (t.outline ∙ sym same)), t);
@@ -78,6 +97,7 @@ module _ {S : Type 0} (g : Ghosts S) where
   }
 
 -- what stops the tests of a request
-pub reads_stopped : (s : Settings) (c : Caller) (o : OutlineValue) (q : Request) (stop : Stop) → ((w : World) → outline_of w ≡ o → Stops stop (refusal s w q)) → Reads s c o q (Err stop)
+pub reads_stopped : (s : Settings) (c : Caller) (o : OutlineValue) (q : Request) (stop : Stop)
+    → ((w : World) → outline_of w ≡ o → Stops stop (refusal s w q)) → Reads s c o q (Err stop)
 reads_stopped s c o q (Refused r) h w is = (h w is, refl)
 reads_stopped s c o q (Failed f) h w is = (h w is, refl)

@@ -20,19 +20,21 @@ use Rattle.store_types.specs.declared.replies.Stop.{Stop}
 use Rattle.store_types.specs.View.{answer_view}
 use Rattle.store_types.specs.Tested.{Stops}
 use Rattle.store_promises.specs.Causes.{HasCause}
-use Rattle.store_promises.specs.Writing.{answered}
+use Rattle.store_promises.specs.Answers.{answered}
 use Rattle.store_promises.specs.Crashes.{LeavesPassed}
 use Rattle.store_promises.specs.Meets.{IsMet, reply_to}
 use Rattle.store_promises.proofs.Untouched.{met_by_reading, others_shown, reads_stopped, survives_as}
 
 module _ {S : Type 0} (g : Ghosts S) (k : TablesValue S) where
   -- a world that is sound by one name is so by another
-  pub sound_as : (F G : World → World) → ((w : World) → HasWorld g k w → F w ≡ G w) → ((w : World) → HasWorld g k w → IsSound k.dir (G w)) → (w : World) → HasWorld g k w → IsSound k.dir (F w)
+  pub sound_as : (F G : World → World) → ((w : World) → HasWorld g k w → F w ≡ G w)
+      → ((w : World) → HasWorld g k w → IsSound k.dir (G w)) → (w : World) → HasWorld g k w → IsSound k.dir (F w)
   sound_as F G same h w t = subst (λ (v : World). IsSound k.dir v) (sym (same w t)) (h w t)
 
 module _ {S : Type 0} (g : Ghosts S) (s : Settings) (c : Caller) (q : Request) (k : TablesValue S) where
   -- a test fails, or the call
-  pub met_by_stopping : (stop : Stop) (o : OutlineValue) → o ≡ k.outline → ((w : World) → outline_of w ≡ o → Stops stop (refusal s w q)) → IsMet g s c q (Err stop) k k
+  pub met_by_stopping : (stop : Stop) (o : OutlineValue) → o ≡ k.outline
+      → ((w : World) → outline_of w ≡ o → Stops stop (refusal s w q)) → IsMet g s c q (Err stop) k k
   met_by_stopping stop o same h = met_by_reading g s c q (Err stop) k o same (reads_stopped s c o q stop h)
 
   module _ (new : TablesValue S) (F : World → World) (a : Answer)
@@ -40,17 +42,33 @@ module _ {S : Type 0} (g : Ghosts S) (s : Settings) (c : Caller) (q : Request) (
       (answers : (w : World) → outline_of w ≡ k.outline → answer_view a ≡ answer s w c q)
       (becomes : (w : World) → outline_of w ≡ k.outline → F w ≡ effect s w q)
     where
-      left_so : ((w : World) → HasWorld g k w → Survives (state g k.connection) (state g new.connection) (λ db. LeavesWorld k.dir (state g k.connection).now db (F w)))
-          → (w : World) → HasWorld g k w → Survives (state g k.connection) (state g new.connection) (λ db. LeavesPassed k.dir (state g k.connection).now db s w q)
+      left_so : ((w : World) → HasWorld g k w
+          → Survives (state g k.connection) (state g new.connection)
+          (λ db. LeavesWorld k.dir (state g k.connection).now db (F w)))
+          → (w : World) → HasWorld g k w
+          → Survives (state g k.connection) (state g new.connection)
+          (λ db. LeavesPassed k.dir (state g k.connection).now db s w q)
       left_so left w t =
-          survives_as (state g k.connection) (state g new.connection) (λ db. LeavesWorld k.dir (state g k.connection).now db (F w)) (λ db. LeavesPassed k.dir (state g k.connection).now db s w q)
-          (λ db rows. (passes w t.outline, subst (λ (v : World). LeavesWorld k.dir (state g k.connection).now db v) (becomes w t.outline) rows)) (left w t)
+          survives_as (state g k.connection) (state g new.connection)
+          (λ db. LeavesWorld k.dir (state g k.connection).now db (F w))
+          (λ db. LeavesPassed k.dir (state g k.connection).now db s w q)
+          (λ db rows. (
+            passes w t.outline,
+            subst (λ (v : World). LeavesWorld k.dir (state g k.connection).now db v) (becomes w t.outline) rows,
+          ))
+          (left w t)
 
       -- the write makes of each world what the request does
-      pub met_by_writing : (r : Result (Unit {0}) Failed) → CommitsChange g k new r F → HasCause g q (reply_to (answered r a)) k new → IsMet g s c q (answered r a) k new
+      pub met_by_writing : (r : Result (Unit {0}) Failed) → CommitsChange g k new r F
+          → HasCause g q (reply_to (answered r a)) k new → IsMet g s c q (answered r a) k new
       met_by_writing (Ok u) frame cause = record {
         dir = frame.dir;
-        world = λ w t. (effect s w q, (passes w t.outline, λ _. answers w t.outline, refl), subst (λ (v : World). HasWorld g new v) (becomes w t.outline) (frame.done w t));
+        world =
+            λ w t. (
+              effect s w q,
+              (passes w t.outline, λ _. answers w t.outline, refl),
+              subst (λ (v : World). HasWorld g new v) (becomes w t.outline) (frame.done w t),
+            );
         cause = λ w t. cause;
         others = λ clean is_open. ((frame.was_open clean).0, frame.others clean);
         still = λ h. absurd h;

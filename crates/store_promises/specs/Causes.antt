@@ -6,7 +6,7 @@ use Rattle.sqlite.specs.Held.{state}
 use Rattle.tables_sql.specs.Failures.{HasDiskCause}
 use Rattle.model.specs.Disk.{touches_disk, puts_rows}
 use Rattle.model.specs.Request.{Request}
-use Rattle.model.specs.Reply.{Failure, Reply, done, denied, refused, failed, memory, size, disk}
+use Rattle.model.specs.Reply.{Failed, Reply, done, denied, refused, failed, memory, size, disk}
 use Rattle.tables_writes.specs.Reasons.{Rows, HasLargeRow, RunsOutOfRowids}
 use Rattle.tables_writes.specs.TablesValue.{TablesValue}
 use Rattle.store_promises.specs.RowsPut.{rows_put}
@@ -14,7 +14,7 @@ use Rattle.store_promises.specs.RowsPut.{rows_put}
 -- Why a read from the disk failed, or the write of a change that puts these rows. `size`: the request puts rows, the
 -- connection is open, and one of the rows is larger than SQLite takes. `disk`: the disk failed in this call or before,
 -- the connection has a limit on steps, or a table of one of the rows has no rowids for all of them.
-abbrev pub IsDiskReason : Request → Rows → Failure → State → State → Type 0
+abbrev pub IsDiskReason : Request → Rows → Failed → State → State → Type 0
 IsDiskReason q rows memory old new = Unit {0}
 IsDiskReason q rows size old new = IsTrue (puts_rows q) × IsTrue old.is_open × HasLargeRow rows old.now
 IsDiskReason q rows disk old new =

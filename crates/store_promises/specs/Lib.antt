@@ -5,4 +5,4 @@ pub mod Crashes
 pub mod Meets
 pub mod RowsPut
 pub mod Summaries
-pub mod Writing
+pub mod Answers

@@ -5,10 +5,14 @@ use Rattle.std.specs.FinMap as finite
 use Rattle.paths.specs.Root.{set_of}
 use Rattle.model.specs.World.{Path, Pair, pair_cmp}
 use Rattle.model.specs.Adds.{Added, added_text, added_source, added_import}
-use Rattle.model.specs.Request.{Request, add_text, add_source, import_object, info, nar, ls, list, list_live, list_dead, list_roots, list_roots_of, set_permanent, drop_permanent, set_user_root, drop_user_root, set_profile, rollback, switch, delete_generation, replace_runtime, add_temp, end_session, collect, delete, report}
+use Rattle.model.specs.Request.{Request, add_text, add_source, import_object, info, nar, ls, list, list_live, list_dead}
+use Rattle.model.specs.Request.{list_roots, list_roots_of, set_permanent, drop_permanent, set_user_root, drop_user_root}
+use Rattle.model.specs.Request.{set_profile, rollback, switch, delete_generation, replace_runtime, add_temp}
+use Rattle.model.specs.Request.{end_session, collect, delete, report}
 use Rattle.tables_outline.specs.Outline.{OutlineValue, outlined}
 use Rattle.tables_writes.specs.Reasons.{Rows, NoRow, RowsOf}
-use Rattle.tables_writes.specs.RowsPut.{PermanentRow, UserRootRow, RuntimeRow, TemporaryRow, ProfileRow, GenerationRows, AddedRows}
+use Rattle.tables_writes.specs.RowsPut.{PermanentRow, UserRootRow, RuntimeRow, TemporaryRow, ProfileRow, GenerationRows}
+use Rattle.tables_writes.specs.RowsPut.{AddedRows}
 
 -- an object, with its references, its outputs and the pieces of its archive
 abbrev pub ObjectRowsPut : Added → Rows

@@ -29,7 +29,8 @@ none_any : {X : Type 0} (f : X → Bool) (xs : List X) → filter f xs ≡ [] �
 none_any f [] e = refl
 none_any {X} f (x ∷ xs) e = by (f x) e (none_any f xs)
   where
-    by : (b : Bool) → cond b (x ∷ filter f xs) (filter f xs) ≡ [] → (filter f xs ≡ [] → list_any f xs ≡ false) → (b || list_any f xs) ≡ false
+    by : (b : Bool) → cond b (x ∷ filter f xs) (filter f xs) ≡ [] → (filter f xs ≡ [] → list_any f xs ≡ false)
+        → (b || list_any f xs) ≡ false
     by true e later = absurd cc
     by false e later = later e
 
@@ -38,28 +39,39 @@ none_pass f [] h = refl
 none_pass f (x ∷ xs) h = ap (λ b. cond b (x ∷ filter f xs) (filter f xs)) (h x) ∙ none_pass f xs h
 
 -- nothing reaches it
-pub unreached : (keep : Keep) (o : OutlineValue) (rows : List Row) (a p : Path) → rows ≡ rows_in o → filter (same p) (paths_of rows) ≡ [] → reaches keep (graph_of (rows_in o)) a p ≡ false
+pub unreached : (keep : Keep) (o : OutlineValue) (rows : List Row) (a p : Path) → rows ≡ rows_in o
+    → filter (same p) (paths_of rows) ≡ [] → reaches keep (graph_of (rows_in o)) a p ≡ false
 unreached keep o rows a p is none = false_from_ne_true (reaches keep (graph_of (rows_in o)) a p) (λ e.
     let g = graph_of (rows_in o) in
     let valid = end_valid keep g a p ((decided keep g a p).0 e) in
-    false≢true (sym missing ∙ sym (has-reported bytes_total bytes_antisymmetric (λ _ x. links_in x) o.objects p) ∙ valid))
+    false≢true (sym missing ∙ sym (has-reported bytes_total bytes_antisymmetric (λ _ x. links_in x) o.objects p)
+    ∙ valid))
   where
     missing : finite.contains_key o.objects p ≡ false
-    missing = finite.contains_key-keys o.objects p ∙ none_any (same p) (finite.keys o.objects) (ap (filter (same p)) (sym (ap paths_of is ∙ paths_in o)) ∙ none)
+    missing =
+        finite.contains_key-keys o.objects p
+        ∙ none_any (same p) (finite.keys o.objects) (ap (filter (same p)) (sym (ap paths_of is ∙ paths_in o)) ∙ none)
 
 -- no root's target reaches it
-pub none_reach : (keep : Keep) (o : OutlineValue) (rows : List Row) (p : Path) (roots : List Root) → rows ≡ rows_in o → filter (same p) (paths_of rows) ≡ [] → [] ≡ roots_that_reach keep (graph_in o) roots p
-none_reach keep o rows p roots is none = sym (none_pass (λ (r : Root). reaches keep (graph_in o) r.target p) roots (λ r. unreached keep o rows r.target p is none))
+pub none_reach : (keep : Keep) (o : OutlineValue) (rows : List Row) (p : Path) (roots : List Root) → rows ≡ rows_in o
+    → filter (same p) (paths_of rows) ≡ [] → [] ≡ roots_that_reach keep (graph_in o) roots p
+none_reach keep o rows p roots is none =
+    sym (none_pass (λ (r : Root). reaches keep (graph_in o) r.target p) roots
+    (λ r. unreached keep o rows r.target p is none))
 
 -- ---- the roots that reach a path
 
 -- the others reach nothing
-pub valid_reach : (keep : Keep) (o : OutlineValue) (rows : List Row) (valid roots : List Root) (p q : Path) → rows ≡ rows_in o → valid ≡ filter (aims_well o) roots → q ≡ p
+pub valid_reach : (keep : Keep) (o : OutlineValue) (rows : List Row) (valid roots : List Root) (p q : Path)
+    → rows ≡ rows_in o → valid ≡ filter (aims_well o) roots → q ≡ p
     → roots_that_reach keep (graph_of rows) valid q ≡ roots_that_reach keep (graph_in o) roots p
 valid_reach keep o rows valid roots p q r v same =
     (λ i. roots_that_reach keep (graph_of (r i)) (v i) (same i))
-    ∙ filter_kept (λ (x : Root). reaches keep (graph_in o) x.target p) (aims_well o) (λ x h. reaches_from_valid keep o x.target p h) roots
+    ∙ filter_kept (λ (x : Root). reaches keep (graph_in o) x.target p) (aims_well o)
+    (λ x h. reaches_from_valid keep o x.target p h) roots
 
-pub keeping_reported : (s : Settings) (o : OutlineValue) (keep : Keep) (roots : List Root) (p : Path) → keep ≡ keep_of s → roots ≡ roots_of (rooted o)
+pub keeping_reported : (s : Settings) (o : OutlineValue) (keep : Keep) (roots : List Root) (p : Path) → keep ≡ keep_of s
+    → roots ≡ roots_of (rooted o)
     → (w : World) → outline_of w ≡ o → roots_that_reach keep (graph_in o) roots p ≡ roots_that_keep s w p
-keeping_reported s o keep roots p k r w reported = λ i. roots_that_reach (k i) (graph_reported w o reported i) ((r ∙ roots_reported w o reported) i) p
+keeping_reported s o keep roots p k r w reported =
+    λ i. roots_that_reach (k i) (graph_reported w o reported i) ((r ∙ roots_reported w o reported) i) p

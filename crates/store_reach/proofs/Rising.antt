@@ -29,21 +29,25 @@ module _ {K X : Type 0} {R : K → K → Ordering} (o : IsTotalOrder R) where
   sorted_rise (e ∷ es) h =
       let parts = both_T (below_all R e.0 es) (is_sorted R es) h in
       let keys = map (λ (d : K × X). d.0) es in
-      AllPairs-cons (λ a b. R a b ≡ Less) e.0 keys (λ k d l. below o e.0 (get_or keys k d) es parts.0 (Contains-get_or keys k d l)) (sorted_rise es parts.1)
+      AllPairs-cons (λ a b. R a b ≡ Less) e.0 keys
+      (λ k d l. below o e.0 (get_or keys k d) es parts.0 (Contains-get_or keys k d l)) (sorted_rise es parts.1)
 
   pub keys_rise : (m : finite.FinMap R X) → AllPairs (λ a b. R a b ≡ Less) (finite.keys m)
   keys_rise m = sorted_rise (finite.entries m) (finite.entries_sorted m)
 
 -- keys are in order, as std says it of lists
 module _ {K X : Type 0} (R : K → K → Ordering) where
-  all_below : (k : K) (es : List (K × X)) → T (below_all R k es) → AllByRecursion (λ y. R k y ≡ Less) (map (λ (e : K × X). e.0) es)
+  all_below : (k : K) (es : List (K × X)) → T (below_all R k es)
+      → AllByRecursion (λ y. R k y ≡ Less) (map (λ (e : K × X). e.0) es)
   all_below k [] h = tt
-  all_below k (e ∷ es) h = let parts = both_T (is_lt (R k e.0)) (below_all R k es) h in (lesser (R k e.0) parts.0, all_below k es parts.1)
+  all_below k (e ∷ es) h = let parts =
+      both_T (is_lt (R k e.0)) (below_all R k es) h in (lesser (R k e.0) parts.0, all_below k es parts.1)
 
   entries_sorted : (es : List (K × X)) → T (is_sorted R es) → IsStrictlySortedBy R (map (λ (e : K × X). e.0) es)
   unfolding IsStrictlySortedBy
   entries_sorted [] h = tt
-  entries_sorted (e ∷ es) h = let parts = both_T (below_all R e.0 es) (is_sorted R es) h in (all_below e.0 es parts.0, entries_sorted es parts.1)
+  entries_sorted (e ∷ es) h = let parts =
+      both_T (below_all R e.0 es) (is_sorted R es) h in (all_below e.0 es parts.0, entries_sorted es parts.1)
 
   pub keys_sorted : (m : finite.FinMap R X) → IsStrictlySortedBy R (finite.keys m)
   keys_sorted m = entries_sorted (finite.entries m) (finite.entries_sorted m)

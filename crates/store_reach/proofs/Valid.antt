@@ -1,5 +1,6 @@
 -- Roots whose targets are valid: the others reach nothing.
-use Rattle.std.proofs.Common.{◌≡◌, ℕ, suc, ◌+◌, ◌<◌, Bool, true, false, cond, ◌||◌, List, [], ◌∷◌, map, length, get_or, Option, Some, None, is_some, refl, sym, ap, ◌∙◌, subst, arith}
+use Rattle.std.proofs.Common.{◌≡◌, ℕ, suc, ◌+◌, ◌<◌, Bool, true, false, cond, ◌||◌, List, [], ◌∷◌, map, length, get_or}
+use Rattle.std.proofs.Common.{Option, Some, None, is_some, refl, sym, ap, ◌∙◌, subst, arith}
 use Rattle.std.specs.Prelude.{All, Contains, filter}
 use Rattle.std.specs.List.{list_any, find, range_with_len}
 use Rattle.std.specs.Option.{option_map}
@@ -12,7 +13,7 @@ use Rattle.paths.specs.Root.{Root, bytes_cmp, in_order}
 use Rattle.live.specs.Exact.{IsExact}
 use Rattle.live.specs.Graph.{Keep}
 use Rattle.live.specs.Live.{is_live}
-use Rattle.live.specs.Marking.{Marking, first_of}
+use Rattle.live.specs.Marks.{Marking, first_of}
 use Rattle.live.specs.Numbering.{AllValid, RootsRise, graph_of, no_root, path_at, paths_of, root_at}
 use Rattle.live.specs.Reach.{reaches}
 use Rattle.live.proofs.Members.{some_of_any}
@@ -31,9 +32,11 @@ abbrev pub aims_well : OutlineValue → Root → Bool
 aims_well o r = finite.contains_key o.objects r.target
 
 -- a path that a map has is among its keys
-pub among_keys : (o : OutlineValue) (p : Path) → finite.contains_key o.objects p ≡ true → Contains (finite.keys o.objects) p
+pub among_keys : (o : OutlineValue) (p : Path) → finite.contains_key o.objects p ≡ true
+    → Contains (finite.keys o.objects) p
 among_keys o p h =
-    let found = some_of_any (eq_by_cmp bytes_cmp p) (finite.keys o.objects) (sym (finite.contains_key-keys o.objects p) ∙ h) in
+    let found =
+    some_of_any (eq_by_cmp bytes_cmp p) (finite.keys o.objects) (sym (finite.contains_key-keys o.objects p) ∙ h) in
     subst (Contains (finite.keys o.objects)) (sym (tied_is bytes_antisymmetric p found.0 found.2)) found.1
 
 -- each that passes a test passes it
@@ -41,7 +44,8 @@ passing : {X : Type 0} (p : X → Bool) (xs : List X) → All (λ x. p x ≡ tru
 passing p [] = λ k d l. absurd (omega (arith, l))
 passing {X} p (x ∷ xs) = by (p x) refl (passing p xs)
   where
-    by : (b : Bool) → p x ≡ b → All (λ y. p y ≡ true) (filter p xs) → All (λ y. p y ≡ true) (cond b (x ∷ filter p xs) (filter p xs))
+    by : (b : Bool) → p x ≡ b → All (λ y. p y ≡ true) (filter p xs)
+        → All (λ y. p y ≡ true) (cond b (x ∷ filter p xs) (filter p xs))
     by true e rest = All-cons (λ y. p y ≡ true) x (filter p xs) e rest
     by false e rest = rest
 
@@ -52,9 +56,11 @@ valid_all o roots k l =
 
 -- ---- the others reach nothing
 
-pub reaches_from_valid : (keep : Keep) (o : OutlineValue) (a z : Path) → reaches keep (graph_of (rows_in o)) a z ≡ true → finite.contains_key o.objects a ≡ true
+pub reaches_from_valid : (keep : Keep) (o : OutlineValue) (a z : Path) → reaches keep (graph_of (rows_in o)) a z ≡ true
+    → finite.contains_key o.objects a ≡ true
 unfolding reaches
-reaches_from_valid keep o a z h = sym (has-reported bytes_total bytes_antisymmetric (λ _ x. links_in x) o.objects a) ∙ (and_parts _ _ h).0
+reaches_from_valid keep o a z h =
+    sym (has-reported bytes_total bytes_antisymmetric (λ _ x. links_in x) o.objects a) ∙ (and_parts _ _ h).0
 
 module _ {X : Type 0} (f p : X → Bool) (keeps : (x : X) → f x ≡ true → p x ≡ true) where
   pub any_kept : (xs : List X) → list_any f (filter p xs) ≡ list_any f xs
@@ -65,7 +71,8 @@ module _ {X : Type 0} (f p : X → Bool) (keeps : (x : X) → f x ≡ true → p
       missed true e n = absurd (false≢true (sym n ∙ keeps x e))
       missed false e n = refl
 
-      by : (b : Bool) → p x ≡ b → list_any f (filter p xs) ≡ list_any f xs → list_any f (cond b (x ∷ filter p xs) (filter p xs)) ≡ (f x || list_any f xs)
+      by : (b : Bool) → p x ≡ b → list_any f (filter p xs) ≡ list_any f xs
+          → list_any f (cond b (x ∷ filter p xs) (filter p xs)) ≡ (f x || list_any f xs)
       by true e later = ap (λ b. f x || b) later
       by false e later = later ∙ missed (f x) refl e
 
@@ -77,7 +84,8 @@ module _ {X : Type 0} (f p : X → Bool) (keeps : (x : X) → f x ≡ true → p
       missed true e n = absurd (false≢true (sym n ∙ keeps x e))
       missed false e n = refl
 
-      by : (b : Bool) → p x ≡ b → filter f (filter p xs) ≡ filter f xs → filter f (cond b (x ∷ filter p xs) (filter p xs)) ≡ cond (f x) (x ∷ filter f xs) (filter f xs)
+      by : (b : Bool) → p x ≡ b → filter f (filter p xs) ≡ filter f xs
+          → filter f (cond b (x ∷ filter p xs) (filter p xs)) ≡ cond (f x) (x ∷ filter f xs) (filter f xs)
       by true e later = ap (λ l. cond (f x) (x ∷ l) l) later
       by false e later = later ∙ missed (f x) refl e
 
@@ -95,7 +103,8 @@ some_mapped : {X Y : Type 0} (f : X → Y) (r : Option X) → is_some (option_ma
 some_mapped f None = refl
 some_mapped f (Some x) = refl
 
-tested : {X : Type 0} (f : ℕ → Bool) (q : X → Bool) (d : X) (a : ℕ) (xs : List X) → ((i : ℕ) → i < length xs → f (a + i) ≡ q (get_or xs i d)) → map f (range_with_len a (length xs)) ≡ map q xs
+tested : {X : Type 0} (f : ℕ → Bool) (q : X → Bool) (d : X) (a : ℕ) (xs : List X)
+    → ((i : ℕ) → i < length xs → f (a + i) ≡ q (get_or xs i d)) → map f (range_with_len a (length xs)) ≡ map q xs
 tested f q d a [] h = refl
 tested {X} f q d a (x ∷ xs) h = λ i. first i ∷ tested f q d (a + 1) xs later i
   where
@@ -113,21 +122,27 @@ tested {X} f q d a (x ∷ xs) h = λ i. first i ∷ tested f q d (a + 1) xs late
 
 module _ (keep : Keep) (o : OutlineValue) (roots : List Root) where
   -- a place has a mark where some root reaches its path
-  marked : RootsRise (filter (aims_well o) roots) → (m : Marking) → IsExact keep (rows_in o) (filter (aims_well o) roots) m → (i : ℕ) → i < length (rows_in o)
+  marked : RootsRise (filter (aims_well o) roots) → (m : Marking)
+      → IsExact keep (rows_in o) (filter (aims_well o) roots) m → (i : ℕ) → i < length (rows_in o)
       → is_some (first_of m i) ≡ is_live keep (graph_of (rows_in o)) roots (path_at (rows_in o) i)
   marked rise m exact i l =
       let valid = filter (aims_well o) roots in
       let p = path_at (rows_in o) i in
       let test : Root → Bool = λ r. reaches keep (graph_of (rows_in o)) r.target p in
       sym (some_mapped (root_at valid) (first_of m i)) ∙ ap is_some (exact.first i l) ∙ some_found test (in_order valid)
-      ∙ ap (list_any test) (in_order_is valid rise) ∙ any_kept test (aims_well o) (λ r h. reaches_from_valid keep o r.target p h) roots
+      ∙ ap (list_any test) (in_order_is valid rise)
+      ∙ any_kept test (aims_well o) (λ r h. reaches_from_valid keep o r.target p h) roots
 
   -- of each path whether some root reaches it
-  pub all_marked : RootsRise (filter (aims_well o) roots) → (m : Marking) → IsExact keep (rows_in o) (filter (aims_well o) roots) m → (n : ℕ) → n ≡ length (rows_in o)
-      → map (λ i. is_some (first_of m i)) (range_with_len 0 n) ≡ map (is_live keep (graph_of (rows_in o)) roots) (finite.keys o.objects)
+  pub all_marked : RootsRise (filter (aims_well o) roots) → (m : Marking)
+      → IsExact keep (rows_in o) (filter (aims_well o) roots) m → (n : ℕ) → n ≡ length (rows_in o)
+      → map (λ i. is_some (first_of m i)) (range_with_len 0 n)
+      ≡ map (is_live keep (graph_of (rows_in o)) roots) (finite.keys o.objects)
   all_marked rise m exact n same =
       let q = is_live keep (graph_of (rows_in o)) roots in
       let count : length (rows_in o) ≡ length (paths_of (rows_in o)) = sym (length-map (rows_in o) (λ r. r.0)) in
       ap (λ k. map (λ i. is_some (first_of m i)) (range_with_len 0 k)) (same ∙ count)
-      ∙ tested (λ i. is_some (first_of m i)) q [] 0 (paths_of (rows_in o)) (λ i l. let zero : 0 + i ≡ i = omega arith in ap (λ k. is_some (first_of m k)) zero ∙ marked rise m exact i (omega (arith, l, count)))
+      ∙ tested (λ i. is_some (first_of m i)) q [] 0 (paths_of (rows_in o))
+      (λ i l. let zero : 0 + i ≡ i = omega arith in
+      ap (λ k. is_some (first_of m k)) zero ∙ marked rise m exact i (omega (arith, l, count)))
       ∙ ap (map q) (paths_in o)

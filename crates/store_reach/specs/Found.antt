@@ -7,10 +7,13 @@ use Rattle.policy.specs.Settings.{Settings}
 use Rattle.policy.specs.Caller.{Caller}
 use Rattle.model.specs.World.{Path, World}
 use Rattle.tables_outline.specs.Maps.{labelled_bytes}
-use Rattle.model.specs.Request.{Request, add_text, add_source, import_object, info, nar, ls, list, list_live, list_dead, list_roots, list_roots_of, set_permanent, drop_permanent, set_user_root, drop_user_root, set_profile, rollback, switch, delete_generation, replace_runtime, add_temp, end_session, collect, delete, report}
+use Rattle.model.specs.Request.{Request, add_text, add_source, import_object, info, nar, ls, list, list_live, list_dead}
+use Rattle.model.specs.Request.{list_roots, list_roots_of, set_permanent, drop_permanent, set_user_root, drop_user_root}
+use Rattle.model.specs.Request.{set_profile, rollback, switch, delete_generation, replace_runtime, add_temp}
+use Rattle.model.specs.Request.{end_session, collect, delete, report}
 use Rattle.model.specs.Liveness.{lives}
 use Rattle.model.specs.Verdict.{named_in, shown}
-use Rattle.store_reach.specs.declared.removing.Found.{Found}
+use Rattle.store_reach.specs.declared.removal.Found.{Found}
 
 -- paths, and the sum of the bytes of their archives
 abbrev pub found_view : Found → List Path × ℕ

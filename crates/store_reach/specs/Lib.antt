@@ -1,7 +1,7 @@
 pub mod Found
-pub mod Keeping
+pub mod FirstRoot
 pub mod Linked
 pub mod Reached
-pub mod Removing
+pub mod Removal
 pub mod Sizes
 pub mod Unique

@@ -1,9 +1,9 @@
 -- What lives in an outline.
-use Rattle.std.specs.Prelude.{Bool, not, if◌then◌else◌, List, map}
+use Rattle.std.specs.Prelude.{Bool, not, if◌then◌else◌, List, filter, map}
 use Rattle.std.specs.FinMap as finite
 use Rattle.live.specs.Graph.{Graph}
 use Rattle.live.specs.Live.{is_live}
-use Rattle.live.specs.Numbering.{AreRootsOf, RootsRise, Row, graph_of}
+use Rattle.live.specs.Numbering.{Row, graph_of}
 use Rattle.paths.specs.Root.{Root}
 use Rattle.policy.specs.Settings.{Settings}
 use Rattle.model.specs.World.{Path, roots_of}
@@ -23,10 +23,9 @@ rows_in o = map row_in (finite.entries o.objects)
 abbrev pub graph_in : OutlineValue → Graph
 graph_in o = graph_of (rows_in o)
 
--- roots of rows, which rise themselves
-pub record AreListed (at : List Row) (of : List Root) : Type 0 where
-  pub aimed : AreRootsOf at of
-  pub roots : RootsRise of
+-- the roots whose targets are valid, in order
+abbrev pub valid_roots : OutlineValue → List Root
+valid_roots o = filter (λ r. finite.contains_key o.objects r.target) (roots_of (rooted o))
 
 -- whether some root reaches a path
 abbrev pub lives_in : Settings → OutlineValue → Path → Bool

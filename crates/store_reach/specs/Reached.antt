@@ -3,8 +3,8 @@ use Rattle.std.specs.Prelude.{◌≡◌, ℕ, ◌<◌, All, Bool, false, true, L
 use Rattle.std.specs.List.{list_any}
 use Rattle.live.specs.Graph.{Graph, Keep, Path}
 use Rattle.live.specs.Reaching.{Reaching, is_marked, reaches_any}
-use Rattle.tables_links.specs.Links.{LinksValue, is_held}
-use Rattle.tables_links.specs.Names.{name_at}
+use Rattle.tables_outline.specs.Links.{LinksValue, is_held}
+use Rattle.tables_outline.specs.LinkNames.{name_at}
 
 -- numbers of those of some paths that are objects': a test that no other path passes is passed by one of their paths if
 -- and only if one of the given passes it

@@ -1,24 +1,22 @@
 //! What is live, collection and deletion.
 #![tactic(auto)]
 
-mod borrowing;
-pub mod collecting;
-pub mod deleting;
-mod keeping;
-mod linking;
-mod living;
+pub mod collection;
+pub mod deletion;
+mod first_root;
+mod graph;
+mod liveness;
 mod reached;
-mod reaching;
-mod removing;
-mod root_lists;
+mod reaching_roots;
+mod removal;
 mod seen;
 mod sizes;
 
-pub use collecting::collected_paths;
-pub use deleting::deleted_paths;
-pub use keeping::first_live;
-pub use living::{dead_paths, live_and_dead, live_paths};
-pub use reaching::seen_roots_of;
-pub use removing::Found;
-pub use root_lists::seen_roots;
+pub use collection::collected_paths;
+pub use deletion::deleted_paths;
+pub use first_root::first_live;
+pub use liveness::{dead_paths, live_and_dead, live_paths};
+pub use reaching_roots::seen_roots_of;
+pub use removal::Found;
+pub use seen::seen_roots;
 pub use sizes::bytes_in;

@@ -7,19 +7,21 @@ ghost use Rattle.std.specs.Prelude.{◌≡◌, ◌<◌, All, IfOk, List, filter,
 ghost use Rattle.std.specs.FinMap as finite;
 ghost use Rattle.std.specs.List.Sorted.{IsStrictlySortedBy};
 ghost use Rattle.paths.specs.Root.{bytes_cmp};
+ghost use Rattle.paths.specs.RootView.{root_view};
 ghost use Rattle.live.specs.Arguments.{roots_view};
 ghost use Rattle.live.specs.Graph.{Graph, Keep as Kept, Path, holds};
 ghost use Rattle.live.specs.Keeping.{keep_view};
 ghost use Rattle.live.specs.Reaching.{reaches_any};
-ghost use Rattle.tables_links.specs.Links.{AreLinksOf};
-ghost use Rattle.tables_links.specs.Names.{name_at};
+ghost use Rattle.tables_outline.specs.Links.{AreLinksOf};
+ghost use Rattle.tables_outline.specs.LinkNames.{name_at};
 ghost use Rattle.store_reach.specs.Reached.{AreNumbersOf, IsFound};
 
-use live::{Keep, Reaching, Root, walk_back};
-use paths::StorePath;
+use crate::graph::borrowed;
+use live::{Keep, Reaching, walk_back};
+use paths::{Root, StorePath};
 use std::alloc::{AllocError, Global};
 use std::collections::BTreeSet;
-use tables_links::Links;
+use tables_outline::Links;
 
 /// The numbers of those of some paths that are objects'.
 fn numbers_of(alloc: Global, links: &Links, named: &[StorePath]) -> Result<Vec<usize>, AllocError>
@@ -63,23 +65,23 @@ fn is_found(links: &Links, reaching: &Reaching, path: &StorePath) -> bool
     }
 }
 
-/// The roots whose targets the walk found.
+/// The roots of a list whose targets the walk found, borrowed from it.
 pub(crate) fn roots_found<'a>(
     alloc: Global,
     links: &Links,
     reaching: &Reaching,
-    roots: &[Root<'a>],
-) -> Result<Vec<Root<'a>>, AllocError>
+    roots: &'a [Root],
+) -> Result<Vec<live::Root<'a>>, AllocError>
     requires { length reaching.now.marks ≡ length links.now.names }
     ensures { IfOk result
         (λ v. (keep : Kept) (g : Graph) (named : List Path) → AreLinksOf (finite.get g) links.now
         → IsFound keep g links.now named reaching.now
-        → roots_view v.items ≡ filter (λ r. reaches_any keep g named r.target) (roots_view roots.now)) }
+        → roots_view v.items ≡ filter (λ r. reaches_any keep g named r.target) (map root_view roots.now)) }
 {
     let mut found = Vec::new(alloc);
     for root in roots {
-        if is_found(links, reaching, root.target) {
-            found.push(*root)?;
+        if is_found(links, reaching, &root.target) {
+            found.push(borrowed(root))?;
         }
     }
     Ok(found)

@@ -1,5 +1,4 @@
 //! Roots as a caller sees them.
-
 ghost use Rattle.std.specs.Prelude.{◌≡◌, not, ◌&&◌, if◌then◌else◌, [], ◌∷◌, ◌++◌, List, ℕ, String, map, string_bytes, IfOk, OnOk};
 ghost use Rattle.std.specs.declared.alloc.Global.{Global};
 ghost use Rattle.std.specs.List.{list_any};
@@ -10,12 +9,17 @@ ghost use Rattle.paths.specs.RootView.{kind_view};
 ghost use Rattle.tables_outline.specs.Maps.{labelled_bytes};
 ghost use Rattle.model.specs.Seen as spec;
 ghost use Rattle.store_reach.specs.Unique.{AreListed};
+ghost use Rattle.model.specs.World.{World, roots_of};
+ghost use Rattle.tables_outline.specs.Outline.{outline_of};
+ghost use Rattle.model.specs.Seen.{seen as seen_by};
 
+use crate::graph::borrowed_roots;
 use live::Root;
 use paths::{RootKind, StorePath};
 use policy::Class;
 use std::alloc::{AllocError, Global};
 use std::collections::BTreeSet;
+use tables_outline::{Outline, root_list};
 
 fn is_trusted(class: Class) -> bool
     ensures { result ≡ rules.is_trusted class }
@@ -113,4 +117,18 @@ pub(crate) fn seen(
         show(alloc, class, &mut reported, &mut shown, *root)?;
     }
     Ok(shown)
+}
+
+/// All roots in their order, each its label and its target, as a caller of a class sees them.
+pub fn seen_roots(
+    alloc: Global,
+    class: Class,
+    outline: &Outline,
+) -> Result<Vec<(String, StorePath)>, AllocError>
+    ensures { IfOk result
+        (λ v. (w : World) → outline_of w ≡ outline.now → map labelled_bytes v.items ≡ seen_by class (roots_of w)) }
+{
+    let roots = root_list(alloc, outline)?;
+    let given = borrowed_roots(alloc, &roots)?;
+    seen(alloc, class, &given)
 }

@@ -2,8 +2,7 @@
 #![tactic(auto)]
 
 mod generations;
-mod labels;
-mod naming;
+mod names;
 pub mod permanent;
 pub mod profiles;
 pub mod runtime;

@@ -14,11 +14,11 @@ ghost use Rattle.store_roots.specs.Profiles.{IsTestedOn};
 ghost use Rattle.model.specs.Request as asked;
 
 use crate::generations::{has_generation, has_older, is_not_current};
-use crate::naming::are_named;
+use crate::names::are_named;
 use paths::StorePath;
 use sqlite::Alter;
+use store_promises::answers::answered;
 use store_promises::validity::{has_profile, is_valid};
-use store_promises::writing::answered;
 use store_types::{Answer, Refusal, Stop};
 use tables_outline::Outline;
 use tables_writes::Tables;

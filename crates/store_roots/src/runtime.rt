@@ -16,12 +16,12 @@ ghost use Rattle.store_promises.specs.Meets.{IsMet};
 ghost use Rattle.std.specs.FinMap as finite;
 ghost use Rattle.model.specs.Request as asked;
 
-use crate::labels::are_runtime_labels;
+use crate::names::are_runtime_labels;
 use paths::StorePath;
 use sqlite::Alter;
 use std::alloc::{AllocError, Global};
 use std::collections::BTreeSet;
-use store_promises::writing::answered;
+use store_promises::answers::answered;
 use store_types::{Answer, Refusal, Stop};
 use tables_outline::Outline;
 use tables_writes::Tables;

@@ -11,12 +11,12 @@ ghost use Rattle.policy.specs.Caller.{Caller};
 ghost use Rattle.store_promises.specs.Meets.{IsMet};
 ghost use Rattle.model.specs.Request as asked;
 
-use crate::naming::is_named;
+use crate::names::is_named;
 use paths::StorePath;
 use paths::numbers::is_session;
 use sqlite::Alter;
+use store_promises::answers::answered;
 use store_promises::validity::is_valid;
-use store_promises::writing::answered;
 use store_types::{Answer, Refusal, Stop};
 use tables_outline::Outline;
 use tables_writes::Tables;

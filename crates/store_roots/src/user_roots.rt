@@ -10,11 +10,11 @@ ghost use Rattle.policy.specs.Caller.{Caller};
 ghost use Rattle.store_promises.specs.Meets.{IsMet};
 ghost use Rattle.model.specs.Request as asked;
 
-use crate::naming::are_named;
+use crate::names::are_named;
 use paths::StorePath;
 use sqlite::Alter;
+use store_promises::answers::answered;
 use store_promises::validity::{has_user_root, is_valid};
-use store_promises::writing::answered;
 use store_types::{Answer, Refusal, Stop};
 use tables_outline::Outline;
 use tables_writes::Tables;

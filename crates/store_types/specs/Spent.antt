@@ -9,7 +9,12 @@ use Rattle.model.specs.Request as asked
 use Rattle.model.specs.Reply.{Reply, denied, failed, memory}
 use Rattle.model.specs.Verdict.{operation_of}
 use Rattle.store_types.specs.declared.requests.Request.{Request}
-use Rattle.store_types.specs.declared.requests.Request.TheVariants.{AddText, Info, Nar, Ls, List as ListAll, Live, Dead, ListRoots, RootsOf, Report, SetPermanent, DropPermanent, SetUserRoot, DropUserRoot, Rollback, Switch, DeleteGeneration, SetProfile, AddTemp, EndSession, ReplaceRuntime, AddSource, Import, Collect, Delete}
+use Rattle.store_types.specs.declared.requests.Request.TheVariants.{AddText, Info, Nar, Ls, List as ListAll, Live, Dead}
+use Rattle.store_types.specs.declared.requests.Request.TheVariants.{ListRoots, RootsOf, Report, SetPermanent}
+use Rattle.store_types.specs.declared.requests.Request.TheVariants.{DropPermanent, SetUserRoot, DropUserRoot, Rollback}
+use Rattle.store_types.specs.declared.requests.Request.TheVariants.{Switch, DeleteGeneration, SetProfile, AddTemp}
+use Rattle.store_types.specs.declared.requests.Request.TheVariants.{EndSession, ReplaceRuntime, AddSource, Import}
+use Rattle.store_types.specs.declared.requests.Request.TheVariants.{Collect, Delete}
 use Rattle.store_types.specs.View.{request_view}
 
 -- whether the archive that a request adds was dropped: its intake was refused memory, and has no bytes any more

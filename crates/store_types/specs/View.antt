@@ -4,16 +4,23 @@ use Rattle.policy.specs.Caller.{Caller}
 use Rattle.model.specs.Request as asked
 use Rattle.model.specs.Reply as replied
 use Rattle.tables_outline.specs.Maps.{labelled_bytes}
-use Rattle.intake.specs.Arriving.{bytes_in}
+use Rattle.intake.specs.Arrival.{bytes_in}
 use Rattle.tables_sql.specs.declared.failure.Failed.{Failed}
 use Rattle.tables_sql.specs.declared.failure.Failed.TheVariants.{Memory, Size, Disk}
 use Rattle.store_types.specs.declared.requests.Imported.{Imported}
 use Rattle.store_types.specs.declared.requests.Request.{Request}
-use Rattle.store_types.specs.declared.requests.Request.TheVariants.{AddText, Info as InfoOf, Nar, Ls, List as ListAll, Live, Dead, ListRoots, RootsOf, Report, SetPermanent, DropPermanent, SetUserRoot, DropUserRoot, Rollback, Switch, DeleteGeneration, SetProfile, AddTemp, EndSession, ReplaceRuntime, AddSource, Import, Collect, Delete}
+use Rattle.store_types.specs.declared.requests.Request.TheVariants.{AddText, Info as InfoOf, Nar, Ls, List as ListAll}
+use Rattle.store_types.specs.declared.requests.Request.TheVariants.{Live, Dead, ListRoots, RootsOf, Report}
+use Rattle.store_types.specs.declared.requests.Request.TheVariants.{SetPermanent, DropPermanent, SetUserRoot}
+use Rattle.store_types.specs.declared.requests.Request.TheVariants.{DropUserRoot, Rollback, Switch, DeleteGeneration}
+use Rattle.store_types.specs.declared.requests.Request.TheVariants.{SetProfile, AddTemp, EndSession, ReplaceRuntime}
+use Rattle.store_types.specs.declared.requests.Request.TheVariants.{AddSource, Import, Collect, Delete}
 use Rattle.store_types.specs.declared.replies.Info.{Info}
 use Rattle.store_types.specs.declared.replies.Usage.{Usage}
 use Rattle.store_types.specs.declared.replies.Answer.{Answer}
-use Rattle.store_types.specs.declared.replies.Answer.TheVariants.{Path, Record, Archive, Listing, Paths, Roots, Changed, Generation, RuntimeCount, TemporaryCount, Freed, Usage as UsageOf}
+use Rattle.store_types.specs.declared.replies.Answer.TheVariants.{Path, Record, Archive, Listing, Paths, Roots, Changed}
+use Rattle.store_types.specs.declared.replies.Answer.TheVariants.{Generation, RuntimeCount, TemporaryCount, Freed}
+use Rattle.store_types.specs.declared.replies.Answer.TheVariants.{Usage as UsageOf}
 use Rattle.store_types.specs.declared.replies.Reply.{Reply}
 use Rattle.store_types.specs.declared.replies.Reply.TheVariants.{Done, Denied, Refused, Failed as failing}
 
@@ -93,7 +100,7 @@ answer_view (Freed ps n) = replied.freed ps.items n
 answer_view (UsageOf live dead total) = replied.usage (usage_view live) (usage_view dead) (usage_view total)
 
 -- what a call ran out of, or what failed
-abbrev pub failure_view : Failed → replied.Failure
+abbrev pub failure_view : Failed → replied.Failed
 failure_view Memory = replied.memory
 failure_view Size = replied.size
 failure_view Disk = replied.disk

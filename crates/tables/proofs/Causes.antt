@@ -3,14 +3,14 @@ use Rattle.std.proofs.Common.{◌≡◌, ◌⊎◌, ℕ, List, inl, inr, refl, s
 use Rattle.std.specs.Prelude.{◌≢◌, IsSome}
 use Rattle.sqlite.specs.Effect.{Database}
 use Rattle.sqlite.specs.State.{State, IsUnchanged, Survives}
-use Rattle.tables_schema.specs.Finding.{HasNone, HasFirst, HasSecond}
+use Rattle.tables_schema.specs.Presence.{HasNone, HasFirst, HasSecond}
 use Rattle.tables_schema.specs.declared.schema.Schema.{Schema}
 use Rattle.tables_schema.specs.declared.schema.Schema.TheVariants.{V1, V2, V3}
 use Rattle.tables_schema.specs.Forms.{all_tables}
 use Rattle.tables_sql.specs.declared.failure.Failed.{Failed}
 use Rattle.tables_sql.specs.declared.failure.Failed.TheVariants.{Memory, Size, Disk}
 use Rattle.tables_sql.specs.Failures.{HasDiskCause, FailsToRead}
-use Rattle.tables_make.specs.Making.{RunsOutOfTrees, IsIndexNameUsed, FailsToMake}
+use Rattle.tables_make.specs.NewTables.{RunsOutOfTrees, IsIndexNameUsed, FailsToMake}
 use Rattle.tables_make.specs.Migrating.{FailsToMigrate}
 use Rattle.tables_make.proofs.MigratingFailures.{whole_before}
 use Rattle.tables_recognize.specs.Opened.{HasUnkeyed, FailsToOpen}
@@ -32,11 +32,13 @@ pub read_cause : (dir : List ℕ) (old new : State) (f : Failed) → FailsToRead
 read_cause dir old new f h = inl (read_opens old new f h)
 
 -- the making of tables
-pub make_cause : (dir : List ℕ) (old new : State) (f : Failed) → HasNone old.now.schema → FailsToMake dir old new f → IsCause dir old new (failing f)
+pub make_cause : (dir : List ℕ) (old new : State) (f : Failed) → HasNone old.now.schema → FailsToMake dir old new f
+    → IsCause dir old new (failing f)
 make_cause dir old new f none h = inr (inl (none, h))
 
 -- a migration, which those of the third schema have none of
-pub migration_cause : (dir : List ℕ) (old new : State) (f : Failed) (schema : Schema) → IsFoundBy schema old.now → schema ≢ V3 → FailsToMigrate schema old new f → IsCause dir old new (failing f)
+pub migration_cause : (dir : List ℕ) (old new : State) (f : Failed) (schema : Schema) → IsFoundBy schema old.now
+    → schema ≢ V3 → FailsToMigrate schema old new f → IsCause dir old new (failing f)
 migration_cause dir old new f V1 found other h = inr (inr (inl (found.tables, h)))
 migration_cause dir old new f V2 found other h = inr (inr (inr (found.tables, h)))
 migration_cause dir old new f V3 found other h = absurd (other refl)
@@ -60,12 +62,23 @@ module _ (a b c : State) (same : IsUnchanged a b) (first : Survives a b (λ _. �
   make_before dir Size h = (h.0, same.0.was_open)
   make_before dir Disk (inl cause) = inl (disk_before cause)
   make_before dir Disk (inr (inl limit)) = inr (inl (subst IsSome first.limit limit))
-  make_before dir Disk (inr (inr lacks)) = inr (inr (subst (λ (x : Database). RunsOutOfTrees x.schema all_tables ⊎ IsIndexNameUsed x.schema all_tables) same.0.now_is lacks))
+  make_before dir Disk (inr (inr lacks)) =
+      inr (inr (subst (λ (x : Database). RunsOutOfTrees x.schema all_tables ⊎ IsIndexNameUsed x.schema all_tables)
+      same.0.now_is lacks))
 
   pub cause_before : (dir : List ℕ) (e : Cause) → IsCause dir b c e → IsCause dir a c e
   cause_before dir BadSchema h = subst (λ (x : Database). IsRefusal dir x BadSchema) same.0.now_is h
   cause_before dir OtherStoreDir h = subst (λ (x : Database). IsRefusal dir x OtherStoreDir) same.0.now_is h
   cause_before dir (failing f) (inl h) = inl (open_before f h)
-  cause_before dir (failing f) (inr (inl h)) = inr (inl (subst (λ (x : Database). HasNone x.schema) same.0.now_is h.0, make_before dir f h.1))
-  cause_before dir (failing f) (inr (inr (inl h))) = inr (inr (inl (subst (λ (x : Database). HasFirst x.schema) same.0.now_is h.0, whole_before V1 a b c same first f h.1)))
-  cause_before dir (failing f) (inr (inr (inr h))) = inr (inr (inr (subst (λ (x : Database). HasSecond x.schema) same.0.now_is h.0, whole_before V2 a b c same first f h.1)))
+  cause_before dir (failing f) (inr (inl h)) =
+      inr (inl (subst (λ (x : Database). HasNone x.schema) same.0.now_is h.0, make_before dir f h.1))
+  cause_before dir (failing f) (inr (inr (inl h))) =
+      inr (inr (inl (
+        subst (λ (x : Database). HasFirst x.schema) same.0.now_is h.0,
+        whole_before V1 a b c same first f h.1,
+      )))
+  cause_before dir (failing f) (inr (inr (inr h))) =
+      inr (inr (inr (
+        subst (λ (x : Database). HasSecond x.schema) same.0.now_is h.0,
+        whole_before V2 a b c same first f h.1,
+      )))

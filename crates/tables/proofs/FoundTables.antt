@@ -5,9 +5,9 @@ use Rattle.std.proofs.lemmas.Bool.{false≢true}
 use Rattle.sqlite.specs.Effect.{Database}
 use Rattle.sqlite.specs.State.{State}
 use Rattle.tables_schema.specs.Forms.{piece, temp_root}
-use Rattle.tables_schema.specs.Finding.{HasNone, IsFree}
-use Rattle.tables_schema.specs.declared.recognising.Recognised.{Recognised}
-use Rattle.tables_schema.specs.declared.recognising.Recognised.TheVariants.{Nothing, Tables, Other}
+use Rattle.tables_schema.specs.Presence.{HasNone, IsFree}
+use Rattle.tables_schema.specs.declared.recognition.Recognised.{Recognised}
+use Rattle.tables_schema.specs.declared.recognition.Recognised.TheVariants.{Nothing, Tables, Other}
 use Rattle.tables_sql.specs.Contents.{contents_of, map_of, session_path_cmp, is_session_path, session_path_of}
 use Rattle.tables_sql.specs.Texts.{AreReadable}
 use Rattle.tables_sql.specs.Calls.{HasFurther, IsStoreDatabase, IsWhole}
@@ -50,9 +50,10 @@ third_further db whole = record {
   no_temporary = λ none. absurd (false≢true (sym none));
 }
 
--- all eleven stand, as the third schema has them
+-- all eleven are there, as the third schema has them
 pub whole_by : (db : Database) → IsStoreDatabase db → HasFurtherOf V3 db → IsWhole db
-whole_by db of_store further = record { of_store = of_store; pieces = further.pieces refl; temp_roots = further.temporary refl }
+whole_by db of_store further =
+    record { of_store = of_store; pieces = further.pieces refl; temp_roots = further.temporary refl }
 
 -- ---- each schema
 
@@ -74,7 +75,8 @@ module _ (r : Recognised) (s : State) (found : IsFound r s) where
   some schema is none = absurd (let it : Tables schema ≡ Nothing = sym is ∙ found.by_schema.nothing.1 none in cc)
 
   -- by a schema, and by no other
-  found_by : (schema : Schema) → r ≡ Tables schema → HasTablesOf schema s.now.schema → AreReadable (contents_of s.now) → HasFurtherOf schema s.now → IsFoundBy schema s.now
+  found_by : (schema : Schema) → r ≡ Tables schema → HasTablesOf schema s.now.schema → AreReadable (contents_of s.now)
+      → HasFurtherOf schema s.now → IsFoundBy schema s.now
   found_by schema is has readable further = record {
     tables = has;
     only = λ other it. ap schema_of (sym (recognised other it readable) ∙ is);
@@ -87,10 +89,12 @@ module _ (r : Recognised) (s : State) (found : IsFound r s) where
   first_found is = let it = found.by_schema.first.0 is in found_by V1 is it.0 it.1 (first_further s.now it.0.1 it.0.2)
 
   pub second_found : r ≡ Tables V2 → IsFoundBy V2 s.now
-  second_found is = let it = found.by_schema.second.0 is in found_by V2 is it.0 it.1 (second_further s.now (ready_by (Tables V2) is).1 it.0.2)
+  second_found is = let it =
+      found.by_schema.second.0 is in found_by V2 is it.0 it.1 (second_further s.now (ready_by (Tables V2) is).1 it.0.2)
 
   pub third_found : r ≡ Tables V3 → IsFoundBy V3 s.now
-  third_found is = let it = found.by_schema.third.0 is in found_by V3 is it.0 it.1 (third_further s.now (ready_by (Tables V3) is).1)
+  third_found is = let it =
+      found.by_schema.third.0 is in found_by V3 is it.0 it.1 (third_further s.now (ready_by (Tables V3) is).1)
 
   pub is_none : r ≡ Nothing → HasNone s.now.schema
   is_none is = found.by_schema.nothing.0 is
@@ -107,5 +111,10 @@ module _ (r : Recognised) (s : State) (found : IsFound r s) where
 
 -- ---- a schema by which the rows aren't sound
 
-pub unsound : (schema : Schema) (db : Database) → IsFoundBy schema db → ((dir : List ℕ) → ¬ IsSoundBy schema dir (contents_of db)) → IsNoStore db
-unsound schema db found none = (found.some, λ d holds. none d (subst (λ (x : Schema). IsSoundBy x d (contents_of db)) (found.only holds.0 holds.1.tables) holds.1.sound))
+pub unsound : (schema : Schema) (db : Database) → IsFoundBy schema db
+    → ((dir : List ℕ) → ¬ IsSoundBy schema dir (contents_of db)) → IsNoStore db
+unsound schema db found none = (
+  found.some,
+  λ d holds. none d
+      (subst (λ (x : Schema). IsSoundBy x d (contents_of db)) (found.only holds.0 holds.1.tables) holds.1.sound),
+)

@@ -13,7 +13,10 @@ module _ {S : Type 0} (g : Ghosts S) where
   cleared old new is = ap (state g) is
 
   -- what is opened over it is opened over the connection as it was, without the limit
-  pub adopts_unlimited : (dir : List ℕ) (old new : Held S) → new ≡ record old { step_limit = None } → (r : Result (TablesValue S) (Unadopted S))
+  pub adopts_unlimited : (dir : List ℕ) (old new : Held S) → new ≡ record old { step_limit = None }
+      → (r : Result (TablesValue S) (Unadopted S))
       → Adopts g dir (state g new) r (OpensStore g dir (state g new).now) (LeavesOpening dir (state g new).now)
-      → Adopts g dir (unlimited (state g old)) r (OpensStore g dir (state g old).now) (LeavesOpening dir (state g old).now)
-  adopts_unlimited dir old new is r = subst (λ (s : State). Adopts g dir s r (OpensStore g dir s.now) (LeavesOpening dir s.now)) (cleared old new is)
+      → Adopts g dir (unlimited (state g old)) r (OpensStore g dir (state g old).now)
+      (LeavesOpening dir (state g old).now)
+  adopts_unlimited dir old new is r =
+      subst (λ (s : State). Adopts g dir s r (OpensStore g dir s.now) (LeavesOpening dir s.now)) (cleared old new is)

@@ -3,8 +3,8 @@ use Rattle.std.specs.Prelude.{◌≡◌, ℕ, false, List, Result, IsTrue, IfOk,
 use Rattle.sqlite_trees.specs.declared.store.Store.{Ghosts}
 use Rattle.sqlite.specs.State.{State, HasCleanDisk, IsUnchanged, Survives}
 use Rattle.sqlite.specs.Held.{Held, state}
-use Rattle.tables_schema.specs.Finding.{HasNone}
-use Rattle.tables_schema.specs.declared.recognising.Recognised.{Recognised}
+use Rattle.tables_schema.specs.Presence.{HasNone}
+use Rattle.tables_schema.specs.declared.recognition.Recognised.{Recognised}
 use Rattle.tables_schema.specs.declared.schema.Schema.{Schema}
 use Rattle.tables_sql.specs.Calls.{Remains, IsDurable, IsReady, KeepsShown}
 use Rattle.tables_rows.specs.Frames.{LeftAsItWas}

@@ -8,7 +8,7 @@ use Rattle.sqlite_schema.specs.Names.{table_named, index_named, view_named}
 use Rattle.sqlite.specs.Does.{lacks_sequence}
 use Rattle.tables_schema.specs.Forms.{all_tables}
 use Rattle.tables_schema.specs.Intact.{tree_named, is_unreferred, is_unshared, is_unguarded}
-use Rattle.tables_schema.specs.Finding.{is_unawaited}
+use Rattle.tables_schema.specs.Presence.{is_unawaited}
 
 -- a table has the name of this one of the store's
 abbrev pub is_present : Schema → Table → Bool

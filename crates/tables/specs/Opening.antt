@@ -10,12 +10,12 @@ use Rattle.sqlite.specs.State.{State}
 use Rattle.sqlite.specs.Held.{state}
 use Rattle.tables_schema.specs.Forms.{store_tables, piece, temp_root}
 use Rattle.tables_schema.specs.Intact.{IsKnown, tree_named}
-use Rattle.tables_schema.specs.Finding.{HasNone, HasFirst, HasSecond, HasThird}
+use Rattle.tables_schema.specs.Presence.{HasNone, HasFirst, HasSecond, HasThird}
 use Rattle.tables_sql.specs.Contents.{contents_of}
 use Rattle.tables_sql.specs.Texts.{AreReadable}
 use Rattle.tables_sql.specs.Frozen.{SparesFrozen}
 use Rattle.tables_sql.specs.Calls.{Remains, HasFurther, KeepsForeignRows}
-use Rattle.tables_make.specs.Making.{LeavesMade, FailsToMake, all_created, store_tables_created}
+use Rattle.tables_make.specs.NewTables.{LeavesMade, FailsToMake, all_created, store_tables_created}
 use Rattle.tables_make.specs.Migrated.{missing_tables, migrated_contents, LeavesMigrated}
 use Rattle.tables_make.specs.Migrating.{FailsToMigrate}
 use Rattle.tables_sql.specs.declared.failure.Failed.{Failed}

@@ -14,7 +14,7 @@ use std::alloc::Global;
 use tables_recognize::file;
 use tables_recognize::file::{Opened, Unreadable};
 use tables_schema::Schema;
-use tables_schema::recognising::Recognised;
+use tables_schema::recognition::Recognised;
 use tables_writes::Tables;
 
 /// Opens a store over a connection; `found` says which of the store's tables it has.

@@ -1,7 +1,7 @@
 //! Opening a database with the store's tables of schema 3, or with none of them.
 
 ghost use Rattle.sqlite.specs.Held.{state};
-ghost use Rattle.tables_make.specs.Making.{LeavesMade};
+ghost use Rattle.tables_make.specs.NewTables.{LeavesMade};
 ghost use Rattle.tables_schema.specs.declared.schema.Schema.TheVariants.{V3};
 ghost use Rattle.tables.specs.Opening.{OpensExisting, OpensNew};
 ghost use Rattle.tables.specs.Adopted.{Adopts, HasTables, HasNoTables};
@@ -11,7 +11,7 @@ use crate::unopened::{Cause, Unadopted};
 use paths::StoreDir;
 use sqlite::{Alter, Connection};
 use std::alloc::Global;
-use tables_make::making;
+use tables_make::new_tables;
 use tables_outline::Outline;
 use tables_schema::Schema;
 use tables_sql::failure::Failed;
@@ -50,7 +50,7 @@ pub(crate) fn open_new<S: Alter>(
         let cause = Cause::Failed(Failed::Memory);
         return Err(Unadopted { conn, cause });
     };
-    match making::make(&mut conn, dir.as_str()) {
+    match new_tables::make(&mut conn, dir.as_str()) {
         Ok(()) => {
             let outline = Outline::new(alloc);
             Ok(over(alloc, conn, own, outline))

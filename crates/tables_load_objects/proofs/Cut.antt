@@ -1,10 +1,11 @@
 -- The test of how an archive is cut says what the world says of it.
-use Rattle.std.proofs.Common.{◌≡◌, ℕ, ◌+◌, ◌≤◌, ℤ, pos, negsuc, List, [], ◌∷◌, ◌++◌, length, Bool, true, not, ◌&&◌, refl, sym, ap, ◌∙◌, IsTrue, arith, append_assoc}
+use Rattle.std.proofs.Common.{◌≡◌, ℕ, ◌+◌, ◌≤◌, ℤ, pos, negsuc, List, [], ◌∷◌, ◌++◌, length, Bool, true, not, ◌&&◌}
+use Rattle.std.proofs.Common.{refl, sym, ap, ◌∙◌, IsTrue, arith, append_assoc}
 use Rattle.std.specs.Prelude.{◌==◌, ◌↔◌, nat_le}
 use Rattle.std.proofs.lemmas.Bool.{false≢true}
 use Rattle.tables_world.specs.Pieces.{piece_size, joined, GoOn, IsCut}
 use Rattle.tables_load_objects.specs.Cut.{is_number, is_next, continues}
-use Rattle.tables_load_objects.proofs.Lists.{both_so, and_so}
+use Rattle.tables_load_objects.proofs.Truths.{both_so, and_so}
 
 size : piece_size ≡ 65536
 unfolding piece_size
@@ -43,8 +44,12 @@ from_test part n [] h = no_more (length part) h
 from_test part n (e ∷ es) h =
     let both = both_so (is_next (length part) n e) (continues (length e.1) (n + 1) es) h in
     let next = both_so (length part == 65536) (is_number e.0 n && not (length e.1 == 0)) both.0 in
-    let piece = both_so (is_number e.0 n) (not (length e.1 == 0)) next.1 in
-    (full (length part) next.0, is_positive e.0 n piece.0, has_bytes (length e.1) piece.1, from_test e.1 (n + 1) es both.1)
+    let piece = both_so (is_number e.0 n) (not (length e.1 == 0)) next.1 in (
+      full (length part) next.0,
+      is_positive e.0 n piece.0,
+      has_bytes (length e.1) piece.1,
+      from_test e.1 (n + 1) es both.1,
+    )
 
 to_test : (part : List ℕ) (n : ℕ) (es : List (ℤ × List ℕ)) → GoOn part n es → continues (length part) n es ≡ true
 to_test part n [] h = no_more_so (length part) h
@@ -54,10 +59,12 @@ to_test part n (e ∷ es) h =
     (and_so (is_number e.0 n) (not (length e.1 == 0)) (number_so e.0 n h.1) (bytes_so (length e.1) h.2)))
     (to_test e.1 (n + 1) es h.3)
 
-pub tested_cut : (b : Bool) (row : List ℕ) (parts : List (ℤ × List ℕ)) → b ≡ continues (length row) 1 parts → IsTrue b ↔ IsCut row parts
+pub tested_cut : (b : Bool) (row : List ℕ) (parts : List (ℤ × List ℕ)) → b ≡ continues (length row) 1 parts
+    → IsTrue b ↔ IsCut row parts
 tested_cut b row parts is = (λ h. from_test row 1 parts (sym is ∙ h), λ cut. is ∙ to_test row 1 parts cut)
 
 -- one piece more is copied
-pub copied : (all next row : List ℕ) (part : ℤ × List ℕ) (before rest : List (ℤ × List ℕ)) (whole : List ℕ) → next ≡ all ++ part.1 → before ≡ part ∷ rest → all ++ joined before ≡ whole → next ++ joined rest ≡ whole
+pub copied : (all next row : List ℕ) (part : ℤ × List ℕ) (before rest : List (ℤ × List ℕ)) (whole : List ℕ)
+    → next ≡ all ++ part.1 → before ≡ part ∷ rest → all ++ joined before ≡ whole → next ++ joined rest ≡ whole
 copied all next row part before rest whole is split h =
     ap (λ l. l ++ joined rest) is ∙ append_assoc all part.1 (joined rest) ∙ ap (λ ps. all ++ joined ps) (sym split) ∙ h

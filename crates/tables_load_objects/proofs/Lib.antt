@@ -6,7 +6,6 @@ pub mod Cut
 pub mod Each
 pub mod EachEntry
 pub mod Known
-pub mod Lists
 pub mod Loads
 pub mod OfArchive
 pub mod OfText
@@ -16,3 +15,4 @@ pub mod ReadRows
 pub mod SameOutputs
 pub mod SoundRows
 pub mod Takes
+pub mod Truths

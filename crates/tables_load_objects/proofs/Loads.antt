@@ -13,9 +13,11 @@ not_ok : {T : Type 0} (r : Result T Failed) (e : Failed) (P : T → Type 0) → 
 not_ok (Ok x) e P is = absurd is
 not_ok (Err f) e P is = tt
 
-module _ {S : Type 0} {g : Ghosts S} {T : Type 0} (a b : Held S) (now : T) (AreSound : Contents → Type 0) (of : Contents → T) where
+module _ {S : Type 0} {g : Ghosts S} {T : Type 0} (a b : Held S) (now : T) (AreSound : Contents → Type 0)
+    (of : Contents → T) where
   -- an error that is passed on
-  pub load_failed : (r : Result Bool Failed) (e : Failed) → IsErrAnd r (λ f. f ≡ e) → ReadsOnly g a b r → Loads g a b r now AreSound of
+  pub load_failed : (r : Result Bool Failed) (e : Failed) → IsErrAnd r (λ f. f ≡ e) → ReadsOnly g a b r
+      → Loads g a b r now AreSound of
   load_failed r e is read = record {
     read = read;
     reported = λ _. not_ok r e _ is;
@@ -23,7 +25,8 @@ module _ {S : Type 0} {g : Ghosts S} {T : Type 0} (a b : Held S) (now : T) (AreS
   }
 
   -- something isn't sound
-  pub load_stopped : ReadsOnly g a b (Ok false) → (HasCleanDisk (state g b) → AreSound (contents_of (state g a).now) → ⊥) → Loads g a b (Ok false) now AreSound of
+  pub load_stopped : ReadsOnly g a b (Ok false)
+      → (HasCleanDisk (state g b) → AreSound (contents_of (state g a).now) → ⊥) → Loads g a b (Ok false) now AreSound of
   load_stopped read unsound = record {
     read = read;
     reported = λ clean. (λ h. absurd (false≢true h), λ sound. absurd (unsound clean sound));
@@ -31,7 +34,8 @@ module _ {S : Type 0} {g : Ghosts S} {T : Type 0} (a b : Held S) (now : T) (AreS
   }
 
   -- all is sound
-  pub load_done : ReadsOnly g a b (Ok true) → (HasCleanDisk (state g b) → AreSound (contents_of (state g a).now)) → (HasCleanDisk (state g b) → now ≡ of (contents_of (state g a).now))
+  pub load_done : ReadsOnly g a b (Ok true) → (HasCleanDisk (state g b) → AreSound (contents_of (state g a).now))
+      → (HasCleanDisk (state g b) → now ≡ of (contents_of (state g a).now))
       → Loads g a b (Ok true) now AreSound of
   load_done read sound made = record {
     read = read;

@@ -1,24 +1,23 @@
 -- Outputs in memory, as a list in order and as a map.
-use Rattle.std.proofs.Common.{◌≡◌, ℕ, suc, List, [], ◌∷◌, map, length, true, false, ◌&&◌, refl, sym, ap, ap₂, subst, ◌∙◌, String, Global, BTreeMap, Some, None, Option, string_bytes, T}
+use Rattle.std.proofs.Common.{◌≡◌, ℕ, List, [], ◌∷◌, map, true, false, ◌&&◌, refl, sym, ap, ap₂, subst, ◌∙◌}
+use Rattle.std.proofs.Common.{String, Global, BTreeMap, Some, None, Option, string_bytes}
 use Rattle.std.specs.Prelude.{MatchOption}
 use Rattle.nar.specs.Tree.{Tree}
-use Rattle.std.specs.List.{zip}
 use Rattle.std.specs.Str.{bytes_eq}
 use Rattle.std.specs.Cmp.Lexicographic.{nat_list_eq_equiv}
 use Rattle.std.specs.List.Sorted.{IsStrictlySortedBy}
 use Rattle.std.specs.Map.{keys_of}
 use Rattle.std.specs.FinMap as finite
-use Rattle.std.specs.FinMap.Entries.{is_sorted}
 use Rattle.std.proofs.lemmas.Bool.{false≢true}
 use Rattle.nar.proofs.Grammar.{same_bytes}
 use Rattle.paths.specs.Root.{bytes_cmp}
 use Rattle.model.specs.World.{Path}
 use Rattle.tables_outline.proofs.Orders.{bytes_total, bytes_antisymmetric}
-use Rattle.tables_outline.proofs.Trees.{cmp, listed, sorted_seen}
+use Rattle.tables_outline.proofs.Trees.{cmp, listed}
 use Rattle.intake.specs.Recorded.{outputs_view}
 use Rattle.drv.specs.View.{pairs}
-use Rattle.tables_load_objects.specs.Tested.{same_outputs, IsListed, IfDerivation, outputs_in}
-use Rattle.tables_load_objects.proofs.Lists.{both_so, and_so, to_true}
+use Rattle.tables_load_objects.specs.Tested.{same_outputs, IfDerivation, outputs_in}
+use Rattle.tables_load_objects.proofs.Truths.{both_so, and_so}
 
 abbrev Named : Type 0
 Named = List ℕ × Path
@@ -36,18 +35,23 @@ equal (x ∷ xs) [] h = absurd (false≢true h)
 equal (x ∷ xs) (y ∷ ys) h =
     let parts = both_so (bytes_eq x.0 y.0 && bytes_eq x.1 y.1) (same_outputs xs ys) h in
     let fields = both_so (bytes_eq x.0 y.0) (bytes_eq x.1 y.1) parts.0 in
-    let head : x ≡ y = ap₂ (λ (a b : List ℕ). let e : Named = (a, b) in e) (same_bytes x.0 y.0 fields.0) (same_bytes x.1 y.1 fields.1) in
+    let head : x ≡ y =
+    ap₂ (λ (a b : List ℕ). let e : Named = (a, b) in e) (same_bytes x.0 y.0 fields.0)
+    (same_bytes x.1 y.1 fields.1) in
     ap₂ (λ (e : Named) l. e ∷ l) head (equal xs ys parts.1)
 
 itself : (xs : List Named) → same_outputs xs xs ≡ true
 itself [] = refl
-itself (x ∷ xs) = and_so (bytes_eq x.0 x.0 && bytes_eq x.1 x.1) (same_outputs xs xs) (and_so (bytes_eq x.0 x.0) (bytes_eq x.1 x.1) (nat_list_eq_equiv.refl x.0) (nat_list_eq_equiv.refl x.1)) (itself xs)
+itself (x ∷ xs) =
+    and_so (bytes_eq x.0 x.0 && bytes_eq x.1 x.1) (same_outputs xs xs)
+    (and_so (bytes_eq x.0 x.0) (bytes_eq x.1 x.1) (nat_list_eq_equiv.refl x.0) (nat_list_eq_equiv.refl x.1)) (itself xs)
 
 -- what a tree lists
 pub view_listed : (es : Entries) → AreOrdered es → finite.entries (outputs_view es) ≡ pairs es
 view_listed es up = listed bytes_cmp string_bytes (λ (p : Path). p) bytes_total bytes_antisymmetric es up
 
-module _ (rows : List Named) (es : Entries) (m : finite.FinMap bytes_cmp Path) (up : AreOrdered es) (is : outputs_view es ≡ m) where
+module _ (rows : List Named) (es : Entries) (m : finite.FinMap bytes_cmp Path) (up : AreOrdered es)
+    (is : outputs_view es ≡ m) where
   -- rows that were compared are what is recorded, and others aren't
   pub rows_are : same_outputs rows (pairs es) ≡ true → rows ≡ finite.entries m
   rows_are h = equal rows (pairs es) h ∙ sym (view_listed es up) ∙ ap finite.entries is
@@ -57,43 +61,16 @@ module _ (rows : List Named) (es : Entries) (m : finite.FinMap bytes_cmp Path) (
       let same : rows ≡ pairs es = e ∙ ap finite.entries (sym is) ∙ view_listed es up in
       false≢true (sym h ∙ ap (λ r. same_outputs r (pairs es)) same ∙ itself (pairs es))
 
--- ---- in two lists
-
-abbrev pub name : String Global × Path → List ℕ
-name e = string_bytes e.0
-
-abbrev pub path : String Global × Path → Path
-path e = e.1
-
-zipped : (es : Entries) → zip (map name es) (map path es) ≡ pairs es
-zipped [] = refl
-zipped (e ∷ es) = ap (λ (l : List Named). (string_bytes e.0, e.1) ∷ l) (zipped es)
-
-keyed : (es : Entries) → map (λ (k : List ℕ). let d : List ℕ × Unit {0} = (k, tt) in d) (map name es) ≡ map (λ (e : String Global × Path). let d : List ℕ × Unit {0} = (string_bytes e.0, tt) in d) es
-keyed [] = refl
-keyed (e ∷ es) = ap (λ (l : List (List ℕ × Unit {0})). (string_bytes e.0, tt) ∷ l) (keyed es)
-
-as_long : (es : Entries) → length (map path es) ≡ length (map name es)
-as_long [] = refl
-as_long (e ∷ es) = ap suc (as_long es)
-
-pub listed_is : (es : Entries) → AreOrdered es → IsListed (map name es) (map path es) (outputs_view es)
-listed_is es up = record {
-  in_order = to_true _ (subst (λ l. T (is_sorted bytes_cmp l)) (sym (keyed es)) (sorted_seen bytes_cmp string_bytes (λ (p : Path). let u : Unit {0} = tt in u) es up));
-  as_many = as_long es;
-  all = ap finite.from_entries (zipped es);
-}
-
-pub listed_as : (es : Entries) → AreOrdered es → (names : List (List ℕ)) (paths : List Path) → names ≡ map name es → paths ≡ map path es → IsListed names paths (outputs_view es)
-listed_as es up names paths n p = subst (λ (l : List (List ℕ)). IsListed l paths (outputs_view es)) (sym n) (subst (λ (l : List Path). IsListed (map name es) l (outputs_view es)) (sym p) (listed_is es up))
-
 -- ---- what was found
 
 module _ (dir : List ℕ) (p : Path) (tree : Tree) where
   abbrev Found : Option (BTreeMap (String Global) Path) → Type 0
-  Found o = MatchOption o (¬ IfDerivation dir p tree) (λ map. IfDerivation dir p tree × (outputs_view map.entries ≡ outputs_in dir p tree))
+  Found o =
+      MatchOption o (¬ IfDerivation dir p tree)
+      (λ map. IfDerivation dir p tree × (outputs_view map.entries ≡ outputs_in dir p tree))
 
-  pub found_some : (o : Option (BTreeMap (String Global) Path)) (found : BTreeMap (String Global) Path) → o ≡ Some found → Found o → IfDerivation dir p tree × (outputs_view found.entries ≡ outputs_in dir p tree)
+  pub found_some : (o : Option (BTreeMap (String Global) Path)) (found : BTreeMap (String Global) Path) → o ≡ Some found
+      → Found o → IfDerivation dir p tree × (outputs_view found.entries ≡ outputs_in dir p tree)
   found_some o found e h = subst Found e h
 
   pub found_none : (o : Option (BTreeMap (String Global) Path)) → o ≡ None → Found o → ¬ IfDerivation dir p tree

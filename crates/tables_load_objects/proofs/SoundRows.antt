@@ -1,5 +1,6 @@
 -- What is tested of an object is what the world says of sound rows.
-use Rattle.std.proofs.Common.{◌≡◌, ℕ, List, Bool, true, false, not, ◌≤◌, length, Some, None, Option, refl, sym, ap, subst, ◌∙◌, IsTrue}
+use Rattle.std.proofs.Common.{◌≡◌, ℕ, List, Bool, true, false, not, ◌≤◌, length, Some, None, Option, refl, sym, ap}
+use Rattle.std.proofs.Common.{subst, ◌∙◌, IsTrue}
 use Rattle.std.specs.Prelude.{◌↔◌, IsFalse, IsSome}
 use Rattle.std.specs.List.{list_any}
 use Rattle.std.specs.Str.{bytes_eq}
@@ -17,7 +18,7 @@ use Rattle.tables_world.specs.Rows.{address_in}
 use Rattle.tables_world.specs.Parts.{IsSoundRow}
 use Rattle.tables_outline.proofs.Ordered.{mapped_length}
 use Rattle.tables_load_objects.specs.Tested.{is_base_if_any, is_address_if_any, fits_address, IsSoundAt}
-use Rattle.tables_load_objects.proofs.Lists.{both_so, and_so}
+use Rattle.tables_load_objects.proofs.Truths.{both_so, and_so}
 use Rattle.tables_load_objects.proofs.Paths.{each_base, keys_are_paths}
 
 not_true : (b : Bool) → not b ≡ true → b ≡ false
@@ -40,10 +41,12 @@ some_of_base : (o : Option Path) → ((d : Path) → o ≡ Some d → is_base_na
 some_of_base None h = refl
 some_of_base (Some d) h = h d refl
 
-address_of_some : (o : Option (List ℕ)) → is_address_if_any o ≡ true → (text : List ℕ) → o ≡ Some text → IsSome (address_of text)
+address_of_some : (o : Option (List ℕ)) → is_address_if_any o ≡ true → (text : List ℕ) → o ≡ Some text
+    → IsSome (address_of text)
 address_of_some o h text e = subst (λ (x : Option (List ℕ)). is_address_if_any x ≡ true) e h
 
-some_of_address : (o : Option (List ℕ)) → ((text : List ℕ) → o ≡ Some text → IsSome (address_of text)) → is_address_if_any o ≡ true
+some_of_address : (o : Option (List ℕ)) → ((text : List ℕ) → o ≡ Some text → IsSome (address_of text))
+    → is_address_if_any o ≡ true
 some_of_address None h = refl
 some_of_address (Some text) h = h text refl
 
@@ -51,21 +54,31 @@ module _ (dir : List ℕ) (p : Path) (nar : List ℕ) (refs : Set bytes_cmp) whe
   abbrev keys : List Path
   keys = finite.keys refs
 
-  fits_other : (o : Option ContentAddress) → fits_address o dir p keys nar ≡ true → (a : ContentAddress) → o ≡ Some a → IsFalse (finite.contains_key refs p)
+  fits_other : (o : Option ContentAddress) → fits_address o dir p keys nar ≡ true → (a : ContentAddress) → o ≡ Some a
+      → IsFalse (finite.contains_key refs p)
   fits_other o h a e =
-      let parts = both_so (not (list_any (bytes_eq p) keys)) (verifies a dir p keys nar) (subst (λ (x : Option ContentAddress). fits_address x dir p keys nar ≡ true) e h) in
+      let parts =
+      both_so (not (list_any (bytes_eq p) keys)) (verifies a dir p keys nar)
+      (subst (λ (x : Option ContentAddress). fits_address x dir p keys nar ≡ true) e h) in
       finite.contains_key-keys refs p ∙ sym (any_same p keys) ∙ not_true (list_any (bytes_eq p) keys) parts.0
 
-  fits_verified : (o : Option ContentAddress) → fits_address o dir p keys nar ≡ true → (a : ContentAddress) → o ≡ Some a → IsTrue (verifies a dir p keys nar)
-  fits_verified o h a e = (both_so (not (list_any (bytes_eq p) keys)) (verifies a dir p keys nar) (subst (λ (x : Option ContentAddress). fits_address x dir p keys nar ≡ true) e h)).1
+  fits_verified : (o : Option ContentAddress) → fits_address o dir p keys nar ≡ true → (a : ContentAddress) → o ≡ Some a
+      → IsTrue (verifies a dir p keys nar)
+  fits_verified o h a e =
+      (both_so (not (list_any (bytes_eq p) keys)) (verifies a dir p keys nar)
+      (subst (λ (x : Option ContentAddress). fits_address x dir p keys nar ≡ true) e h)).1
 
-  fits_both : (o : Option ContentAddress) → ((a : ContentAddress) → o ≡ Some a → IsFalse (finite.contains_key refs p)) → ((a : ContentAddress) → o ≡ Some a → IsTrue (verifies a dir p keys nar)) → fits_address o dir p keys nar ≡ true
+  fits_both : (o : Option ContentAddress) → ((a : ContentAddress) → o ≡ Some a → IsFalse (finite.contains_key refs p))
+      → ((a : ContentAddress) → o ≡ Some a → IsTrue (verifies a dir p keys nar)) → fits_address o dir p keys nar ≡ true
   fits_both None other verified = refl
   fits_both (Some a) other verified = and_so (not (list_any (bytes_eq p) keys)) (verifies a dir p keys nar)
-      (not_false (list_any (bytes_eq p) keys) (any_same p keys ∙ sym (finite.contains_key-keys refs p) ∙ other a refl)) (verified a refl)
+      (not_false (list_any (bytes_eq p) keys) (any_same p keys ∙ sym (finite.contains_key-keys refs p) ∙ other a refl))
+      (verified a refl)
 
-module _ (dir : List ℕ) (p : Path) (o : Stored) (nar : List ℕ) (refs : Set bytes_cmp) (outputs : finite.FinMap bytes_cmp Path) where
-  pub row_of_tested : IsSoundAt dir p (record o { nar = nar }) (finite.keys refs) (finite.entries outputs) → IsSoundRow dir p o nar refs outputs
+module _ (dir : List ℕ) (p : Path) (o : Stored) (nar : List ℕ) (refs : Set bytes_cmp)
+    (outputs : finite.FinMap bytes_cmp Path) where
+  pub row_of_tested : IsSoundAt dir p (record o { nar = nar }) (finite.keys refs) (finite.entries outputs)
+      → IsSoundRow dir p o nar refs outputs
   row_of_tested h = record {
     path = h.path;
     hash = h.archive.digest;
@@ -81,7 +94,8 @@ module _ (dir : List ℕ) (p : Path) (o : Stored) (nar : List ℕ) (refs : Set b
     outputs_are = finite.same_entries_map outputs (outputs_at dir p nar) h.archive.outputs_are;
   }
 
-  pub tested_of_row : IsSoundRow dir p o nar refs outputs → IsSoundAt dir p (record o { nar = nar }) (finite.keys refs) (finite.entries outputs)
+  pub tested_of_row : IsSoundRow dir p o nar refs outputs
+      → IsSoundAt dir p (record o { nar = nar }) (finite.keys refs) (finite.entries outputs)
   tested_of_row h = record {
     path = h.path;
     deriver = some_of_base o.deriver h.deriver;
@@ -96,5 +110,6 @@ module _ (dir : List ℕ) (p : Path) (o : Stored) (nar : List ℕ) (refs : Set b
     };
   }
 
-  pub tested_is_row : IsSoundAt dir p (record o { nar = nar }) (finite.keys refs) (finite.entries outputs) ↔ IsSoundRow dir p o nar refs outputs
+  pub tested_is_row : IsSoundAt dir p (record o { nar = nar }) (finite.keys refs) (finite.entries outputs)
+      ↔ IsSoundRow dir p o nar refs outputs
   tested_is_row = (row_of_tested, tested_of_row)

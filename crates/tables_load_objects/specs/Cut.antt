@@ -1,5 +1,6 @@
 -- The pieces of an archive, as rows list them, and the test of how it is cut.
-use Rattle.std.specs.Prelude.{ℕ, ◌+◌, ◌==◌, nat_le, ℤ, pos, negsuc, Bool, false, ◌&&◌, List, [], ◌∷◌, ◌++◌, map, length, not}
+use Rattle.std.specs.Prelude.{ℕ, ◌+◌, ◌==◌, nat_le, ℤ, pos, negsuc, Bool, false, ◌&&◌, List, [], ◌∷◌, ◌++◌, map, length}
+use Rattle.std.specs.Prelude.{not}
 use Rattle.tables_sql.specs.Contents.{Stored}
 use Rattle.tables_rows.specs.declared.pieces.Piece.{Piece}
 use Rattle.tables_world.specs.Pieces.{joined}

@@ -1,6 +1,7 @@
 -- What is tested of the rows of one object.
-use Rattle.std.specs.Prelude.{◌≡◌, ℕ, ◌≤◌, Bool, true, false, not, ◌&&◌, if◌then◌else◌, Ok, List, [], ◌∷◌, map, length, Option, Some, None, is_some, IsTrue, IsOk, string_bytes}
-use Rattle.std.specs.List.{list_any, zip}
+use Rattle.std.specs.Prelude.{◌≡◌, ℕ, ◌≤◌, Bool, true, false, not, ◌&&◌, if◌then◌else◌, Ok, List, [], ◌∷◌, map, length}
+use Rattle.std.specs.Prelude.{Option, Some, None, is_some, IsTrue, IsOk, string_bytes}
+use Rattle.std.specs.List.{list_any}
 use Rattle.std.specs.Str.{bytes_eq}
 use Rattle.std.specs.Ordering.{is_lt}
 use Rattle.std.specs.FinMap as finite
@@ -19,7 +20,7 @@ use Rattle.model.specs.World.{Path}
 use Rattle.model.specs.Objects.{most_references, outputs_at, tree_outputs}
 use Rattle.model.specs.Sound.{IsDerivation}
 use Rattle.tables_world.specs.Rows.{address_in}
-use Rattle.tables_outline.specs.Outline.{Outlined, rise}
+use Rattle.tables_outline.specs.Outline.{Outlined}
 
 -- ---- texts
 
@@ -80,12 +81,6 @@ same_outputs [] [] = true
 same_outputs [] (f ∷ fs) = false
 same_outputs (e ∷ es) [] = false
 same_outputs (e ∷ es) (f ∷ fs) = (bytes_eq e.0 f.0 && bytes_eq e.1 f.1) && same_outputs es fs
-
--- names in order, each with its path, are those of a map
-pub record IsListed (names : List (List ℕ)) (paths : List Path) (m : finite.FinMap bytes_cmp Path) : Type 0 where
-  pub in_order : IsTrue (rise names)
-  pub as_many : length paths ≡ length names
-  pub all : finite.from_entries (zip names paths) ≡ m
 
 -- an address, if there is one, is that of the object, which doesn't refer to itself then
 abbrev pub fits_address : Option ContentAddress → List ℕ → Path → List Path → List ℕ → Bool

@@ -3,10 +3,10 @@
 
 mod address;
 mod archive_bytes;
+mod each_object;
 mod groups;
 mod joined;
 mod load;
-mod loading_each;
 mod members;
 mod object_rows;
 mod objects;

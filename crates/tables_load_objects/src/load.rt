@@ -5,8 +5,8 @@ ghost use Rattle.tables_outline.specs.Outline.{outline_of};
 ghost use Rattle.tables_load_objects.specs.Loaded.{AreSoundInPieces};
 ghost use Rattle.tables_load_objects.specs.Loading.{MayReadBy, Loads};
 
+use crate::each_object::load_all;
 use crate::joined::{are_joined, read_joined};
-use crate::loading_each::load_all;
 use paths::StoreDir;
 use sqlite::{Alter, Connection};
 use std::alloc::Global;

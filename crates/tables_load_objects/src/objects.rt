@@ -10,18 +10,19 @@ ghost use Rattle.nar.specs.Archive.{IsArchive};
 ghost use Rattle.nar.specs.Tree.{Tree};
 ghost use Rattle.model.specs.Objects.{outputs_at};
 ghost use Rattle.tables_outline.specs.Outline.{rise};
+ghost use Rattle.tables_outline.specs.Outputs.{IsListed};
 ghost use Rattle.tables_load_objects.specs.Cut.{parts_of, whole_of};
-ghost use Rattle.tables_load_objects.specs.Tested.{IsListed, IsRecorded, IsSoundArchive, IsSoundAt, kept_of, named_of, targets_of};
+ghost use Rattle.tables_load_objects.specs.Tested.{IsRecorded, IsSoundArchive, IsSoundAt, kept_of, named_of, targets_of};
 
 use crate::address::{are_same, fits_address};
 use crate::archive_bytes::ArchiveBytes;
-use crate::outputs::{Listed, recorded};
+use crate::outputs::recorded;
 use crate::references::paths_of;
 use crate::texts::{address_of, deriver_of, path_of};
 use paths::{Ca, StoreDir, StorePath};
 use std::alloc::{AllocError, Global};
 use streams::MAX_REFERENCES;
-use tables_outline::Summary;
+use tables_outline::{Outputs, Summary};
 use tables_rows::objects::Object;
 use tables_rows::outputs::Output;
 use tables_rows::pieces::Piece;
@@ -34,7 +35,7 @@ fn sound_outputs(
     path: &StorePath,
     archive: &ArchiveBytes,
     rows: &[Output],
-) -> Result<Option<Listed>, AllocError>
+) -> Result<Option<Outputs>, AllocError>
     requires { (t : Tree) × IsArchive t archive.now }
     ensures { IfOk result (λ o. MatchOption o
         (¬ (IsRecorded dir.now path.now archive.now
@@ -53,7 +54,7 @@ fn summary_of(
     refs: Vec<StorePath>,
     deriver: Option<StorePath>,
     ca: Option<Ca>,
-    outputs: Listed,
+    outputs: Outputs,
 ) -> Result<Summary, AllocError>
     requires refs { IsTrue (rise refs.items) }
     requires names { IsTrue (rise (map string_bytes outputs.names.items)) }
@@ -68,7 +69,7 @@ fn summary_of(
           outputs = finite.from_entries (zip (map string_bytes outputs.names.items) outputs.paths.items);
         }) }
 {
-    let Listed { names, paths } = outputs;
+    let Outputs { names, paths } = outputs;
     let size = archive.arrived.pieces.len();
     Summary::new(
         alloc,

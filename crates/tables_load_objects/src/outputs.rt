@@ -5,23 +5,17 @@ ghost use Rattle.std.specs.FinMap as finite;
 ghost use Rattle.std.specs.Str.{bytes_eq};
 ghost use Rattle.nar.specs.Tree.{Tree};
 ghost use Rattle.nar.specs.Outcome.{outcome_of};
-ghost use Rattle.intake.specs.Recorded.{outputs_view};
 ghost use Rattle.drv.specs.View.{pairs};
-ghost use Rattle.tables_load_objects.specs.Tested.{IfDerivation, IsListed, outputs_in, same_outputs, named_of};
+ghost use Rattle.tables_outline.specs.Outputs.{IsListed};
+ghost use Rattle.tables_load_objects.specs.Tested.{IfDerivation, outputs_in, same_outputs, named_of};
 
 use crate::recorded::found_in;
 use paths::{StoreDir, StorePath};
 use std::alloc::{AllocError, Global};
 use std::collections::BTreeMap;
 use streams::Pieces;
+use tables_outline::Outputs;
 use tables_rows::outputs::Output;
-
-/// Outputs in the order of their names, each name with the path at the same place.
-#[derive(Drop)]
-pub(crate) struct Listed {
-    pub(crate) names: Vec<String>,
-    pub(crate) paths: Vec<StorePath>,
-}
 
 fn is_same(row: &Output, name: &str, path: &str) -> bool
     ensures { result
@@ -46,19 +40,6 @@ fn are_recorded(rows: &[Output], found: &BTreeMap<String, StorePath>) -> bool
     left.next().is_none()
 }
 
-/// Outputs in order, each list by itself.
-fn unzipped(alloc: Global, found: BTreeMap<String, StorePath>) -> Result<Listed, AllocError>
-    ensures { IfOk result (λ l. IsListed (map string_bytes l.names.items) l.paths.items (outputs_view found.entries)) }
-{
-    let mut names = Vec::new(alloc);
-    let mut paths = Vec::new(alloc);
-    'found: for (name, path) in found {
-        names.push(name)?;
-        paths.push(path)?;
-    }
-    Ok(Listed { names, paths })
-}
-
 /// The outputs of an object, where its rows have exactly those that its tree records.
 pub(crate) fn recorded(
     alloc: Global,
@@ -66,7 +47,7 @@ pub(crate) fn recorded(
     path: &StorePath,
     archive: &Pieces,
     rows: &[Output],
-) -> Result<Option<Listed>, AllocError>
+) -> Result<Option<Outputs>, AllocError>
     ensures { (t : Tree) → outcome_of archive.now ≡ Ok t → IfOk result (λ o. MatchOption o
         (¬ (IfDerivation dir.now path.now t × (named_of rows.now ≡ finite.entries (outputs_in dir.now path.now t))))
         (λ l. IfDerivation dir.now path.now t × (named_of rows.now ≡ finite.entries (outputs_in dir.now path.now t))
@@ -80,5 +61,6 @@ pub(crate) fn recorded(
     if !are_recorded(rows, &found) {
         return Ok(None);
     }
-    Ok(Some(unzipped(alloc, found)?))
+    let outputs = Outputs::of_map(alloc, found)?;
+    Ok(Some(outputs))
 }

@@ -20,7 +20,8 @@ module _ (objects : Objects) (c : Contents) where
 
   -- by their tests
   pub roots_decide : (ok : Bool) → ok ≡ are_roots objects c → Reported ok
-  roots_decide ok is are = (λ h. (roots_sound objects c are).0 (sym is ∙ h), λ sound. is ∙ (roots_sound objects c are).1 sound)
+  roots_decide ok is are =
+      (λ h. (roots_sound objects c are).0 (sym is ∙ h), λ sound. is ∙ (roots_sound objects c are).1 sound)
 
   pub all_unsound : (ok : Bool) → ok ≡ false → Reported ok → ToldAll false
   all_unsound ok failed reported are = (
@@ -36,12 +37,14 @@ module _ (objects : Objects) (c : Contents) where
   )
 
   -- the sessions decide
-  pub sessions_decide : (ok : Bool) → ok ≡ true → Reported ok → (last : Bool) → last ≡ are_temporary objects c → ToldAll last
+  pub sessions_decide : (ok : Bool) → ok ≡ true → Reported ok → (last : Bool) → last ≡ are_temporary objects c
+      → ToldAll last
   sessions_decide ok passed reported last is are = (
     λ h. record { roots = (reported are).0 passed; sessions = (sessions_sound objects c are).0 (sym is ∙ h) },
     λ all. is ∙ (sessions_sound objects c are).1 all.sessions,
   )
 
-  pub sessions_reported : (r : Result Bool Failed) (ok : Bool) → ok ≡ true → Reported ok → (y : Bool) → y ≡ are_temporary objects c → IfOk r (λ last. last ≡ y) → IfOk r ToldAll
+  pub sessions_reported : (r : Result Bool Failed) (ok : Bool) → ok ≡ true → Reported ok → (y : Bool)
+      → y ≡ are_temporary objects c → IfOk r (λ last. last ≡ y) → IfOk r ToldAll
   sessions_reported (Ok last) ok passed reported y same h = sessions_decide ok passed reported last (h ∙ same)
   sessions_reported (Err e) ok passed reported y same h = tt

@@ -26,7 +26,8 @@ module _ {K X : Type 0} {R : K → K → Ordering} (o : IsTotalOrder R) (alike :
       let parts = both_T (is_lt (R x e.0)) (below_all R x es) h in
       ap (λ b. cond b (Some e.1) (find_entry R x es)) (lesser (R x e.0) parts.0) ∙ below_none x es parts.1
 
-  get-put_all : (es : List (K × X)) (m : finite.FinMap R X) → T (is_sorted R es) → (q : K) → finite.get (put_all es m) q ≡ either (find_entry R q es) (finite.get m q)
+  get-put_all : (es : List (K × X)) (m : finite.FinMap R X) → T (is_sorted R es) → (q : K)
+      → finite.get (put_all es m) q ≡ either (find_entry R q es) (finite.get m q)
   get-put_all [] m h q = refl
   get-put_all (e ∷ es) m h q =
       let parts = both_T (below_all R e.0 es) (is_sorted R es) h in
@@ -35,7 +36,8 @@ module _ {K X : Type 0} {R : K → K → Ordering} (o : IsTotalOrder R) (alike :
       ∙ by (eq_by_cmp R q e.0) refl (below_none e.0 es parts.0)
     where
       by : (b : Bool) → eq_by_cmp R q e.0 ≡ b → find_entry R e.0 es ≡ None
-          → either (find_entry R q es) (cond b (Some e.1) (finite.get m q)) ≡ either (cond b (Some e.1) (find_entry R q es)) (finite.get m q)
+          → either (find_entry R q es) (cond b (Some e.1) (finite.get m q))
+          ≡ either (cond b (Some e.1) (find_entry R q es)) (finite.get m q)
       by false t none = refl
       by true t none = ap (λ g. either g (Some e.1)) (ap (λ x. find_entry R x es) (tied_is alike q e.0 t) ∙ none)
 
@@ -46,5 +48,6 @@ module _ {K X : Type 0} {R : K → K → Ordering} (o : IsTotalOrder R) (alike :
   -- all entries of a map make it
   pub all_put_again : (m : finite.FinMap R X) → put_all (finite.entries m) finite.empty ≡ m
   all_put_again m = finite.same_map o alike _ _ (λ q.
-      get-put_all (finite.entries m) finite.empty (finite.entries_sorted m) q ∙ ap (either (find_entry R q (finite.entries m))) (finite.get-empty R q)
+      get-put_all (finite.entries m) finite.empty (finite.entries_sorted m) q
+      ∙ ap (either (find_entry R q (finite.entries m))) (finite.get-empty R q)
       ∙ or_none (find_entry R q (finite.entries m)) ∙ sym (finite.get-entries m q))

@@ -12,7 +12,7 @@ use Rattle.tables_world.specs.Rows.{Rows, number_in}
 use Rattle.tables_world.specs.Parts.{IsSoundSession, AreSoundRoots}
 use Rattle.tables_world.specs.Worlds.{world_in}
 use Rattle.tables_outline.specs.Outline.{Outlined, OutlineValue}
-use Rattle.tables_outline.specs.Filling.{has_currents}
+use Rattle.tables_outline.specs.LoadedEntries.{has_currents}
 
 -- each row passes with the outline with all rows before it
 abbrev pub all_pass : {X : Type 0} → (X → OutlineValue → Bool) → (X → OutlineValue → OutlineValue) → List X

@@ -17,7 +17,7 @@ impl RootTable for Generation {
     ghost use Rattle.tables_rows.specs.Entries.{generation_in};
     ghost use Rattle.tables_world.specs.Rows.{number_in};
     ghost use Rattle.tables_world.specs.Worlds.{world_in};
-    ghost use Rattle.tables_outline.specs.Filling.{with_generation};
+    ghost use Rattle.tables_outline.specs.LoadedEntries.{with_generation};
     ghost use Rattle.tables_load_roots.specs.Loaded.{is_generation, bare_profiles};
 
     ghost passes = { λ r o. is_generation o.objects o.profiles (generation_in r) };

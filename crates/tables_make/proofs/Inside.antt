@@ -14,7 +14,8 @@ use Rattle.tables_make.specs.Frames.{KeepsInside}
 use Rattle.tables_make.proofs.CallsInTurn.{both_keep_commit}
 
 -- a write commits nothing, whether it succeeds or fails
-write_keeps : {A E : Type 0} (a b : State) (f : Contents → Contents) (r : Result A E) → OnOk r (Changes a b f) → OnErr r (KeepsCommit a b) → KeepsCommit a b
+write_keeps : {A E : Type 0} (a b : State) (f : Contents → Contents) (r : Result A E) → OnOk r (Changes a b f)
+    → OnErr r (KeepsCommit a b) → KeepsCommit a b
 write_keeps a b f (Ok v) done failed = record { was_open = λ up. done.was_open; committed = λ up. done.committed }
 write_keeps a b f (Err e) done failed = failed
 
@@ -28,5 +29,11 @@ module _ {S : Type 0} (g : Ghosts S) (a b c : MutBor (Held S)) where
   }
 
   -- the second was a write of rows
-  pub write_after : {T : Type 0} (f : Contents → Contents) (r : Result T Failed) → KeepsInside g a b → StaysInside g b c r → Makes g b c r f → KeepsInside g a c
-  write_after f r h k done = both_keep h (record { same_reference = k.same_reference; kept = λ clean. write_keeps (state g b.now) (state g c.now) f r (done clean) (k.failed clean); survives = k.survives })
+  pub write_after : {T : Type 0} (f : Contents → Contents) (r : Result T Failed) → KeepsInside g a b
+      → StaysInside g b c r → Makes g b c r f → KeepsInside g a c
+  write_after f r h k done =
+      both_keep h (record {
+        same_reference = k.same_reference;
+        kept = λ clean. write_keeps (state g b.now) (state g c.now) f r (done clean) (k.failed clean);
+        survives = k.survives;
+      })

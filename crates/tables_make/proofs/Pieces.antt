@@ -34,11 +34,14 @@ none_below : (n : ℤ) (es : List (ℤ × List ℕ)) → T (below_all int_cmp n 
 none_below n [] h = refl
 none_below n (e ∷ es) h =
     let parts = both_T (is_lt (int_cmp n e.0)) (below_all int_cmp n es) h in
-    ap (λ b. cond b (Some e.1) (find_entry int_cmp n es)) (less_is_distinct (int_cmp n e.0) parts.0) ∙ none_below n es parts.1
+    ap (λ b. cond b (Some e.1) (find_entry int_cmp n es)) (less_is_distinct (int_cmp n e.0) parts.0)
+    ∙ none_below n es parts.1
 
 -- one piece, before those that follow
-joins : (q : Path) (n : ℤ) (e : ℤ × List ℕ) (es : List (ℤ × List ℕ)) (a b : Bool) → eq_by_cmp int_cmp n e.0 ≡ b → T (below_all int_cmp e.0 es) → (g : Option (List ℕ))
-    → cond a (option_or (find_entry int_cmp n es) (cond (a && b) (Some e.1) g)) (cond (a && b) (Some e.1) g) ≡ cond a (option_or (cond b (Some e.1) (find_entry int_cmp n es)) g) g
+joins : (q : Path) (n : ℤ) (e : ℤ × List ℕ) (es : List (ℤ × List ℕ)) (a b : Bool) → eq_by_cmp int_cmp n e.0 ≡ b
+    → T (below_all int_cmp e.0 es) → (g : Option (List ℕ))
+    → cond a (option_or (find_entry int_cmp n es) (cond (a && b) (Some e.1) g)) (cond (a && b) (Some e.1) g)
+    ≡ cond a (option_or (cond b (Some e.1) (find_entry int_cmp n es)) g) g
 joins q n e es true true is below g =
     let same : n ≡ e.0 = finite.int_cmp-IsAntisymmetric n e.0 ((Equal-is (int_cmp n e.0)).0 is) in
     ap (λ o. option_or o (Some e.1)) (ap (λ k. find_entry int_cmp k es) same ∙ none_below e.0 es below)
@@ -50,8 +53,11 @@ none_put true g = refl
 none_put false g = refl
 
 -- the pieces of a path are those that were put, before those that there were
-pub get-put_pieces : (p q : Path) (n : ℤ) (es : List (ℤ × List ℕ)) (m : finite.FinMap numbered_cmp (List ℕ)) → T (is_sorted int_cmp es)
-    → finite.get (put_pieces p es m) (q, n) ≡ cond (eq_by_cmp bytes_cmp q p) (option_or (find_entry int_cmp n es) (finite.get m (q, n))) (finite.get m (q, n))
+pub get-put_pieces : (p q : Path) (n : ℤ) (es : List (ℤ × List ℕ)) (m : finite.FinMap numbered_cmp (List ℕ))
+    → T (is_sorted int_cmp es)
+    → finite.get (put_pieces p es m) (q, n)
+    ≡ cond (eq_by_cmp bytes_cmp q p) (option_or (find_entry int_cmp n es) (finite.get m (q, n)))
+    (finite.get m (q, n))
 get-put_pieces p q n [] m sorted = none_put (eq_by_cmp bytes_cmp q p) (finite.get m (q, n))
 get-put_pieces p q n (e ∷ es) m sorted =
     let parts = both_T (below_all int_cmp e.0 es) (is_sorted int_cmp es) sorted in
@@ -59,7 +65,8 @@ get-put_pieces p q n (e ∷ es) m sorted =
     let b : Bool = eq_by_cmp int_cmp n e.0 in
     let g : Option (List ℕ) = finite.get m (q, n) in
     let put : finite.get (finite.insert m (p, e.0) e.1) (q, n) ≡ cond (a && b) (Some e.1) g =
-    finite.get-insert numbered_total m (p, e.0) e.1 (q, n) ∙ ap (λ t. cond t (Some e.1) g) (tied_both (bytes_cmp q p) (int_cmp n e.0)) in
+    finite.get-insert numbered_total m (p, e.0) e.1 (q, n)
+    ∙ ap (λ t. cond t (Some e.1) g) (tied_both (bytes_cmp q p) (int_cmp n e.0)) in
     get-put_pieces p q n es (finite.insert m (p, e.0) e.1) parts.1
     ∙ ap (λ o. cond a (option_or (find_entry int_cmp n es) o) o) put
     ∙ joins q n e es a b refl parts.0 g

@@ -3,13 +3,13 @@ use Rattle.std.specs.Prelude.{◌≡◌, ℕ, false, List, Result, IsTrue, IfErr
 use Rattle.sqlite_trees.specs.declared.store.Store.{Ghosts}
 use Rattle.sqlite.specs.State.{State, HasCleanDisk, Survives}
 use Rattle.sqlite.specs.Held.{Held, state}
-use Rattle.tables_schema.specs.Finding.{HasNone}
+use Rattle.tables_schema.specs.Presence.{HasNone}
 use Rattle.tables_schema.specs.declared.schema.Schema.{Schema}
 use Rattle.tables_sql.specs.Contents.{Bytes, contents_of}
 use Rattle.tables_sql.specs.Calls.{Remains, IsDurable, IsReady, KeepsShown}
 use Rattle.tables_sql.specs.declared.failure.Failed.{Failed}
 use Rattle.tables_world.specs.Worlds.{IsSoundBy}
-use Rattle.tables_make.specs.Making.{FailsToMake}
+use Rattle.tables_make.specs.NewTables.{FailsToMake}
 use Rattle.tables_make.specs.Migrated.{HasEarlier, IsMigrated, LeavesMigrated}
 use Rattle.tables_make.specs.Migrating.{MigratedRows, FailsToPutBy}
 use Rattle.tables_rows.specs.Reasons.{Rows}

@@ -9,7 +9,7 @@ use Rattle.tables_sql.specs.Contents.{contents_of}
 use Rattle.tables_sql.specs.Frozen.{SparesFrozen}
 use Rattle.tables_sql.specs.Rowids.{NumbersOn}
 use Rattle.tables_sql.specs.Calls.{IsStoreDatabase, HasFurther, KeepsFurther, KeepsForeignRows}
-use Rattle.tables_make.specs.Making.{all_created}
+use Rattle.tables_make.specs.NewTables.{all_created}
 
 -- a database with these tables in addition to what it has
 abbrev pub grown : List Table → Database → Database

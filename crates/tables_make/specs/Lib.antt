@@ -1,7 +1,7 @@
 pub use Rattle.tables_schema.specs.Forms
 pub use Rattle.tables_schema.specs.StoreTables
 pub use Rattle.tables_schema.specs.Intact
-pub use Rattle.tables_schema.specs.Finding
+pub use Rattle.tables_schema.specs.Presence
 pub use Rattle.tables_sql.specs.Contents
 pub use Rattle.tables_sql.specs.Texts
 pub use Rattle.tables_sql.specs.Frozen
@@ -12,6 +12,6 @@ pub mod Commits
 pub mod Cutting
 pub mod Frames
 pub mod Further
-pub mod Making
+pub mod NewTables
 pub mod Migrated
 pub mod Migrating

@@ -4,11 +4,11 @@ use Rattle.sqlite_schema.specs.declared.schema.Table.{Table}
 use Rattle.sqlite.specs.Effect.{Database}
 use Rattle.sqlite.specs.State.{State}
 use Rattle.tables_schema.specs.Forms.{piece, temp_root}
-use Rattle.tables_schema.specs.Finding.{HasFirst, HasSecond}
+use Rattle.tables_schema.specs.Presence.{HasFirst, HasSecond}
 use Rattle.tables_sql.specs.Contents.{Contents, contents_of}
 use Rattle.tables_sql.specs.Frozen.{SparesFrozen}
 use Rattle.tables_sql.specs.Calls.{HasFurther, IsReady, IsWhole, KeepsForeignRows, Remains, Leaves}
-use Rattle.tables_make.specs.Making.{all_created}
+use Rattle.tables_make.specs.NewTables.{all_created}
 use Rattle.tables_make.specs.Further.{grown}
 use Rattle.tables_world.specs.Rows.{Rows, migrated}
 use Rattle.tables_schema.specs.declared.schema.Schema.{Schema}

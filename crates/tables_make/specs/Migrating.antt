@@ -13,7 +13,7 @@ use Rattle.model.specs.World.{Path}
 use Rattle.tables_world.specs.Pieces.{piece_size, row_part, further_pieces}
 use Rattle.tables_rows.specs.ObjectRows.{ObjectRow, PieceRow}
 use Rattle.tables_rows.specs.Reasons.{Rows, Both, IsRow, NoRow, RowsOf, RowsIfAny, IsReason}
-use Rattle.tables_make.specs.Making.{FailsToMakeThese}
+use Rattle.tables_make.specs.NewTables.{FailsToMakeThese}
 use Rattle.tables_make.specs.Further.{grown}
 use Rattle.tables_make.specs.Migrated.{missing_tables}
 

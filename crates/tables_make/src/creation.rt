@@ -6,7 +6,7 @@ ghost use Rattle.sqlite.specs.Held.{state};
 ghost use Rattle.tables_schema.specs.StoreTables.{form};
 ghost use Rattle.tables_sql.specs.declared.failure.Failed.{Failed};
 ghost use Rattle.tables_sql.specs.Failures.{IsWriteFailure, without_size};
-ghost use Rattle.tables_make.specs.Making.{making_text, have_distinct_names, IsMaking, Makes, FailsToMakeThese};
+ghost use Rattle.tables_make.specs.NewTables.{making_text, have_distinct_names, IsMaking, Makes, FailsToMakeThese};
 ghost use Rattle.tables_make.specs.Frames.{StepsInside};
 
 use sqlite::{Alter, Transaction};

@@ -2,8 +2,8 @@
 
 ghost use Rattle.std.specs.Prelude.{[], ◌∷◌};
 ghost use Rattle.tables_schema.specs.Forms.{piece, temp_root};
-ghost use Rattle.tables_schema.specs.Finding.{HasFirst, HasSecond};
-ghost use Rattle.tables_make.specs.Making.{FailsToMakeThese};
+ghost use Rattle.tables_schema.specs.Presence.{HasFirst, HasSecond};
+ghost use Rattle.tables_make.specs.NewTables.{FailsToMakeThese};
 ghost use Rattle.tables_make.specs.Further.{MakesFurther};
 ghost use Rattle.tables_rows.specs.Frames.{IsInsideWith};
 ghost use Rattle.tables_make.specs.Frames.{StepsInside};

@@ -4,8 +4,7 @@
 mod archive_cuts;
 mod creation;
 pub mod further;
-pub mod making;
 mod migration;
-mod schema_setting;
+pub mod new_tables;
 
 pub use migration::{from_first, from_second};

@@ -1,5 +1,4 @@
 //! A migration from each of the two earlier schemas.
-
 ghost use Rattle.std.specs.Prelude.{map, string_bytes};
 ghost use Rattle.sqlite.specs.Held.{state};
 ghost use Rattle.tables_sql.specs.Contents.{contents_of};
@@ -8,17 +7,17 @@ ghost use Rattle.tables_schema.specs.declared.schema.Schema.TheVariants.{V1, V2}
 ghost use Rattle.tables_make.specs.Further.{grown};
 ghost use Rattle.tables_make.specs.Cutting.{cut_objects, renumbered};
 ghost use Rattle.tables_make.specs.Migrated.{missing_tables, HasEarlier, Grows, IsGrown};
-ghost use Rattle.tables_make.specs.Migrating.{FailsToMigrate, FailsToPutBy, IsUncut, RewrittenRows};
-ghost use Rattle.tables_rows.specs.Frames.{MayCut, IsInsideWith, Writes};
+ghost use Rattle.tables_make.specs.Migrating.{FailsToMigrate, FailsToPutBy, IsUncut, RewrittenRows, SettingRow};
+ghost use Rattle.tables_rows.specs.Frames.{MayCut, IsInsideWith, Writes, IsInside};
 ghost use Rattle.tables_make.specs.Frames.{StepsInside};
 ghost use Rattle.tables_make.specs.Commits.{CommitsMigration, MayMigrate, Migrates};
 
 use crate::archive_cuts::cut_all;
 use crate::further;
-use crate::schema_setting::renumber;
 use sqlite::{Alter, Connection, Transaction};
 use std::alloc::Global;
-use tables_rows::{Find, objects};
+use tables_rows::{Delete, Find, Insert, meta, objects};
+use tables_schema::Schema;
 use tables_sql::failure::Failed;
 use tables_sql::transaction;
 
@@ -110,4 +109,17 @@ pub fn from_second<S: Alter>(conn: &mut Connection<S>) -> Result<(), Failed>
     let mut tx = transaction::begin(conn);
     write_second(&mut tx)?;
     transaction::commit(tx)
+}
+
+/// Makes the setting of the schema that of the third, whatever it was.
+pub(crate) fn renumber<S: Alter>(tx: &mut Transaction<'_, S>) -> Result<(), Failed>
+    requires { IsInside S.Store tx.old.conn }
+    ensures { Writes S.Store tx.old.conn tx.new.conn result renumbered SettingRow }
+{
+    meta::Of { word: "schema" }.delete(tx)?;
+    meta::Row {
+        word: "schema",
+        value: Schema::V3.text(),
+    }
+    .insert(tx)
 }

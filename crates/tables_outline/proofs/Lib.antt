@@ -1,6 +1,7 @@
 pub mod Described
 mod Generations
 pub mod Ordered
+pub mod OutputLists
 pub mod Orders
 pub mod ProfileEntries
 pub mod Puts
@@ -15,3 +16,10 @@ pub mod TurnedAll
 pub mod Loops
 pub mod RootOrder
 pub mod Sets
+pub mod Bools
+pub mod Held
+pub mod Listed
+pub mod Named
+pub mod TakenLinks
+pub mod LinkedObjects
+pub mod LinkNumbers

@@ -32,10 +32,16 @@ pair_antisymmetric x y e =
     λ i. (bytes_antisymmetric x.0 y.0 both.0 i, bytes_antisymmetric x.1 y.1 both.1 i)
 
 pub temporary_total : IsTotalOrder temporary_cmp
-temporary_total = then_total (on_texts (λ (t : Temporary). t.owner)) (then_total (on_total (λ (t : Temporary). t.session) nat_cmp_total) (on_texts (λ (t : Temporary). t.path)))
+temporary_total =
+    then_total (on_texts (λ (t : Temporary). t.owner))
+    (then_total (on_total (λ (t : Temporary). t.session) nat_cmp_total) (on_texts (λ (t : Temporary). t.path)))
 
 pub temporary_antisymmetric : finite.IsAntisymmetric temporary_cmp
 temporary_antisymmetric x y e =
     let owners = both_equal (bytes_cmp x.owner y.owner) _ e in
     let rest = both_equal (nat_cmp x.session y.session) (bytes_cmp x.path y.path) owners.1 in
-    λ i. record { owner = bytes_antisymmetric x.owner y.owner owners.0 i; session = nat_antisymmetric x.session y.session rest.0 i; path = bytes_antisymmetric x.path y.path rest.1 i }
+    λ i. record {
+      owner = bytes_antisymmetric x.owner y.owner owners.0 i;
+      session = nat_antisymmetric x.session y.session rest.0 i;
+      path = bytes_antisymmetric x.path y.path rest.1 i;
+    }

@@ -1,5 +1,6 @@
 -- Keys that are taken away, one after another.
-use Rattle.std.proofs.Common.{◌≡◌, List, [], ◌∷◌, Bool, true, false, ◌||◌, not, cond, Some, None, Option, refl, sym, ap, ◌∙◌}
+use Rattle.std.proofs.Common.{◌≡◌, List, [], ◌∷◌, Bool, true, false, ◌||◌, not, cond, Some, None, Option, refl, sym, ap}
+use Rattle.std.proofs.Common.{◌∙◌}
 use Rattle.std.specs.declared.cmp.Ordering.{Ordering}
 use Rattle.std.specs.Cmp.{IsTotalOrder}
 use Rattle.std.specs.FinMap as finite
@@ -7,11 +8,14 @@ use Rattle.live.specs.Graph.{same, holds}
 use Rattle.model.specs.World.{Path}
 use Rattle.tables_outline.proofs.Puts.{get-kept}
 
-module _ {K X : Type 0} {R : K → K → Ordering} (o : IsTotalOrder R) (alike : finite.IsAntisymmetric R) (part : K → Path) where
+module _ {K X : Type 0} {R : K → K → Ordering} (o : IsTotalOrder R) (alike : finite.IsAntisymmetric R)
+    (part : K → Path) where
   pub none_gone : (m : finite.FinMap R X) → finite.retain_keys m (λ k. not (holds [] (part k))) ≡ m
   none_gone m = finite.same_map o alike _ _ (λ q. get-kept o alike m (λ k. not (holds [] (part k))) q)
 
-  pub one_more : (m : finite.FinMap R X) (p : Path) (ps : List Path) → finite.retain_keys (finite.retain_keys m (λ k. not (same (part k) p))) (λ k. not (holds ps (part k))) ≡ finite.retain_keys m (λ k. not (holds (p ∷ ps) (part k)))
+  pub one_more : (m : finite.FinMap R X) (p : Path) (ps : List Path)
+      → finite.retain_keys (finite.retain_keys m (λ k. not (same (part k) p))) (λ k. not (holds ps (part k)))
+      ≡ finite.retain_keys m (λ k. not (holds (p ∷ ps) (part k)))
   one_more m p ps = finite.same_map o alike _ _ (λ q.
       get-kept o alike (finite.retain_keys m (λ k. not (same (part k) p))) (λ k. not (holds ps (part k))) q
       ∙ ap (λ g. cond (not (holds ps (part q))) g None) (get-kept o alike m (λ k. not (same (part k) p)) q)

@@ -5,7 +5,7 @@ use Rattle.std.specs.FinMap as finite
 use Rattle.paths.specs.Root.{bytes_cmp}
 use Rattle.live.specs.Graph.{Links, holds}
 use Rattle.model.specs.World.{Path}
-use Rattle.tables_links.specs.Links.{AreLinksOf, LinksValue}
+use Rattle.tables_outline.specs.Links.{AreLinksOf, LinksValue}
 use Rattle.tables_outline.specs.Maps.{seen_map}
 use Rattle.tables_outline.specs.Outline.{Outlined}
 

@@ -1,15 +1,15 @@
-//! All roots of an outline.
-
+//! All roots, as a set and as a list.
 ghost use Rattle.std.specs.Prelude.{◌≡◌, ◌++◌, IfOk, OnOk, map};
 ghost use Rattle.std.specs.List.{flat_map};
 ghost use Rattle.std.specs.FinMap as finite;
 ghost use Rattle.paths.specs.Root.{root_cmp, set_of};
-ghost use Rattle.model.specs.World.{generation_root, generation_roots, explicit_roots, permanent_root, runtime_root, runtime_roots, temporary_root, temporary_roots, user_root};
+ghost use Rattle.model.specs.World.{generation_root, generation_roots, explicit_roots, permanent_root, runtime_root, runtime_roots, temporary_root, temporary_roots, user_root, roots_of};
 ghost use Rattle.tables_outline.specs.View.{profile_view};
 ghost use Rattle.tables_outline.specs.Maps.{pair_bytes};
 ghost use Rattle.tables_outline.specs.Gaining.{Gains};
 ghost use Rattle.tables_outline.specs.Rooted.{rooted};
 ghost use Rattle.tables_outline.specs.RootSet.{root_set};
+ghost use Rattle.paths.specs.RootView.{root_view};
 
 use crate::labels::{generation_label, permanent_label, temporary_label, user_label};
 use crate::outline::Outline;
@@ -125,4 +125,16 @@ pub(crate) fn all_roots(alloc: Global, outline: &Outline) -> Result<BTreeSet<Roo
     add_runtime(&mut roots, outline)?;
     add_temporary(alloc, &mut roots, outline)?;
     Ok(roots)
+}
+
+/// All roots of an outline, each once, in the order of roots. The only error is that memory was refused.
+pub fn root_list(alloc: Global, outline: &Outline) -> Result<Vec<Root>, AllocError>
+    ensures { IfOk result (λ v. map root_view v.items ≡ roots_of (rooted outline.now)) }
+{
+    let roots = all_roots(alloc, outline)?;
+    let mut listed = Vec::new(alloc);
+    for root in roots {
+        listed.push(root)?;
+    }
+    Ok(listed)
 }

@@ -4,17 +4,17 @@ ghost use Rattle.std.specs.Prelude.{◌≡◌, IfOk, IfSome, Option, None, if◌
 ghost use Rattle.std.specs.FinMap as finite;
 ghost use Rattle.live.specs.Graph.{Links as PathLinks, holds};
 ghost use Rattle.model.specs.World.{Path};
-ghost use Rattle.tables_links.specs.Links.{AreLinksOf};
+ghost use Rattle.tables_outline.specs.Links.{AreLinksOf};
 ghost use Rattle.tables_outline.specs.Changes.{ChangesTo};
 ghost use Rattle.tables_outline.specs.Maps.{put_all};
 ghost use Rattle.tables_outline.specs.Turned.{AreTurned, links_of, objects_in};
 
+use crate::links::Links;
 use crate::summary::Summary;
 use paths::StorePath;
 use std::alloc::{AllocError, Global};
 use std::collections::BTreeMap;
 use std::marker::Model;
-use tables_links::Links;
 
 /// At most this many objects are removed from the links one by one. An object is found in the lists of what
 /// it points to; those of many by reading all lists once.

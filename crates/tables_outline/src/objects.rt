@@ -4,16 +4,16 @@ ghost use Rattle.std.specs.Prelude.{◌≡◌, IfSome, not, option_map};
 ghost use Rattle.std.specs.FinMap as finite;
 ghost use Rattle.tables_outline.specs.Changes.{ChangesTo};
 ghost use Rattle.live.specs.Graph.{holds};
-ghost use Rattle.tables_links.specs.Links.{AreLinksOf};
+ghost use Rattle.tables_outline.specs.Links.{AreLinksOf};
 ghost use Rattle.tables_outline.specs.Maps.{put_all};
 ghost use Rattle.tables_outline.specs.Turned.{links_of};
 
+use crate::links::Links;
 use crate::outline::Outline;
 use crate::summary::Summary;
 use paths::StorePath;
 use std::alloc::{AllocError, Global};
 use std::collections::BTreeMap;
-use tables_links::Links;
 
 impl Outline {
     /// Whether this path is an object's.

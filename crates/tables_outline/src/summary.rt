@@ -8,7 +8,7 @@ ghost use Rattle.paths.specs.Root.{bytes_cmp, set_of};
 ghost use Rattle.tables_outline.specs.Outline.{rise};
 
 use crate::details::{Details, boxed};
-use crate::sharing::share;
+use crate::shared_texts::share;
 use paths::{Ca, StorePath};
 use std::alloc::{AllocError, Global};
 use std::collections::BTreeMap;

@@ -15,11 +15,14 @@ use Rattle.tables_sql.proofs.Statements.{Compiles}
 
 -- an error of a query of this text is one of the disk, or of a limit on steps
 abbrev pub QueryFails : List ℕ → State → State → Type 0
-QueryFails text old new = (e : Error) → FailsToQuery text [] old new e → FailsWith old new ⊥ (IsSome old.step_limit) (failure_of e)
+QueryFails text old new =
+    (e : Error) → FailsToQuery text [] old new e → FailsWith old new ⊥ (IsSome old.step_limit) (failure_of e)
 
--- in any schema in which the table stands, the text is this query
-pub record Asks (name : List ℕ) (columns : List Column) (key : List ℕ) (text : List ℕ) (names : List (List ℕ)) (query : ℕ → Query) : Type 1 where
+-- in any schema that has the table, the text is this query
+pub record Asks (name : List ℕ) (columns : List Column) (key : List ℕ) (text : List ℕ) (names : List (List ℕ))
+    (query : ℕ → Query) : Type 1 where
   pub scan : (tree : ℕ) → IsScan (query tree) tree
   pub is : Compiles name columns key text 0 (λ at tree. Select (record { lets = []; body = query tree }) names)
   pub reads : IsSelect text
-  pub fails : (old new : State) → (IsTrue old.is_open → IsIntact old.now.schema (strict name columns key)) → QueryFails text old new
+  pub fails : (old new : State) → (IsTrue old.is_open → IsIntact old.now.schema (strict name columns key))
+      → QueryFails text old new

@@ -19,12 +19,15 @@ shown_then a b c h k = record {
 }
 
 -- what it shows is still what the last commit left
-pub settled_then : (a b : State) → (IsTrue a.is_open → a.now ≡ a.committed) → KeepsShown a b → IsTrue b.is_open → b.now ≡ b.committed
+pub settled_then : (a b : State) → (IsTrue a.is_open → a.now ≡ a.committed) → KeepsShown a b → IsTrue b.is_open
+    → b.now ≡ b.committed
 settled_then a b settled h up = h.now up ∙ settled (h.was_open up) ∙ sym (h.committed up)
 
 -- a query of a settled connection
-pub left_shown : {S : Type 0} (g : Ghosts S) (old new : Held S) → IsSettled g old → (old.in_transaction ≡ false → new.in_transaction ≡ false)
-    → (HasCleanDisk (state g new) → (IsTrue (state g old).is_open → (state g old).now ≡ (state g old).committed) → KeepsShown (state g old) (state g new))
+pub left_shown : {S : Type 0} (g : Ghosts S) (old new : Held S) → IsSettled g old
+    → (old.in_transaction ≡ false → new.in_transaction ≡ false)
+    → (HasCleanDisk (state g new) → (IsTrue (state g old).is_open → (state g old).now ≡ (state g old).committed)
+    → KeepsShown (state g old) (state g new))
     → Survives (state g old) (state g new) (λ _. ⊥) → LeavesShown g old new
 left_shown g old new settled idle same survives = record {
   idle = idle settled.idle;

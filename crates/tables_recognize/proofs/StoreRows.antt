@@ -1,11 +1,13 @@
--- What the texts mean that show the rowids and the texts of the store's tables, in any schema in which they stand.
+-- What the texts mean that show the rowids and the texts of the store's tables, in any schema that has them.
 use Rattle.std.proofs.Common.{◌≡◌, List, codes, None, refl}
 use Rattle.std.specs.List.{AllByRecursion}
 use Rattle.sqlite_tied.specs.Compute.{everything}
 use Rattle.sqlite_schema.specs.Names.{column_named}
 use Rattle.tables_schema.specs.StoreTables.{form}
 use Rattle.tables_schema.specs.declared.store_table.StoreTable.{StoreTable}
-use Rattle.tables_schema.specs.declared.store_table.StoreTable.TheVariants.{Meta, Object, Refs, Outs, Permanent, UserRoot, Profile, Generation, Runtime, Piece, TempRoot}
+use Rattle.tables_schema.specs.declared.store_table.StoreTable.TheVariants.{Meta, Object, Refs, Outs, Permanent}
+use Rattle.tables_schema.specs.declared.store_table.StoreTable.TheVariants.{UserRoot, Profile, Generation, Runtime}
+use Rattle.tables_schema.specs.declared.store_table.StoreTable.TheVariants.{Piece, TempRoot}
 use Rattle.tables_rows.proofs.SettingLemmas as settings
 use Rattle.tables_rows.proofs.ListingLemmas as listing
 use Rattle.tables_rows.proofs.ReferenceLemmas as references
@@ -68,13 +70,43 @@ bare TempRoot = refl
 -- two columns, three or four
 asked : (t : StoreTable) → AreAsked (form t).name (form t).columns (form t).primary (bare t) (places_of t) (rows_text t)
 unfolding everything
-asked Object = ((_, _, _, _, refl, refl, refl), (refl, (refl, (refl, (refl, tt)))), λ s at tree known. (rw (known.low, known.by_tree), rw (known.low, known.by_tree) refl))
-asked Generation = ((_, _, _, _, refl, refl, refl), (refl, (refl, (refl, (refl, tt)))), λ s at tree known. (rw (known.low, known.by_tree), rw (known.low, known.by_tree) refl))
-asked Outs = ((_, _, _, _, refl, refl, refl), (refl, (refl, (refl, tt))), λ s at tree known. (rw (known.low, known.by_tree), rw (known.low, known.by_tree) refl))
-asked UserRoot = ((_, _, _, _, refl, refl, refl), (refl, (refl, (refl, tt))), λ s at tree known. (rw (known.low, known.by_tree), rw (known.low, known.by_tree) refl))
-asked Profile = ((_, _, _, _, refl, refl, refl), (refl, (refl, (refl, tt))), λ s at tree known. (rw (known.low, known.by_tree), rw (known.low, known.by_tree) refl))
-asked TempRoot = ((_, _, _, _, refl, refl, refl), (refl, (refl, (refl, tt))), λ s at tree known. (rw (known.low, known.by_tree), rw (known.low, known.by_tree) refl))
-asked t = ((_, _, _, _, refl, refl, refl), (refl, (refl, tt)), λ s at tree known. (rw (known.low, known.by_tree), rw (known.low, known.by_tree) refl))
+asked Object = (
+  (_, _, _, _, refl, refl, refl),
+  (refl, (refl, (refl, (refl, tt)))),
+  λ s at tree known. (rw (known.low, known.by_tree), rw (known.low, known.by_tree) refl),
+)
+asked Generation = (
+  (_, _, _, _, refl, refl, refl),
+  (refl, (refl, (refl, (refl, tt)))),
+  λ s at tree known. (rw (known.low, known.by_tree), rw (known.low, known.by_tree) refl),
+)
+asked Outs = (
+  (_, _, _, _, refl, refl, refl),
+  (refl, (refl, (refl, tt))),
+  λ s at tree known. (rw (known.low, known.by_tree), rw (known.low, known.by_tree) refl),
+)
+asked UserRoot = (
+  (_, _, _, _, refl, refl, refl),
+  (refl, (refl, (refl, tt))),
+  λ s at tree known. (rw (known.low, known.by_tree), rw (known.low, known.by_tree) refl),
+)
+asked Profile = (
+  (_, _, _, _, refl, refl, refl),
+  (refl, (refl, (refl, tt))),
+  λ s at tree known. (rw (known.low, known.by_tree), rw (known.low, known.by_tree) refl),
+)
+asked TempRoot = (
+  (_, _, _, _, refl, refl, refl),
+  (refl, (refl, (refl, tt))),
+  λ s at tree known. (rw (known.low, known.by_tree), rw (known.low, known.by_tree) refl),
+)
+asked t = (
+  (_, _, _, _, refl, refl, refl),
+  (refl, (refl, tt)),
+  λ s at tree known. (rw (known.low, known.by_tree), rw (known.low, known.by_tree) refl),
+)
 
-pub our_rows : (t : StoreTable) → Asks (form t).name (form t).columns (form t).primary (rows_text t) (names (places_of t)) (query (places_of t))
-our_rows t = asks (form t).name (form t).columns (form t).primary (bare t) (rows_text t) (places_of t) (columns_are t) (asked t)
+pub our_rows : (t : StoreTable)
+    → Asks (form t).name (form t).columns (form t).primary (rows_text t) (names (places_of t)) (query (places_of t))
+our_rows t =
+    asks (form t).name (form t).columns (form t).primary (bare t) (rows_text t) (places_of t) (columns_are t) (asked t)

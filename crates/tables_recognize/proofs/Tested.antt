@@ -29,14 +29,18 @@ use Rattle.tables_recognize.proofs.RowidFailures.{FailsToCheck, check_fails}
 
 -- the rows that were shown, whose first values are integers that differ, and whether their texts are UTF-8
 abbrev pub ShowsTested : List ℕ → State → State → Bool → Type 0
-ShowsTested text old new b = (rows : List Row) × IsAnswered text [] old new rows × ShowIds rows × (IsTrue b ↔ AllByRecursion IsReadableRow rows)
+ShowsTested text old new b =
+    (rows : List Row) × IsAnswered text [] old new rows × ShowIds rows × (IsTrue b ↔ AllByRecursion IsReadableRow rows)
 
 -- what the test of a table says by this text
 pub record IsTest (t : Table) (text : List ℕ) : Type 1 where
   pub reads : IsSelect text
-  pub reported : (old new : State) → IsDatabase old.now → IsIntact old.now.schema t → (b : Bool) → ShowsTested text old new b
-      → IsUnchanged old new × IsKeyed (rows_named old.now t.name) × (IsTrue b ↔ AreReadableRows t (rows_named old.now t.name))
-  pub failed : (old new : State) → (IsTrue old.is_open → IsIntact old.now.schema t) → (f : Failed) → FailsToCheck text old new f → FailsToTest old new (¬ IsKeyed (rows_named old.now t.name)) f
+  pub reported : (old new : State) → IsDatabase old.now → IsIntact old.now.schema t → (b : Bool)
+      → ShowsTested text old new b
+      → IsUnchanged old new × IsKeyed (rows_named old.now t.name)
+      × (IsTrue b ↔ AreReadableRows t (rows_named old.now t.name))
+  pub failed : (old new : State) → (IsTrue old.is_open → IsIntact old.now.schema t) → (f : Failed)
+      → FailsToCheck text old new f → FailsToTest old new (¬ IsKeyed (rows_named old.now t.name)) f
 
 int_readable : (v : Value) → IsTrue (is_int v) → IsReadable v
 int_readable v h = subst IsReadable (sym (int_is v h)) tt
@@ -46,14 +50,17 @@ abbrev pub cells_of : List Place → Row → Row
 cells_of cs r = shows (query_of (outputs_of cs) [] [] 0) [] r
 
 -- the query means so: it shows texts that are UTF-8 where all of a row are
-pub test_by : (name : List ℕ) (columns : List Column) (key : List ℕ) {text : List ℕ} (cs : List Place) → Asks name columns key text (names cs) (query cs)
-    → ((db : Database) → IsDatabase db → IsIntact db.schema (strict name columns key) → (r : Row) → Has (rows_named db name) r → IsReadableRow (cells_of cs r) ↔ AreOfUtf8 (length columns) r)
+pub test_by : (name : List ℕ) (columns : List Column) (key : List ℕ) {text : List ℕ} (cs : List Place)
+    → Asks name columns key text (names cs) (query cs)
+    → ((db : Database) → IsDatabase db → IsIntact db.schema (strict name columns key) → (r : Row)
+    → Has (rows_named db name) r → IsReadableRow (cells_of cs r) ↔ AreOfUtf8 (length columns) r)
     → IsTest (strict name columns key) text
 test_by name columns key {text} cs of_rows each = record {
   reads = of_rows.reads;
   reported = λ old new sound exists b h.
       let keyed = keyed_if name columns key text cs old new exists of_rows.is (h.0, h.1, h.2) in
-      let told = reported_if name columns key text (names cs) (query cs) of_rows.scan (λ tree. refl) of_rows.is old new exists
+      let told =
+      reported_if name columns key text (names cs) (query cs) of_rows.scan (λ tree. refl) of_rows.is old new exists
       (λ tree r present.
       let first = behind (rowid r) (cells_of cs r) (int_readable (rowid r) (keyed.1.ints r present)) in
       let rest = each old.now sound exists r present in

@@ -5,7 +5,7 @@ use Rattle.sqlite_trees.specs.declared.store.Store.{Ghosts}
 use Rattle.sqlite.specs.Effect.{Database, IsDatabase}
 use Rattle.sqlite.specs.State.{HasCleanDisk, IsUnchanged, Survives}
 use Rattle.sqlite.specs.Held.{Held, state}
-use Rattle.tables_schema.specs.declared.recognising.Recognised.{Recognised}
+use Rattle.tables_schema.specs.declared.recognition.Recognised.{Recognised}
 use Rattle.tables_sql.specs.Calls.{KeepsShown}
 use Rattle.tables_sql.specs.Failures.{FailsToTest}
 use Rattle.tables_sql.specs.declared.failure.Failed.{Failed}

@@ -5,7 +5,7 @@ pub use Rattle.sqlite_disk.specs.declared.start.Start as DiskStart
 pub use Rattle.tables_schema.specs.Forms
 pub use Rattle.tables_schema.specs.StoreTables
 pub use Rattle.tables_schema.specs.Intact
-pub use Rattle.tables_schema.specs.Finding
+pub use Rattle.tables_schema.specs.Presence
 pub use Rattle.tables_sql.specs.Contents
 pub use Rattle.tables_sql.specs.Texts
 pub use Rattle.tables_sql.specs.Frozen

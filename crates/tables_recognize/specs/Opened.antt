@@ -1,5 +1,6 @@
 -- What opening a connection says of it, and why a file isn't opened.
-use Rattle.std.specs.Prelude.{◌≡◌, ◌≢◌, ◌↔◌, ◌⊎◌, ⊤, Bool, true, false, ℕ, ℤ, List, map, codes, Option, Some, None, IsTrue}
+use Rattle.std.specs.Prelude.{◌≡◌, ◌≢◌, ◌↔◌, ◌⊎◌, ⊤, Bool, true, false, ℕ, ℤ, List, map, codes, Option, Some, None}
+use Rattle.std.specs.Prelude.{IsTrue}
 use Rattle.std.specs.List.{AllByRecursion, IsDistinct}
 use Rattle.std.specs.Ordering.{eq_by_cmp, int_cmp}
 use Rattle.sqlite_value.specs.declared.value.Value.TheVariants.{Int}
@@ -33,11 +34,11 @@ use Rattle.tables_sql.specs.declared.failure.Failed.{Failed}
 use Rattle.tables_sql.specs.declared.failure.Failed.TheVariants.{Memory}
 use Rattle.tables_recognize.specs.declared.file.UnopenedFile.{UnopenedFile}
 use Rattle.tables_recognize.specs.declared.file.UnopenedFile.TheVariants.{Unfound, Refused, Unreadable}
-use Rattle.tables_schema.specs.declared.recognising.Recognised.{Recognised}
-use Rattle.tables_schema.specs.declared.recognising.Recognised.TheVariants.{Nothing, Tables, Other}
+use Rattle.tables_schema.specs.declared.recognition.Recognised.{Recognised}
+use Rattle.tables_schema.specs.declared.recognition.Recognised.TheVariants.{Nothing, Tables, Other}
 use Rattle.tables_schema.specs.declared.schema.Schema.TheVariants.{V1, V2, V3}
 use Rattle.tables_schema.specs.Intact.{IsIntact}
-use Rattle.tables_schema.specs.Finding.{HasNone, HasFirst, HasSecond, HasThird}
+use Rattle.tables_schema.specs.Presence.{HasNone, HasFirst, HasSecond, HasThird}
 use Rattle.tables_schema.specs.Forms.{piece, all_tables}
 use Rattle.tables_sql.specs.Contents.{contents_of, rows_named}
 use Rattle.tables_sql.specs.Texts.{AreReadable}

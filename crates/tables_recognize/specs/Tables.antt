@@ -6,7 +6,9 @@ use Rattle.tables_sql.specs.Contents.{rows_named}
 use Rattle.tables_sql.specs.Texts.{AreReadableRows}
 use Rattle.tables_sql.specs.Calls.{IsKeyed}
 use Rattle.tables_schema.specs.declared.store_table.StoreTable.{StoreTable}
-use Rattle.tables_schema.specs.declared.store_table.StoreTable.TheVariants.{Meta, Object, Refs, Outs, Permanent, UserRoot, Profile, Generation, Runtime, Piece, TempRoot}
+use Rattle.tables_schema.specs.declared.store_table.StoreTable.TheVariants.{Meta, Object, Refs, Outs, Permanent}
+use Rattle.tables_schema.specs.declared.store_table.StoreTable.TheVariants.{UserRoot, Profile, Generation, Runtime}
+use Rattle.tables_schema.specs.declared.store_table.StoreTable.TheVariants.{Piece, TempRoot}
 
 -- the query for the rowid and each text of each row
 abbrev pub rows_text : StoreTable → List ℕ

@@ -12,12 +12,12 @@ ghost use Rattle.tables_sql.specs.Calls.{KeepsShown};
 use crate::connection::connect;
 pub use crate::files::Unfound;
 use crate::files::{find, opening_failure};
-use crate::opening;
+use crate::recognition;
 use sqlite::{Alter, Connection, FileFrom, FileStore, Leftover, Start};
 use sqlite_disk::Disk;
 use std::alloc::Global;
 use std::rt::HostRuntime;
-use tables_schema::recognising::Recognised;
+use tables_schema::recognition::Recognised;
 use tables_sql::failure::Failed;
 
 /// A database that was opened, and by which schema it holds the store's tables. If it does, it is ready for
@@ -71,7 +71,7 @@ pub fn inspect<S: Alter>(alloc: Global, mut conn: Connection<S>) -> Result<Opene
     ensures survives { MatchResult result (λ it. Survives (state S.Store conn) (state S.Store it.conn) (λ _. ⊥))
         (λ e. Survives (state S.Store conn) (state S.Store e.conn) (λ _. ⊥)) }
 {
-    match opening::open(alloc, &mut conn) {
+    match recognition::open(alloc, &mut conn) {
         Ok(found) => Ok(Opened { conn, found }),
         Err(failure) => Err(Unreadable { conn, failure }),
     }

@@ -4,10 +4,10 @@
 mod connection;
 pub mod file;
 mod files;
-pub mod opening;
 mod options;
 mod page_count;
 mod queries;
+pub mod recognition;
 mod row_tests;
 mod rowids;
 pub mod settings;

@@ -18,7 +18,7 @@ use crate::texts::are_readable;
 use sqlite::{Alter, Connection, Row};
 use std::alloc::Global;
 use tables_sql::failure::Failed;
-use tables_sql::reading::{Sink, read_into};
+use tables_sql::query::{Sink, read_into};
 
 /// The rowids that rows show first, and whether each text that they show is UTF-8.
 #[derive(Drop)]

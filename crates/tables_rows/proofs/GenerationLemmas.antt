@@ -28,11 +28,14 @@ use Rattle.tables_sql.proofs.Description.{Description, Addition, Removal, Readin
 
 abbrev pub table : Description Triple Bytes
 table =
-    one_of_nine generation triple_total triple_antisymmetric is_generation generation_of (λ c. c.generations) (λ c m. record c { generations = m })
-    refl (λ db has. refl) (λ s has. has.1.1.1.1.1.1.1.0) (λ db of_store. of_store.keyed.1.1.1.1.1.1.1.0) generation_kept generation_set
+    one_of_nine generation triple_total triple_antisymmetric is_generation generation_of (λ c. c.generations)
+    (λ c m. record c { generations = m })
+    refl (λ db has. refl) (λ s has. has.1.1.1.1.1.1.1.0) (λ db of_store. of_store.keyed.1.1.1.1.1.1.1.0) generation_kept
+    generation_set
 
 -- its key is two texts and a number
-key_is : (r : Row) → is_generation r ≡ true → (is_text (column r 1) ≡ true) × (is_text (column r 2) ≡ true) × (is_int (column r 3) ≡ true)
+key_is : (r : Row) → is_generation r ≡ true
+    → (is_text (column r 1) ≡ true) × (is_text (column r 2) ≡ true) × (is_int (column r 3) ≡ true)
 key_is r kind = let whole = and_so _ _ (and_so _ _ kind).0 in let pair = and_so _ _ whole.0 in (pair.0, pair.1, whole.1)
 
 -- ---- one more
@@ -40,12 +43,24 @@ key_is r kind = let whole = and_so _ _ (and_so _ _ kind).0 in let pair = and_so 
 abbrev pub insert_text : List ℕ
 insert_text = codes "INSERT INTO generation (owner, name, num, target) VALUES (?1, ?2, ?3, ?4)"
 
-pub addition : (owner : List ℕ) (name : List ℕ) (number : ℤ) (target : List ℕ) → Addition table insert_text (Text owner ∷ Text name ∷ Int number ∷ Text target ∷ []) (Text owner ∷ Text name ∷ Int number ∷ Text target ∷ []) (owner, name, number) target
+pub addition : (owner : List ℕ) (name : List ℕ) (number : ℤ) (target : List ℕ)
+    → Addition table insert_text (Text owner ∷ Text name ∷ Int number ∷ Text target ∷ [])
+    (Text owner ∷ Text name ∷ Int number ∷ Text target ∷ []) (owner, name, number) target
 unfolding everything
 addition owner name number target =
-    added table (λ s at tree found. (_, insert_means insert_text refl s at (codes "generation") generation.columns generation.primary tree _ found refl, refl, refl, refl, refl, refl))
+    added table (λ s at tree found. (
+      _,
+      insert_means insert_text refl s at (codes "generation") generation.columns generation.primary tree _ found
+          refl,
+      refl,
+      refl,
+      refl,
+      refl,
+      refl,
+    ))
     (λ rows. rw (cast_null, cast_int number) refl) (refl, refl, λ id. (refl, refl, refl))
-    (λ id r kind h. let e = agreed_three (Text owner) (Text name) (Int number) (Int id) (Text target ∷ []) r (key_is r kind) h in λ i. (e.0 i, e.1 i, e.2 i))
+    (λ id r kind h. let e = agreed_three (Text owner) (Text name) (Int number) (Int id) (Text target ∷ []) r
+    (key_is r kind) h in λ i. (e.0 i, e.1 i, e.2 i))
 
 -- ---- reading them
 
@@ -54,13 +69,20 @@ places = (codes "owner", 0) ∷ (codes "name", 1) ∷ (codes "num", 2) ∷ (code
 
 pub places_are : AllByRecursion (IsColumn generation.name generation.columns generation.primary) places
 unfolding everything
-places_are = ((refl, (_, refl, refl, refl)), ((refl, (_, refl, refl, refl)), ((refl, (_, refl, refl, refl)), ((refl, (_, refl, refl, refl)), tt))))
+places_are = (
+  (refl, (_, refl, refl, refl)),
+  ((refl, (_, refl, refl, refl)), ((refl, (_, refl, refl, refl)), ((refl, (_, refl, refl, refl)), tt))),
+)
 
 abbrev pub reading : Reading table ShowsGeneration generation_in IsGenerationRow
 reading = record {
   shown = places;
   by = 3;
-  fits = λ params filter tree r t h. (λ i. is_text (h.0 i) && is_text (h.1 i) && is_int (h.2 i) && is_text (h.3 i), λ i. ((bytes (h.0 i), bytes (h.1 i), id_in (h.2 i)), bytes (h.3 i)));
+  fits =
+      λ params filter tree r t h. (
+        λ i. is_text (h.0 i) && is_text (h.1 i) && is_int (h.2 i) && is_text (h.3 i),
+        λ i. ((bytes (h.0 i), bytes (h.1 i), id_in (h.2 i)), bytes (h.3 i)),
+      );
   legible = λ params filter tree. generation_row;
   orders = λ params filter tree. by_triple;
 }
@@ -70,7 +92,11 @@ all_text = codes "SELECT owner, name, num, target FROM generation ORDER BY owner
 
 pub all_asked : IsAsked table reading all_text []
 unfolding everything
-all_asked = ((_, _, _, _, refl, refl, refl), refl, λ s at tree known. (rw (known.low, known.by_tree), rw (known.low, known.by_tree) refl))
+all_asked = (
+  (_, _, _, _, refl, refl, refl),
+  refl,
+  λ s at tree known. (rw (known.low, known.by_tree), rw (known.low, known.by_tree) refl),
+)
 
 abbrev pub all : Selection table reading all_text [] (λ _. true)
 all = selected table reading places_are refl all_text [] all_asked (λ r kind. refl)
@@ -80,10 +106,16 @@ all = selected table reading places_are refl all_text [] all_asked (λ r kind. r
 abbrev pub delete_text : List ℕ
 delete_text = codes "DELETE FROM generation WHERE owner = ?1 AND name = ?2 AND num = ?3"
 
-pub removal : (owner : List ℕ) (name : List ℕ) (number : ℤ) → Removal table delete_text (Text owner ∷ Text name ∷ Int number ∷ []) (λ k. eq_by_cmp texts_cmp k.0 owner && (eq_by_cmp texts_cmp k.1 name && eq_by_cmp int_cmp k.2 number))
+pub removal : (owner : List ℕ) (name : List ℕ) (number : ℤ)
+    → Removal table delete_text (Text owner ∷ Text name ∷ Int number ∷ [])
+    (λ k. eq_by_cmp texts_cmp k.0 owner && (eq_by_cmp texts_cmp k.1 name && eq_by_cmp int_cmp k.2 number))
 unfolding everything
 removal owner name number =
-    removed table places places_are refl delete_text (Text owner ∷ Text name ∷ Int number ∷ []) ((_, _, _, _, refl, refl, refl), refl, λ s at tree known. (rw (known.low, known.by_tree), rw (known.low, known.by_tree) refl))
+    removed table places places_are refl delete_text (Text owner ∷ Text name ∷ Int number ∷ []) (
+      (_, _, _, _, refl, refl, refl),
+      refl,
+      λ s at tree known. (rw (known.low, known.by_tree), rw (known.low, known.by_tree) refl),
+    )
     (λ r kind. said_three (Text owner) (Text name) (Int number) r (key_is r kind))
 
 -- ---- they are SELECTs

@@ -13,7 +13,9 @@ use Rattle.tables_rows.proofs.Failing.{err_kept}
 
 module _ {S : Type 0} (g : Ghosts S) (a b c : MutBor (Held S)) where
   -- the first was done
-  module _ (f : Contents → Contents) (same : b.ghost_name ≡ a.ghost_name) (done : HasCleanDisk (state g b.now) → Changes (state g a.now) (state g b.now) f) (survives : Survives (state g a.now) (state g b.now) (λ _. ⊥)) where
+  module _ (f : Contents → Contents) (same : b.ghost_name ≡ a.ghost_name)
+      (done : HasCleanDisk (state g b.now) → Changes (state g a.now) (state g b.now) f)
+      (survives : Survives (state g a.now) (state g b.now) (λ _. ⊥)) where
     pub done_stays : {T E : Type 0} (r : Result T E) → StaysInside g b c r → StaysInside g a c r
     done_stays r k = record {
       same_reference = k.same_reference ∙ same;
@@ -22,7 +24,9 @@ module _ {S : Type 0} (g : Ghosts S) (a b c : MutBor (Held S)) where
     }
 
     -- and the second failed, for which this is returned
-    pub done_fails : {T E : Type 0} (r : Result T E) → c.ghost_name ≡ b.ghost_name → (HasCleanDisk (state g c.now) → KeepsCommit (state g b.now) (state g c.now)) → Survives (state g b.now) (state g c.now) (λ _. ⊥) → StaysInside g a c r
+    pub done_fails : {T E : Type 0} (r : Result T E) → c.ghost_name ≡ b.ghost_name
+        → (HasCleanDisk (state g c.now) → KeepsCommit (state g b.now) (state g c.now))
+        → Survives (state g b.now) (state g c.now) (λ _. ⊥) → StaysInside g a c r
     done_fails r next kept later = record {
       same_reference = next ∙ same;
       failed = λ clean. err_kept (state g a.now) (state g b.now) (state g c.now) f r done later (kept clean) clean;

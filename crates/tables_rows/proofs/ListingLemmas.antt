@@ -1,4 +1,4 @@
--- What the statement means that lists the paths of objects. Before it stand the columns of an object but its archive,
+-- What the statement means that lists the paths of objects. Before it are the columns of an object but its archive,
 -- which an opening tests.
 use Rattle.std.proofs.Common.{ℕ, List, [], ◌∷◌, codes, true, refl}
 use Rattle.std.specs.Prelude.{string_bytes}
@@ -24,7 +24,10 @@ places = (codes "base", 0) ∷ (codes "hash", 2) ∷ (codes "deriver", 3) ∷ (c
 
 pub places_are : AllByRecursion (IsColumn object.name object.columns object.primary) places
 unfolding everything
-places_are = ((refl, (_, refl, refl, refl)), ((refl, (_, refl, refl, refl)), ((refl, (_, refl, refl, refl)), ((refl, (_, refl, refl, refl)), tt))))
+places_are = (
+  (refl, (_, refl, refl, refl)),
+  ((refl, (_, refl, refl, refl)), ((refl, (_, refl, refl, refl)), ((refl, (_, refl, refl, refl)), tt))),
+)
 
 -- ---- paths alone
 
@@ -53,7 +56,11 @@ keys_text = codes "SELECT base FROM object ORDER BY base"
 pub keys : Selection table keys_reading keys_text [] (λ _. true)
 unfolding everything
 keys =
-    selected table keys_reading key_places_are refl keys_text [] ((_, _, _, _, refl, refl, refl), refl, λ s at tree known. (rw (known.low, known.by_tree), rw (known.low, known.by_tree) refl)) (λ r has. refl)
+    selected table keys_reading key_places_are refl keys_text [] (
+      (_, _, _, _, refl, refl, refl),
+      refl,
+      λ s at tree known. (rw (known.low, known.by_tree), rw (known.low, known.by_tree) refl),
+    ) (λ r has. refl)
 
 pub keys_read : IsSelect keys_text
 keys_read = keys.reads

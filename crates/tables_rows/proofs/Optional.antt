@@ -29,6 +29,7 @@ pub read_given : (o : Option (String Global)) → text_if_any (given o) ≡ opti
 read_given None = refl
 read_given (Some t) = refl
 
-pub option_fits : (v : Value) (o : Option (String Global)) → ShowsOptional v o → (is_text_or_null v ≡ true) × (text_if_any v ≡ option_map string_bytes o)
+pub option_fits : (v : Value) (o : Option (String Global)) → ShowsOptional v o
+    → (is_text_or_null v ≡ true) × (text_if_any v ≡ option_map string_bytes o)
 option_fits v None h = (ap is_text_or_null h, ap text_if_any h)
 option_fits v (Some s) h = (ap is_text_or_null h.1, ap text_if_any h.1)

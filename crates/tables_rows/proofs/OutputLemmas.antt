@@ -34,12 +34,23 @@ table =
 abbrev pub insert_text : List ℕ
 insert_text = codes "INSERT INTO outs (base, name, target) VALUES (?1, ?2, ?3)"
 
-pub addition : (base : List ℕ) (name : List ℕ) (target : List ℕ) → Addition table insert_text (Text base ∷ Text name ∷ Text target ∷ []) (Text base ∷ Text name ∷ Text target ∷ []) (base, name) target
+pub addition : (base : List ℕ) (name : List ℕ) (target : List ℕ)
+    → Addition table insert_text (Text base ∷ Text name ∷ Text target ∷ []) (Text base ∷ Text name ∷ Text target ∷ [])
+    (base, name) target
 unfolding everything
 addition base name target =
-    added table (λ s at tree found. (_, insert_means insert_text refl s at (codes "outs") outs.columns outs.primary tree _ found refl, refl, refl, refl, refl, refl))
+    added table (λ s at tree found. (
+      _,
+      insert_means insert_text refl s at (codes "outs") outs.columns outs.primary tree _ found refl,
+      refl,
+      refl,
+      refl,
+      refl,
+      refl,
+    ))
     (λ rows. rw cast_null refl) (refl, refl, λ id. (refl, refl, refl))
-    (λ id r kind h. let e = agreed_two (Text base) (Text name) (Int id) (Text target ∷ []) r (and_so _ _ (and_so _ _ kind).0) h in λ i. (e.0 i, e.1 i))
+    (λ id r kind h. let e = agreed_two (Text base) (Text name) (Int id) (Text target ∷ []) r
+    (and_so _ _ (and_so _ _ kind).0) h in λ i. (e.0 i, e.1 i))
 
 -- ---- reading them
 
@@ -54,7 +65,11 @@ abbrev pub reading : Reading table ShowsOutput output_of IsTripleRow
 reading = record {
   shown = places;
   by = 2;
-  fits = λ params filter tree r t h. (λ i. is_text (h.0 i) && is_text (h.1 i) && is_text (h.2 i), λ i. ((bytes (h.0 i), bytes (h.1 i)), bytes (h.2 i)));
+  fits =
+      λ params filter tree r t h. (
+        λ i. is_text (h.0 i) && is_text (h.1 i) && is_text (h.2 i),
+        λ i. ((bytes (h.0 i), bytes (h.1 i)), bytes (h.2 i)),
+      );
   legible = λ params filter tree. triple_row;
   orders = λ params filter tree a b h k. by_pair a b (and_so _ _ h).0 (and_so _ _ k).0;
 }
@@ -64,7 +79,11 @@ all_text = codes "SELECT base, name, target FROM outs ORDER BY base, name"
 
 pub all_asked : IsAsked table reading all_text []
 unfolding everything
-all_asked = ((_, _, _, _, refl, refl, refl), refl, λ s at tree known. (rw (known.low, known.by_tree), rw (known.low, known.by_tree) refl))
+all_asked = (
+  (_, _, _, _, refl, refl, refl),
+  refl,
+  λ s at tree known. (rw (known.low, known.by_tree), rw (known.low, known.by_tree) refl),
+)
 
 abbrev pub all : Selection table reading all_text [] (λ _. true)
 all = selected table reading places_are refl all_text [] all_asked (λ r kind. refl)
@@ -77,7 +96,11 @@ delete_of_text = codes "DELETE FROM outs WHERE base = ?1"
 pub removal : (base : List ℕ) → Removal table delete_of_text (Text base ∷ []) (λ k. eq_by_cmp texts_cmp k.0 base)
 unfolding everything
 removal base =
-    removed table places places_are refl delete_of_text (Text base ∷ []) ((_, _, _, _, refl, refl, refl), refl, λ s at tree known. (rw (known.low, known.by_tree), rw (known.low, known.by_tree) refl))
+    removed table places places_are refl delete_of_text (Text base ∷ []) (
+      (_, _, _, _, refl, refl, refl),
+      refl,
+      λ s at tree known. (rw (known.low, known.by_tree), rw (known.low, known.by_tree) refl),
+    )
     (λ r kind. said_one (Text base) r (and_so _ _ (and_so _ _ kind).0).0)
 
 -- ---- they are SELECTs

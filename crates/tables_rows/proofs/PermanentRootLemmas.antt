@@ -26,18 +26,30 @@ use Rattle.tables_sql.proofs.Description.{Description, Addition, Removal, Readin
 
 abbrev pub table : Description Bytes Bytes
 table =
-    one_of_nine permanent texts_total texts_antisymmetric is_pair pair_of (λ c. c.permanent) (λ c m. record c { permanent = m })
-    refl (λ db has. refl) (λ s has. has.1.1.1.1.0) (λ db of_store. of_store.keyed.1.1.1.1.0) permanent_kept permanent_set
+    one_of_nine permanent texts_total texts_antisymmetric is_pair pair_of (λ c. c.permanent)
+    (λ c m. record c { permanent = m })
+    refl (λ db has. refl) (λ s has. has.1.1.1.1.0) (λ db of_store. of_store.keyed.1.1.1.1.0) permanent_kept
+    permanent_set
 
 -- ---- one more
 
 abbrev pub insert_text : List ℕ
 insert_text = codes "INSERT INTO permanent (name, target) VALUES (?1, ?2)"
 
-pub addition : (name : List ℕ) (target : List ℕ) → Addition table insert_text (Text name ∷ Text target ∷ []) (Text name ∷ Text target ∷ []) name target
+pub addition : (name : List ℕ) (target : List ℕ)
+    → Addition table insert_text (Text name ∷ Text target ∷ []) (Text name ∷ Text target ∷ []) name target
 unfolding everything
 addition name target =
-    added table (λ s at tree found. (_, insert_means insert_text refl s at (codes "permanent") permanent.columns permanent.primary tree _ found refl, refl, refl, refl, refl, refl))
+    added table (λ s at tree found. (
+      _,
+      insert_means insert_text refl s at (codes "permanent") permanent.columns permanent.primary tree _ found
+          refl,
+      refl,
+      refl,
+      refl,
+      refl,
+      refl,
+    ))
     (λ rows. rw cast_null refl) (refl, refl, λ id. (refl, refl, refl))
     (λ id r kind h. agreed_one (Text name) (Int id) (Text target ∷ []) r ((and_so _ _ kind).0) h)
 
@@ -64,7 +76,11 @@ all_text = codes "SELECT name, target FROM permanent ORDER BY name"
 
 pub all_asked : IsAsked table reading all_text []
 unfolding everything
-all_asked = ((_, _, _, _, refl, refl, refl), refl, λ s at tree known. (rw (known.low, known.by_tree), rw (known.low, known.by_tree) refl))
+all_asked = (
+  (_, _, _, _, refl, refl, refl),
+  refl,
+  λ s at tree known. (rw (known.low, known.by_tree), rw (known.low, known.by_tree) refl),
+)
 
 abbrev pub all : Selection table reading all_text [] (λ _. true)
 all = selected table reading places_are refl all_text [] all_asked (λ r kind. refl)
@@ -77,7 +93,11 @@ delete_text = codes "DELETE FROM permanent WHERE name = ?1"
 pub removal : (name : List ℕ) → Removal table delete_text (Text name ∷ []) (λ k. eq_by_cmp texts_cmp k name)
 unfolding everything
 removal name =
-    removed table places places_are refl delete_text (Text name ∷ []) ((_, _, _, _, refl, refl, refl), refl, λ s at tree known. (rw (known.low, known.by_tree), rw (known.low, known.by_tree) refl))
+    removed table places places_are refl delete_text (Text name ∷ []) (
+      (_, _, _, _, refl, refl, refl),
+      refl,
+      λ s at tree known. (rw (known.low, known.by_tree), rw (known.low, known.by_tree) refl),
+    )
     (λ r kind. said_one (Text name) r (and_so _ _ kind).0)
 
 -- ---- they are SELECTs

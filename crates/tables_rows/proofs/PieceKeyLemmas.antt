@@ -31,7 +31,8 @@ abbrev pub reading : PartReading table nothing ShowsPieceKey (λ e. (numbered_in
 reading = record {
   shown = places;
   by = 2;
-  fits = λ params filter tree r t h. (λ i. is_text (h.0 i) && is_int (h.1 i), λ i. ((bytes (h.0 i), id_in (h.1 i)), tt));
+  fits =
+      λ params filter tree r t h. (λ i. is_text (h.0 i) && is_int (h.1 i), λ i. ((bytes (h.0 i), id_in (h.1 i)), tt));
   legible = λ params filter tree. piece_key_row;
   orders = λ params filter tree. by_numbered;
 }
@@ -41,7 +42,11 @@ keys_text = codes "SELECT base, num FROM piece ORDER BY base, num"
 
 pub keys_asked : IsAsked table reading keys_text []
 unfolding everything
-keys_asked = ((_, _, _, _, refl, refl, refl), refl, λ s at tree known. (rw (known.low, known.by_tree), rw (known.low, known.by_tree) refl))
+keys_asked = (
+  (_, _, _, _, refl, refl, refl),
+  refl,
+  λ s at tree known. (rw (known.low, known.by_tree), rw (known.low, known.by_tree) refl),
+)
 
 abbrev pub keys : Selection table reading keys_text [] (λ _. true)
 keys = selected table reading places_are refl keys_text [] keys_asked (λ r has. refl)

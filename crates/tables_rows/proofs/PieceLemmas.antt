@@ -48,7 +48,9 @@ table = record {
   keyed = λ db of_store mine. mine.keyed;
   kept = piece_kept;
   written = λ old new rows has here sets m is. pieces_set old new has rows here sets m is;
-  still = λ old new rows exists sets keyed readable mine. further_kept piece old new rows exists sets keyed readable piece mine;
+  still =
+      λ old new rows exists sets keyed readable mine. further_kept piece old new rows exists sets keyed readable piece
+      mine;
 }
 
 -- ---- one more
@@ -56,12 +58,23 @@ table = record {
 abbrev pub insert_text : List ℕ
 insert_text = codes "INSERT INTO piece (base, num, bytes) VALUES (?1, ?2, ?3)"
 
-pub addition : (base : List ℕ) (number : ℤ) (content : List ℕ) → Addition table insert_text (Text base ∷ Int number ∷ Blob content ∷ []) (Text base ∷ Int number ∷ Blob content ∷ []) (base, number) content
+pub addition : (base : List ℕ) (number : ℤ) (content : List ℕ)
+    → Addition table insert_text (Text base ∷ Int number ∷ Blob content ∷ [])
+    (Text base ∷ Int number ∷ Blob content ∷ []) (base, number) content
 unfolding everything
 addition base number content =
-    added table (λ s at tree found. (_, insert_means insert_text refl s at (codes "piece") piece.columns piece.primary tree _ found refl, refl, refl, refl, refl, refl))
+    added table (λ s at tree found. (
+      _,
+      insert_means insert_text refl s at (codes "piece") piece.columns piece.primary tree _ found refl,
+      refl,
+      refl,
+      refl,
+      refl,
+      refl,
+    ))
     (λ rows. rw (cast_null, cast_int number) refl) (refl, refl, λ id. (refl, refl, refl))
-    (λ id r kind h. let e = agreed_two (Text base) (Int number) (Int id) (Blob content ∷ []) r (and_so _ _ (and_so _ _ kind).0) h in λ i. (e.0 i, e.1 i))
+    (λ id r kind h. let e = agreed_two (Text base) (Int number) (Int id) (Blob content ∷ []) r
+    (and_so _ _ (and_so _ _ kind).0) h in λ i. (e.0 i, e.1 i))
 
 -- ---- reading them
 
@@ -76,7 +89,11 @@ abbrev pub reading : Reading table ShowsPiece piece_in IsPieceRow
 reading = record {
   shown = places;
   by = 2;
-  fits = λ params filter tree r t h. (λ i. is_text (h.0 i) && is_int (h.1 i) && is_blob (h.2 i), λ i. ((bytes (h.0 i), id_in (h.1 i)), bytes (h.2 i)));
+  fits =
+      λ params filter tree r t h. (
+        λ i. is_text (h.0 i) && is_int (h.1 i) && is_blob (h.2 i),
+        λ i. ((bytes (h.0 i), id_in (h.1 i)), bytes (h.2 i)),
+      );
   legible = λ params filter tree. piece_row;
   orders = λ params filter tree. by_numbered;
 }
@@ -87,7 +104,11 @@ of_text = codes "SELECT base, num, bytes FROM piece WHERE base = ?1 ORDER BY bas
 pub of : (base : List ℕ) → Selection table reading of_text (Text base ∷ []) (λ k. eq_by_cmp texts_cmp k.0 base)
 unfolding everything
 of base =
-    selected table reading places_are refl of_text (Text base ∷ []) ((_, _, _, _, refl, refl, refl), refl, λ s at tree known. (rw (known.low, known.by_tree), rw (known.low, known.by_tree) refl))
+    selected table reading places_are refl of_text (Text base ∷ []) (
+      (_, _, _, _, refl, refl, refl),
+      refl,
+      λ s at tree known. (rw (known.low, known.by_tree), rw (known.low, known.by_tree) refl),
+    )
     (λ r kind. said_one (Text base) r (and_so _ _ (and_so _ _ kind).0).0)
 
 -- ---- those gone
@@ -98,7 +119,11 @@ delete_of_text = codes "DELETE FROM piece WHERE base = ?1"
 pub removal : (base : List ℕ) → Removal table delete_of_text (Text base ∷ []) (λ k. eq_by_cmp texts_cmp k.0 base)
 unfolding everything
 removal base =
-    removed table places places_are refl delete_of_text (Text base ∷ []) ((_, _, _, _, refl, refl, refl), refl, λ s at tree known. (rw (known.low, known.by_tree), rw (known.low, known.by_tree) refl))
+    removed table places places_are refl delete_of_text (Text base ∷ []) (
+      (_, _, _, _, refl, refl, refl),
+      refl,
+      λ s at tree known. (rw (known.low, known.by_tree), rw (known.low, known.by_tree) refl),
+    )
     (λ r kind. said_one (Text base) r (and_so _ _ (and_so _ _ kind).0).0)
 
 -- ---- they are SELECTs

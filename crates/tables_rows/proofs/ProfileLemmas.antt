@@ -28,20 +28,33 @@ use Rattle.tables_sql.proofs.Description.{Description, Addition, Removal, Readin
 
 abbrev pub table : Description Pair ℤ
 table =
-    one_of_nine profile pair_total pair_antisymmetric is_profile profile_of (λ c. c.profiles) (λ c m. record c { profiles = m })
-    refl (λ db has. refl) (λ s has. has.1.1.1.1.1.1.0) (λ db of_store. of_store.keyed.1.1.1.1.1.1.0) profile_kept profile_set
+    one_of_nine profile pair_total pair_antisymmetric is_profile profile_of (λ c. c.profiles)
+    (λ c m. record c { profiles = m })
+    refl (λ db has. refl) (λ s has. has.1.1.1.1.1.1.0) (λ db of_store. of_store.keyed.1.1.1.1.1.1.0) profile_kept
+    profile_set
 
 -- ---- one more
 
 abbrev pub insert_text : List ℕ
 insert_text = codes "INSERT INTO profile (owner, name, cur) VALUES (?1, ?2, ?3)"
 
-pub addition : (owner : List ℕ) (name : List ℕ) (current : ℤ) → Addition table insert_text (Text owner ∷ Text name ∷ Int current ∷ []) (Text owner ∷ Text name ∷ Int current ∷ []) (owner, name) current
+pub addition : (owner : List ℕ) (name : List ℕ) (current : ℤ)
+    → Addition table insert_text (Text owner ∷ Text name ∷ Int current ∷ []) (Text owner ∷ Text name ∷ Int current ∷ [])
+    (owner, name) current
 unfolding everything
 addition owner name current =
-    added table (λ s at tree found. (_, insert_means insert_text refl s at (codes "profile") profile.columns profile.primary tree _ found refl, refl, refl, refl, refl, refl))
+    added table (λ s at tree found. (
+      _,
+      insert_means insert_text refl s at (codes "profile") profile.columns profile.primary tree _ found refl,
+      refl,
+      refl,
+      refl,
+      refl,
+      refl,
+    ))
     (λ rows. rw (cast_null, cast_int current) refl) (refl, refl, λ id. (refl, refl, refl))
-    (λ id r kind h. let e = agreed_two (Text owner) (Text name) (Int id) (Int current ∷ []) r (and_so _ _ (and_so _ _ kind).0) h in λ i. (e.0 i, e.1 i))
+    (λ id r kind h. let e = agreed_two (Text owner) (Text name) (Int id) (Int current ∷ []) r
+    (and_so _ _ (and_so _ _ kind).0) h in λ i. (e.0 i, e.1 i))
 
 -- ---- reading them
 
@@ -56,7 +69,11 @@ abbrev pub reading : Reading table ShowsProfile current_of IsProfileRow
 reading = record {
   shown = places;
   by = 2;
-  fits = λ params filter tree r t h. (λ i. is_text (h.0 i) && is_text (h.1 i) && is_int (h.2 i), λ i. ((bytes (h.0 i), bytes (h.1 i)), id_in (h.2 i)));
+  fits =
+      λ params filter tree r t h. (
+        λ i. is_text (h.0 i) && is_text (h.1 i) && is_int (h.2 i),
+        λ i. ((bytes (h.0 i), bytes (h.1 i)), id_in (h.2 i)),
+      );
   legible = λ params filter tree. profile_row;
   orders = λ params filter tree a b h k. by_pair a b (and_so _ _ h).0 (and_so _ _ k).0;
 }
@@ -66,7 +83,11 @@ all_text = codes "SELECT owner, name, cur FROM profile ORDER BY owner, name"
 
 pub all_asked : IsAsked table reading all_text []
 unfolding everything
-all_asked = ((_, _, _, _, refl, refl, refl), refl, λ s at tree known. (rw (known.low, known.by_tree), rw (known.low, known.by_tree) refl))
+all_asked = (
+  (_, _, _, _, refl, refl, refl),
+  refl,
+  λ s at tree known. (rw (known.low, known.by_tree), rw (known.low, known.by_tree) refl),
+)
 
 abbrev pub all : Selection table reading all_text [] (λ _. true)
 all = selected table reading places_are refl all_text [] all_asked (λ r kind. refl)
@@ -76,10 +97,16 @@ all = selected table reading places_are refl all_text [] all_asked (λ r kind. r
 abbrev pub delete_text : List ℕ
 delete_text = codes "DELETE FROM profile WHERE owner = ?1 AND name = ?2"
 
-pub removal : (owner : List ℕ) (name : List ℕ) → Removal table delete_text (Text owner ∷ Text name ∷ []) (λ k. eq_by_cmp texts_cmp k.0 owner && eq_by_cmp texts_cmp k.1 name)
+pub removal : (owner : List ℕ) (name : List ℕ)
+    → Removal table delete_text (Text owner ∷ Text name ∷ [])
+    (λ k. eq_by_cmp texts_cmp k.0 owner && eq_by_cmp texts_cmp k.1 name)
 unfolding everything
 removal owner name =
-    removed table places places_are refl delete_text (Text owner ∷ Text name ∷ []) ((_, _, _, _, refl, refl, refl), refl, λ s at tree known. (rw (known.low, known.by_tree), rw (known.low, known.by_tree) refl))
+    removed table places places_are refl delete_text (Text owner ∷ Text name ∷ []) (
+      (_, _, _, _, refl, refl, refl),
+      refl,
+      λ s at tree known. (rw (known.low, known.by_tree), rw (known.low, known.by_tree) refl),
+    )
     (λ r kind. said_two (Text owner) (Text name) r (and_so _ _ (and_so _ _ kind).0))
 
 -- ---- they are SELECTs

@@ -34,12 +34,22 @@ table =
 abbrev pub insert_text : List ℕ
 insert_text = codes "INSERT INTO refs (base, target) VALUES (?1, ?2)"
 
-pub addition : (base target : List ℕ) → Addition table insert_text (Text base ∷ Text target ∷ []) (Text base ∷ Text target ∷ []) (base, target) tt
+pub addition : (base target : List ℕ)
+    → Addition table insert_text (Text base ∷ Text target ∷ []) (Text base ∷ Text target ∷ []) (base, target) tt
 unfolding everything
 addition base target =
-    added table (λ s at tree found. (_, insert_means insert_text refl s at (codes "refs") refs.columns refs.primary tree _ found refl, refl, refl, refl, refl, refl))
+    added table (λ s at tree found. (
+      _,
+      insert_means insert_text refl s at (codes "refs") refs.columns refs.primary tree _ found refl,
+      refl,
+      refl,
+      refl,
+      refl,
+      refl,
+    ))
     (λ rows. rw cast_null refl) (refl, refl, λ id. (refl, refl, refl))
-    (λ id r kind h. let e = agreed_two (Text base) (Text target) (Int id) [] r (and_so _ _ kind) h in λ i. (e.0 i, e.1 i))
+    (λ id r kind h. let e = agreed_two (Text base) (Text target) (Int id) [] r (and_so _ _ kind) h in
+    λ i. (e.0 i, e.1 i))
 
 -- ---- reading them
 
@@ -54,7 +64,8 @@ abbrev pub reading : Reading table ShowsReference reference_of IsPairRow
 reading = record {
   shown = places;
   by = 2;
-  fits = λ params filter tree r t h. (λ i. is_text (h.0 i) && is_text (h.1 i), λ i. ((bytes (h.0 i), bytes (h.1 i)), tt));
+  fits =
+      λ params filter tree r t h. (λ i. is_text (h.0 i) && is_text (h.1 i), λ i. ((bytes (h.0 i), bytes (h.1 i)), tt));
   legible = λ params filter tree. pair_row;
   orders = λ params filter tree. by_pair;
 }
@@ -64,7 +75,11 @@ all_text = codes "SELECT base, target FROM refs ORDER BY base, target"
 
 pub all_asked : IsAsked table reading all_text []
 unfolding everything
-all_asked = ((_, _, _, _, refl, refl, refl), refl, λ s at tree known. (rw (known.low, known.by_tree), rw (known.low, known.by_tree) refl))
+all_asked = (
+  (_, _, _, _, refl, refl, refl),
+  refl,
+  λ s at tree known. (rw (known.low, known.by_tree), rw (known.low, known.by_tree) refl),
+)
 
 abbrev pub all : Selection table reading all_text [] (λ _. true)
 all = selected table reading places_are refl all_text [] all_asked (λ r kind. refl)
@@ -77,7 +92,11 @@ delete_of_text = codes "DELETE FROM refs WHERE base = ?1"
 pub removal : (base : List ℕ) → Removal table delete_of_text (Text base ∷ []) (λ k. eq_by_cmp texts_cmp k.0 base)
 unfolding everything
 removal base =
-    removed table places places_are refl delete_of_text (Text base ∷ []) ((_, _, _, _, refl, refl, refl), refl, λ s at tree known. (rw (known.low, known.by_tree), rw (known.low, known.by_tree) refl))
+    removed table places places_are refl delete_of_text (Text base ∷ []) (
+      (_, _, _, _, refl, refl, refl),
+      refl,
+      λ s at tree known. (rw (known.low, known.by_tree), rw (known.low, known.by_tree) refl),
+    )
     (λ r kind. said_one (Text base) r (and_so _ _ kind).0)
 
 -- ---- they are SELECTs

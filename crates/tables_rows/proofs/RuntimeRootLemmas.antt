@@ -25,20 +25,32 @@ use Rattle.tables_sql.proofs.Description.{Description, Addition, Removal, Readin
 
 abbrev pub table : Description Pair (Unit {0})
 table =
-    one_of_nine runtime pair_total pair_antisymmetric is_pair member_of (λ c. c.runtime) (λ c m. record c { runtime = m })
-    refl (λ db has. refl) (λ s has. has.1.1.1.1.1.1.1.1.0) (λ db of_store. of_store.keyed.1.1.1.1.1.1.1.1.0) runtime_kept runtime_set
+    one_of_nine runtime pair_total pair_antisymmetric is_pair member_of (λ c. c.runtime)
+    (λ c m. record c { runtime = m })
+    refl (λ db has. refl) (λ s has. has.1.1.1.1.1.1.1.1.0) (λ db of_store. of_store.keyed.1.1.1.1.1.1.1.1.0)
+    runtime_kept runtime_set
 
 -- ---- one more
 
 abbrev pub insert_text : List ℕ
 insert_text = codes "INSERT INTO runtime (label, target) VALUES (?1, ?2)"
 
-pub addition : (label target : List ℕ) → Addition table insert_text (Text label ∷ Text target ∷ []) (Text label ∷ Text target ∷ []) (label, target) tt
+pub addition : (label target : List ℕ)
+    → Addition table insert_text (Text label ∷ Text target ∷ []) (Text label ∷ Text target ∷ []) (label, target) tt
 unfolding everything
 addition label target =
-    added table (λ s at tree found. (_, insert_means insert_text refl s at (codes "runtime") runtime.columns runtime.primary tree _ found refl, refl, refl, refl, refl, refl))
+    added table (λ s at tree found. (
+      _,
+      insert_means insert_text refl s at (codes "runtime") runtime.columns runtime.primary tree _ found refl,
+      refl,
+      refl,
+      refl,
+      refl,
+      refl,
+    ))
     (λ rows. rw cast_null refl) (refl, refl, λ id. (refl, refl, refl))
-    (λ id r kind h. let e = agreed_two (Text label) (Text target) (Int id) [] r (and_so _ _ kind) h in λ i. (e.0 i, e.1 i))
+    (λ id r kind h. let e = agreed_two (Text label) (Text target) (Int id) [] r (and_so _ _ kind) h in
+    λ i. (e.0 i, e.1 i))
 
 -- ---- reading them
 
@@ -53,7 +65,8 @@ abbrev pub reading : Reading table ShowsRuntimeRoot runtime_of IsPairRow
 reading = record {
   shown = places;
   by = 2;
-  fits = λ params filter tree r t h. (λ i. is_text (h.0 i) && is_text (h.1 i), λ i. ((bytes (h.0 i), bytes (h.1 i)), tt));
+  fits =
+      λ params filter tree r t h. (λ i. is_text (h.0 i) && is_text (h.1 i), λ i. ((bytes (h.0 i), bytes (h.1 i)), tt));
   legible = λ params filter tree. pair_row;
   orders = λ params filter tree. by_pair;
 }
@@ -63,7 +76,11 @@ all_text = codes "SELECT label, target FROM runtime ORDER BY label, target"
 
 pub all_asked : IsAsked table reading all_text []
 unfolding everything
-all_asked = ((_, _, _, _, refl, refl, refl), refl, λ s at tree known. (rw (known.low, known.by_tree), rw (known.low, known.by_tree) refl))
+all_asked = (
+  (_, _, _, _, refl, refl, refl),
+  refl,
+  λ s at tree known. (rw (known.low, known.by_tree), rw (known.low, known.by_tree) refl),
+)
 
 abbrev pub all : Selection table reading all_text [] (λ _. true)
 all = selected table reading places_are refl all_text [] all_asked (λ r kind. refl)
@@ -76,7 +93,11 @@ delete_all_text = codes "DELETE FROM runtime"
 pub removal_all : Removal table delete_all_text [] (λ _. true)
 unfolding everything
 removal_all =
-    removed table places places_are refl delete_all_text [] ((_, _, _, _, refl, refl, refl), refl, λ s at tree known. (rw (known.low, known.by_tree), rw (known.low, known.by_tree) refl))
+    removed table places places_are refl delete_all_text [] (
+      (_, _, _, _, refl, refl, refl),
+      refl,
+      λ s at tree known. (rw (known.low, known.by_tree), rw (known.low, known.by_tree) refl),
+    )
     (λ r kind. refl)
 
 -- ---- they are SELECTs

@@ -36,9 +36,18 @@ insert_text = codes "INSERT INTO meta (word, val) VALUES (?1, ?2)"
 
 pub insert_is : Inserts table insert_text 2
 unfolding everything
-insert_is s at tree found = (_, insert_means insert_text refl s at (codes "meta") meta.columns meta.primary tree _ found refl, refl, refl, refl, refl, refl)
+insert_is s at tree found = (
+  _,
+  insert_means insert_text refl s at (codes "meta") meta.columns meta.primary tree _ found refl,
+  refl,
+  refl,
+  refl,
+  refl,
+  refl,
+)
 
-pub addition : (word : List ℕ) (value : List ℕ) → Addition table insert_text (Text word ∷ Text value ∷ []) (Text word ∷ Text value ∷ []) word value
+pub addition : (word : List ℕ) (value : List ℕ)
+    → Addition table insert_text (Text word ∷ Text value ∷ []) (Text word ∷ Text value ∷ []) word value
 addition word value =
     added table insert_is (λ rows. rw cast_null refl) (refl, refl, λ id. (refl, refl, refl))
     (λ id r kind h. agreed_one (Text word) (Int id) (Text value ∷ []) r ((and_so _ _ kind).0) h)
@@ -66,7 +75,11 @@ all_text = codes "SELECT word, val FROM meta ORDER BY word"
 
 pub all_asked : IsAsked table reading all_text []
 unfolding everything
-all_asked = ((_, _, _, _, refl, refl, refl), refl, λ s at tree known. (rw (known.low, known.by_tree), rw (known.low, known.by_tree) refl))
+all_asked = (
+  (_, _, _, _, refl, refl, refl),
+  refl,
+  λ s at tree known. (rw (known.low, known.by_tree), rw (known.low, known.by_tree) refl),
+)
 
 abbrev pub all : Selection table reading all_text [] (λ _. true)
 all = selected table reading places_are refl all_text [] all_asked (λ r kind. refl)
@@ -79,7 +92,11 @@ delete_text = codes "DELETE FROM meta WHERE word = ?1"
 pub removal : (word : List ℕ) → Removal table delete_text (Text word ∷ []) (λ k. eq_by_cmp texts_cmp k word)
 unfolding everything
 removal word =
-    removed table places places_are refl delete_text (Text word ∷ []) ((_, _, _, _, refl, refl, refl), refl, λ s at tree known. (rw (known.low, known.by_tree), rw (known.low, known.by_tree) refl))
+    removed table places places_are refl delete_text (Text word ∷ []) (
+      (_, _, _, _, refl, refl, refl),
+      refl,
+      λ s at tree known. (rw (known.low, known.by_tree), rw (known.low, known.by_tree) refl),
+    )
     (λ r kind. said_one (Text word) r (and_so _ _ kind).0)
 
 -- ---- they are SELECTs

@@ -10,7 +10,8 @@ use Rattle.tables_sql.specs.declared.failure.Failed.TheVariants.{Memory}
 use Rattle.tables_sql.specs.Contents.{Contents, contents_of}
 use Rattle.tables_sql.specs.Failures.{FailsFor, FailsToRead}
 use Rattle.tables_sql.proofs.Steps.{clean_before}
-use Rattle.tables_sql.proofs.TestFailures.{both_keep, survives_both, passed_on, read_fails, read_passed, memory_passed, read_then}
+use Rattle.tables_sql.proofs.TestFailures.{both_keep, survives_both, passed_on, read_fails, read_passed, memory_passed}
+use Rattle.tables_sql.proofs.TestFailures.{read_then}
 use Rattle.tables_rows.specs.Frames.{LeftAsItWas, Reads, FailsWithCause, ReadsOnly, FindsInReads}
 
 not_ok : {T : Type 0} (r : Result T Failed) (e : Failed) (P : Type 0) → IsErrAnd r (λ f. f ≡ e) → OnOk r P
@@ -25,7 +26,8 @@ of_found : {T : Type 0} (r : Result T Failed) (P : Type 0) (Q : T → Type 0) �
 of_found (Ok x) P Q h = h.0
 of_found (Err f) P Q h = tt
 
-unchanged_next : {T : Type 0} (r : Result T Failed) (a b c : State) → IsUnchanged a b → OnOk r (IsUnchanged b c) → OnOk r (IsUnchanged a c)
+unchanged_next : {T : Type 0} (r : Result T Failed) (a b c : State) → IsUnchanged a b → OnOk r (IsUnchanged b c)
+    → OnOk r (IsUnchanged a c)
 unchanged_next (Ok x) a b c first next = unchanged_then a b c first next
 unchanged_next (Err f) a b c first next = tt
 
@@ -42,7 +44,8 @@ module _ {S : Type 0} {g : Ghosts S} where
   -- ---- an error that is passed on
 
   -- of one read
-  pub one_failed : {T : Type 0} (a b : Held S) (r : Result T Failed) (e : Failed) → IsErrAnd r (λ f. f ≡ e) → LeftAsItWas g a b → (HasCleanDisk (state g b) → FailsFor (state g a) (state g b) e) → ReadsOnly g a b r
+  pub one_failed : {T : Type 0} (a b : Held S) (r : Result T Failed) (e : Failed) → IsErrAnd r (λ f. f ≡ e)
+      → LeftAsItWas g a b → (HasCleanDisk (state g b) → FailsFor (state g a) (state g b) e) → ReadsOnly g a b r
   one_failed a b r e is left cause = record {
     frame = left;
     unchanged = λ _. not_ok r e _ is;
@@ -50,7 +53,8 @@ module _ {S : Type 0} {g : Ghosts S} where
   }
 
   -- of several
-  pub several_failed : {T : Type 0} (a b : Held S) (r : Result T Failed) (e : Failed) → IsErrAnd r (λ f. f ≡ e) → LeftAsItWas g a b → (HasCleanDisk (state g b) → FailsToRead (state g a) (state g b) e) → ReadsOnly g a b r
+  pub several_failed : {T : Type 0} (a b : Held S) (r : Result T Failed) (e : Failed) → IsErrAnd r (λ f. f ≡ e)
+      → LeftAsItWas g a b → (HasCleanDisk (state g b) → FailsToRead (state g a) (state g b) e) → ReadsOnly g a b r
   several_failed a b r e is left cause = record {
     frame = left;
     unchanged = λ _. not_ok r e _ is;
@@ -58,7 +62,8 @@ module _ {S : Type 0} {g : Ghosts S} where
   }
 
   -- no memory was left for what was read
-  pub memory_failed : {T : Type 0} (a b : Held S) (r : Result T Failed) → IsErrAnd r (λ f. f ≡ Memory) → LeftAsItWas g a b → ReadsOnly g a b r
+  pub memory_failed : {T : Type 0} (a b : Held S) (r : Result T Failed) → IsErrAnd r (λ f. f ≡ Memory)
+      → LeftAsItWas g a b → ReadsOnly g a b r
   memory_failed a b r is left = record {
     frame = left;
     unchanged = λ _. not_ok r Memory _ is;
@@ -67,11 +72,16 @@ module _ {S : Type 0} {g : Ghosts S} where
 
   -- ---- further reads, after some that were done
 
-  pub reads_then : {T : Type 0} (a b c : Held S) (r : Result T Failed) → LeftAsItWas g a b → (HasCleanDisk (state g b) → IsUnchanged (state g a) (state g b)) → ReadsOnly g b c r → ReadsOnly g a c r
+  pub reads_then : {T : Type 0} (a b c : Held S) (r : Result T Failed) → LeftAsItWas g a b
+      → (HasCleanDisk (state g b) → IsUnchanged (state g a) (state g b)) → ReadsOnly g b c r → ReadsOnly g a c r
   reads_then a b c r left same next = record {
     frame = left_then a b c left next.frame;
-    unchanged = λ clean. unchanged_next r (state g a) (state g b) (state g c) (same (clean_before (state g b) (state g c) _ next.frame.survives clean)) (next.unchanged clean);
-    cause = λ clean. read_then (state g a) (state g b) (state g c) r same left.survives next.frame.survives clean (next.cause clean);
+    unchanged =
+        λ clean. unchanged_next r (state g a) (state g b) (state g c)
+        (same (clean_before (state g b) (state g c) _ next.frame.survives clean)) (next.unchanged clean);
+    cause =
+        λ clean. read_then (state g a) (state g b) (state g c) r same left.survives next.frame.survives clean
+        (next.cause clean);
   }
 
   -- the answer is another, and nothing else is
@@ -80,21 +90,26 @@ module _ {S : Type 0} {g : Ghosts S} where
 
   -- ---- reads that find something
 
-  pub finds_one : {T : Type 0} (a b : Held S) (r : Result T Failed) (shows : Contents → T → Type 0) → LeftAsItWas g a b → Reads g a b r shows → FailsWithCause g a b r → FindsInReads g a b r shows
+  pub finds_one : {T : Type 0} (a b : Held S) (r : Result T Failed) (shows : Contents → T → Type 0) → LeftAsItWas g a b
+      → Reads g a b r shows → FailsWithCause g a b r → FindsInReads g a b r shows
   finds_one a b r shows left reads cause = record {
     frame = left;
     reads = reads;
     cause = λ clean. read_fails (state g a) (state g b) r (cause clean);
   }
 
-  pub finds_alone : {T : Type 0} (a b : Held S) (r : Result T Failed) (shows : Contents → T → Type 0) → FindsInReads g a b r shows → ReadsOnly g a b r
+  pub finds_alone : {T : Type 0} (a b : Held S) (r : Result T Failed) (shows : Contents → T → Type 0)
+      → FindsInReads g a b r shows → ReadsOnly g a b r
   finds_alone a b r shows found = record {
     frame = found.frame;
-    unchanged = λ clean. of_found r (IsUnchanged (state g a) (state g b)) (shows (contents_of (state g a).now)) (found.reads clean);
+    unchanged =
+        λ clean. of_found r (IsUnchanged (state g a) (state g b)) (shows (contents_of (state g a).now))
+        (found.reads clean);
     cause = found.cause;
   }
 
-  pub finds_failed : {T : Type 0} (a b : Held S) (r : Result T Failed) (e : Failed) (shows : Contents → T → Type 0) → IsErrAnd r (λ f. f ≡ e) → ReadsOnly g a b r → FindsInReads g a b r shows
+  pub finds_failed : {T : Type 0} (a b : Held S) (r : Result T Failed) (e : Failed) (shows : Contents → T → Type 0)
+      → IsErrAnd r (λ f. f ≡ e) → ReadsOnly g a b r → FindsInReads g a b r shows
   finds_failed a b r e shows is reads = record {
     frame = reads.frame;
     reads = λ _. not_found r e _ is;

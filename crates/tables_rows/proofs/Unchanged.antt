@@ -18,10 +18,16 @@ changes_nothing a b under same =
       is_open = same.0.is_open;
       schema = ap (λ (x : Database). x.schema) now;
       contents = ap contents_of now;
-      foreign_rows = subst (λ (x : Database). KeepsForeignRows a.now x) (sym now) (all_of (λ (t : Table). names_store_table t.name ≡ false → a.now.trees t.tree ≡ a.now.trees t.tree) (λ t other. refl) a.now.schema.tables);
+      foreign_rows =
+          subst (λ (x : Database). KeepsForeignRows a.now x) (sym now)
+          (all_of (λ (t : Table). names_store_table t.name ≡ false → a.now.trees t.tree ≡ a.now.trees t.tree)
+          (λ t other. refl) a.now.schema.tables);
       unshown = λ tree hidden. ap (λ (x : Database). x.trees tree) now;
       of_store = subst IsStoreDatabase (sym now) (under.of_store same.0.was_open);
-      further = (λ present. subst (λ (x : Database). HasFurther x piece) (sym now) present, (λ present. subst (λ (x : Database). HasFurther x temp_root) (sym now) present, tt));
+      further = (
+        λ present. subst (λ (x : Database). HasFurther x piece) (sym now) present,
+        (λ present. subst (λ (x : Database). HasFurther x temp_root) (sym now) present, tt),
+      );
       committed = same.0.committed_is;
       mode = same.0.mode ∙ under.mode;
       marks = same.2;

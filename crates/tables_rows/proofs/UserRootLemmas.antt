@@ -26,20 +26,34 @@ use Rattle.tables_sql.proofs.Description.{Description, Addition, Removal, Readin
 
 abbrev pub table : Description Pair Bytes
 table =
-    one_of_nine user_root pair_total pair_antisymmetric is_triple target_of (λ c. c.user_roots) (λ c m. record c { user_roots = m })
-    refl (λ db has. refl) (λ s has. has.1.1.1.1.1.0) (λ db of_store. of_store.keyed.1.1.1.1.1.0) user_root_kept user_root_set
+    one_of_nine user_root pair_total pair_antisymmetric is_triple target_of (λ c. c.user_roots)
+    (λ c m. record c { user_roots = m })
+    refl (λ db has. refl) (λ s has. has.1.1.1.1.1.0) (λ db of_store. of_store.keyed.1.1.1.1.1.0) user_root_kept
+    user_root_set
 
 -- ---- one more
 
 abbrev pub insert_text : List ℕ
 insert_text = codes "INSERT INTO user_root (owner, name, target) VALUES (?1, ?2, ?3)"
 
-pub addition : (owner : List ℕ) (name : List ℕ) (target : List ℕ) → Addition table insert_text (Text owner ∷ Text name ∷ Text target ∷ []) (Text owner ∷ Text name ∷ Text target ∷ []) (owner, name) target
+pub addition : (owner : List ℕ) (name : List ℕ) (target : List ℕ)
+    → Addition table insert_text (Text owner ∷ Text name ∷ Text target ∷ []) (Text owner ∷ Text name ∷ Text target ∷ [])
+    (owner, name) target
 unfolding everything
 addition owner name target =
-    added table (λ s at tree found. (_, insert_means insert_text refl s at (codes "user_root") user_root.columns user_root.primary tree _ found refl, refl, refl, refl, refl, refl))
+    added table (λ s at tree found. (
+      _,
+      insert_means insert_text refl s at (codes "user_root") user_root.columns user_root.primary tree _ found
+          refl,
+      refl,
+      refl,
+      refl,
+      refl,
+      refl,
+    ))
     (λ rows. rw cast_null refl) (refl, refl, λ id. (refl, refl, refl))
-    (λ id r kind h. let e = agreed_two (Text owner) (Text name) (Int id) (Text target ∷ []) r (and_so _ _ (and_so _ _ kind).0) h in λ i. (e.0 i, e.1 i))
+    (λ id r kind h. let e = agreed_two (Text owner) (Text name) (Int id) (Text target ∷ []) r
+    (and_so _ _ (and_so _ _ kind).0) h in λ i. (e.0 i, e.1 i))
 
 -- ---- reading them
 
@@ -54,7 +68,11 @@ abbrev pub reading : Reading table ShowsUserRoot user_root_of IsTripleRow
 reading = record {
   shown = places;
   by = 2;
-  fits = λ params filter tree r t h. (λ i. is_text (h.0 i) && is_text (h.1 i) && is_text (h.2 i), λ i. ((bytes (h.0 i), bytes (h.1 i)), bytes (h.2 i)));
+  fits =
+      λ params filter tree r t h. (
+        λ i. is_text (h.0 i) && is_text (h.1 i) && is_text (h.2 i),
+        λ i. ((bytes (h.0 i), bytes (h.1 i)), bytes (h.2 i)),
+      );
   legible = λ params filter tree. triple_row;
   orders = λ params filter tree a b h k. by_pair a b (and_so _ _ h).0 (and_so _ _ k).0;
 }
@@ -64,7 +82,11 @@ all_text = codes "SELECT owner, name, target FROM user_root ORDER BY owner, name
 
 pub all_asked : IsAsked table reading all_text []
 unfolding everything
-all_asked = ((_, _, _, _, refl, refl, refl), refl, λ s at tree known. (rw (known.low, known.by_tree), rw (known.low, known.by_tree) refl))
+all_asked = (
+  (_, _, _, _, refl, refl, refl),
+  refl,
+  λ s at tree known. (rw (known.low, known.by_tree), rw (known.low, known.by_tree) refl),
+)
 
 abbrev pub all : Selection table reading all_text [] (λ _. true)
 all = selected table reading places_are refl all_text [] all_asked (λ r kind. refl)
@@ -74,10 +96,16 @@ all = selected table reading places_are refl all_text [] all_asked (λ r kind. r
 abbrev pub delete_text : List ℕ
 delete_text = codes "DELETE FROM user_root WHERE owner = ?1 AND name = ?2"
 
-pub removal : (owner : List ℕ) (name : List ℕ) → Removal table delete_text (Text owner ∷ Text name ∷ []) (λ k. eq_by_cmp texts_cmp k.0 owner && eq_by_cmp texts_cmp k.1 name)
+pub removal : (owner : List ℕ) (name : List ℕ)
+    → Removal table delete_text (Text owner ∷ Text name ∷ [])
+    (λ k. eq_by_cmp texts_cmp k.0 owner && eq_by_cmp texts_cmp k.1 name)
 unfolding everything
 removal owner name =
-    removed table places places_are refl delete_text (Text owner ∷ Text name ∷ []) ((_, _, _, _, refl, refl, refl), refl, λ s at tree known. (rw (known.low, known.by_tree), rw (known.low, known.by_tree) refl))
+    removed table places places_are refl delete_text (Text owner ∷ Text name ∷ []) (
+      (_, _, _, _, refl, refl, refl),
+      refl,
+      λ s at tree known. (rw (known.low, known.by_tree), rw (known.low, known.by_tree) refl),
+    )
     (λ r kind. said_two (Text owner) (Text name) r (and_so _ _ (and_so _ _ kind).0))
 
 -- ---- they are SELECTs

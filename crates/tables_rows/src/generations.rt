@@ -10,7 +10,7 @@ ghost use Rattle.tables_rows.specs.Entries.{generation_in, ShowsGeneration, IsGe
 ghost use Rattle.tables_rows.specs.Keys.{same, same_number, without_keys};
 ghost use Rattle.std.specs.Ordering.{is_lt};
 
-use crate::{Delete, Find, Found, Insert, reading};
+use crate::{Delete, Find, Found, Insert, queries};
 use sqlite::{Alter, Connection, Transaction, params};
 use std::alloc::Global;
 use std::cmp::Ordering;
@@ -67,7 +67,7 @@ impl Find for All {
 
     fn find<S: Alter>(&self, alloc: Global, conn: &mut Connection<S>) -> Found<Generation> {
         let text = "SELECT owner, name, num, target FROM generation ORDER BY owner, name, num";
-        reading::select(alloc, conn, text, &[])
+        queries::select(alloc, conn, text, &[])
     }
 }
 

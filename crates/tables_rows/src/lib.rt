@@ -2,14 +2,14 @@
 #![tactic(auto)]
 
 pub mod generations;
-mod getting_within;
 pub mod meta;
+mod object_within;
 pub mod objects;
 pub mod outputs;
 pub mod permanent;
 pub mod pieces;
 pub mod profiles;
-mod reading;
+mod queries;
 pub mod references;
 pub mod runtime;
 mod statements;

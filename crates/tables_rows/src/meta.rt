@@ -10,7 +10,7 @@ ghost use Rattle.tables_rows.specs.Entries.{setting_of, ShowsSetting, IsPairRow}
 ghost use Rattle.tables_rows.specs.Keys.{same, without_keys};
 ghost use Rattle.std.specs.Ordering.{is_lt};
 
-use crate::{Delete, Find, Found, Insert, reading};
+use crate::{Delete, Find, Found, Insert, queries};
 use sqlite::{Alter, Connection, Transaction, params};
 use std::alloc::Global;
 use tables_sql::entry::Entry;
@@ -53,7 +53,7 @@ impl Find for All {
     ghost shows = { λ it c all. map setting_of all ≡ finite.entries c.meta };
 
     fn find<S: Alter>(&self, alloc: Global, conn: &mut Connection<S>) -> Found<Setting> {
-        reading::select(alloc, conn, "SELECT word, val FROM meta ORDER BY word", &[])
+        queries::select(alloc, conn, "SELECT word, val FROM meta ORDER BY word", &[])
     }
 }
 

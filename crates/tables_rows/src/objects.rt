@@ -12,8 +12,8 @@ ghost use Rattle.tables_rows.specs.Keys.{same, with_keys, without_keys};
 ghost use Rattle.tables_rows.specs.Ranges.{is_between};
 ghost use Rattle.std.specs.Ordering.{is_lt};
 
-pub use crate::getting_within::get_within;
-use crate::{Delete, Find, Found, Insert, reading};
+pub use crate::object_within::get_within;
+use crate::{Delete, Find, Found, Insert, queries};
 use sqlite::{Alter, Connection, Transaction, params};
 use std::alloc::Global;
 use tables_sql::entry::Entry;
@@ -63,7 +63,7 @@ impl Find for Keys {
     ghost shows = { λ it c all. map string_bytes all ≡ finite.keys c.objects };
 
     fn find<S: Alter>(&self, alloc: Global, conn: &mut Connection<S>) -> Found<String> {
-        reading::select(alloc, conn, "SELECT base FROM object ORDER BY base", &[])
+        queries::select(alloc, conn, "SELECT base FROM object ORDER BY base", &[])
     }
 }
 
@@ -80,7 +80,7 @@ impl<'a> Find for Of<'a> {
 
     fn find<S: Alter>(&self, alloc: Global, conn: &mut Connection<S>) -> Found<Object> {
         let text = "SELECT base, nar, hash, deriver, ca FROM object WHERE base = ?1 ORDER BY base";
-        reading::select(alloc, conn, text, params![self.base])
+        queries::select(alloc, conn, text, params![self.base])
     }
 }
 
@@ -122,7 +122,7 @@ impl<'a> Find for Between<'a> {
     fn find<S: Alter>(&self, alloc: Global, conn: &mut Connection<S>) -> Found<Object> {
         let text =
             "SELECT base, nar, hash, deriver, ca FROM object WHERE base >= ?1 AND base <= ?2 ORDER BY base";
-        reading::select(alloc, conn, text, params![self.first, self.last])
+        queries::select(alloc, conn, text, params![self.first, self.last])
     }
 }
 

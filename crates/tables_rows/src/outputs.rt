@@ -10,7 +10,7 @@ ghost use Rattle.tables_rows.specs.Entries.{output_of, ShowsOutput, IsTripleRow}
 ghost use Rattle.tables_rows.specs.Keys.{same, without_keys};
 ghost use Rattle.std.specs.Ordering.{is_lt};
 
-use crate::{Delete, Find, Found, Insert, reading};
+use crate::{Delete, Find, Found, Insert, queries};
 use sqlite::{Alter, Connection, Transaction, params};
 use std::alloc::Global;
 use std::cmp::Ordering;
@@ -61,7 +61,7 @@ impl Find for All {
 
     fn find<S: Alter>(&self, alloc: Global, conn: &mut Connection<S>) -> Found<Output> {
         let text = "SELECT base, name, target FROM outs ORDER BY base, name";
-        reading::select(alloc, conn, text, &[])
+        queries::select(alloc, conn, text, &[])
     }
 }
 

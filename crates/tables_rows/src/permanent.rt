@@ -10,7 +10,7 @@ ghost use Rattle.tables_rows.specs.Entries.{permanent_of, ShowsPermanentRoot, Is
 ghost use Rattle.tables_rows.specs.Keys.{same, without_keys};
 ghost use Rattle.std.specs.Ordering.{is_lt};
 
-use crate::{Delete, Find, Found, Insert, reading};
+use crate::{Delete, Find, Found, Insert, queries};
 use sqlite::{Alter, Connection, Transaction, params};
 use std::alloc::Global;
 use tables_sql::entry::Entry;
@@ -54,7 +54,7 @@ impl Find for All {
 
     fn find<S: Alter>(&self, alloc: Global, conn: &mut Connection<S>) -> Found<PermanentRoot> {
         let text = "SELECT name, target FROM permanent ORDER BY name";
-        reading::select(alloc, conn, text, &[])
+        queries::select(alloc, conn, text, &[])
     }
 }
 

@@ -11,7 +11,7 @@ ghost use Rattle.tables_rows.specs.Entries.{piece_in, numbered_in, ShowsPiece, I
 ghost use Rattle.tables_rows.specs.Keys.{same, with_keys, without_keys};
 ghost use Rattle.std.specs.Ordering.{is_lt};
 
-use crate::{Delete, Find, Found, Insert, reading};
+use crate::{Delete, Find, Found, Insert, queries};
 use sqlite::{Alter, Connection, Transaction, params};
 use std::alloc::Global;
 use std::cmp::Ordering;
@@ -94,7 +94,7 @@ impl Find for Keys {
 
     fn find<S: Alter>(&self, alloc: Global, conn: &mut Connection<S>) -> Found<PieceKey> {
         let text = "SELECT base, num FROM piece ORDER BY base, num";
-        reading::select(alloc, conn, text, &[])
+        queries::select(alloc, conn, text, &[])
     }
 }
 
@@ -113,7 +113,7 @@ impl<'a> Find for Of<'a> {
 
     fn find<S: Alter>(&self, alloc: Global, conn: &mut Connection<S>) -> Found<Piece> {
         let text = "SELECT base, num, bytes FROM piece WHERE base = ?1 ORDER BY base, num";
-        reading::select(alloc, conn, text, params![self.base])
+        queries::select(alloc, conn, text, params![self.base])
     }
 }
 

@@ -10,7 +10,7 @@ ghost use Rattle.tables_rows.specs.Keys.{same, without_keys};
 ghost use Rattle.std.specs.Ordering.{is_lt};
 ghost use Rattle.tables_sql.specs.Contents.{pair_cmp};
 
-use crate::{Delete, Find, Found, Insert, reading};
+use crate::{Delete, Find, Found, Insert, queries};
 use sqlite::{Alter, Connection, Transaction, params};
 use std::alloc::Global;
 use std::cmp::Ordering;
@@ -59,7 +59,7 @@ impl Find for All {
 
     fn find<S: Alter>(&self, alloc: Global, conn: &mut Connection<S>) -> Found<Reference> {
         let text = "SELECT base, target FROM refs ORDER BY base, target";
-        reading::select(alloc, conn, text, &[])
+        queries::select(alloc, conn, text, &[])
     }
 }
 

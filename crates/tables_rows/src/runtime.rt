@@ -9,7 +9,7 @@ ghost use Rattle.tables_rows.specs.Entries.{runtime_of, ShowsRuntimeRoot, IsPair
 ghost use Rattle.std.specs.Ordering.{is_lt};
 ghost use Rattle.tables_sql.specs.Contents.{pair_cmp};
 
-use crate::{Delete, Find, Found, Insert, reading};
+use crate::{Delete, Find, Found, Insert, queries};
 use sqlite::{Alter, Connection, Transaction, params};
 use std::alloc::Global;
 use std::cmp::Ordering;
@@ -58,7 +58,7 @@ impl Find for All {
 
     fn find<S: Alter>(&self, alloc: Global, conn: &mut Connection<S>) -> Found<RuntimeRoot> {
         let text = "SELECT label, target FROM runtime ORDER BY label, target";
-        reading::select(alloc, conn, text, &[])
+        queries::select(alloc, conn, text, &[])
     }
 }
 

@@ -11,7 +11,7 @@ ghost use Rattle.tables_rows.specs.Keys.{same, same_number, without_keys};
 ghost use Rattle.std.specs.Ordering.{is_lt};
 ghost use Rattle.tables_sql.specs.Contents.{session_path_cmp};
 
-use crate::{Delete, Find, Found, Insert, reading};
+use crate::{Delete, Find, Found, Insert, queries};
 use sqlite::{Alter, Connection, Transaction, params};
 use std::alloc::Global;
 use std::cmp::Ordering;
@@ -68,7 +68,7 @@ impl Find for All {
 
     fn find<S: Alter>(&self, alloc: Global, conn: &mut Connection<S>) -> Found<TempRoot> {
         let text = "SELECT owner, session, target FROM temp_root ORDER BY owner, session, target";
-        reading::select(alloc, conn, text, &[])
+        queries::select(alloc, conn, text, &[])
     }
 }
 

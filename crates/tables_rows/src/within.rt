@@ -17,7 +17,7 @@ use sqlite::{Alter, Row, Transaction};
 use std::alloc::Global;
 use tables_sql::entry::Entry;
 use tables_sql::failure::Failed;
-use tables_sql::reading::Sink;
+use tables_sql::query::Sink;
 
 /// The entries that these rows show, which must rise.
 fn entries<T: Entry>(alloc: Global, rows: &[Row]) -> Result<Vec<T>, Failed>

@@ -50,7 +50,9 @@ abbrev pub permanent : Table
 permanent = strict (codes "permanent") (col (codes "name") Text true ∷ col (codes "target") Text true ∷ []) (1 ∷ [])
 
 abbrev pub user_root : Table
-user_root = strict (codes "user_root") (col (codes "owner") Text true ∷ col (codes "name") Text true ∷ col (codes "target") Text true ∷ []) (1 ∷ 2 ∷ [])
+user_root =
+    strict (codes "user_root") (col (codes "owner") Text true ∷ col (codes "name") Text true
+    ∷ col (codes "target") Text true ∷ []) (1 ∷ 2 ∷ [])
 
 abbrev pub profile : Table
 profile = strict (codes "profile")

@@ -1,5 +1,6 @@
 -- The store's tables in a schema that may hold those of other programs, before them, after them or between them.
-use Rattle.std.specs.Prelude.{◌≡◌, ℕ, ◌==◌, ◌^◌, nat_le, not, ◌||◌, ◌&&◌, Bool, true, false, List, find, slice_get, Some, option_map, option_and_then, unwrap_or, bytes_eq}
+use Rattle.std.specs.Prelude.{◌≡◌, ℕ, ◌==◌, ◌^◌, nat_le, not, ◌||◌, ◌&&◌, Bool, true, false, List, find, slice_get}
+use Rattle.std.specs.Prelude.{Some, option_map, option_and_then, unwrap_or, bytes_eq}
 use Rattle.std.specs.List.{list_all, AllByRecursion}
 use Rattle.sqlite_schema.specs.declared.schema.Schema.{Schema}
 use Rattle.sqlite_schema.specs.declared.schema.Table.{Table}

@@ -1,4 +1,4 @@
-pub mod Finding
+pub mod Presence
 pub mod Forms
 pub mod Intact
 pub mod StoreTables

@@ -5,7 +5,7 @@ ghost use Rattle.std.specs.List.{list_all};
 ghost use Rattle.tables_schema.specs.Forms.{strict};
 ghost use Rattle.tables_schema.specs.Shapes.{expected_column};
 ghost use Rattle.tables_schema.specs.Intact.{IsIntact, points_at, is_unreferred, is_unshared, is_unguarded};
-ghost use Rattle.tables_schema.specs.Finding.{HasForm, IsUnaffected, IsThis};
+ghost use Rattle.tables_schema.specs.Presence.{HasForm, IsUnaffected, IsThis};
 
 use crate::form::{Expected, is_table, same_places, same_text};
 use sqlite_schema::schema::{Index, Reference, Schema, Table};

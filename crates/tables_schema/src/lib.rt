@@ -1,12 +1,12 @@
 //! The forms of the tables over SQLite.
 #![tactic(auto)]
 
-mod finding;
 mod form;
 mod further;
 mod intact;
 mod nine;
-pub mod recognising;
+mod presence;
+pub mod recognition;
 mod schema;
 pub mod store_table;
 

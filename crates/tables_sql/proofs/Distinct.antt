@@ -1,5 +1,6 @@
--- That the rowids of a table differ, after a write too, so a row is known by its own.
-use Rattle.std.proofs.Common.{◌≡◌, List, [], ◌∷◌, map, filter, Bool, true, false, not, cond, inl, inr, ℤ, sym, ap, ◌∙◌, Less, Equal, Greater, Ordering}
+-- The rowids of a table differ, after a write too, so a row is known by its own.
+use Rattle.std.proofs.Common.{◌≡◌, List, [], ◌∷◌, map, filter, Bool, true, false, not, cond, inl, inr, ℤ, sym, ap, ◌∙◌}
+use Rattle.std.proofs.Common.{Less, Equal, Greater, Ordering}
 use Rattle.std.specs.List.{AllByRecursion, IsDistinct}
 use Rattle.std.specs.Ordering.{is_eq, eq_by_cmp, match_ordering}
 use Rattle.std.specs.Cmp.{eq_by_cmp_equiv}
@@ -34,36 +35,46 @@ lacks v [] b h present = absurd present
 lacks v (r ∷ rows) b h (inl is) = ap (λ (x : Row). tie v (rowid x)) is ∙ h.0
 lacks v (r ∷ rows) b h (inr present) = lacks v rows b h.1 present
 
-pub once : (rows : List Row) → AreDistinct rows → (a b : Row) → Has rows a → Has rows b → tie (rowid a) (rowid b) ≡ true → a ≡ b
+pub once : (rows : List Row) → AreDistinct rows → (a b : Row) → Has rows a → Has rows b → tie (rowid a) (rowid b) ≡ true
+    → a ≡ b
 unfolding IsDistinct
 once [] d a b h g e = absurd h
 once (r ∷ rows) d a b (inl is) (inl same) e = is ∙ sym same
-once (r ∷ rows) d a b (inl is) (inr present) e = absurd (let no = sym (lacks (rowid r) rows b d.0 present) ∙ ap (λ (x : Row). tie (rowid x) (rowid b)) (sym is) ∙ e in cc)
+once (r ∷ rows) d a b (inl is) (inr present) e =
+    absurd (let no = sym (lacks (rowid r) rows b d.0 present) ∙ ap (λ (x : Row). tie (rowid x) (rowid b)) (sym is)
+    ∙ e in cc)
 once (r ∷ rows) d a b (inr present) (inl same) e =
-    absurd (let no = sym (lacks (rowid r) rows a d.0 present) ∙ turned (rowid r) (rowid a) ∙ ap (λ (x : Row). tie (rowid a) (rowid x)) (sym same) ∙ e in cc)
+    absurd (let no = sym (lacks (rowid r) rows a d.0 present) ∙ turned (rowid r) (rowid a)
+    ∙ ap (λ (x : Row). tie (rowid a) (rowid x)) (sym same) ∙ e in cc)
 once (r ∷ rows) d a b (inr here) (inr present) e = once rows d.1 a b here present e
 
 -- ---- a new row
 
-missing_put : (v : Value) (new : Row) (rows : List Row) → tie v (rowid new) ≡ false → Missing v rows → Missing v (put_row new rows)
+missing_put : (v : Value) (new : Row) (rows : List Row) → tie v (rowid new) ≡ false → Missing v rows
+    → Missing v (put_row new rows)
 missing_put v new [] off h = (off, tt)
 missing_put v new (r ∷ rows) off h = go (value_cmp (rowid r) (rowid new)) (missing_put v new rows off h.1)
   where
-    go : (c : Ordering) → Missing v (put_row new rows) → Missing v (match_ordering c (r ∷ put_row new rows) (new ∷ rows) (new ∷ r ∷ rows))
+    go : (c : Ordering) → Missing v (put_row new rows)
+        → Missing v (match_ordering c (r ∷ put_row new rows) (new ∷ rows) (new ∷ r ∷ rows))
     go Less later = (h.0, later)
     go Equal later = (off, h.1)
     go Greater later = (off, h)
 
 missing_used : (new : Row) (rows : List Row) → is_taken rows new ≡ false → Missing (rowid new) rows
 missing_used new [] free = tt
-missing_used new (r ∷ rows) free = let off = neither _ _ free in (turned (rowid new) (rowid r) ∙ off.0, missing_used new rows off.1)
+missing_used new (r ∷ rows) free = let off =
+    neither _ _ free in (turned (rowid new) (rowid r) ∙ off.0, missing_used new rows off.1)
 
-pub distinct_put : (new : Row) (rows : List Row) → is_taken rows new ≡ false → AreDistinct rows → AreDistinct (put_row new rows)
+pub distinct_put : (new : Row) (rows : List Row) → is_taken rows new ≡ false → AreDistinct rows
+    → AreDistinct (put_row new rows)
 unfolding IsDistinct
 distinct_put new [] free h = (tt, tt)
-distinct_put new (r ∷ rows) free h = let off = neither _ _ free in go (value_cmp (rowid r) (rowid new)) off.0 (distinct_put new rows off.1 h.1)
+distinct_put new (r ∷ rows) free h = let off =
+    neither _ _ free in go (value_cmp (rowid r) (rowid new)) off.0 (distinct_put new rows off.1 h.1)
   where
-    go : (c : Ordering) → is_eq c ≡ false → AreDistinct (put_row new rows) → AreDistinct (match_ordering c (r ∷ put_row new rows) (new ∷ rows) (new ∷ r ∷ rows))
+    go : (c : Ordering) → is_eq c ≡ false → AreDistinct (put_row new rows)
+        → AreDistinct (match_ordering c (r ∷ put_row new rows) (new ∷ rows) (new ∷ r ∷ rows))
     go Less off later = (missing_put (rowid r) new rows (let e = neither _ _ free in e.0) h.0, later)
     go Equal off later = absurd (let e = off in cc)
     go Greater off later = (missing_used new (r ∷ rows) free, h)
@@ -72,7 +83,10 @@ distinct_put new (r ∷ rows) free h = let off = neither _ _ free in go (value_c
 
 missing_where : (v : Value) (p : Row → Bool) (rows : List Row) → Missing v rows → Missing v (filter p rows)
 missing_where v p rows h =
-    let distinct_rowids = λ (w : Value). tie v w ≡ false in all-map distinct_rowids rowid (filter p rows) (all-filter (λ r. distinct_rowids (rowid r)) p rows (all_from_map distinct_rowids rowid rows h))
+    let distinct_rowids =
+    λ (w : Value). tie v w ≡ false in
+    all-map distinct_rowids rowid (filter p rows)
+    (all-filter (λ r. distinct_rowids (rowid r)) p rows (all_from_map distinct_rowids rowid rows h))
 
 distinct_where : (p : Row → Bool) (rows : List Row) → AreDistinct rows → AreDistinct (filter p rows)
 unfolding IsDistinct
@@ -85,4 +99,5 @@ distinct_where p (r ∷ rows) h = go (p r) (distinct_where p rows h.1)
 
 pub distinct_left : (ids : List ℤ) (rows : List Row) → AreDistinct rows → AreDistinct (without_all rows ids)
 distinct_left [] rows h = h
-distinct_left (i ∷ ids) rows h = distinct_left ids (without_rowid i rows) (distinct_where (λ r. not (has_rowid i r)) rows h)
+distinct_left (i ∷ ids) rows h =
+    distinct_left ids (without_rowid i rows) (distinct_where (λ r. not (has_rowid i r)) rows h)

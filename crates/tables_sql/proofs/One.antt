@@ -1,5 +1,6 @@
 -- The one entry of a key, as a read of that key lists it.
-use Rattle.std.proofs.Common.{◌≡◌, inl, inr, List, [], ◌∷◌, Bool, true, false, cond, ◌&&◌, Some, None, Less, Equal, Greater, Ordering, refl, sym, ap, subst, ◌∙◌}
+use Rattle.std.proofs.Common.{◌≡◌, inl, inr, List, [], ◌∷◌, Bool, true, false, cond, ◌&&◌, Some, None, Less, Equal}
+use Rattle.std.proofs.Common.{Greater, Ordering, refl, sym, ap, subst, ◌∙◌}
 use Rattle.std.specs.Ordering.{is_lt, is_eq, eq_by_cmp, ordering_reverse}
 use Rattle.std.specs.Cmp.{IsTotalOrder, eq_by_cmp_equiv}
 use Rattle.std.specs.FinMap as finite
@@ -45,15 +46,18 @@ module _ {K X : Type 0} {R : K → K → Ordering} (o : IsTotalOrder R) (same : 
     alike : (k x : K) → R k x ≡ Equal → own x ≡ own k
     alike k x e = ap own (sym (same k x e))
 
-    loaded : (k : K) (v : X) (b : Bool) → own k ≡ b → cond b (finite.get m k) None ≡ Some v → (k ≡ q) × (finite.get m q ≡ Some v)
+    loaded : (k : K) (v : X) (b : Bool) → own k ≡ b → cond b (finite.get m k) None ≡ Some v
+        → (k ≡ q) × (finite.get m q ≡ Some v)
     loaded k v true is h = let e = same k q (equal _ is) in (e, subst (λ x. finite.get m x ≡ Some v) e h)
     loaded k v false is h = absurd (let e = h in cc)
 
     -- what is listed is the entry of the key
-    pub one_is : (k : K) (v : X) → Has (finite.entries (finite.retain_keys m own)) (k, v) → (k ≡ q) × (finite.get m q ≡ Some v)
+    pub one_is : (k : K) (v : X) → Has (finite.entries (finite.retain_keys m own)) (k, v)
+        → (k ≡ q) × (finite.get m q ≡ Some v)
     one_is k v h =
         let kept = finite.retain_keys m own in
-        let present : finite.get kept k ≡ Some v = finite.get-entries kept k ∙ found (finite.entries kept) k v (finite.entries_sorted kept) h in
+        let present : finite.get kept k ≡ Some v =
+        finite.get-entries kept k ∙ found (finite.entries kept) k v (finite.entries_sorted kept) h in
         loaded k v (own k) refl (sym (finite.get-retain_keys m own k (alike k)) ∙ present)
 
     -- and where none is listed, there is none

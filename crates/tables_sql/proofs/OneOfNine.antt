@@ -1,4 +1,4 @@
--- A table that every schema of the store has, described: that all nine stand says enough of it.
+-- A table that every schema of the store has, described: that all nine are there says enough of it.
 use Rattle.std.proofs.Common.{◌≡◌, List, Bool, true, length}
 use Rattle.std.specs.declared.cmp.Ordering.{Ordering}
 use Rattle.std.specs.Cmp.{IsTotalOrder}
@@ -16,15 +16,19 @@ use Rattle.tables_sql.proofs.Rising.{AreKept}
 use Rattle.tables_sql.proofs.Writes.{SetsRows}
 use Rattle.tables_sql.proofs.Description.{Description}
 
--- its form, the order of its keys, what its rows are, which of the maps they make, and that it stands, is kept and is written so
-abbrev pub one_of_nine : {K X : Type 0} (t : Table) {order : K → K → Ordering} → IsTotalOrder order → finite.IsAntisymmetric order → (kind : Row → Bool) (entry : Row → K × X)
+-- its form, the order of its keys, what its rows are, which of the maps they make, and that it is there, is kept and is
+-- written so
+abbrev pub one_of_nine : {K X : Type 0} (t : Table) {order : K → K → Ordering} → IsTotalOrder order
+    → finite.IsAntisymmetric order → (kind : Row → Bool) (entry : Row → K × X)
     → (of : Contents → finite.FinMap order X) (put : Contents → finite.FinMap order X → Contents)
     → names_store_table t.name ≡ true
     → ((db : Database) → HasTables db.schema → of (contents_of db) ≡ map_of order kind entry (rows_named db t.name))
     → ((s : Schema) → HasTables s → IsIntact s (strict t.name t.columns t.primary))
     → ((db : Database) → IsStoreDatabase db → IsKeyed (rows_named db t.name))
     → ((db : Database) → IsStoreDatabase db → AreKept kind (λ r. (entry r).0) (length t.columns) (rows_named db t.name))
-    → ((old new : State) → HasTables old.now.schema → (rows : List Row) → SetsRows old new (tree_named old.now.schema t.name) rows → (m : finite.FinMap order X) → map_of order kind entry rows ≡ m → contents_of new.now ≡ put (contents_of old.now) m)
+    → ((old new : State) → HasTables old.now.schema → (rows : List Row)
+    → SetsRows old new (tree_named old.now.schema t.name) rows → (m : finite.FinMap order X)
+    → map_of order kind entry rows ≡ m → contents_of new.now ≡ put (contents_of old.now) m)
     → Description K X
 one_of_nine t {order} total same kind entry of put named held exists keyed kept written = record {
   name = t.name;

@@ -1,5 +1,6 @@
 -- Why the query fails that asks whether a connection is open: it reads no table, so any schema understands it.
-use Rattle.std.proofs.Common.{◌≡◌, ◌≢◌, ◌⊎◌, inl, inr, ℕ, pos, negsuc, List, [], ◌∷◌, codes, true, false, None, refl, sym, subst, ◌∙◌}
+use Rattle.std.proofs.Common.{◌≡◌, ◌≢◌, ◌⊎◌, inl, inr, ℕ, pos, negsuc, List, [], ◌∷◌, codes, true, false, None, refl}
+use Rattle.std.proofs.Common.{sym, subst, ◌∙◌}
 use Rattle.std.specs.Prelude.{IsSome}
 use Rattle.sqlite_value.specs.declared.value.Value.TheVariants.{Int}
 use Rattle.sqlite_value.specs.Order.{Row}
@@ -59,23 +60,37 @@ unfolding everything
 reads = (_, _, _, _, _, refl)
 
 pub ask_fails : (old new : State) → (f : Failed) → IsQueryFailure text [] old new f → FailsToTest old new ⊥ f
-ask_fails old new = test_fails old new text ⊥ (query_fails old new text [] (codes "1" ∷ []) query (λ same. is old.now.schema) reads (λ same. typed old.now.schema) sums_nothing)
+ask_fails old new =
+    test_fails old new text ⊥ (query_fails old new text [] (codes "1" ∷ []) query (λ same. is old.now.schema) reads
+    (λ same. typed old.now.schema) sums_nothing)
 
 -- the store failed, or a limit on steps stopped it
-pub ask_stops : (old new : State) (e : Error) → FailsToQuery text [] old new e ⊎ IsTooLate text [] old new e → Fails old new ⊥ e ⊎ ((e ≡ SqliteFailure OperationInterrupted) × IsSome old.step_limit × IsUnchanged old new)
-ask_stops old new = query_stops old new text [] (codes "1" ∷ []) query (λ same. is old.now.schema) reads (λ same. typed old.now.schema) sums_nothing
+pub ask_stops : (old new : State) (e : Error) → FailsToQuery text [] old new e ⊎ IsTooLate text [] old new e
+    → Fails old new ⊥ e ⊎ ((e ≡ SqliteFailure OperationInterrupted) × IsSome old.step_limit × IsUnchanged old new)
+ask_stops old new =
+    query_stops old new text [] (codes "1" ∷ []) query (λ same. is old.now.schema) reads (λ same. typed old.now.schema)
+    sums_nothing
 
 store_names : (cause : StoreError) → store_error cause ≡ SqliteFailure OperationInterrupted → ⊥
 store_names OutOfMemory h = absurd (let e = h in cc)
 store_names cause h = absurd (let e = h in cc)
 
 -- where a limit on steps stopped it, nothing changed
-pub ask_stopped : (old new : State) (e : Error) → e ≡ SqliteFailure OperationInterrupted → FailsToQuery text [] old new e ⊎ IsTooLate text [] old new e → IsUnchanged old new
-ask_stopped old new e stopped h = elim (ask_stops old new e h) [ inl failed ↦ absurd (store_names failed.0 (sym failed.1 ∙ stopped)) | inr it ↦ it.2 ]
+pub ask_stopped : (old new : State) (e : Error) → e ≡ SqliteFailure OperationInterrupted
+    → FailsToQuery text [] old new e ⊎ IsTooLate text [] old new e → IsUnchanged old new
+ask_stopped old new e stopped h =
+    elim (ask_stops old new e h) [ inl failed ↦ absurd (store_names failed.0 (sym failed.1 ∙ stopped)) | inr it ↦ it.2 ]
 
 -- else the store failed
-pub ask_failed : (old new : State) (e : Error) (f : Failed) → (f ≡ failure_of e) × (e ≢ SqliteFailure OperationInterrupted) → FailsToQuery text [] old new e ⊎ IsTooLate text [] old new e → FailsWith old new ⊥ ⊥ f
-ask_failed old new e f is h = elim (ask_stops old new e h) [ inl failed ↦ subst (FailsWith old new ⊥ ⊥) (sym is.0) (store_failed old new ⊥ ⊥ ⊥ (λ no. no) e failed) | inr it ↦ absurd (is.1 it.0) ]
+pub ask_failed : (old new : State) (e : Error) (f : Failed)
+    → (f ≡ failure_of e) × (e ≢ SqliteFailure OperationInterrupted)
+    → FailsToQuery text [] old new e ⊎ IsTooLate text [] old new e → FailsWith old new ⊥ ⊥ f
+ask_failed old new e f is h =
+    elim (ask_stops old new e h) [
+      | inl failed ↦ subst (FailsWith old new ⊥ ⊥) (sym is.0)
+          (store_failed old new ⊥ ⊥ ⊥ (λ no. no) e failed)
+      | inr it ↦ absurd (is.1 it.0)
+    ]
 
 -- where it is answered, nothing changed
 pub ask_same : (old new : State) (rows : List Row) → Shown text [] old new rows → IsUnchanged old new

@@ -1,4 +1,4 @@
--- That the text of a value is UTF-8, by the kind of the value.
+-- The text of a value is UTF-8, by the kind of the value.
 use Rattle.std.proofs.Common.{◌≡◌, true}
 use Rattle.std.specs.Prelude.{IsUtf8, IfSome}
 use Rattle.sqlite_value.specs.declared.value.Value.{Value}

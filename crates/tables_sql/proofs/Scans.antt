@@ -1,5 +1,6 @@
 -- What a query over one table shows, and how it leaves the tables.
-use Rattle.std.proofs.Common.{◌≡◌, ◌⊎◌, inl, inr, ℕ, List, [], ◌∷◌, ◌++◌, map, flat_map, Bool, true, false, cond, Some, None, Option, refl, sym, ap, subst, ◌∙◌, IsPermutation, Result, Ok, Err, OnOk}
+use Rattle.std.proofs.Common.{◌≡◌, ◌⊎◌, inl, inr, ℕ, List, [], ◌∷◌, ◌++◌, map, flat_map, Bool, true, false, cond, Some}
+use Rattle.std.proofs.Common.{None, Option, refl, sym, ap, subst, ◌∙◌, IsPermutation, Result, Ok, Err, OnOk}
 use Rattle.std.specs.Prelude.{IfOk, IfErr, OnErr, IsErrAnd}
 use Rattle.std.specs.List.{list_all}
 use Rattle.std.proofs.lemmas.List.Sorted.{IsPermutation-sym}
@@ -16,7 +17,8 @@ use Rattle.sqlite_schema.specs.declared.command.Returning.{Returning}
 use Rattle.sqlite_resolve.specs.declared.compiled.Compiled.{Compiled}
 use Rattle.sqlite.specs.declared.error.Error.{Error}
 use Rattle.sqlite.specs.Listing.{understood}
-use Rattle.sqlite.specs.State.{State, Shown, ShowsRows, IsUnchanged, IsRolledBack, FailsToQuery, FailsToShow, IsNotRun, IsTooLate, KeepsCommit}
+use Rattle.sqlite.specs.State.{State, Shown, ShowsRows, IsUnchanged, IsRolledBack, FailsToQuery, FailsToShow, IsNotRun}
+use Rattle.sqlite.specs.State.{IsTooLate, KeepsCommit}
 use Rattle.sqlite.proofs.Callers.{IsPlain}
 
 -- ---- a query over one table: each row of its answer shows a row that passes, and each such row is shown
@@ -31,25 +33,32 @@ pub record IsScan (q : Query) (tree : ℕ) : Type 0 where
   pub distinct : q.distinct ≡ false
   pub whole : (params : Row) (rows : List Row) → page q params rows ≡ rows
 
-pub has_matched : {X Y : Type 0} (p : X → Bool) (f : X → Y) (xs : List X) (y : Y) → Has (flat_map (λ x. cond (p x) (f x ∷ []) []) xs) y → (x : X) × Has xs x × (p x ≡ true) × (y ≡ f x)
+pub has_matched : {X Y : Type 0} (p : X → Bool) (f : X → Y) (xs : List X) (y : Y)
+    → Has (flat_map (λ x. cond (p x) (f x ∷ []) []) xs) y → (x : X) × Has xs x × (p x ≡ true) × (y ≡ f x)
 has_matched p f [] y h = absurd h
 has_matched {X} {Y} p f (x ∷ xs) y h = go (p x) refl h (has_matched p f xs y)
   where
     go : (b : Bool) → p x ≡ b → Has (cond b (f x ∷ []) [] ++ flat_map (λ z. cond (p z) (f z ∷ []) []) xs) y
-        → (Has (flat_map (λ z. cond (p z) (f z ∷ []) []) xs) y → (z : X) × Has xs z × (p z ≡ true) × (y ≡ f z)) → (z : X) × Has (x ∷ xs) z × (p z ≡ true) × (y ≡ f z)
+        → (Has (flat_map (λ z. cond (p z) (f z ∷ []) []) xs) y → (z : X) × Has xs z × (p z ≡ true) × (y ≡ f z))
+        → (z : X) × Has (x ∷ xs) z × (p z ≡ true) × (y ≡ f z)
     go true is (inl same) later = (x, inl refl, is, same)
     go true is (inr present) later = let r = later present in (r.0, inr r.1, r.2, r.3)
     go false is present later = let r = later present in (r.0, inr r.1, r.2, r.3)
 
-matched_has : {X Y : Type 0} (p : X → Bool) (f : X → Y) (xs : List X) (x : X) → Has xs x → p x ≡ true → Has (flat_map (λ z. cond (p z) (f z ∷ []) []) xs) (f x)
+matched_has : {X Y : Type 0} (p : X → Bool) (f : X → Y) (xs : List X) (x : X) → Has xs x → p x ≡ true
+    → Has (flat_map (λ z. cond (p z) (f z ∷ []) []) xs) (f x)
 matched_has p f [] x h passes = absurd h
 matched_has p f (z ∷ xs) x (inl same) passes = rw (← same, passes) (inl refl)
-matched_has p f (z ∷ xs) x (inr later) passes = has_right (cond (p z) (f z ∷ []) []) (flat_map (λ w. cond (p w) (f w ∷ []) []) xs) (f x) (matched_has p f xs x later passes)
+matched_has p f (z ∷ xs) x (inr later) passes =
+    has_right (cond (p z) (f z ∷ []) []) (flat_map (λ w. cond (p w) (f w ∷ []) []) xs) (f x)
+    (matched_has p f xs x later passes)
 
 pub has_permuted : {X : Type 0} (xs ys : List X) (x : X) → IsPermutation xs ys → Has ys x → Has xs x
-has_permuted xs ys x same = all_has (Has xs) ys x (all-permutation (Has xs) xs ys same (all_from (Has xs) xs (λ e h. h)))
+has_permuted xs ys x same =
+    all_has (Has xs) ys x (all-permutation (Has xs) xs ys same (all_from (Has xs) xs (λ e h. h)))
 
-module _ (q : Query) (tree : ℕ) (scan : IsScan q tree) (db : Trees) (params : Row) (rows : List Row) (answer : IsAnswer q db params rows) where
+module _ (q : Query) (tree : ℕ) (scan : IsScan q tree) (db : Trees) (params : Row) (rows : List Row)
+    (answer : IsAnswer q db params rows) where
   test : Row → Bool
   test r = list_all (holds (params ∷ r ∷ [])) q.filter
 
@@ -58,30 +67,40 @@ module _ (q : Query) (tree : ℕ) (scan : IsScan q tree) (db : Trees) (params : 
 
   pub kept : answer.kept ≡ map (output q) (matches db q.filter (inner tree end) (params ∷ []))
   kept = subst (λ d. IsKept d q.collations (map (output q) answer.staged) answer.kept) scan.distinct answer.distinct
-      ∙ ap (map (output q)) (subst (λ g. IsGrouped g params (matches db q.filter q.from (params ∷ [])) answer.staged) scan.group answer.grouped ∙ ap (λ j. matches db q.filter j (params ∷ [])) scan.from)
+      ∙ ap (map (output q)) (subst (λ g. IsGrouped g params (matches db q.filter q.from (params ∷ [])) answer.staged)
+      scan.group answer.grouped ∙ ap (λ j. matches db q.filter j (params ∷ [])) scan.from)
 
   pub listed : rows ≡ map (λ (o : Output). o.1) answer.ordered
   listed = answer.shown ∙ scan.whole params _
 
-  pub scan_sound : (x : Row) → Has rows x → (r : Row) × Has (db tree) r × (list_all (holds (params ∷ r ∷ [])) q.filter ≡ true) × (x ≡ shows q params r)
+  pub scan_sound : (x : Row) → Has rows x
+      → (r : Row) × Has (db tree) r × (list_all (holds (params ∷ r ∷ [])) q.filter ≡ true) × (x ≡ shows q params r)
   unfolding test env
   scan_sound x h =
       let o = has_mapped (λ (k : Output). k.1) answer.ordered x (subst (λ l. Has l x) listed h) in
-      let e = has_mapped (output q) _ o.0 (subst (λ l. Has l o.0) kept (has_permuted answer.kept answer.ordered o.0 answer.same o.1)) in
+      let e =
+      has_mapped (output q) _ o.0 (subst (λ l. Has l o.0) kept
+      (has_permuted answer.kept answer.ordered o.0 answer.same o.1)) in
       let r = has_matched test env (db tree) e.0 e.1 in
       (r.0, r.1, r.2, o.2 ∙ ap (λ (k : Output). k.1) (e.2 ∙ ap (output q) r.3))
 
-  pub scan_complete : (r : Row) → Has (db tree) r → list_all (holds (params ∷ r ∷ [])) q.filter ≡ true → Has rows (shows q params r)
+  pub scan_complete : (r : Row) → Has (db tree) r → list_all (holds (params ∷ r ∷ [])) q.filter ≡ true
+      → Has rows (shows q params r)
   unfolding test env
   scan_complete r h passes =
       let o = output q (env r) in
-      let present = subst (λ l. Has l o) (sym kept) (mapped_has (output q) _ (env r) (matched_has test env (db tree) r h passes)) in
-      subst (λ l. Has l (shows q params r)) (sym listed) (mapped_has (λ (k : Output). k.1) answer.ordered o (has_permuted answer.ordered answer.kept o (IsPermutation-sym _ _ answer.same) present))
+      let present =
+      subst (λ l. Has l o) (sym kept)
+      (mapped_has (output q) _ (env r) (matched_has test env (db tree) r h passes)) in
+      subst (λ l. Has l (shows q params r)) (sym listed)
+      (mapped_has (λ (k : Output). k.1) answer.ordered o
+      (has_permuted answer.ordered answer.kept o (IsPermutation-sym _ _ answer.same) present))
 
 -- ---- how a query leaves the tables
 
 -- a plain query changes nothing
-pub shown_same : (sql : List ℕ) (params : Row) (old new : State) (rows : List Row) → IsPlain (understood old.now.schema sql) → Shown sql params old new rows → IsUnchanged old new
+pub shown_same : (sql : List ℕ) (params : Row) (old new : State) (rows : List Row)
+    → IsPlain (understood old.now.schema sql) → Shown sql params old new rows → IsUnchanged old new
 unfolding Shown
 shown_same sql params old new rows plain h =
     let none = (subst IsPlain h.1.is plain).0 in
@@ -94,13 +113,15 @@ unchanged_keeps old new h = record { was_open = λ _. h.0.was_open; committed = 
 undone_keeps : (old new : State) → IsRolledBack old new → KeepsCommit old new
 undone_keeps old new h = record { was_open = h.was_open; committed = λ is_open. (h.undone is_open).1 }
 
-shows_failed : (old new : State) (sql : List ℕ) (c : Compiled) (params : Row) (e : Error) (what : Option Returning) → FailsToShow old new sql c params e what → KeepsCommit old new
+shows_failed : (old new : State) (sql : List ℕ) (c : Compiled) (params : Row) (e : Error) (what : Option Returning)
+    → FailsToShow old new sql c params e what → KeepsCommit old new
 shows_failed old new sql c params e None h = unchanged_keeps old new h.3
 shows_failed old new sql c params e (Some what) (inl h) = unchanged_keeps old new h.1
 shows_failed old new sql c params e (Some what) (inr h) = undone_keeps old new h.3
 
 -- no query commits, and none opens a connection that was shut
-pub failed_keeps : (sql : List ℕ) (params : Row) (old new : State) (e : Error) → FailsToQuery sql params old new e ⊎ IsTooLate sql params old new e → KeepsCommit old new
+pub failed_keeps : (sql : List ℕ) (params : Row) (old new : State) (e : Error)
+    → FailsToQuery sql params old new e ⊎ IsTooLate sql params old new e → KeepsCommit old new
 unfolding FailsToQuery IsNotRun
 failed_keeps sql params old new e (inl (inl (inl h))) = unchanged_keeps old new h.1
 failed_keeps sql params old new e (inl (inl (inr h))) = undone_keeps old new h.3

@@ -1,5 +1,6 @@
 -- How a part of a write stops, and what can't stop it.
-use Rattle.std.proofs.Common.{◌≡◌, inl, inr, ℕ, zero, suc, [], ◌∷◌, false, Result, Ok, Err, None, Option, length, length-append, ap, subst, arith}
+use Rattle.std.proofs.Common.{◌≡◌, inl, inr, ℕ, zero, suc, [], ◌∷◌, false, Result, Ok, Err, None, Option, length}
+use Rattle.std.proofs.Common.{length-append, ap, subst, arith}
 use Rattle.sqlite_value.specs.Order.{Row}
 use Rattle.sqlite_trees.specs.Tree.{Trees}
 use Rattle.sqlite_schema.specs.declared.schema.Among.TheVariants.{All}
@@ -16,7 +17,8 @@ use Rattle.sqlite.specs.Does.{Concludes}
 use Rattle.sqlite.specs.Rows.{Written}
 
 -- it stops where what came before stopped
-pub stops_at : {B : Type 0} (P : Option Error → Type 0) (stop other : Option Error) → ◌≡◌ {A = Result B (Option Error)} (Err stop) (Err other) → P other → P stop
+pub stops_at : {B : Type 0} (P : Option Error → Type 0) (stop other : Option Error)
+    → ◌≡◌ {A = Result B (Option Error)} (Err stop) (Err other) → P other → P stop
 stops_at P stop other e h = let same : other ≡ stop = cc in subst P same h
 
 -- what gave a value didn't stop
@@ -33,8 +35,10 @@ abbrev pub plain_mode : Mode
 plain_mode = record { keys = Enforced; in_doubt = false; may_wait = false }
 
 -- a write doesn't fail at its end, where each row has its parents
-pub concluded : (s : Schema) (limit : Option ℕ) (table : Table) (params : Row) (w : Written) → Refers All s w.trees → (stop : Option Error)
-    → Concludes (record { limit = limit; keys = Enforced; schema = s; table = table; params = params }) plain_mode None w (Err stop) → ⊥
+pub concluded : (s : Schema) (limit : Option ℕ) (table : Table) (params : Row) (w : Written) → Refers All s w.trees
+    → (stop : Option Error)
+    → Concludes (record { limit = limit; keys = Enforced; schema = s; table = table; params = params }) plain_mode None
+    w (Err stop) → ⊥
 concluded s limit table params w refers stop (inl (other, h, is)) = h.0 refers
 concluded s limit table params w refers stop (inr (doubt, tested, inl (other, h, is))) = gives_no_stop other _ h
 concluded s limit table params w refers stop (inr (doubt, tested, inr (rows, given, is))) = gives_no_stop stop _ is

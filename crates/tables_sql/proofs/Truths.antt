@@ -33,13 +33,15 @@ reported true = refl
 reported false = refl
 
 -- a text against a text
-pub text_test : (v : Value) (t : List ℕ) → is_text v ≡ true → is_true (binary (Compare Eq Binary) v (Text t)) ≡ eq_by_cmp texts_cmp (bytes v) t
+pub text_test : (v : Value) (t : List ℕ) → is_text v ≡ true
+    → is_true (binary (Compare Eq Binary) v (Text t)) ≡ eq_by_cmp texts_cmp (bytes v) t
 unfolding binary
 text_test (Text s) t h = reported _ ∙ ap is_eq (value_cmp-Text s t)
 text_test v t h = absurd (let e = h in cc)
 
 -- an integer against an integer
-pub int_test : (v : Value) (n : ℤ) → is_int v ≡ true → is_true (binary (Compare Eq Binary) v (Int n)) ≡ eq_by_cmp int_cmp (id_in v) n
+pub int_test : (v : Value) (n : ℤ) → is_int v ≡ true
+    → is_true (binary (Compare Eq Binary) v (Int n)) ≡ eq_by_cmp int_cmp (id_in v) n
 unfolding binary
 int_test (Int m) n h = reported _ ∙ ap is_eq (value_cmp-Int m n)
 int_test v n h = absurd (let e = h in cc)

@@ -1,5 +1,6 @@
--- That the rows of the store's tables are of the types of their columns, as a database that obeys its schema has them.
-use Rattle.std.proofs.Common.{◌≡◌, ℕ, suc, ◌+◌, List, [], ◌∷◌, Bool, true, false, not, ◌||◌, ap, subst, ◌∙◌, refl, drop, arith}
+-- The rows of the store's tables are of the types of their columns, as a database that obeys its schema has them.
+use Rattle.std.proofs.Common.{◌≡◌, ℕ, suc, ◌+◌, List, [], ◌∷◌, Bool, true, false, not, ◌||◌, ap, subst, ◌∙◌, refl, drop}
+use Rattle.std.proofs.Common.{arith}
 use Rattle.std.specs.List.{AllByRecursion, list_all}
 use Rattle.std.specs.Prelude.{None, if◌then◌else◌}
 use Rattle.sqlite_value.specs.declared.value.Value.{Value}
@@ -19,7 +20,8 @@ use Rattle.sqlite_schema.specs.Rules.{is_of, has_affinity, are_typed, are_presen
 use Rattle.sqlite.specs.Effect.{Database, IsDatabase}
 use Rattle.tables_schema.specs.Forms.{object, piece, temp_root, strict, col}
 use Rattle.tables_schema.specs.Intact.{IsIntact, tree_named}
-use Rattle.tables_sql.specs.Contents.{is_text, is_blob, is_text_or_null, is_object, is_pair, is_triple, is_profile, is_generation, is_piece, is_session_path, rows_named}
+use Rattle.tables_sql.specs.Contents.{is_text, is_blob, is_text_or_null, is_object, is_pair, is_triple, is_profile}
+use Rattle.tables_sql.specs.Contents.{is_generation, is_piece, is_session_path, rows_named}
 use Rattle.tables_sql.proofs.Truths.{and_so}
 
 -- a value of a type that is there
@@ -60,7 +62,8 @@ asks kind.Integer true v = is_int v
 asks kind.Blob true v = is_blob v
 asks _ _ v = true
 
-answers : (k : Kind) (required : Bool) (v : Value) → is_of k v ≡ true → (not required || not (is_null v)) ≡ true → asks k required v ≡ true
+answers : (k : Kind) (required : Bool) (v : Value) → is_of k v ≡ true → (not required || not (is_null v)) ≡ true
+    → asks k required v ≡ true
 answers kind.Text true v h present = text_of v h present
 answers kind.Text false v h present = text_if_of v h
 answers kind.Integer true v h present = int_of v h present
@@ -81,65 +84,115 @@ suited : (b x y : Bool) → b ≡ true → (if b then x else y) ≡ true → x �
 suited true x y h k = k
 suited false x y h k = cc
 
-value : (c : Column) (at : ℕ) (row vs : Row) → ((i : ℕ) → column vs i ≡ column row (at + 1 + i)) → is_of c.kind (column vs 0) ≡ true → (not c.not_null || not (is_null (column row (at + 1)))) ≡ true → asks c.kind c.not_null (column row (at + 1)) ≡ true
-value c at row vs same h present = let here : at + 1 + 0 ≡ at + 1 = omega arith in answers c.kind c.not_null (column row (at + 1)) (subst (λ v. is_of c.kind v ≡ true) (same 0 ∙ ap (column row) here) h) present
+value : (c : Column) (at : ℕ) (row vs : Row) → ((i : ℕ) → column vs i ≡ column row (at + 1 + i))
+    → is_of c.kind (column vs 0) ≡ true → (not c.not_null || not (is_null (column row (at + 1)))) ≡ true
+    → asks c.kind c.not_null (column row (at + 1)) ≡ true
+value c at row vs same h present = let here : at + 1 + 0 ≡ at + 1 =
+    omega arith in answers c.kind c.not_null (column row (at + 1))
+    (subst (λ v. is_of c.kind v ≡ true) (same 0 ∙ ap (column row) here) h) present
 
 later : (row : Row) (at : ℕ) → column (drop 1 row) at ≡ column row (suc at)
 later [] at = refl
 later (v ∷ vs) at = refl
 
-next : (at : ℕ) (row vs : Row) → ((i : ℕ) → column vs i ≡ column row (at + 1 + i)) → (i : ℕ) → column (drop 1 vs) i ≡ column row (at + 1 + 1 + i)
-next at row vs same i = let present : at + 1 + suc i ≡ at + 1 + 1 + i = omega arith in later vs i ∙ same (suc i) ∙ ap (column row) present
+next : (at : ℕ) (row vs : Row) → ((i : ℕ) → column vs i ≡ column row (at + 1 + i)) → (i : ℕ)
+    → column (drop 1 vs) i ≡ column row (at + 1 + 1 + i)
+next at row vs same i = let present : at + 1 + suc i ≡ at + 1 + 1 + i =
+    omega arith in later vs i ∙ same (suc i) ∙ ap (column row) present
 
-are_of : (cs : List Column) (at : ℕ) (row vs : Row) → ((i : ℕ) → column vs i ≡ column row (at + 1 + i)) → list_all (λ c. c.is_strict) cs ≡ true → are_typed None at cs vs ≡ true → are_present None at cs row ≡ true → AreOf (at + 1) cs row
+are_of : (cs : List Column) (at : ℕ) (row vs : Row) → ((i : ℕ) → column vs i ≡ column row (at + 1 + i))
+    → list_all (λ c. c.is_strict) cs ≡ true → are_typed None at cs vs ≡ true → are_present None at cs row ≡ true
+    → AreOf (at + 1) cs row
 are_of [] at row vs same strict h present = tt
-are_of (c ∷ cs) at row [] same strict h present =
-    (value c at row [] same refl (and_so _ _ present).0, are_of cs (at + 1) row [] (λ i. next at row [] same i) (and_so _ _ strict).1 (and_so _ _ h).1 (and_so _ _ present).1)
-are_of (c ∷ cs) at row (v ∷ vs) same strict h present =
-    (value c at row (v ∷ vs) same (suited c.is_strict (is_of c.kind v) (has_affinity c.kind v) (and_so _ _ strict).0 (and_so _ _ h).0) (and_so _ _ present).0, are_of cs (at + 1) row vs (λ i. next at row (v ∷ vs) same i) (and_so _ _ strict).1 (and_so _ _ h).1 (and_so _ _ present).1)
+are_of (c ∷ cs) at row [] same strict h present = (
+  value c at row [] same refl (and_so _ _ present).0,
+  are_of cs (at + 1) row [] (λ i. next at row [] same i) (and_so _ _ strict).1 (and_so _ _ h).1
+      (and_so _ _ present).1,
+)
+are_of (c ∷ cs) at row (v ∷ vs) same strict h present = (
+  value c at row (v ∷ vs) same (suited c.is_strict (is_of c.kind v) (has_affinity c.kind v) (and_so _ _ strict).0
+      (and_so _ _ h).0) (and_so _ _ present).0,
+  are_of cs (at + 1) row vs (λ i. next at row (v ∷ vs) same i) (and_so _ _ strict).1 (and_so _ _ h).1
+      (and_so _ _ present).1,
+)
 
 -- what each row of a table of the store passes
-module _ (db : Database) (sound : IsDatabase db) (table : Table) (exists : IsIntact db.schema table) (row : Row) (present : Has (rows_named db table.name) row) where
+module _ (db : Database) (sound : IsDatabase db) (table : Table) (exists : IsIntact db.schema table) (row : Row)
+    (present : Has (rows_named db table.name) row) where
   abbrev own : Table
   own = record table { tree = tree_named db.schema table.name }
 
   has_types : are_typed own.key 0 own.columns (drop 1 row) ≡ true
-  has_types = (and_so _ _ (all_has (λ r. passes Datatype db.schema db.trees own r ≡ true) (db.trees own.tree) row (all-slice_get (λ t. AllByRecursion (λ r. passes Datatype db.schema db.trees t r ≡ true) (db.trees t.tree)) db.schema.tables exists.at own exists.known.named.1 (sound.obeys.rules Datatype)) present)).0
+  has_types =
+      (and_so _ _ (all_has (λ r. passes Datatype db.schema db.trees own r ≡ true) (db.trees own.tree) row
+      (all-slice_get (λ t. AllByRecursion (λ r. passes Datatype db.schema db.trees t r ≡ true) (db.trees t.tree))
+      db.schema.tables exists.at own exists.known.named.1 (sound.obeys.rules Datatype)) present)).0
 
   has_values : are_present own.key 0 own.columns row ≡ true
-  has_values = all_has (λ r. passes NotNull db.schema db.trees own r ≡ true) (db.trees own.tree) row (all-slice_get (λ t. AllByRecursion (λ r. passes NotNull db.schema db.trees t r ≡ true) (db.trees t.tree)) db.schema.tables exists.at own exists.known.named.1 (sound.obeys.rules NotNull)) present
+  has_values =
+      all_has (λ r. passes NotNull db.schema db.trees own r ≡ true) (db.trees own.tree) row
+      (all-slice_get (λ t. AllByRecursion (λ r. passes NotNull db.schema db.trees t r ≡ true) (db.trees t.tree))
+      db.schema.tables exists.at own exists.known.named.1 (sound.obeys.rules NotNull)) present
 
 -- each row of a table of the store is as its columns ask
-typed : (db : Database) → IsDatabase db → (name : List ℕ) (columns : List Column) (key : List ℕ) → list_all (λ c. c.is_strict) columns ≡ true → IsIntact db.schema (strict name columns key) → (row : Row) → Has (rows_named db name) row → AreOf 1 columns row
+typed : (db : Database) → IsDatabase db → (name : List ℕ) (columns : List Column) (key : List ℕ)
+    → list_all (λ c. c.is_strict) columns ≡ true → IsIntact db.schema (strict name columns key) → (row : Row)
+    → Has (rows_named db name) row → AreOf 1 columns row
 typed db sound name columns key all exists row present =
     let table = strict name columns key in
-    are_of columns 0 row (drop 1 row) (λ i. let at : suc i ≡ 0 + 1 + i = omega arith in later row i ∙ ap (column row) at) all (has_types db sound table exists row present) (has_values db sound table exists row present)
+    are_of columns 0 row (drop 1 row)
+    (λ i. let at : suc i ≡ 0 + 1 + i = omega arith in later row i ∙ ap (column row) at) all
+    (has_types db sound table exists row present) (has_values db sound table exists row present)
 
 -- the path of an object
 pub base_is : (r : Row) → is_object r ≡ true → is_text (column r 1) ≡ true
 base_is r h = (and_so _ _ (and_so _ _ (and_so _ _ (and_so _ _ h).0).0).0).0
 
 module _ (db : Database) (sound : IsDatabase db) where
-  pub objects_typed : IsIntact db.schema object → (row : Row) → Has (rows_named db object.name) row → is_object row ≡ true
-  objects_typed exists row present = let k = typed db sound object.name object.columns object.primary refl exists row present in rw (k.0, k.1.0, k.1.1.0, k.1.1.1.0, k.1.1.1.1.0) refl
+  pub objects_typed : IsIntact db.schema object → (row : Row) → Has (rows_named db object.name) row
+      → is_object row ≡ true
+  objects_typed exists row present = let k =
+      typed db sound object.name object.columns object.primary refl exists row present in
+      rw (k.0, k.1.0, k.1.1.0, k.1.1.1.0, k.1.1.1.1.0) refl
 
   pub pieces_typed : IsIntact db.schema piece → (row : Row) → Has (rows_named db piece.name) row → is_piece row ≡ true
-  pieces_typed exists row present = let k = typed db sound piece.name piece.columns piece.primary refl exists row present in rw (k.0, k.1.0, k.1.1.0) refl
+  pieces_typed exists row present = let k =
+      typed db sound piece.name piece.columns piece.primary refl exists row present in rw (k.0, k.1.0, k.1.1.0) refl
 
-  pub temp_roots_typed : IsIntact db.schema temp_root → (row : Row) → Has (rows_named db temp_root.name) row → is_session_path row ≡ true
-  temp_roots_typed exists row present = let k = typed db sound temp_root.name temp_root.columns temp_root.primary refl exists row present in rw (k.0, k.1.0, k.1.1.0) refl
+  pub temp_roots_typed : IsIntact db.schema temp_root → (row : Row) → Has (rows_named db temp_root.name) row
+      → is_session_path row ≡ true
+  temp_roots_typed exists row present = let k =
+      typed db sound temp_root.name temp_root.columns temp_root.primary refl exists row present in
+      rw (k.0, k.1.0, k.1.1.0) refl
 
 module _ (db : Database) (sound : IsDatabase db) (name a b : List ℕ) where
-  pub pairs_typed : (key : List ℕ) → IsIntact db.schema (strict name (col a kind.Text true ∷ col b kind.Text true ∷ []) key) → (row : Row) → Has (rows_named db name) row → is_pair row ≡ true
-  pairs_typed key exists row present = let k = typed db sound name (col a kind.Text true ∷ col b kind.Text true ∷ []) key refl exists row present in rw (k.0, k.1.0) refl
+  pub pairs_typed : (key : List ℕ)
+      → IsIntact db.schema (strict name (col a kind.Text true ∷ col b kind.Text true ∷ []) key) → (row : Row)
+      → Has (rows_named db name) row → is_pair row ≡ true
+  pairs_typed key exists row present = let k =
+      typed db sound name (col a kind.Text true ∷ col b kind.Text true ∷ []) key refl exists row present in
+      rw (k.0, k.1.0) refl
 
-  pub triples_typed : (c key : List ℕ) → IsIntact db.schema (strict name (col a kind.Text true ∷ col b kind.Text true ∷ col c kind.Text true ∷ []) key) → (row : Row) → Has (rows_named db name) row → is_triple row ≡ true
-  triples_typed c key exists row present = let k = typed db sound name (col a kind.Text true ∷ col b kind.Text true ∷ col c kind.Text true ∷ []) key refl exists row present in rw (k.0, k.1.0, k.1.1.0) refl
+  pub triples_typed : (c key : List ℕ)
+      → IsIntact db.schema (strict name (col a kind.Text true ∷ col b kind.Text true ∷ col c kind.Text true ∷ []) key)
+      → (row : Row) → Has (rows_named db name) row → is_triple row ≡ true
+  triples_typed c key exists row present = let k =
+      typed db sound name (col a kind.Text true ∷ col b kind.Text true ∷ col c kind.Text true ∷ []) key refl exists row
+      present in rw (k.0, k.1.0, k.1.1.0) refl
 
-  pub profiles_typed : (c key : List ℕ) → IsIntact db.schema (strict name (col a kind.Text true ∷ col b kind.Text true ∷ col c kind.Integer true ∷ []) key) → (row : Row) → Has (rows_named db name) row → is_profile row ≡ true
-  profiles_typed c key exists row present = let k = typed db sound name (col a kind.Text true ∷ col b kind.Text true ∷ col c kind.Integer true ∷ []) key refl exists row present in rw (k.0, k.1.0, k.1.1.0) refl
+  pub profiles_typed : (c key : List ℕ)
+      → IsIntact db.schema (strict name (col a kind.Text true ∷ col b kind.Text true ∷ col c kind.Integer true ∷ [])
+      key) → (row : Row) → Has (rows_named db name) row → is_profile row ≡ true
+  profiles_typed c key exists row present = let k =
+      typed db sound name (col a kind.Text true ∷ col b kind.Text true ∷ col c kind.Integer true ∷ []) key refl exists
+      row present in rw (k.0, k.1.0, k.1.1.0) refl
 
-  pub generations_typed : (c d key : List ℕ) → IsIntact db.schema (strict name (col a kind.Text true ∷ col b kind.Text true ∷ col c kind.Integer true ∷ col d kind.Text true ∷ []) key) → (row : Row) → Has (rows_named db name) row → is_generation row ≡ true
+  pub generations_typed : (c d key : List ℕ)
+      → IsIntact db.schema (strict name
+      (col a kind.Text true ∷ col b kind.Text true ∷ col c kind.Integer true ∷ col d kind.Text true ∷ []) key)
+      → (row : Row) → Has (rows_named db name) row → is_generation row ≡ true
   generations_typed c d key exists row present =
-      let k = typed db sound name (col a kind.Text true ∷ col b kind.Text true ∷ col c kind.Integer true ∷ col d kind.Text true ∷ []) key refl exists row present in
+      let k =
+      typed db sound name (col a kind.Text true ∷ col b kind.Text true ∷ col c kind.Integer true
+      ∷ col d kind.Text true ∷ []) key refl exists row present in
       rw (k.0, k.1.0, k.1.1.0, k.1.1.1.0) refl

@@ -1,4 +1,4 @@
--- That no two rows of a table of the store have one key, as a database that obeys its schema has them.
+-- No two rows of a table of the store have one key, as a database that obeys its schema has them.
 use Rattle.std.proofs.Common.{◌≡◌, ℕ, List, [], ◌∷◌, Bool, true, false, not, ◌&&◌, IsTrue, refl, sym, ap, ◌∙◌, arith}
 use Rattle.std.proofs.lemmas.Bool.Decides.{nat_tests}
 use Rattle.std.specs.declared.cmp.Ordering.{Ordering}
@@ -39,7 +39,8 @@ pub texts_equal : (v w : Value) → is_text v ≡ true → is_text w ≡ true �
 texts_equal v Null h k e = absurd (let no = k in cc)
 texts_equal v (Int n) h k e = absurd (let no = k in cc)
 texts_equal v (Real x) h k e = absurd (let no = k in cc)
-texts_equal v (Text t) h k e = text_test v t h ∙ ap (λ b. eq_by_cmp texts_cmp b t) e ∙ ap is_eq (tied_itself texts_total t)
+texts_equal v (Text t) h k e =
+    text_test v t h ∙ ap (λ b. eq_by_cmp texts_cmp b t) e ∙ ap is_eq (tied_itself texts_total t)
 texts_equal v (Blob b) h k e = absurd (let no = k in cc)
 
 not_distinct : (c : Ordering) → is_ne c ≡ false → is_eq c ≡ true
@@ -72,46 +73,63 @@ pub binary_first : (first_key plain).collation ≡ Binary
 unfolding first_key
 binary_first = refl
 
-pub agree_one : (a b : Row) (p : ℕ) → equal Binary (column a p) (column b p) ≡ true → agree plain (p ∷ []) a (p ∷ []) b ≡ true
+pub agree_one : (a b : Row) (p : ℕ) → equal Binary (column a p) (column b p) ≡ true
+    → agree plain (p ∷ []) a (p ∷ []) b ≡ true
 agree_one a b p h = rw (binary_first, h) refl
 
-pub agree_two : (a b : Row) (p q : ℕ) → equal Binary (column a p) (column b p) ≡ true → equal Binary (column a q) (column b q) ≡ true → agree plain (p ∷ q ∷ []) a (p ∷ q ∷ []) b ≡ true
+pub agree_two : (a b : Row) (p q : ℕ) → equal Binary (column a p) (column b p) ≡ true
+    → equal Binary (column a q) (column b q) ≡ true → agree plain (p ∷ q ∷ []) a (p ∷ q ∷ []) b ≡ true
 agree_two a b p q h k = rw (binary_first, h, k) refl
 
-pub agree_three : (a b : Row) (p q r : ℕ) → equal Binary (column a p) (column b p) ≡ true → equal Binary (column a q) (column b q) ≡ true → equal Binary (column a r) (column b r) ≡ true → agree plain (p ∷ q ∷ r ∷ []) a (p ∷ q ∷ r ∷ []) b ≡ true
+pub agree_three : (a b : Row) (p q r : ℕ) → equal Binary (column a p) (column b p) ≡ true
+    → equal Binary (column a q) (column b q) ≡ true → equal Binary (column a r) (column b r) ≡ true
+    → agree plain (p ∷ q ∷ r ∷ []) a (p ∷ q ∷ r ∷ []) b ≡ true
 agree_three a b p q r h k l = rw (binary_first, h, k, l) refl
 
 -- ---- two rows of one key are one
 
-module _ (db : Database) (sound : IsDatabase db) (name : List ℕ) (columns : List Column) (key : List ℕ) (exists : IsIntact db.schema (strict name columns key)) (keyed : IsKeyed (rows_named db name)) where
+module _ (db : Database) (sound : IsDatabase db) (name : List ℕ) (columns : List Column) (key : List ℕ)
+    (exists : IsIntact db.schema (strict name columns key)) (keyed : IsKeyed (rows_named db name)) where
   own : Table
   own = record (strict name columns key) { tree = tree_named db.schema name }
 
   its_index : (tree : ℕ) × Has db.schema.indexes (automatic own 0 key tree)
   unfolding own
-  its_index = all-slice_get (IsGuarded db.schema.indexes) db.schema.tables exists.at own exists.known.named.1 sound.lists.guarded 0 key refl
+  its_index =
+      all-slice_get (IsGuarded db.schema.indexes) db.schema.tables exists.at own exists.known.named.1
+      sound.lists.guarded 0 key refl
 
   no_clash : (row : Row) → Has (rows_named db name) row → passes Unique db.schema db.trees own row ≡ true
   unfolding own
-  no_clash row present = all_has (λ r. passes Unique db.schema db.trees own r ≡ true) (db.trees own.tree) row (all-slice_get (λ t. AllByRecursion (λ r. passes Unique db.schema db.trees t r ≡ true) (db.trees t.tree)) db.schema.tables exists.at own exists.known.named.1 (sound.obeys.rules Unique)) present
+  no_clash row present =
+      all_has (λ r. passes Unique db.schema db.trees own r ≡ true) (db.trees own.tree) row
+      (all-slice_get (λ t. AllByRecursion (λ r. passes Unique db.schema db.trees t r ≡ true) (db.trees t.tree))
+      db.schema.tables exists.at own exists.known.named.1 (sound.obeys.rules Unique)) present
 
-  pub one_key : (a b : Row) → Has (rows_named db name) a → Has (rows_named db name) b → agree plain key a key b ≡ true → a ≡ b
+  pub one_key : (a b : Row) → Has (rows_named db name) a → Has (rows_named db name) b → agree plain key a key b ≡ true
+      → a ≡ b
   unfolding own
   one_key a b here present same =
       let index : Index = automatic own 0 key its_index.0 in
-      let free : not (guards index own && clashes index.order index.columns (db.trees own.tree) b) ≡ true = test_has (λ i. not (guards i own && clashes i.order i.columns (db.trees own.tree) b)) db.schema.indexes index (no_clash b present) its_index.1 in
+      let free : not (guards index own && clashes index.order index.columns (db.trees own.tree) b) ≡ true =
+      test_has (λ i. not (guards i own && clashes i.order i.columns (db.trees own.tree) b)) db.schema.indexes index
+      (no_clash b present) its_index.1 in
       let guarded : guards index own ≡ true = grind (arith, nat_tests) in
       let idle : clashes plain key (db.trees own.tree) b ≡ false = distinct_rowids _ _ guarded free in
       let tied : differ (rowid a) (rowid b) ≡ false = none a here same idle in
-      once (rows_named db name) keyed.distinct_rowids a b here present (ints_tied (rowid a) (rowid b) (keyed.ints a here) (keyed.ints b present) tied)
+      once (rows_named db name) keyed.distinct_rowids a b here present
+      (ints_tied (rowid a) (rowid b) (keyed.ints a here) (keyed.ints b present) tied)
     where
       distinct_rowids : (g c : Bool) → g ≡ true → not (g && c) ≡ true → c ≡ false
       distinct_rowids g true h k = absurd (let no = rw h at k in cc)
       distinct_rowids g false h k = refl
 
-      none : (x : Row) → Has (db.trees own.tree) x → agree plain key x key b ≡ true → clashes plain key (db.trees own.tree) b ≡ false → differ (rowid x) (rowid b) ≡ false
+      none : (x : Row) → Has (db.trees own.tree) x → agree plain key x key b ≡ true
+          → clashes plain key (db.trees own.tree) b ≡ false → differ (rowid x) (rowid b) ≡ false
       none x h agrees idle = go (differ (rowid x) (rowid b)) refl
         where
           go : (d : Bool) → differ (rowid x) (rowid b) ≡ d → differ (rowid x) (rowid b) ≡ false
           go false is = is
-          go true is = absurd (let some = some_from (λ other. agree plain key other key b && differ (rowid other) (rowid b)) (db.trees own.tree) x h (rw (agrees, is) refl) in let no = sym some ∙ idle in cc)
+          go true is =
+              absurd (let some = some_from (λ other. agree plain key other key b && differ (rowid other) (rowid b))
+              (db.trees own.tree) x h (rw (agrees, is) refl) in let no = sym some ∙ idle in cc)

@@ -1,5 +1,6 @@
 -- What the store's tables hold: eleven finite maps over bytes and numbers. A set is a map to the unit.
-use Rattle.std.specs.Prelude.{Bool, true, false, ◌&&◌, filter, find, ℤ, Option, Some, None, option_map, unwrap_or, ℕ, List, [], map, codes}
+use Rattle.std.specs.Prelude.{Bool, true, false, ◌&&◌, filter, find, ℤ, Option, Some, None, option_map, unwrap_or, ℕ}
+use Rattle.std.specs.Prelude.{List, [], map, codes}
 use Rattle.std.specs.declared.cmp.Ordering.{Ordering}
 use Rattle.std.specs.Ordering.{on, then_cmp, nat_cmp, int_cmp}
 use Rattle.std.specs.Cmp.Lexicographic.{slice_cmp}

@@ -1,5 +1,6 @@
 -- What each statement on a connection requires of it and promises, whatever its text.
-use Rattle.std.specs.Prelude.{◌≡◌, ◌⊎◌, ℕ, true, false, Bool, List, length, Result, Ok, IsTrue, IfOk, IfErr, OnOk, OnErr}
+use Rattle.std.specs.Prelude.{◌≡◌, ◌⊎◌, ℕ, true, false, Bool, List, length, Result, Ok, IsTrue, IfOk, IfErr, OnOk}
+use Rattle.std.specs.Prelude.{OnErr}
 use Rattle.std.specs.Borrow.{MutBor}
 use Rattle.std.specs.List.{AllZip, AllAdjacentBelow}
 use Rattle.std.specs.declared.alloc.Global.{Global}

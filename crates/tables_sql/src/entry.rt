@@ -7,7 +7,7 @@ ghost use Rattle.tables_sql.specs.declared.failure.Failed.TheVariants.{Memory, D
 ghost use Rattle.tables_sql.specs.Reading.{IsAmiss};
 
 use crate::failure::Failed;
-use crate::reading::Sink;
+use crate::query::Sink;
 use sqlite::Row;
 
 /// An entry of a table, which a row shows by its columns.

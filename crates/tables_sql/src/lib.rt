@@ -3,6 +3,6 @@
 
 pub mod entry;
 pub mod failure;
-pub mod reading;
+pub mod query;
 pub mod statement;
 pub mod transaction;

@@ -1,5 +1,6 @@
 -- An archive is cut in one right way.
-use Rattle.std.proofs.Common.{◌≡◌, ℕ, ◌+◌, ◌≤◌, List, [], ◌∷◌, ◌++◌, length, take, drop, refl, sym, ap, ◌∙◌, arith, length-append}
+use Rattle.std.proofs.Common.{◌≡◌, ℕ, ◌+◌, ◌≤◌, List, [], ◌∷◌, ◌++◌, length, take, drop, refl, sym, ap, ◌∙◌, arith}
+use Rattle.std.proofs.Common.{length-append}
 use Rattle.std.specs.Prelude.{ℤ}
 use Rattle.std.proofs.lemmas.List.{append-nil, length-take, length-drop, take-append-drop}
 use Rattle.tables_world.specs.Pieces.{piece_size, joined, GoOn, IsCut, row_part, pieces_by, further_pieces}
@@ -14,30 +15,45 @@ some = omega (arith, size)
 
 -- ---- the pieces that are computed
 
-pub go_on : (part : List ℕ) (n : ℕ) (turns rest : List ℕ) → length rest ≤ length turns → length part ≤ piece_size → (1 ≤ length rest → length part ≡ piece_size) → GoOn part n (pieces_by turns n rest)
+pub go_on : (part : List ℕ) (n : ℕ) (turns rest : List ℕ) → length rest ≤ length turns → length part ≤ piece_size
+    → (1 ≤ length rest → length part ≡ piece_size) → GoOn part n (pieces_by turns n rest)
 go_on part n [] [] many most full = most
 go_on part n [] (b ∷ bs) many most full = absurd (omega arith)
 go_on part n (turn ∷ turns) [] many most full = most
 go_on part n (turn ∷ turns) (b ∷ bs) many most full =
     let loaded : length (take piece_size (b ∷ bs)) ≤ piece_size = omega (arith, length-take piece_size (b ∷ bs)) in
     let one : 1 ≤ length (take piece_size (b ∷ bs)) = omega (arith, length-take piece_size (b ∷ bs), some) in
-    let fewer : length (drop piece_size (b ∷ bs)) ≤ length turns = omega (arith, length-drop piece_size (b ∷ bs), some) in
-    let more : 1 ≤ length (drop piece_size (b ∷ bs)) → length (take piece_size (b ∷ bs)) ≡ piece_size = λ h. omega (arith, length-drop piece_size (b ∷ bs), length-take piece_size (b ∷ bs)) in
-    (full (omega arith), refl, one, go_on (take piece_size (b ∷ bs)) (n + 1) turns (drop piece_size (b ∷ bs)) fewer loaded more)
+    let fewer : length (drop piece_size (b ∷ bs)) ≤ length turns =
+    omega (arith, length-drop piece_size (b ∷ bs), some) in
+    let more : 1 ≤ length (drop piece_size (b ∷ bs)) → length (take piece_size (b ∷ bs)) ≡ piece_size =
+    λ h. omega (arith, length-drop piece_size (b ∷ bs), length-take piece_size (b ∷ bs)) in (
+      full (omega arith),
+      refl,
+      one,
+      go_on (take piece_size (b ∷ bs)) (n + 1) turns (drop piece_size (b ∷ bs)) fewer loaded more,
+    )
 
 all_joined : (n : ℕ) (turns rest : List ℕ) → length rest ≤ length turns → joined (pieces_by turns n rest) ≡ rest
 all_joined n [] [] many = refl
 all_joined n [] (b ∷ bs) many = absurd (omega arith)
 all_joined n (turn ∷ turns) [] many = refl
 all_joined n (turn ∷ turns) (b ∷ bs) many =
-    let fewer : length (drop piece_size (b ∷ bs)) ≤ length turns = omega (arith, length-drop piece_size (b ∷ bs), some) in
-    ap (λ l. take piece_size (b ∷ bs) ++ l) (all_joined (n + 1) turns (drop piece_size (b ∷ bs)) fewer) ∙ take-append-drop piece_size (b ∷ bs)
+    let fewer : length (drop piece_size (b ∷ bs)) ≤ length turns =
+    omega (arith, length-drop piece_size (b ∷ bs), some) in
+    ap (λ l. take piece_size (b ∷ bs) ++ l) (all_joined (n + 1) turns (drop piece_size (b ∷ bs)) fewer)
+    ∙ take-append-drop piece_size (b ∷ bs)
 
 pub cut_right : (nar : List ℕ) → IsCut (row_part nar) (further_pieces nar)
-cut_right nar = go_on (take piece_size nar) 1 nar (drop piece_size nar) (omega (arith, length-drop piece_size nar)) (omega (arith, length-take piece_size nar)) (λ h. omega (arith, length-drop piece_size nar, length-take piece_size nar))
+cut_right nar =
+    go_on (take piece_size nar) 1 nar (drop piece_size nar) (omega (arith, length-drop piece_size nar))
+    (omega (arith, length-take piece_size nar))
+    (λ h. omega (arith, length-drop piece_size nar, length-take piece_size nar))
 
 pub cut_whole : (nar : List ℕ) → row_part nar ++ joined (further_pieces nar) ≡ nar
-cut_whole nar = ap (λ l. take piece_size nar ++ l) (all_joined 1 nar (drop piece_size nar) (omega (arith, length-drop piece_size nar))) ∙ take-append-drop piece_size nar
+cut_whole nar =
+    ap (λ l. take piece_size nar ++ l)
+    (all_joined 1 nar (drop piece_size nar) (omega (arith, length-drop piece_size nar)))
+    ∙ take-append-drop piece_size nar
 
 -- ---- there is no other cutting
 
@@ -54,7 +70,8 @@ prefixes (x ∷ xs) (y ∷ ys) c d same e =
 lengths : (a b c d : List ℕ) → a ++ b ≡ c ++ d → length a + length b ≡ length c + length d
 lengths a b c d e = sym (length-append a b) ∙ ap length e ∙ length-append c d
 
-one_cut : (row other : List ℕ) (n : ℕ) (ps qs : List (ℤ × List ℕ)) → GoOn row n ps → GoOn other n qs → row ++ joined ps ≡ other ++ joined qs → (row ≡ other) × (ps ≡ qs)
+one_cut : (row other : List ℕ) (n : ℕ) (ps qs : List (ℤ × List ℕ)) → GoOn row n ps → GoOn other n qs
+    → row ++ joined ps ≡ other ++ joined qs → (row ≡ other) × (ps ≡ qs)
 one_cut row other n [] [] g h e = (sym (append-nil row) ∙ e ∙ append-nil other, refl)
 one_cut row other n [] (q ∷ qs) g h e =
     let total = lengths row [] other (q.1 ++ joined qs) e in
@@ -73,5 +90,7 @@ cuts_one_way nar = record {
   size = size;
   right = cut_right nar;
   whole = cut_whole nar;
-  one = λ row pieces cut e. one_cut row (row_part nar) 1 pieces (further_pieces nar) cut (cut_right nar) (e ∙ sym (cut_whole nar));
+  one =
+      λ row pieces cut e. one_cut row (row_part nar) 1 pieces (further_pieces nar) cut (cut_right nar)
+      (e ∙ sym (cut_whole nar));
 }

@@ -8,7 +8,8 @@ use Rattle.paths.specs.Root.{bytes_cmp}
 use Rattle.tables_sql.specs.Contents.{triple_cmp}
 use Rattle.model.specs.World.{Path, pair_cmp, temporary_cmp, Temporary, no_world}
 use Rattle.model.specs.Sound.{IsSound}
-use Rattle.tables_world.specs.Rows.{piece_cmp, SessionPath, session_path_cmp, new_rows, object_in, profile_in, temporary_in, world_of, IsSoundRows}
+use Rattle.tables_world.specs.Rows.{piece_cmp, SessionPath, session_path_cmp, new_rows, object_in, profile_in}
+use Rattle.tables_world.specs.Rows.{temporary_in, world_of, IsSoundRows}
 use Rattle.tables_schema.specs.declared.schema.Schema.{Schema}
 use Rattle.model.proofs.Empty.{no_entry, no_key, no_entries}
 use Rattle.tables_world.proofs.NewWorld.{new_world_sound}
@@ -21,8 +22,15 @@ none_left {K} {X} R S f = ap (λ es. finite.from_entries {R = S} (map f es)) (no
 nothing : Unit {0}
 nothing = tt
 
-none_kept : finite.from_entries {R = temporary_cmp} (map (λ (x : Temporary). (x, nothing)) (map temporary_in (map (λ (e : SessionPath × Unit {0}). e.0) (finite.entries (finite.empty {X = Unit {0}} {R = session_path_cmp}))))) ≡ finite.empty {X = Unit {0}} {R = temporary_cmp}
-none_kept = ap (λ (es : List (SessionPath × Unit {0})). finite.from_entries {R = temporary_cmp} (map (λ (x : Temporary). (x, nothing)) (map temporary_in (map (λ (e : SessionPath × Unit {0}). e.0) es)))) (no_entries (Unit {0}) session_path_cmp)
+none_kept : finite.from_entries {R = temporary_cmp}
+    (map (λ (x : Temporary). (x, nothing))
+    (map temporary_in (map (λ (e : SessionPath × Unit {0}). e.0)
+    (finite.entries (finite.empty {X = Unit {0}} {R = session_path_cmp})))))
+    ≡ finite.empty {X = Unit {0}} {R = temporary_cmp}
+none_kept =
+    ap (λ (es : List (SessionPath × Unit {0})). finite.from_entries {R = temporary_cmp}
+    (map (λ (x : Temporary). (x, nothing)) (map temporary_in (map (λ (e : SessionPath × Unit {0}). e.0) es))))
+    (no_entries (Unit {0}) session_path_cmp)
 
 pub reports_nothing : (schema : Schema) (dir : List ℕ) → world_of (new_rows schema dir) ≡ no_world
 reports_nothing schema dir = λ i. record {
@@ -34,7 +42,8 @@ reports_nothing schema dir = λ i. record {
   temporary = none_kept i;
 }
 
-pub new_rows_sound : (schema : Schema) (dir : List ℕ) → IsTrue (is_store_dir dir) → IsSoundRows schema dir (new_rows schema dir)
+pub new_rows_sound : (schema : Schema) (dir : List ℕ) → IsTrue (is_store_dir dir)
+    → IsSoundRows schema dir (new_rows schema dir)
 new_rows_sound schema dir h = record {
   directory = h;
   settings_are = refl;

@@ -23,7 +23,8 @@ both_tied Less s = refl
 both_tied Equal s = refl
 both_tied Greater s = refl
 
-pair_tied : (p r : List ℕ) (k : List ℕ × List ℕ) → eq_by_cmp pair_cmp (p, r) k ≡ (eq_by_cmp bytes_cmp p k.0 && eq_by_cmp bytes_cmp r k.1)
+pair_tied : (p r : List ℕ) (k : List ℕ × List ℕ)
+    → eq_by_cmp pair_cmp (p, r) k ≡ (eq_by_cmp bytes_cmp p k.0 && eq_by_cmp bytes_cmp r k.1)
 pair_tied p r k = both_tied (bytes_cmp p k.0) (bytes_cmp r k.1)
 
 -- a reference of a path is a row
@@ -31,7 +32,8 @@ pub get-reference : (c : Contents) (p r : Path) → finite.get (references_in (r
 get-reference c p r = get_part bytes_cmp pair_cmp nat_list_cmp_total pair_tied c.refs p r
 
 -- and so is an output
-pub get-output : (c : Contents) (p name : Path) → finite.get (outputs_in (rows_of c) p) name ≡ finite.get c.outs (p, name)
+pub get-output : (c : Contents) (p name : Path)
+    → finite.get (outputs_in (rows_of c) p) name ≡ finite.get c.outs (p, name)
 get-output c p name = get_part bytes_cmp pair_cmp nat_list_cmp_total pair_tied c.outs p name
 
 -- and so is a piece
@@ -43,12 +45,18 @@ pub whole : (c : Contents) (p : Path) (x : Stored) → c.pieces ≡ finite.empty
 whole c p x none = ap (λ (es : List (ℤ × List ℕ)). x.nar ++ joined es) nothing ∙ append-nil x.nar
   where
     loaded : finite.FinMap piece_cmp (List ℕ) → List (ℤ × List ℕ)
-    loaded m = finite.entries (finite.from_entries {R = int_cmp} (map (λ (e : Piece × List ℕ). let d : ℤ × List ℕ = (e.0.1, e.1) in d) (filter (λ (e : Piece × List ℕ). eq_by_cmp bytes_cmp p e.0.0) (finite.entries m))))
+    loaded m =
+        finite.entries (finite.from_entries {R = int_cmp}
+        (map (λ (e : Piece × List ℕ). let d : ℤ × List ℕ = (e.0.1, e.1) in d)
+        (filter (λ (e : Piece × List ℕ). eq_by_cmp bytes_cmp p e.0.0) (finite.entries m))))
 
     nothing : finite.entries (pieces_in (rows_of c) p) ≡ []
     nothing =
         ap loaded none
-        ∙ ap (λ (es : List (Piece × List ℕ)). finite.entries (finite.from_entries {R = int_cmp} (map (λ (e : Piece × List ℕ). let d : ℤ × List ℕ = (e.0.1, e.1) in d) (filter (λ (e : Piece × List ℕ). eq_by_cmp bytes_cmp p e.0.0) es)))) (no_entries (List ℕ) piece_cmp)
+        ∙ ap (λ (es : List (Piece × List ℕ)). finite.entries
+        (finite.from_entries {R = int_cmp}
+        (map (λ (e : Piece × List ℕ). let d : ℤ × List ℕ = (e.0.1, e.1) in d)
+        (filter (λ (e : Piece × List ℕ). eq_by_cmp bytes_cmp p e.0.0) es)))) (no_entries (List ℕ) piece_cmp)
         ∙ no_entries (List ℕ) int_cmp
 
 pub tables_rows : TablesAreRows

@@ -14,7 +14,8 @@ use Rattle.model.specs.World.{Path, Pair}
 use Rattle.model.specs.Objects.{most_references, outputs_at}
 use Rattle.model.specs.Sound.{IsDerivation}
 use Rattle.tables_world.specs.Pieces.{IsCut}
-use Rattle.tables_world.specs.Rows.{Rows, SessionPath, settings, pieces_in, archive_in, references_in, outputs_in, address_in, IsSoundRows}
+use Rattle.tables_world.specs.Rows.{Rows, SessionPath, settings, pieces_in, archive_in, references_in, outputs_in}
+use Rattle.tables_world.specs.Rows.{address_in, IsSoundRows}
 use Rattle.tables_schema.specs.declared.schema.Schema.{Schema}
 use Rattle.tables_schema.specs.Schemas.{has_pieces, has_temporary}
 

@@ -8,7 +8,8 @@ use Rattle.tables_writes.specs.TablesValue.{TablesValue, Agrees}
 use Rattle.tables_writes.proofs.AfterWrites.{IsWrite}
 use Rattle.tables_writes.proofs.Removed.{world_without, outline_without, outline_follows, objects_follow}
 
-pub removed_write : {S : Type 0} (g : Ghosts S) (k now : TablesValue S) (ps : List Path) → k ≡ now → Agrees g k → StaysSound g now (world_without ps) → IsWrite g k now (without_objects ps) (world_without ps) (outline_without ps)
+pub removed_write : {S : Type 0} (g : Ghosts S) (k now : TablesValue S) (ps : List Path) → k ≡ now → Agrees g k
+    → StaysSound g now (world_without ps) → IsWrite g k now (without_objects ps) (world_without ps) (outline_without ps)
 removed_write g k now ps view agrees sound = record {
   view = view;
   law = outline_follows ps;

@@ -12,7 +12,8 @@ use Rattle.tables_writes.specs.TablesValue.{TablesValue, Agrees}
 use Rattle.tables_writes.proofs.AfterWrites.{Follows, IsWrite}
 
 -- a change of the permanent roots, the user roots and the runtime roots
-module _ (f : finite.FinMap bytes_cmp Path → finite.FinMap bytes_cmp Path) (u : finite.FinMap pair_cmp Path → finite.FinMap pair_cmp Path) (r : Set pair_cmp → Set pair_cmp) where
+module _ (f : finite.FinMap bytes_cmp Path → finite.FinMap bytes_cmp Path)
+    (u : finite.FinMap pair_cmp Path → finite.FinMap pair_cmp Path) (r : Set pair_cmp → Set pair_cmp) where
   abbrev pub with_roots : World → World
   with_roots w = record w { permanent = f w.permanent; user_roots = u w.user_roots; runtime = r w.runtime }
 
@@ -44,7 +45,8 @@ module _ (f : finite.FinMap bytes_cmp Path → finite.FinMap bytes_cmp Path) (u 
     };
   }
 
-  pub roots_write : {S : Type 0} (g : Ghosts S) (k now : TablesValue S) → k ≡ now → Agrees g k → StaysSound g now with_roots → IsWrite g k now rows_with with_roots outline_with
+  pub roots_write : {S : Type 0} (g : Ghosts S) (k now : TablesValue S) → k ≡ now → Agrees g k
+      → StaysSound g now with_roots → IsWrite g k now rows_with with_roots outline_with
   roots_write g k now view agrees sound = record {
     view = view;
     law = λ w. refl;

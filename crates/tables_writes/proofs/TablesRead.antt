@@ -1,5 +1,6 @@
 -- What a read of the disk leaves of the tables, whether it succeeds or fails.
-use Rattle.std.proofs.Common.{◌≡◌, Option, None, is_some, Result, Ok, Err, IfOk, IfErr, IsErrAnd, IsTrue, refl, sym, ap, subst}
+use Rattle.std.proofs.Common.{◌≡◌, Option, None, is_some, Result, Ok, Err, IfOk, IfErr, IsErrAnd, IsTrue, refl, sym, ap}
+use Rattle.std.proofs.Common.{subst}
 use Rattle.std.proofs.lemmas.Bool.{false≢true}
 use Rattle.sqlite_trees.specs.declared.store.Store.{Ghosts}
 use Rattle.sqlite.specs.State.{HasCleanDisk, Survives}
@@ -16,7 +17,8 @@ use Rattle.tables_writes.proofs.AfterWrites.{reported_failed}
 
 module _ {S : Type 0} (g : Ghosts S) where
   -- nothing is there, and the disk isn't asked
-  pub nothing_read : {T : Type 0} (k : TablesValue S) (shows : World → Option T → Type 0) → ((w : World) → HasWorld g k w → shows w None) → ReadsTables g {T = T} k k (Ok None) shows
+  pub nothing_read : {T : Type 0} (k : TablesValue S) (shows : World → Option T → Type 0)
+      → ((w : World) → HasWorld g k w → shows w None) → ReadsTables g {T = T} k k (Ok None) shows
   nothing_read k shows none = record {
     dir = refl;
     found = λ clean. none;
@@ -28,38 +30,56 @@ module _ {S : Type 0} (g : Ghosts S) where
   }
 
   -- the connection was read, which left it as it was
-  module _ (k now : TablesValue S) (view : k ≡ now) (agrees : Agrees g k) (conn : Held S) (left : LeftAsItWas g k.connection conn) where
+  module _ (k now : TablesValue S) (view : k ≡ now) (agrees : Agrees g k) (conn : Held S)
+      (left : LeftAsItWas g k.connection conn) where
     abbrev after : TablesValue S
     after = record { connection = conn; dir = k.dir; outline = k.outline }
 
     pub tables_read : {T : Type 0} (r : Result (Option T) Failed) (shows : World → Option T → Type 0)
         → (HasCleanDisk (state g conn) → IfOk r (λ it. (w : World) → HasWorld g now w → shows w it))
-        → (HasCleanDisk (state g conn) → IfOk r (λ it. IsTrue (is_some it) → IsTrue (state g k.connection).is_open × IsTrue (state g conn).is_open))
+        → (HasCleanDisk (state g conn)
+        → IfOk r (λ it. IsTrue (is_some it)
+        → IsTrue (state g k.connection).is_open × IsTrue (state g conn).is_open))
         → (HasCleanDisk (state g conn) → IfErr r (FailsToRead (state g k.connection) (state g conn)))
         → ReadsTables g now after r shows
     tables_read r shows found was_open cause = record {
       dir = ap (λ (n : TablesValue S). n.dir) view;
       found = found;
       same = reported_failed g k now view conn k.outline agrees _ left.survives left.same refl;
-      was_open = subst (λ (n : TablesValue S). HasCleanDisk (state g conn) → IfOk r (λ it. IsTrue (is_some it) → IsTrue (state g n.connection).is_open × IsTrue (state g conn).is_open)) view was_open;
-      shown = subst (λ (n : TablesValue S). HasCleanDisk (state g conn) → KeepsShown (state g n.connection) (state g conn)) view left.same;
-      cause = subst (λ (n : TablesValue S). HasCleanDisk (state g conn) → IfErr r (FailsToRead (state g n.connection) (state g conn))) view cause;
-      survives = subst (λ (n : TablesValue S). Survives (state g n.connection) (state g conn) (λ _. ⊥)) view left.survives;
+      was_open =
+          subst (λ (n : TablesValue S). HasCleanDisk (state g conn)
+          → IfOk r (λ it. IsTrue (is_some it)
+          → IsTrue (state g n.connection).is_open × IsTrue (state g conn).is_open)) view was_open;
+      shown =
+          subst (λ (n : TablesValue S). HasCleanDisk (state g conn) → KeepsShown (state g n.connection) (state g conn))
+          view left.same;
+      cause =
+          subst (λ (n : TablesValue S). HasCleanDisk (state g conn)
+          → IfErr r (FailsToRead (state g n.connection) (state g conn))) view cause;
+      survives =
+          subst (λ (n : TablesValue S). Survives (state g n.connection) (state g conn) (λ _. ⊥)) view left.survives;
     }
 
     -- it failed, and its error is passed on
-    pub tables_unread : {T : Type 0} (e : Failed) → (HasCleanDisk (state g conn) → FailsToRead (state g k.connection) (state g conn) e)
-        → (r : Result (Option T) Failed) (shows : World → Option T → Type 0) → IsErrAnd r (λ f. f ≡ e) → ReadsTables g now after r shows
+    pub tables_unread : {T : Type 0} (e : Failed)
+        → (HasCleanDisk (state g conn) → FailsToRead (state g k.connection) (state g conn) e)
+        → (r : Result (Option T) Failed) (shows : World → Option T → Type 0) → IsErrAnd r (λ f. f ≡ e)
+        → ReadsTables g now after r shows
     tables_unread e cause (Ok x) shows is = absurd is
-    tables_unread e cause (Err f) shows is = tables_read (Err f) shows (λ clean. tt) (λ clean. tt) (λ clean. subst (FailsToRead (state g k.connection) (state g conn)) (sym is) (cause clean))
+    tables_unread e cause (Err f) shows is =
+        tables_read (Err f) shows (λ clean. tt) (λ clean. tt)
+        (λ clean. subst (FailsToRead (state g k.connection) (state g conn)) (sym is) (cause clean))
 
   -- ---- after a read of the tables
 
-  module _ {T : Type 0} (old new : TablesValue S) (a : Result (Option T) Failed) (P : World → Option T → Type 0) (read : ReadsTables g old new a P) where
+  module _ {T : Type 0} (old new : TablesValue S) (a : Result (Option T) Failed) (P : World → Option T → Type 0)
+      (read : ReadsTables g old new a P) where
     -- something else is made of what it found
     pub made_of_read : {U : Type 0} (r : Result (Option U) Failed) (Q : World → Option U → Type 0)
         → (HasCleanDisk (state g new.connection) → IfOk r (λ it. (w : World) → HasWorld g old w → Q w it))
-        → (HasCleanDisk (state g new.connection) → IfOk r (λ it. IsTrue (is_some it) → IsTrue (state g old.connection).is_open × IsTrue (state g new.connection).is_open))
+        → (HasCleanDisk (state g new.connection)
+        → IfOk r (λ it. IsTrue (is_some it)
+        → IsTrue (state g old.connection).is_open × IsTrue (state g new.connection).is_open))
         → FailsToAsk g old new r → ReadsTables g old new r Q
     made_of_read r Q found was_open cause = record {
       dir = read.dir;
@@ -72,7 +92,11 @@ module _ {S : Type 0} (g : Ghosts S) where
     }
 
     -- nothing is made of it, for this error
-    pub stopped_after_read : {U : Type 0} (e : Failed) → (HasCleanDisk (state g new.connection) → FailsToRead (state g old.connection) (state g new.connection) e)
-        → (r : Result (Option U) Failed) (Q : World → Option U → Type 0) → IsErrAnd r (λ f. f ≡ e) → ReadsTables g old new r Q
+    pub stopped_after_read : {U : Type 0} (e : Failed)
+        → (HasCleanDisk (state g new.connection) → FailsToRead (state g old.connection) (state g new.connection) e)
+        → (r : Result (Option U) Failed) (Q : World → Option U → Type 0) → IsErrAnd r (λ f. f ≡ e)
+        → ReadsTables g old new r Q
     stopped_after_read e cause (Ok x) Q is = absurd is
-    stopped_after_read e cause (Err f) Q is = made_of_read (Err f) Q (λ clean. tt) (λ clean. tt) (λ clean. subst (FailsToRead (state g old.connection) (state g new.connection)) (sym is) (cause clean))
+    stopped_after_read e cause (Err f) Q is =
+        made_of_read (Err f) Q (λ clean. tt) (λ clean. tt)
+        (λ clean. subst (FailsToRead (state g old.connection) (state g new.connection)) (sym is) (cause clean))

@@ -8,5 +8,7 @@ use Rattle.tables_writes.specs.TablesValue.{HaveAWorld}
 
 pub have_a_world : {S : Type 0} (g : Ghosts S) → HaveAWorld g
 have_a_world g k agrees clean up =
-    let rows = agrees.rows clean up in
-    (world_in (contents_of (state g k.connection).now), record { outline = rows.same; rows = λ _ _. refl; sound = rows.sound.world })
+    let rows = agrees.rows clean up in (
+      world_in (contents_of (state g k.connection).now),
+      record { outline = rows.same; rows = λ _ _. refl; sound = rows.sound.world },
+    )

@@ -38,22 +38,12 @@ pub struct Snapshot<'a> {
     pub roots: Vec<Root>,
 }
 
-/// An owned copy of a path, or `None` for `None`.
-fn copied_path(path: Option<&StorePath>) -> Result<Option<StorePath>, AllocError>
-    ensures { IfOk result (λ copy. copy ≡ option_map (λ q. q.now) path.entry) }
-{
-    match path {
-        Some(path) => Ok(Some(path.clone()?)),
-        None => Ok(None),
-    }
-}
-
 /// An owned copy of a summary.
 fn copied(alloc: Global, object: &Summary) -> Result<Summary, AllocError>
     ensures { IfOk result (λ copy. copy ≡ object.now) }
 {
     let references = object.references().to_vec(alloc)?;
-    let deriver = copied_path(object.deriver())?;
+    let deriver = object.deriver().cloned()?;
     let names = object.names().to_vec(alloc)?;
     let outputs = object.outputs().to_vec(alloc)?;
     let copy = Summary::new(

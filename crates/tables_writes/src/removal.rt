@@ -58,48 +58,25 @@ fn delete_objects<S: Alter>(
     Ok(())
 }
 
-/// The change that deletes some objects, those that exist: `first` and `rest`. `outline` is that of the rows before the
-/// change.
+/// The change that deletes some objects, those that exist. `outline` is that of the rows before the change.
 #[derive(Drop)]
 pub(crate) struct RemoveObjects<'a> {
+    pub(crate) alloc: Global,
     pub(crate) outline: &'a Outline,
-    pub(crate) first: &'a StorePath,
-    pub(crate) rest: &'a [StorePath],
+    pub(crate) paths: &'a [StorePath],
 }
 
 impl<'a> Change for RemoveObjects<'a> {
-    ghost use Rattle.std.specs.Prelude.{◌∷◌};
-
-    ghost change = { λ o c. without_objects (o.first.now ∷ o.rest.now) c };
+    ghost change = { λ o c. without_objects o.paths.now c };
 
     ghost fits = { λ o c. Covers o.outline.now c };
 
     ghost rows = { λ o. NoRow };
 
     fn write<S: Alter>(&self, tx: &mut Transaction<'_, S>) -> Result<(), Failed> {
-        delete_object(tx, self.outline, self.first)?;
-        delete_objects(tx, self.outline, self.rest)
-    }
-}
-
-/// The change that deletes nothing. Queries a missing object, so that it fails on a shut connection.
-#[derive(Drop)]
-pub(crate) struct RemoveNone {
-    pub(crate) alloc: Global,
-}
-
-impl Change for RemoveNone {
-    ghost use Rattle.std.specs.Prelude.{⊤};
-
-    ghost change = { λ o c. c };
-
-    ghost fits = { λ o c. ⊤ };
-
-    ghost rows = { λ o. NoRow };
-
-    fn write<S: Alter>(&self, tx: &mut Transaction<'_, S>) -> Result<(), Failed> {
+        // Without a query, deleting no paths would succeed on a shut connection.
         let _none = objects::get_within(self.alloc, tx, "")?;
-        Ok(())
+        delete_objects(tx, self.outline, self.paths)
     }
 }
 
@@ -114,17 +91,12 @@ pub(crate) fn delete_rows<S: Alter>(
     ensures frame { CommitsRows S.Store conn.old conn.new result (without_objects paths.now) }
     ensures cause { HasReason S.Store conn.old conn.new result NoRow }
 {
-    match paths.split_first() {
-        Some((first, rest)) => change::commit(
-            conn,
-            &RemoveObjects {
-                outline,
-                first,
-                rest,
-            },
-        ),
-        None => change::commit(conn, &RemoveNone { alloc }),
-    }
+    let change = RemoveObjects {
+        alloc,
+        outline,
+        paths,
+    };
+    change::commit(conn, &change)
 }
 
 impl<S: Alter> Tables<S> {

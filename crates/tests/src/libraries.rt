@@ -2,5 +2,5 @@
 
 pub mod archives;
 mod refused_memory;
-mod streaming;
+mod stream_failures;
 mod words;

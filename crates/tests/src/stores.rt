@@ -1,5 +1,5 @@
 //! A list of calls on a store in memory.
-mod adopting;
+mod adoption;
 
 use paths::{Name, StoreDir, StorePath};
 use policy::{Caller, Config, store_dir};

@@ -2,6 +2,8 @@ pub mod Answered
 pub mod Called
 pub mod Done
 pub mod Openings
+pub mod Reading
 pub mod RefusedPrefixes
 pub mod Requested
+pub mod Returned
 pub mod Whole

@@ -6,4 +6,5 @@ pub mod Files
 pub mod Laws
 pub mod Requests
 pub mod Serving
+pub mod Streams
 pub mod Works

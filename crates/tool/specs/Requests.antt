@@ -1,5 +1,6 @@
 -- The request that a subcommand makes to a store.
-use Rattle.std.specs.Prelude.{◌≡◌, ⊤, ℕ, Bool, true, false, not, ◌||◌, is_ok, if◌then◌else◌, List, map, Option, Some, None, Result, Ok, Err}
+use Rattle.std.specs.Prelude.{◌≡◌, ⊤, ℕ, Bool, true, false, not, ◌||◌, is_ok, if◌then◌else◌, List, map, Option, Some}
+use Rattle.std.specs.Prelude.{None, Result, Ok, Err}
 use Rattle.std.specs.List.{list_all}
 use Rattle.std.specs.Option.{option_map_or}
 use Rattle.clap.specs.Walk.{Text}
@@ -15,14 +16,18 @@ use Rattle.model.specs.Step.{Step}
 use Rattle.model.specs.declared.refusal.Refusal.{Refusal}
 use Rattle.model.specs.declared.refusal.Refusal.TheVariants.{BadStorePath}
 use Rattle.tool_words.specs.Asked as asked
-use Rattle.tool_words.specs.Asked.{Asked, OnProfile, OnSession, add_source, add_text, cat_nar, delete, gc, import_object, info, list_dead, list_live, list_paths, optional_text, profile, report, root, roots, runtime, temp, unroot_permanent, unroot_user, why, serve}
+use Rattle.tool_words.specs.Asked.{Asked, OnProfile, OnSession, add_source, add_text, cat_nar, delete, gc}
+use Rattle.tool_words.specs.Asked.{import_object, info, list_dead, list_live, list_paths, optional_text, profile}
+use Rattle.tool_words.specs.Asked.{report, root, roots, runtime, temp, unroot_permanent, unroot_user, why, serve}
+use Rattle.tool_words.specs.declared.line.ServeArguments.{ServeArguments}
+use Rattle.tool_words.specs.declared.line.ServeArguments.TheVariants.{Streams, Port}
 use Rattle.tool_words.specs.declared.line.Unrooted.{Unrooted}
 use Rattle.tool_words.specs.declared.line.Unrooted.TheVariants as unrooted
 use Rattle.tool_words.specs.declared.line.NamedRootKind.{NamedRootKind}
 use Rattle.tool_words.specs.declared.line.NamedRootKind.TheVariants.{Permanent, User}
 use Rattle.store_types.specs.declared.requests.Request.{Request as Made}
 use Rattle.store_types.specs.View.{request_view}
-use Rattle.report.specs.declared.failures.Failure.TheVariants.{Memory, Input}
+use Rattle.model.specs.declared.failures.Failure.TheVariants.{Memory, Input}
 use Rattle.tool_pure.specs.declared.stops.Stop.{Stop}
 use Rattle.tool_pure.specs.declared.stops.Stop.TheVariants.{Refused, Failed}
 use Rattle.tool.specs.Bodies.{Imports, Replaces}
@@ -129,21 +134,42 @@ asks import_object = Some import_body
 asks runtime = Some runtime_body
 asks _ = None
 
--- the subcommands that read all of their input, however much that is; `serve` reads what its connection sends
-abbrev pub reads_all : Asked → Bool
-reads_all import_object = true
-reads_all runtime = true
-reads_all (serve a) = true
-reads_all _ = false
+-- The greatest number of bytes that `serve` reads of its input, if there is one: it reads what its connection sends,
+-- and on a port the connections aren't the input.
+abbrev pub most_served : ServeArguments → Option ℕ
+most_served Streams = None
+most_served (Port number n) = Some 0
+
+-- The greatest number of bytes that a subcommand reads of its input, if there is one: as many as decide about an
+-- archive or the contents of a text, or all of a body. Every other subcommand reads nothing.
+abbrev pub most_read : Asked → Option ℕ
+most_read asked.ls = Some max_prefix
+most_read (asked.source_path o) = Some max_prefix
+most_read (add_source o) = Some max_prefix
+most_read (asked.text_path o) = Some most_of_contents
+most_read (add_text o) = Some most_of_contents
+most_read import_object = None
+most_read runtime = None
+most_read (serve a) = most_served a
+most_read _ = Some 0
+
+-- no more of an input was read than this number of bytes, if there is such a number
+abbrev pub ReadsWithin : Option ℕ → Option (List ℕ) → Option (List ℕ) → Type 0
+ReadsWithin None old new = ⊤
+ReadsWithin (Some most) old new = ConsumesAtMost most old new
 
 -- whether a request only reads: it is answered from the disk, or doesn't touch it
 abbrev pub only_reads : Request → Bool
 only_reads q = reads_disk q || not (touches_disk q)
 
--- An answer was given. Unless `whole` is true, no more of the input was read than decides whether it is an archive.
-pub record AnswersReading (whole : Bool) (answers : Console → Type 0) (console : Console) : Type 0 where
+-- An answer was given, and no more of the input was read than `most` bytes, if there is such a number.
+pub record AnswersReading (most : Option ℕ) (answers : Console → Type 0) (console : Console) : Type 0 where
   pub answer : answers console
-  pub reads : whole ≡ false → ConsumesAtMost max_prefix console.input.old console.input.new
+  pub reads : ReadsWithin most console.input.old console.input.new
+
+-- what a subcommand asks of a store, if it asks something, is answered
+abbrev pub AnswersAsked : Asked → (Ask → Console → Type 0) → Console → Type 0
+AnswersAsked task answers console = (ask : Ask) → asks task ≡ Some ask → answers ask console
 
 -- ---- what a program makes of the words and the input
 

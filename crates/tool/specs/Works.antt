@@ -1,22 +1,29 @@
 -- What a command line does with a store: makes a request, or serves the store.
-use Rattle.std.specs.Prelude.{◌⊎◌, Bool, true, Option, Some, None, option_map}
+use Rattle.std.specs.Prelude.{◌≡◌, ◌⊎◌, ℕ, codes, Option, Some, None, option_map, Err, IsTrue}
+use Rattle.std.specs.Io.KnownBytes.{Keeps}
 use Rattle.clap.specs.Walk.{Text}
 use Rattle.sqlite_trees.specs.declared.memory.MemStore.{MemStore}
 use Rattle.sqlite_trees.specs.declared.store.Store.{Ghosts}
 use Rattle.sqlite.specs.Steps.{over_memory}
 use Rattle.model.specs.World.{World, no_world}
 use Rattle.model.specs.Reply.{failed, memory}
+use Rattle.model.specs.declared.refusal.Refusal.TheVariants.{BadSchema}
 use Rattle.policy.specs.Settings.{Settings}
 use Rattle.policy.specs.Caller.{Caller}
+use Rattle.tables_recognize.specs.Opened.{is_uri}
+use Rattle.store.specs.View.{StoreView}
 use Rattle.tables.specs.TablesValue.{TablesValue, HasWorld}
+use Rattle.wire.specs.Worlds.{LeadsWorlds}
 use Rattle.report.specs.Outputs.{Console}
-use Rattle.tool_pure.specs.Printing.{IsPrinted}
+use Rattle.tool_pure.specs.PrintedReply.{IsPrinted}
+use Rattle.tool_pure.specs.Stream.{Answers}
+use Rattle.tool_pure.specs.declared.stops.Stop.TheVariants.{Refused}
 use Rattle.tool_words.specs.Asked.{asked_view}
 use Rattle.tool_words.specs.declared.line.ServeArguments.{ServeArguments}
 use Rattle.tool.specs.declared.work.Work.{Work}
 use Rattle.tool.specs.declared.work.Work.TheVariants as work
 use Rattle.tool.specs.Calls.{AnswersIn, AnswersStep, Serves}
-use Rattle.tool.specs.Requests.{Ask, asks, reads_all}
+use Rattle.tool.specs.Requests.{Ask, asks, most_read, most_served}
 use Rattle.tool.specs.Serving.{ServesStore, ServesWorld}
 
 -- what is done with a store
@@ -31,35 +38,60 @@ abbrev pub work_view : Work → Option OnStore
 work_view (work.Call asking) = option_map (calls asking.caller.now) (asks (asked_view asking.task.now))
 work_view (work.Serve a) = Some (serves a)
 
--- whether the input may be read to its end for this work, however long it is
-abbrev pub reads_whole : Work → Bool
-reads_whole (work.Call asking) = reads_all (asked_view asking.task.now)
-reads_whole (work.Serve a) = true
+-- the greatest number of bytes that are read of the input for this work, if there is one
+abbrev pub most_for : Work → Option ℕ
+most_for (work.Call asking) = most_read (asked_view asking.task.now)
+most_for (work.Serve a) = most_served a
 
--- work that is done over tables
-abbrev pub DoesOver : {S : Type 0} → Ghosts S → Settings → TablesValue S → OnStore → Console → Type 0
-DoesOver g s t (calls c ask) console =
-    AnswersIn (Serves g s t c console.written) ask s.store_dir c console.input console.written
-DoesOver g s t (serves a) console = ServesStore g a console (record { tables = t; settings = s })
+-- work that is done with a store, which is the other one then
+abbrev pub DoesOver : {S : Type 0} → Ghosts S → OnStore → Console → StoreView S → StoreView S → Type 0
+DoesOver g (calls c ask) console old new =
+    AnswersIn (Serves g c console.written old new) (new ≡ old) ask old.settings.store_dir c console.input
+    console.written
+DoesOver g (serves a) console old new = ServesStore g a console old new
 
--- work that is done in a world
-abbrev pub DoesIn : Settings → World → OnStore → Console → Type 0
-DoesIn s w (calls c ask) console =
-    AnswersIn (AnswersStep s w c console.written) ask s.store_dir c console.input console.written
-DoesIn s w (serves a) console = ServesWorld s a console w
+-- work that leads from one world to the other
+abbrev pub DoesIn : Settings → OnStore → Console → World → World → Type 0
+DoesIn s (calls c ask) console w next =
+    AnswersIn (AnswersStep s w next c console.written) (next ≡ w) ask s.store_dir c console.input console.written
+DoesIn s (serves a) console w next = ServesWorld s a console w next
+
+module _ {S : Type 0} (g : Ghosts S) where
+  -- work that is done with a store, and so leads from each of its worlds to one of the store then, if the disk is clean
+  abbrev pub DoesAt : OnStore → Console → StoreView S → StoreView S → Type 0
+  DoesAt d console old new = DoesOver g d console old new × LeadsWorlds g old new (DoesIn old.settings d console)
+
+  -- Work that is done with a store of these tables, which is then closed. What else is done to it before it is closed
+  -- can't be said: nothing that is returned shows the store.
+  abbrev pub DoesFrom : Settings → TablesValue S → OnStore → Console → Type 0
+  DoesFrom s t d console = (new : StoreView S) × DoesAt d console (record { tables = t; settings = s }) new
+
+-- the work of the code is done
+abbrev pub DoesWork : Work → (OnStore → Console → Type 0) → Console → Type 0
+DoesWork work does console = (d : OnStore) → work_view work ≡ Some d → does d console
 
 -- how work is done with some store, under settings
 abbrev pub Doing : Type 1
 Doing = Settings → OnStore → Console → Type 0
 
--- the work is done over new, empty tables in memory; or memory ran out before they were made
+-- The work is done over new, empty tables in memory, and so leads from the empty world to some world. Or memory ran out
+-- before they were made, and the input isn't read.
 abbrev pub DoesNew : Doing
 DoesNew s d console =
-    (DoesIn s no_world d console
-    × ((t : TablesValue MemStore) × HasWorld over_memory t no_world × DoesOver over_memory s t d console))
-    ⊎ IsPrinted s.store_dir (failed memory) console.written
+    (((next : World) × DoesIn s d console no_world next)
+    × ((t : TablesValue MemStore) × HasWorld over_memory t no_world × DoesFrom over_memory s t d console))
+    ⊎ (IsPrinted s.store_dir (failed memory) console.written × Keeps console.input.old console.input.new)
+
+-- a path that names no file: `:memory:`, or a URI for SQLite
+abbrev pub NamesNoFile : Text → Type 0
+NamesNoFile path = (path ≡ codes ":memory:") ⊎ IsTrue (is_uri path)
+
+-- work that is done with the store of the file at a path; a path that names no file is refused
+abbrev pub DoesAtPath : Doing → Text → Doing
+DoesAtPath of_file path s d console =
+    of_file s d console × (NamesNoFile path → Answers (Err (Refused BadSchema)) console.written)
 
 -- work that is done with the store of the file, if one is named, and else with one in memory
 unfoldable pub DoesWith : Doing → Option Text → Doing
 DoesWith of_file None s d console = DoesNew s d console
-DoesWith of_file (Some file) s d console = of_file s d console
+DoesWith of_file (Some path) s d console = DoesAtPath of_file path s d console

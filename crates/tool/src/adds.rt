@@ -1,6 +1,6 @@
 //! Requests that add an object.
 ghost use Rattle.std.specs.Prelude.{◌≡◌, IfOk, IfErr, IsOkAnd, MatchResult, Ok, Err, List, ℕ};
-ghost use Rattle.intake.specs.Arriving.{bytes_in};
+ghost use Rattle.intake.specs.Arrival.{bytes_in};
 ghost use Rattle.tool_words.specs.Asked.{object_view};
 ghost use Rattle.model.specs.Request as asked;
 ghost use Rattle.store_types.specs.View.{request_view};

@@ -1,13 +1,17 @@
 //! Answering a command line by the text of its configuration.
-ghost use Rattle.std.specs.Prelude.{◌≡◌, None, false};
+ghost use Rattle.std.specs.Prelude.{◌≡◌, None, Some};
 ghost use Rattle.report.specs.Outputs.{change_of};
 ghost use Rattle.tool.specs.Answer.{AnswersWithoutRequest, AnswersLine, AnswersLs, AnswersSourcePath, AnswersTextPath};
 ghost use Rattle.tool.specs.Files.{DoesFile};
 ghost use Rattle.tool_words.specs.Asked as asked;
 ghost use Rattle.tool_words.specs.Line.{line_view};
-ghost use Rattle.tool.specs.Requests.{AnswersReading, asks, reads_all};
+ghost use Rattle.tool.specs.Requests.{AnswersReading, asks, most_read};
+ghost use Rattle.tool.specs.Streams.{AnswersOn};
+ghost use Rattle.tool_pure.specs.Archive.{max_prefix};
+ghost use Rattle.tool_pure.specs.Object.{most_of_contents};
 
 use crate::calls::call;
+use crate::console::Console;
 use crate::requests::is_asked;
 use crate::serve::serve;
 use policy::store_dir;
@@ -23,24 +27,15 @@ use tool_words::{CommandLine, ObjectArguments, Task};
 fn ls_under<R: Read, W: Write, E: Write>(
     alloc: Global,
     config: &[u8],
-    input: &mut R,
-    output: &mut W,
-    errors: &mut E,
+    console: &mut Console<'_, '_, '_, R, W, E>,
 ) -> u8
-    ensures { AnswersReading false (AnswersLs config.now)
-        (record {
-          input = change_of R.remaining input.old input.new;
-          written = record {
-            output = change_of W.contents output.old output.new;
-            errors = change_of E.contents errors.old errors.new;
-            status = result;
-          };
-        }) }
+    ensures { AnswersOn (Some max_prefix) (AnswersLs config.now)
+        R.remaining W.contents E.contents console.old console.new result }
 {
     if let Err(stop) = settings(alloc, config) {
-        return say(stop, errors);
+        return say(stop, console.errors);
     }
-    ls(alloc, input, output, errors)
+    ls(alloc, console.input, console.output, console.errors)
 }
 
 /// Answers `text-path`, by the text of the configuration.
@@ -48,26 +43,25 @@ fn text_path_under<R: Read, W: Write, E: Write>(
     alloc: Global,
     config: &[u8],
     object: &ObjectArguments<'_>,
-    input: &mut R,
-    output: &mut W,
-    errors: &mut E,
+    console: &mut Console<'_, '_, '_, R, W, E>,
 ) -> u8
-    ensures { AnswersReading false (AnswersTextPath config.now (asked.object_view object.now))
-        (record {
-          input = change_of R.remaining input.old input.new;
-          written = record {
-            output = change_of W.contents output.old output.new;
-            errors = change_of E.contents errors.old errors.new;
-            status = result;
-          };
-        }) }
+    ensures { AnswersOn (Some most_of_contents) (AnswersTextPath config.now (asked.object_view object.now))
+        R.remaining W.contents E.contents console.old console.new result }
 {
     match settings(alloc, config) {
         Ok(config) => {
             let (dir, references) = (store_dir(&config), object.references.as_slice());
-            text_path(alloc, dir, object.name, references, input, output, errors)
+            text_path(
+                alloc,
+                dir,
+                object.name,
+                references,
+                console.input,
+                console.output,
+                console.errors,
+            )
         }
-        Err(stop) => say(stop, errors),
+        Err(stop) => say(stop, console.errors),
     }
 }
 
@@ -76,26 +70,25 @@ fn source_path_under<R: Read, W: Write, E: Write>(
     alloc: Global,
     config: &[u8],
     object: &ObjectArguments<'_>,
-    input: &mut R,
-    output: &mut W,
-    errors: &mut E,
+    console: &mut Console<'_, '_, '_, R, W, E>,
 ) -> u8
-    ensures { AnswersReading false (AnswersSourcePath config.now (asked.object_view object.now))
-        (record {
-          input = change_of R.remaining input.old input.new;
-          written = record {
-            output = change_of W.contents output.old output.new;
-            errors = change_of E.contents errors.old errors.new;
-            status = result;
-          };
-        }) }
+    ensures { AnswersOn (Some max_prefix) (AnswersSourcePath config.now (asked.object_view object.now))
+        R.remaining W.contents E.contents console.old console.new result }
 {
     match settings(alloc, config) {
         Ok(config) => {
             let (dir, references) = (store_dir(&config), object.references.as_slice());
-            source_path(alloc, dir, object.name, references, input, output, errors)
+            source_path(
+                alloc,
+                dir,
+                object.name,
+                references,
+                console.input,
+                console.output,
+                console.errors,
+            )
         }
-        Err(stop) => say(stop, errors),
+        Err(stop) => say(stop, console.errors),
     }
 }
 
@@ -105,42 +98,50 @@ fn answer_without_request<F: Start, R: Read, W: Write, E: Write>(
     start: F,
     config: &[u8],
     line: &CommandLine<'_>,
-    input: &mut R,
-    output: &mut W,
-    errors: &mut E,
+    console: &mut Console<'_, '_, '_, R, W, E>,
 ) -> u8
     requires { asks (asked.asked_view line.now.task) ≡ None }
-    ensures { AnswersReading (reads_all (asked.asked_view line.now.task))
+    ensures { AnswersOn (most_read (asked.asked_view line.now.task))
         (AnswersWithoutRequest (DoesFile F.Start ⟦<FileFrom<F> as Disk>⟧) config.now (line_view line.now)
         (asked.asked_view line.now.task))
-        (record {
-          input = change_of R.remaining input.old input.new;
-          written = record {
-            output = change_of W.contents output.old output.new;
-            errors = change_of E.contents errors.old errors.new;
-            status = result;
-          };
-        }) }
+        R.remaining W.contents E.contents console.old console.new result }
 {
     let alloc = rt.alloc();
     match &line.task {
-        Task::Who => who(alloc, config, line.user, line.group, output),
-        Task::Ls => ls_under(alloc, config, input, output, errors),
-        Task::TextPath(object) => text_path_under(alloc, config, object, input, output, errors),
-        Task::SourcePath(object) => {
-            source_path_under(alloc, config, object, input, output, errors)
-        }
-        Task::Serve(serving) => serve(rt, start, config, line.db, *serving, input, output, errors),
+        Task::Who => who(alloc, config, line.user, line.group, console.output),
+        Task::Ls => ls_under(alloc, config, console),
+        Task::TextPath(object) => text_path_under(alloc, config, object, console),
+        Task::SourcePath(object) => source_path_under(alloc, config, object, console),
+        Task::Serve(serving) => serve(rt, start, config, line.db, *serving, console),
         _ => unreachable!(),
     }
+}
+
+/// Answers a command line by the text of its configuration, on a console, and returns the exit status.
+pub(crate) fn answer_line<F: Start, R: Read, W: Write, E: Write>(
+    rt: &HostRuntime,
+    start: F,
+    config: &[u8],
+    line: &CommandLine<'_>,
+    console: &mut Console<'_, '_, '_, R, W, E>,
+) -> u8
+    ensures { AnswersOn (most_read (line_view line.now).asked)
+        (AnswersLine (DoesFile F.Start ⟦<FileFrom<F> as Disk>⟧) config.now (line_view line.now))
+        R.remaining W.contents E.contents console.old console.new result }
+{
+    if is_asked(&line.task) {
+        return call(rt, start, config, line, console);
+    }
+    answer_without_request(rt, start, config, line, console)
 }
 
 /// Answers a command line by the text of its configuration, and returns the exit status: 0 done, 1
 /// failed, 3 refused, 4 denied.
 ///
 /// Results go to `output`; refusals and failures go to `errors`, but for `who`, which puts everything
-/// on `output`. The configuration file that the command line names isn't read. No more than 16,777,224 bytes of the
-/// input are, but for `import` and `runtime`, which read all of it, and `serve`, which reads what its connection sends.
+/// on `output`. The configuration file that the command line names isn't read. The input is read only by a subcommand
+/// that needs it, and no more than 16,777,224 bytes of it, but by `import` and `runtime`, which read all of it, and by
+/// `serve`, which reads what its connection sends.
 /// `start` is ghost, as in `run`: what a theorem assumes of the database file.
 ///
 /// ```rust
@@ -162,7 +163,7 @@ pub fn answer<F: Start, R: Read, W: Write, E: Write>(
     output: &mut W,
     errors: &mut E,
 ) -> u8
-    ensures { AnswersReading (reads_all (asked.asked_view line.now.task))
+    ensures { AnswersReading (most_read (asked.asked_view line.now.task))
         (AnswersLine (DoesFile F.Start ⟦<FileFrom<F> as Disk>⟧) config.now (line_view line.now))
         (record {
           input = change_of R.remaining input.old input.new;
@@ -173,8 +174,10 @@ pub fn answer<F: Start, R: Read, W: Write, E: Write>(
           };
         }) }
 {
-    if is_asked(&line.task) {
-        return call(rt, start, config, line, input, output, errors);
-    }
-    answer_without_request(rt, start, config, line, input, output, errors)
+    let mut console = Console {
+        input,
+        output,
+        errors,
+    };
+    answer_line(rt, start, config, line, &mut console)
 }

@@ -1,30 +1,31 @@
 //! Subcommands that make a request to a store.
-ghost use Rattle.std.specs.Prelude.{◌≡◌, IsSome, Some};
+ghost use Rattle.std.specs.Prelude.{IsSome};
 ghost use Rattle.model.specs.Reply.{Reply};
 ghost use Rattle.store_types.specs.View.{request_view};
 ghost use Rattle.store.specs.Calls.{Calls};
-ghost use Rattle.tool_pure.specs.Printing.{IsPrinted};
+ghost use Rattle.tool_pure.specs.PrintedReply.{IsPrinted};
 ghost use Rattle.tool_words.specs.Asked.{asked_view};
 ghost use Rattle.tool_words.specs.Line.{line_view};
-ghost use Rattle.report.specs.Outputs.{change_of};
 ghost use Rattle.tool.specs.Answer.{AnswersAsking};
-ghost use Rattle.tool.specs.Calls.{AnswersIn, Serves};
 ghost use Rattle.tool.specs.Files.{DoesFile};
-ghost use Rattle.tool.specs.Requests.{AnswersReading, Ask, asks, reads_all};
+ghost use Rattle.tool.specs.Requests.{AnswersAsked, asks, most_read};
+ghost use Rattle.tool.specs.Streams.{AnswersOn, wrote};
+ghost use Rattle.tool.specs.Works.{DoesOver, calls};
 
 use crate::caller_task::CallerTask;
-use crate::ending::{end, reads};
+use crate::close::reads;
+use crate::console::Console;
 use crate::requests::request;
 use crate::stores::with_tables;
-use crate::work::Work;
-use policy::{Caller, Config, store_dir};
-use sqlite::{Alter, Connection, FileFrom, Start};
+use crate::work::{Work, Worked};
+use policy::{Caller, store_dir};
+use sqlite::{Alter, FileFrom, Start};
 use std::alloc::Global;
 use std::io::{Read, Write};
 use std::rt::HostRuntime;
 use store::Store;
 use store_types::Request;
-use tables::{Close, Disk, Tables};
+use tables::Disk;
 use tool_pure::{parse_caller, print_reply, say, settings};
 use tool_words::{CommandLine, Task};
 
@@ -42,54 +43,51 @@ fn call_store<S: Alter, W: Write, E: Write>(
 ) -> u8
     // The store takes one step, and the reply of that step is printed.
     ensures { (reply : Reply) × Calls S.Store caller.now (request_view request) reply store.old store.new
-        × IsPrinted store.old.settings.store_dir reply (record {
-          output = change_of W.contents output.old output.new;
-          errors = change_of E.contents errors.old errors.new;
-          status = result;
-        }) }
+        × IsPrinted store.old.settings.store_dir reply
+        (wrote W.contents E.contents output.old output.new errors.old errors.new result) }
 {
     let reply = store.call(caller, request);
     print_reply(alloc, store_dir(store.config()), reply, output, errors)
 }
 
-/// Makes the request of a subcommand to a store over these tables, prints the reply, and returns the exit status.
-pub(crate) fn call_over<S: Alter + Drop + Close<Connection<S>>, R: Read, W: Write, E: Write>(
+/// Makes the request of a subcommand to a store, and prints the reply. The store is that after the one step of the
+/// request; or as it was, where none is made.
+pub(crate) fn call_over<S: Alter, R: Read, W: Write, E: Write>(
     alloc: Global,
-    config: Config,
-    tables: Tables<S>,
+    store: &mut Store<S>,
     caller: &Caller,
     task: &Task<'_>,
-    input: &mut R,
-    output: &mut W,
-    errors: &mut E,
-) -> u8
-    requires asked { IsSome (asks (asked_view task.now)) }
-    requires dir { tables.dir ≡ config.store_dir }
-    ensures { AnswersReading (reads_all (asked_view task.now))
-        (λ console. (ask : Ask) → asks (asked_view task.now) ≡ Some ask
-        → AnswersIn (Serves S.Store config tables caller.now console.written) ask config.store_dir caller.now
-        console.input console.written)
-        (record {
-          input = change_of R.remaining input.old input.new;
-          written = record {
-            output = change_of W.contents output.old output.new;
-            errors = change_of E.contents errors.old errors.new;
-            status = result;
-          };
-        }) }
+    console: &mut Console<'_, '_, '_, R, W, E>,
+) -> Worked
+    requires { IsSome (asks (asked_view task.now)) }
+    ensures { AnswersOn (most_read (asked_view task.now))
+        (AnswersAsked (asked_view task.now) (λ ask shown. DoesOver S.Store (calls caller.now ask) shown store.old
+        store.new))
+        R.remaining W.contents E.contents console.old console.new result.status }
 {
-    match request(alloc, store_dir(&config), caller, task, input) {
+    match request(
+        alloc,
+        store_dir(store.config()),
+        caller,
+        task,
+        console.input,
+    ) {
         Ok(request) => {
             let reads = reads(&request);
-            let mut store = Store::new(alloc, config, tables);
-            let status = call_store(alloc, &mut store, caller, request, output, errors);
-            end(store.release().release(), reads);
-            status
+            let status = call_store(
+                alloc,
+                store,
+                caller,
+                request,
+                console.output,
+                console.errors,
+            );
+            Worked { status, reads }
         }
-        Err(stop) => {
-            drop(tables.release());
-            say(stop, errors)
-        }
+        Err(stop) => Worked {
+            status: say(stop, console.errors),
+            reads: true,
+        },
     }
 }
 
@@ -99,26 +97,17 @@ pub(crate) fn call<F: Start, R: Read, W: Write, E: Write>(
     start: F,
     config: &[u8],
     line: &CommandLine<'_>,
-    input: &mut R,
-    output: &mut W,
-    errors: &mut E,
+    console: &mut Console<'_, '_, '_, R, W, E>,
 ) -> u8
     requires { IsSome (asks (asked_view line.now.task)) }
-    ensures { AnswersReading (reads_all (asked_view line.now.task))
-        (λ console. (ask : Ask) → asks (asked_view line.now.task) ≡ Some ask
-        → AnswersAsking (DoesFile F.Start ⟦<FileFrom<F> as Disk>⟧) config.now (line_view line.now) ask console)
-        (record {
-          input = change_of R.remaining input.old input.new;
-          written = record {
-            output = change_of W.contents output.old output.new;
-            errors = change_of E.contents errors.old errors.new;
-            status = result;
-          };
-        }) }
+    ensures { AnswersOn (most_read (line_view line.now).asked)
+        (AnswersAsked (line_view line.now).asked
+        (AnswersAsking (DoesFile F.Start ⟦<FileFrom<F> as Disk>⟧) config.now (line_view line.now)))
+        R.remaining W.contents E.contents console.old console.new result }
 {
     let config = match settings(rt.alloc(), config) {
         Ok(config) => config,
-        Err(stop) => return say(stop, errors),
+        Err(stop) => return say(stop, console.errors),
     };
     match parse_caller(rt.alloc(), line.user, line.group) {
         Ok(caller) => {
@@ -126,8 +115,8 @@ pub(crate) fn call<F: Start, R: Read, W: Write, E: Write>(
                 caller: &caller,
                 task: &line.task,
             });
-            with_tables(rt, start, line.db, config, &work, input, output, errors)
+            with_tables(rt, start, line.db, config, &work, console)
         }
-        Err(stop) => say(stop, errors),
+        Err(stop) => say(stop, console.errors),
     }
 }

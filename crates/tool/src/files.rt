@@ -1,6 +1,6 @@
 //! Why a database file isn't opened as a store.
-ghost use Rattle.report.specs.Outputs.{change_of};
 ghost use Rattle.tool.specs.Files.{AnswersCause};
+ghost use Rattle.tool.specs.Streams.{wrote};
 
 use paths::StoreDir;
 use report::Refusal;
@@ -18,11 +18,8 @@ pub(crate) fn refuse_file<W: Write, E: Write>(
     output: &mut W,
     errors: &mut E,
 ) -> u8
-    ensures { AnswersCause dir.now cause (record {
-      output = change_of W.contents output.old output.new;
-      errors = change_of E.contents errors.old errors.new;
-      status = result;
-    }) }
+    ensures { AnswersCause dir.now cause
+        (wrote W.contents E.contents output.old output.new errors.old errors.new result) }
 {
     match cause {
         Cause::BadSchema => say(Stop::Refused(Refusal::BadSchema), errors),

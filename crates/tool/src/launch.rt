@@ -4,17 +4,17 @@ ghost use Rattle.std.specs.Prelude.{◌≡◌, ◌≢◌, ℕ, IfOk, List, OnErr
 ghost use Rattle.std.specs.IoError.{error_kind};
 ghost use Rattle.tool.specs.Answer.{AnswersOpened, Explains, ExplainsUsage, RunsLine};
 ghost use Rattle.tool.specs.Files.{DoesFile};
-ghost use Rattle.tool_pure.specs.Archive.{max_prefix};
 ghost use Rattle.tool_words.specs.Line.{IsLine, IsUsageFault, Line, line_view};
-ghost use Rattle.streams.specs.Reads.{ConsumesAtMost};
 ghost use Rattle.report.specs.Outputs.{Prints, change_of};
-ghost use Rattle.tool.specs.Requests.{AnswersReading, reads_all};
+ghost use Rattle.tool.specs.Requests.{ReadsWithin, most_read};
+ghost use Rattle.tool.specs.Streams.{AnswersOn, wrote};
 ghost use Rattle.tool_pure.specs.Configuration.{opened_by};
 ghost use Rattle.tool_pure.specs.Stream.{Answers, Says};
 ghost use Rattle.tool_words.specs.declared.error.CommandError.{CommandError};
 ghost use Rattle.tool_words.specs.declared.error.CommandError.TheVariants.{Misuse};
 
-use crate::answers::answer;
+use crate::answers::answer_line;
+use crate::console::Console;
 use clap::Error;
 use report::print;
 use sqlite::{FileFrom, Start};
@@ -37,9 +37,9 @@ const NOT_UTF8: &str = "error: a word of the command line isn't UTF-8\n";
 ///
 /// The configuration is read from its file, if one is named. Results go to `output`; refusals,
 /// failures and what is wrong with the words go to `errors`, but for `who`, which puts everything
-/// on `output` once its words are read. No more than 16,777,224 bytes of the input are read, but by `import`,
-/// `runtime` and `serve`. `start` is ghost: what a theorem assumes of the database file. No code reads it, and a
-/// program passes `Unknown`.
+/// on `output` once its words are read. The input is read only by a subcommand that needs it, and no more than
+/// 16,777,224 bytes of it, but by `import`, `runtime` and `serve`. `start` is ghost: what a theorem assumes of the
+/// database file. No code reads it, and a program passes `Unknown`.
 ///
 /// ```rust
 /// use tool::Unknown;
@@ -70,16 +70,22 @@ pub fn run<F: Start, S: AsStr, R: Read, W: Write, E: Write>(
           };
         }) }
     ensures words { ¬ ((line : Line) × IsLine (map S.text words.now) line)
-        → (fault : CommandError) × IsUsageFault (map S.text words.now) fault × Explains fault (record {
-          output = change_of W.contents output.old output.new;
-          errors = change_of E.contents errors.old errors.new;
-          status = result;
-        }) }
-    ensures reads { ((line : Line) → IsLine (map S.text words.now) line → reads_all line.asked ≡ false)
-        → ConsumesAtMost max_prefix (R.remaining input.old) (R.remaining input.new) }
+        → (fault : CommandError) × IsUsageFault (map S.text words.now) fault × Explains fault
+        (wrote W.contents E.contents output.old output.new errors.old errors.new result) }
+    ensures reads { (line : Line) → IsLine (map S.text words.now) line
+        → ReadsWithin (most_read line.asked) (R.remaining input.old) (R.remaining input.new) }
+    ensures unread { ¬ ((line : Line) × IsLine (map S.text words.now) line)
+        → Keeps (R.remaining input.old) (R.remaining input.new) }
 {
     match command(rt.alloc(), words) {
-        Ok(line) => execute(rt, start, &line, input, output, errors),
+        Ok(line) => {
+            let mut console = Console {
+                input,
+                output,
+                errors,
+            };
+            execute(rt, start, &line, &mut console)
+        }
         Err(fault) => explain(rt.alloc(), &fault, output, errors),
     }
 }
@@ -88,23 +94,14 @@ fn execute<F: Start, R: Read, W: Write, E: Write>(
     rt: &HostRuntime,
     start: F,
     line: &CommandLine<'_>,
-    input: &mut R,
-    output: &mut W,
-    errors: &mut E,
+    console: &mut Console<'_, '_, '_, R, W, E>,
 ) -> u8
-    ensures { AnswersReading (reads_all (line_view line.now).asked)
+    ensures { AnswersOn (most_read (line_view line.now).asked)
         (RunsLine (DoesFile F.Start ⟦<FileFrom<F> as Disk>⟧) (line_view line.now))
-        (record {
-          input = change_of R.remaining input.old input.new;
-          written = record {
-            output = change_of W.contents output.old output.new;
-            errors = change_of E.contents errors.old errors.new;
-            status = result;
-          };
-        }) }
+        R.remaining W.contents E.contents console.old console.new result }
 {
     let file = open_config(rt, line.config);
-    answer_by(rt, start, file, line, input, output, errors)
+    answer_by(rt, start, file, line, console)
 }
 
 /// Answers a command line by its configuration file, or by why the file wasn't opened.
@@ -113,26 +110,17 @@ fn answer_by<F: Start, C: Read + Drop, R: Read, W: Write, E: Write>(
     start: F,
     file: Option<io::Result<C>>,
     line: &CommandLine<'_>,
-    input: &mut R,
-    output: &mut W,
-    errors: &mut E,
+    console: &mut Console<'_, '_, '_, R, W, E>,
 ) -> u8
-    ensures { AnswersReading (reads_all (line_view line.now).asked)
+    ensures { AnswersOn (most_read (line_view line.now).asked)
         (AnswersOpened (DoesFile F.Start ⟦<FileFrom<F> as Disk>⟧) (line_view line.now) (opened_by C.remaining file))
-        (record {
-          input = change_of R.remaining input.old input.new;
-          written = record {
-            output = change_of W.contents output.old output.new;
-            errors = change_of E.contents errors.old errors.new;
-            status = result;
-          };
-        }) }
+        R.remaining W.contents E.contents console.old console.new result }
 {
     match config_text(rt.alloc(), file) {
-        Ok(text) => answer(rt, start, text.as_slice(), line, input, output, errors),
+        Ok(text) => answer_line(rt, start, text.as_slice(), line, console),
         Err(stop) => match line.task {
-            Task::Who => say(stop, output),
-            _ => say(stop, errors),
+            Task::Who => say(stop, console.output),
+            _ => say(stop, console.errors),
         },
     }
 }
@@ -144,11 +132,7 @@ fn explain<W: Write, E: Write>(
     output: &mut W,
     errors: &mut E,
 ) -> u8
-    ensures { Explains fault.now (record {
-      output = change_of W.contents output.old output.new;
-      errors = change_of E.contents errors.old errors.new;
-      status = result;
-    }) }
+    ensures { Explains fault.now (wrote W.contents E.contents output.old output.new errors.old errors.new result) }
 {
     match fault {
         CommandError::Usage(fault) => explain_usage(alloc, fault, output, errors),
@@ -164,11 +148,7 @@ fn explain_misuse<W: Write, E: Write>(
     output: &mut W,
     errors: &mut E,
 ) -> u8
-    ensures { Explains (Misuse fault) (record {
-      output = change_of W.contents output.old output.new;
-      errors = change_of E.contents errors.old errors.new;
-      status = result;
-    }) }
+    ensures { Explains (Misuse fault) (wrote W.contents E.contents output.old output.new errors.old errors.new result) }
 {
     match fault.error(alloc) {
         Ok(error) => explain_usage(alloc, &error, output, errors),
@@ -183,11 +163,7 @@ fn explain_usage<W: Write, E: Write>(
     output: &mut W,
     errors: &mut E,
 ) -> u8
-    ensures { ExplainsUsage fault.now (record {
-      output = change_of W.contents output.old output.new;
-      errors = change_of E.contents errors.old errors.new;
-      status = result;
-    }) }
+    ensures { ExplainsUsage fault.now (wrote W.contents E.contents output.old output.new errors.old errors.new result) }
 {
     let text = format!(in alloc; "{fault}");
     explain_by(fault.use_stderr(), text, output, errors)
@@ -203,17 +179,11 @@ fn explain_by<W: Write, E: Write>(
     ensures fault { is_fault ≡ true → IfOk text (λ t. Keeps (W.contents output.old) (W.contents output.new)
         × Prints (string_bytes t) 2 (record { writer = change_of E.contents errors.old errors.new; status = result })) }
     ensures help { is_fault ≡ false → IfOk text
-        (λ t. Answers (Ok (string_bytes t)) (record {
-          output = change_of W.contents output.old output.new;
-          errors = change_of E.contents errors.old errors.new;
-          status = result;
-        })) }
+        (λ t. Answers (Ok (string_bytes t))
+        (wrote W.contents E.contents output.old output.new errors.old errors.new result)) }
     ensures memory { OnErr text
-        (Answers (Err (Stop.Failed Failure.Memory)) (record {
-          output = change_of W.contents output.old output.new;
-          errors = change_of E.contents errors.old errors.new;
-          status = result;
-        })) }
+        (Answers (Err (Stop.Failed Failure.Memory))
+        (wrote W.contents E.contents output.old output.new errors.old errors.new result)) }
 {
     let Ok(text) = text else {
         return say(Stop::Failed(Failure::Memory), errors);

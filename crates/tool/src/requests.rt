@@ -1,11 +1,9 @@
 //! The request of a subcommand, by its arguments, and by its input if it reads one.
-ghost use Rattle.std.specs.Prelude.{◌≡◌, IsSome, Some, is_some, false};
+ghost use Rattle.std.specs.Prelude.{◌≡◌, IsSome, Some, is_some};
 ghost use Rattle.tool_words.specs.Asked.{asked_view};
 ghost use Rattle.model.specs.Request as asked;
-ghost use Rattle.streams.specs.Reads.{ConsumesAtMost};
 ghost use Rattle.report.specs.Outputs.{change_of};
-ghost use Rattle.tool_pure.specs.Archive.{max_prefix};
-ghost use Rattle.tool.specs.Requests.{Ask, Gives, IsAsked, IsAskedBy, asks, on_path, reads_all};
+ghost use Rattle.tool.specs.Requests.{Ask, Gives, IsAsked, IsAskedBy, ReadsWithin, asks, most_read, on_path};
 
 use crate::adds::{add_source, add_text};
 use crate::deletions::delete_paths;
@@ -59,6 +57,7 @@ fn cat_nar(alloc: Global, dir: &StoreDir, text: &str) -> Result<Request, Stop>
 }
 
 /// The request that a subcommand makes to a store.
+#[tactic(auto, using(crate::proofs::Reading::unread_within))]
 pub(crate) fn request<R: Read>(
     alloc: Global,
     dir: &StoreDir,
@@ -69,8 +68,7 @@ pub(crate) fn request<R: Read>(
     requires { IsSome (asks (asked_view task.now)) }
     ensures asked { (ask : Ask) → asks (asked_view task.now) ≡ Some ask
         → IsAskedBy ask dir.now caller.now (change_of R.remaining input.old input.new) result }
-    ensures reads { reads_all (asked_view task.now) ≡ false
-        → ConsumesAtMost max_prefix (R.remaining input.old) (R.remaining input.new) }
+    ensures reads { ReadsWithin (most_read (asked_view task.now)) (R.remaining input.old) (R.remaining input.new) }
 {
     match task {
         Task::List => Ok(Request::List),

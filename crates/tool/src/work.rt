@@ -1,21 +1,19 @@
 //! What a command line does with a store.
-ghost use Rattle.std.specs.Prelude.{◌≡◌, Some, false};
-ghost use Rattle.sqlite.specs.State.{HasCleanDisk};
-ghost use Rattle.sqlite.specs.Held.{Held, state};
-ghost use Rattle.model.specs.World.{World};
-ghost use Rattle.tables.specs.TablesValue.{HasWorld};
-ghost use Rattle.streams.specs.Reads.{ConsumesAtMost};
-ghost use Rattle.report.specs.Outputs.{change_of};
-ghost use Rattle.tool_pure.specs.Archive.{max_prefix};
-ghost use Rattle.tool.specs.Works.{DoesIn, DoesOver, OnStore, reads_whole, work_view};
+ghost use Rattle.std.specs.Prelude.{◌≡◌};
+ghost use Rattle.tool.specs.Streams.{AnswersOn};
+ghost use Rattle.tool.specs.Works.{DoesAt, DoesFrom, DoesWork, most_for};
 
 use crate::caller_task::CallerTask;
 use crate::calls::call_over;
+use crate::close::end;
+use crate::console::Console;
 use crate::serve::serve_over;
 use policy::Config;
 use sqlite::{Alter, Connection};
+use std::alloc::Global;
 use std::io::{Read, Write};
 use std::rt::HostRuntime;
+use store::Store;
 use tables::{Close, Tables};
 use tool_words::ServeArguments;
 
@@ -28,50 +26,68 @@ pub(crate) enum Work<'a> {
     Serve(ServeArguments),
 }
 
-/// Does some work with the store of these tables.
-pub(crate) fn work_over<S: Alter + Drop + Close<Connection<S>>, R: Read, W: Write, E: Write>(
+/// What came of some work with a store.
+#[derive(Drop)]
+pub(crate) struct Worked {
+    /// The exit status.
+    pub(crate) status: u8,
+    /// Whether the store was only read.
+    pub(crate) reads: bool,
+}
+
+/// Does some work with a store. It is that after the last step of the work.
+fn work_over<S: Alter, R: Read, W: Write, E: Write>(
+    rt: &HostRuntime,
+    store: &mut Store<S>,
+    work: &Work<'_>,
+    console: &mut Console<'_, '_, '_, R, W, E>,
+) -> Worked
+    ensures { AnswersOn (most_for work.now)
+        (DoesWork work.now (λ d shown. DoesAt S.Store d shown store.old store.new))
+        R.remaining W.contents E.contents console.old console.new result.status }
+{
+    match work {
+        Work::Call(asking) => call_over(rt.alloc(), store, asking.caller, asking.task, console),
+        Work::Serve(arguments) => Worked {
+            status: serve_over(rt, store, *arguments, console),
+            reads: false,
+        },
+    }
+}
+
+/// The store of these tables for some work. Where many ask, it keeps its links turned round, so that a question about one
+/// path doesn't read all objects. If memory is refused for the links, it does.
+fn store_for<S: Alter>(
+    alloc: Global,
+    config: Config,
+    tables: Tables<S>,
+    work: &Work<'_>,
+) -> Store<S>
+    requires { tables.dir ≡ config.store_dir }
+    ensures { result ≡ record { tables = tables; settings = config } }
+{
+    let mut tables = tables;
+    if let Work::Serve(_) = work {
+        tables.turn_links();
+    }
+    Store::new(alloc, config, tables)
+}
+
+/// Does some work with the store of these tables, and closes it.
+pub(crate) fn work_with<S: Alter + Drop + Close<Connection<S>>, R: Read, W: Write, E: Write>(
     rt: &HostRuntime,
     config: Config,
     tables: Tables<S>,
     work: &Work<'_>,
-    input: &mut R,
-    output: &mut W,
-    errors: &mut E,
+    console: &mut Console<'_, '_, '_, R, W, E>,
 ) -> u8
     requires { tables.dir ≡ config.store_dir }
-    ensures over { (d : OnStore) → work_view work.now ≡ Some d → DoesOver S.Store config tables d
-        (record {
-          input = change_of R.remaining input.old input.new;
-          written = record {
-            output = change_of W.contents output.old output.new;
-            errors = change_of E.contents errors.old errors.new;
-            status = result;
-          };
-        }) }
-    ensures worlds { ((h : Held S) → HasCleanDisk (state S.Store h)) → (w : World) → HasWorld S.Store tables w
-        → (d : OnStore) → work_view work.now ≡ Some d → DoesIn config w d
-        (record {
-          input = change_of R.remaining input.old input.new;
-          written = record {
-            output = change_of W.contents output.old output.new;
-            errors = change_of E.contents errors.old errors.new;
-            status = result;
-          };
-        }) }
-    ensures reads { reads_whole work.now ≡ false
-        → ConsumesAtMost max_prefix (R.remaining input.old) (R.remaining input.new) }
+    ensures { AnswersOn (most_for work.now)
+        (DoesWork work.now (DoesFrom S.Store config tables))
+        R.remaining W.contents E.contents console.old console.new result }
 {
-    match work {
-        Work::Call(asking) => call_over(
-            rt.alloc(),
-            config,
-            tables,
-            asking.caller,
-            asking.task,
-            input,
-            output,
-            errors,
-        ),
-        Work::Serve(arguments) => serve_over(rt, config, tables, *arguments, input, output, errors),
-    }
+    let mut store = store_for(rt.alloc(), config, tables, work);
+    let worked = work_over(rt, &mut store, work, console);
+    end(store.release().release(), worked.reads);
+    worked.status
 }

@@ -7,7 +7,7 @@ use Rattle.nar.specs.Archive.{limit}
 use Rattle.nar.specs.Outcome.{outcome_of}
 use Rattle.nar.specs.Listing.{listing}
 use Rattle.model.specs.Faults.{archive_refusal}
-use Rattle.report.specs.declared.failures.Failure.TheVariants.{Memory}
+use Rattle.model.specs.declared.failures.Failure.TheVariants.{Memory}
 use Rattle.tool_pure.specs.declared.stops.Stop.{Stop}
 use Rattle.tool_pure.specs.declared.stops.Stop.TheVariants.{Refused, Failed}
 

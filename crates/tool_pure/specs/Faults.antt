@@ -9,8 +9,9 @@ use Rattle.policy.specs.declared.error.ConfigError.{ConfigError}
 use Rattle.policy.specs.declared.error.ConfigError.TheVariants as config
 use Rattle.wire_bodies.specs.declared.error.BodyError.{BodyError}
 use Rattle.wire_bodies.specs.declared.error.BodyError.TheVariants as body
-use Rattle.report.specs.declared.failures.Failure.TheVariants.{Memory}
-use Rattle.model.specs.declared.refusal.Refusal.TheVariants.{BadStoreName, BadStorePath, BadConfig, BadCaller, BadBodyHead}
+use Rattle.model.specs.declared.failures.Failure.TheVariants.{Memory}
+use Rattle.model.specs.declared.refusal.Refusal.TheVariants.{BadStoreName, BadStorePath, BadConfig, BadCaller}
+use Rattle.model.specs.declared.refusal.Refusal.TheVariants.{BadBodyHead}
 use Rattle.tool_pure.specs.declared.stops.Stop.{Stop}
 use Rattle.tool_pure.specs.declared.stops.Stop.TheVariants.{Refused, Failed}
 

@@ -5,5 +5,5 @@ pub mod Laws
 pub mod Object
 pub mod Stop
 pub mod Stream
-pub mod Printing
+pub mod PrintedReply
 pub mod Who

@@ -2,9 +2,9 @@
 use Rattle.std.specs.Prelude.{ℕ, List}
 use Rattle.streams.specs.declared.error.ReadError.{ReadError}
 use Rattle.streams.specs.declared.error.ReadError.TheVariants as read
-use Rattle.report.specs.Failures.{failure_line}
-use Rattle.report.specs.Refusals.{refusal_line}
-use Rattle.report.specs.declared.failures.Failure.TheVariants.{Input, Memory}
+use Rattle.model.specs.Failures.{failure_line}
+use Rattle.model.specs.Refusals.{refusal_line}
+use Rattle.model.specs.declared.failures.Failure.TheVariants.{Input, Memory}
 use Rattle.tool_pure.specs.declared.stops.Stop.{Stop}
 use Rattle.tool_pure.specs.declared.stops.Stop.TheVariants.{Refused, Failed}
 

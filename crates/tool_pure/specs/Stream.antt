@@ -1,10 +1,11 @@
 -- What is read from an input, and an answer to the two outputs.
-use Rattle.std.specs.Prelude.{◌≡◌, ◌⊎◌, ⊤, ℕ, Bool, true, is_none, List, Option, Some, None, Result, Ok, Err, IfErr, IsErrOf, String, string_bytes, option_map}
+use Rattle.std.specs.Prelude.{◌≡◌, ◌⊎◌, ⊤, ℕ, Bool, true, is_none, List, Option, Some, None, Result, Ok, Err, IfErr}
+use Rattle.std.specs.Prelude.{IsErrOf, String, string_bytes, option_map}
 use Rattle.std.specs.Io.KnownBytes.{Keeps}
 use Rattle.std.specs.declared.alloc.Global.{Global}
 use Rattle.streams.specs.Reads.{ConsumesAtMost, TakesFewer, TakesSome}
 use Rattle.model.specs.declared.refusal.Refusal.{Refusal}
-use Rattle.report.specs.declared.failures.Failure.TheVariants.{Memory, Input}
+use Rattle.model.specs.declared.failures.Failure.TheVariants.{Memory, Input}
 use Rattle.tool_pure.specs.declared.stops.Stop.{Stop}
 use Rattle.tool_pure.specs.declared.stops.Stop.TheVariants.{Refused, Failed}
 use Rattle.report.specs.Outputs.{Console, Offers, Printed, Prints, Stream, Written, on_errors}

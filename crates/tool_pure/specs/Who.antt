@@ -11,7 +11,7 @@ use Rattle.policy.specs.declared.error.KeyWord.{KeyWord}
 use Rattle.policy.specs.Operation.{plain}
 use Rattle.policy.specs.declared.kinds.Rule.{Rule}
 use Rattle.model.specs.declared.refusal.Refusal.TheVariants.{BadConfig, BadCaller}
-use Rattle.report.specs.declared.failures.Failure.TheVariants.{Memory}
+use Rattle.model.specs.declared.failures.Failure.TheVariants.{Memory}
 use Rattle.tool_pure.specs.declared.stops.Stop.{Stop}
 use Rattle.tool_pure.specs.declared.stops.Stop.TheVariants.{Refused, Failed}
 use Rattle.tool_pure.specs.declared.verdicts.Verdict.{Verdict}

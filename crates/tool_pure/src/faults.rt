@@ -1,6 +1,6 @@
 //! The stop for each library error.
 ghost use Rattle.std.specs.Prelude.{◌≡◌};
-ghost use Rattle.report.specs.declared.failures.Failure.TheVariants.{Memory};
+ghost use Rattle.model.specs.declared.failures.Failure.TheVariants.{Memory};
 ghost use Rattle.tool_pure.specs.Archive.{archive_stop};
 ghost use Rattle.tool_pure.specs.Faults.{name_stop, path_stop, caller_stop, config_stop, body_stop};
 ghost use Rattle.tool_pure.specs.declared.stops.Stop.TheVariants.{Failed};

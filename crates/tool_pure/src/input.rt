@@ -1,7 +1,7 @@
 //! An input, to a bound or all of it.
 ghost use Rattle.std.specs.Prelude.{◌≡◌, ◌++◌, IfOk, IfSome, OnOk, take};
 ghost use Rattle.nar.specs.Tree.{IsBytes};
-ghost use Rattle.intake.specs.Arriving.{bytes_in};
+ghost use Rattle.intake.specs.Arrival.{bytes_in};
 ghost use Rattle.tool_pure.specs.Archive.{max_prefix};
 ghost use Rattle.report.specs.Outputs.{change_of};
 ghost use Rattle.tool_pure.specs.Stream.{ReadsUpTo};

@@ -2,11 +2,9 @@
 ghost use Rattle.std.specs.Prelude.{◌≡◌};
 ghost use Rattle.tool_pure.specs.Stop.{stop_by, stop_text, stop_status};
 
+use model::FAILED;
 use report::{Failure, Refusal, refusal_line};
 use streams::ReadError;
-
-/// The exit status of a command whose memory, disk, file or stream failed.
-pub(crate) const FAILED: u8 = 1;
 
 /// The exit status of a command that is refused.
 pub(crate) const REFUSED: u8 = 3;

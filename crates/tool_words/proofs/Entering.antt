@@ -10,7 +10,8 @@ use Rattle.clap.specs.declared.parser.matches.ArgMatches.TheViews.{out-SubComman
 
 module _ {Z : Type 0} where
   -- its name and its matches
-  pub met : (sub : Option (Box SubCommand Z)) (name : Text) (rs : List Row) → Some name ≡ option_map (λ b. (out-SubCommand (box_value b)).name.now) sub
+  pub met : (sub : Option (Box SubCommand Z)) (name : Text) (rs : List Row)
+      → Some name ≡ option_map (λ b. (out-SubCommand (box_value b)).name.now) sub
       → Some rs ≡ option_map (λ p. p.1) (subcommand_rows sub) → subcommand_rows sub ≡ Some (name, rs)
   met None name rs named found = let bad : Some name ≡ None = named in cc
   met (Some b) name rs named found =

@@ -1,5 +1,6 @@
 -- What the values of a subcommand stand for, and which of them don't go together.
-use Rattle.std.specs.Prelude.{ℕ, Bool, List, if◌then◌else◌, is_some, codes, Option, Some, None, unwrap_or, Result, Ok, Err}
+use Rattle.std.specs.Prelude.{ℕ, Bool, List, if◌then◌else◌, is_some, codes, Option, Some, None, unwrap_or, Result, Ok}
+use Rattle.std.specs.Prelude.{Err}
 use Rattle.std.specs.Option.{option_map_or}
 use Rattle.std.specs.Str.{bytes_eq}
 use Rattle.clap.specs.Walk.{Row, Text}
@@ -7,12 +8,14 @@ use Rattle.paths.specs.Decimal.{decimal_of, generation_number}
 use Rattle.tool_words.specs.declared.error.Acting.{Acting}
 use Rattle.tool_words.specs.declared.error.Acting.TheVariants.{Profile, Temp}
 use Rattle.tool_words.specs.declared.error.UsageFault.{UsageFault}
-use Rattle.tool_words.specs.declared.error.UsageFault.TheVariants.{UnknownAction, MissingValue, ExtraValue, OwnerOfPermanent, BadLimit, ConnectionsWithoutPort}
+use Rattle.tool_words.specs.declared.error.UsageFault.TheVariants.{UnknownAction, MissingValue, ExtraValue}
+use Rattle.tool_words.specs.declared.error.UsageFault.TheVariants.{OwnerOfPermanent, BadLimit, ConnectionsWithoutPort}
 use Rattle.tool_words.specs.declared.line.NamedRootKind.{NamedRootKind}
 use Rattle.tool_words.specs.declared.line.NamedRootKind.TheVariants.{Permanent, User}
 use Rattle.tool_words.specs.declared.line.ServeArguments.{ServeArguments}
 use Rattle.tool_words.specs.declared.line.ServeArguments.TheVariants.{Streams, Port}
-use Rattle.tool_words.specs.Asked.{Asked, OnProfile, OnSession, set, rollback, switch, delete_generation, add_temp, end_session, unroot_permanent, unroot_user}
+use Rattle.tool_words.specs.Asked.{Asked, OnProfile, OnSession, set, rollback, switch, delete_generation, add_temp}
+use Rattle.tool_words.specs.Asked.{end_session, unroot_permanent, unroot_user}
 use Rattle.tool_words.specs.Values.{is_given}
 
 -- an action of a subcommand that wants a value

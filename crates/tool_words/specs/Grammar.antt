@@ -4,9 +4,13 @@ use Rattle.clap.specs.Simple.{App, app_of, new_app, on_top, with_rule, with_subc
 use Rattle.clap.specs.declared.builder.command.Command.{Command}
 use Rattle.clap.specs.declared.builder.command.Command.TheViews.{out-Command}
 use Rattle.tool_words.specs.declared.verb.Verb.{Verb}
-use Rattle.tool_words.specs.declared.verb.Verb.TheVariants.{Who, TextPath, SourcePath, Ls, AddText, AddSource, Import, Runtime, Info, CatNar, Why, List as ListPaths, Roots, Live, Dead, Report, Root, Unroot, Profile, Temp, Gc, Delete, Serve}
+use Rattle.tool_words.specs.declared.verb.Verb.TheVariants.{Who, TextPath, SourcePath, Ls, AddText, AddSource, Import}
+use Rattle.tool_words.specs.declared.verb.Verb.TheVariants.{Runtime, Info, CatNar, Why, List as ListPaths, Roots, Live}
+use Rattle.tool_words.specs.declared.verb.Verb.TheVariants.{Dead, Report, Root, Unroot, Profile, Temp, Gc, Delete}
+use Rattle.tool_words.specs.declared.verb.Verb.TheVariants.{Serve}
 use Rattle.tool_words.specs.Verbs.{verb_name, verbs}
-use Rattle.tool_words.specs.Arguments.{option_named, number_option, flag_named, required_argument, optional_argument, references_argument, paths_argument}
+use Rattle.tool_words.specs.Arguments.{option_named, number_option, flag_named, required_argument, optional_argument}
+use Rattle.tool_words.specs.Arguments.{references_argument, paths_argument}
 
 -- a command as `clap` gets it, of whose arguments none is for the subcommands too
 pub record IsCommand (command : Command) (is : App) : Type 0 where

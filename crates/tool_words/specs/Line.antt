@@ -18,7 +18,9 @@ use Rattle.tool_words.specs.Grammar.{nixkeep_app}
 use Rattle.tool_words.specs.Values.{required, all_values, is_given, number}
 use Rattle.tool_words.specs.Actions.{on_profile, on_session, root_kind, unrooted, limit, served}
 use Rattle.paths.specs.Decimal.{session_number}
-use Rattle.tool_words.specs.Asked.{Asked, who, ls, text_path, source_path, add_text, add_source, import_object, runtime, info, cat_nar, why, list_paths, roots, list_live, list_dead, report, root, profile, temp, gc, delete, serve, asked_view, optional_text}
+use Rattle.tool_words.specs.Asked.{Asked, who, ls, text_path, source_path, add_text, add_source, import_object, runtime}
+use Rattle.tool_words.specs.Asked.{info, cat_nar, why, list_paths, roots, list_live, list_dead, report, root, profile}
+use Rattle.tool_words.specs.Asked.{temp, gc, delete, serve, asked_view, optional_text}
 
 -- a command line: its options and its subcommand
 pub record Line : Type 0 where

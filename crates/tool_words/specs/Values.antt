@@ -1,5 +1,6 @@
 -- The values of arguments, by the matches that `clap` finds.
-use Rattle.std.specs.Prelude.{ℕ, ◌&&◌, ◌^◌, Bool, false, if◌then◌else◌, nat_lt, List, [], codes, Option, Some, None, option_and_then, unwrap_or}
+use Rattle.std.specs.Prelude.{ℕ, ◌&&◌, ◌^◌, Bool, false, if◌then◌else◌, nat_lt, List, [], codes, Option, Some, None}
+use Rattle.std.specs.Prelude.{option_and_then, unwrap_or}
 use Rattle.std.specs.Option.{option_map_or}
 use Rattle.std.specs.Str.{bytes_eq}
 use Rattle.std.specs.Str.Parse.{digits_value, without_leading_plus}

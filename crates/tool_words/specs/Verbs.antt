@@ -2,7 +2,10 @@
 use Rattle.std.specs.Prelude.{List, [], ◌∷◌, ℕ, codes, Option, find}
 use Rattle.std.specs.Str.{bytes_eq}
 use Rattle.tool_words.specs.declared.verb.Verb.{Verb}
-use Rattle.tool_words.specs.declared.verb.Verb.TheVariants.{Who, TextPath, SourcePath, Ls, AddText, AddSource, Import, Runtime, Info, CatNar, Why, List as ListPaths, Roots, Live, Dead, Report, Root, Unroot, Profile, Temp, Gc, Delete, Serve}
+use Rattle.tool_words.specs.declared.verb.Verb.TheVariants.{Who, TextPath, SourcePath, Ls, AddText, AddSource, Import}
+use Rattle.tool_words.specs.declared.verb.Verb.TheVariants.{Runtime, Info, CatNar, Why, List as ListPaths, Roots, Live}
+use Rattle.tool_words.specs.declared.verb.Verb.TheVariants.{Dead, Report, Root, Unroot, Profile, Temp, Gc, Delete}
+use Rattle.tool_words.specs.declared.verb.Verb.TheVariants.{Serve}
 
 -- the name of a subcommand
 abbrev pub verb_name : Verb → List ℕ

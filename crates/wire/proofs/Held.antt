@@ -12,7 +12,8 @@ use Rattle.wire.specs.Courses.{Admission, by_caller, admission_of}
 
 -- what the parts in a buffer decide is what the head decides
 pub admits_held : (s : Settings) (held : List ℕ) (head : Head) (h : RequestHead) (it : Admission) → Holds held head h
-    → (method target : List ℕ) (who : Option Caller) → method ≡ span_bytes held head.spans.method → target ≡ span_bytes held head.spans.path
+    → (method target : List ℕ) (who : Option Caller) → method ≡ span_bytes held head.spans.method
+    → target ≡ span_bytes held head.spans.path
     → caller_in (fields_at held head) ≡ who → it ≡ by_caller s method target who → it ≡ admission_of s h
 admits_held s held head h it is method target who m t w by =
     by

@@ -24,8 +24,9 @@ use Rattle.wire_requests.specs.declared.error.AskError.TheVariants as asks
 use Rattle.wire_server.specs.declared.response.Response.{Response}
 use Rattle.wire_server.specs.Responses as responses
 use Rattle.wire_server.specs.Responses.{Replied, replied, refused}
-use Rattle.wire.specs.declared.admission.Admission as code
-use Rattle.wire.specs.declared.admission.Admission.TheVariants as codes
+use Rattle.wire.specs.declared.admission.Endpoint.{Endpoint}
+use Rattle.wire_server.specs.declared.responder.Begun.{Begun}
+use Rattle.wire_server.specs.declared.responder.Begun.TheVariants.{Accepted, Refused}
 
 -- What the head of a message decides: this is replied, whatever the body is; or a caller, who may connect, asks
 -- something of a kind.
@@ -85,14 +86,14 @@ HasCourse s h body course = Follows s h.target body (admission_of s h) course
 
 -- ---- what the code's values stand for
 
-abbrev pub admission_view : code.Admission → Admission
-admission_view (codes.Refused r) = refuses (replied r)
-admission_view (codes.Admitted it) = admits it.caller it.kind
+abbrev pub admission_view : Begun Endpoint → Admission
+admission_view (Refused r) = refuses (replied r)
+admission_view (Accepted it) = admits it.caller it.kind
 
 -- what is admitted has the parameters of the target
-abbrev pub HasParameters : List ℕ → code.Admission → Type 0
-HasParameters target (codes.Refused r) = ⊤
-HasParameters target (codes.Admitted it) = AreParameters it.kind target it.parameters
+abbrev pub HasParameters : List ℕ → Begun Endpoint → Type 0
+HasParameters target (Refused r) = ⊤
+HasParameters target (Accepted it) = AreParameters it.kind target it.parameters
 
 -- The response to a message that isn't a request, by what its reading has decided; or memory was refused. It always was
 -- if it was for the reading.

@@ -1,5 +1,5 @@
 -- The end of a command that serves a store.
-use Rattle.std.specs.Prelude.{◌≡◌, ◌⊎◌, ℕ, min, List, Option, None, Result, Ok, Err, IsErrAnd}
+use Rattle.std.specs.Prelude.{◌≡◌, ◌⊎◌, ⊤, ℕ, min, List, Option, None, Result, Ok, Err, IsErrAnd}
 use Rattle.std.specs.Io.KnownBytes.{Keeps}
 use Rattle.std.specs.declared.io.Error.{Error}
 use Rattle.std.specs.IoError.{error_kind}
@@ -7,16 +7,24 @@ use Rattle.std.specs.declared.io.ErrorKind.TheVariants.{OutOfMemory}
 use Rattle.sqlite_trees.specs.declared.store.Store.{Ghosts}
 use Rattle.httparse.specs.Grammar.{RequestHead}
 use Rattle.wire_server.specs.Responses.{Replied}
-use Rattle.report.specs.declared.failures.Failure.TheVariants.{Input, Memory}
-use Rattle.report.specs.Outputs.{RunsOutOfMemory, PrintsFailure}
+use Rattle.model.specs.declared.failures.Failure.TheVariants.{Input, Memory}
+use Rattle.report.specs.Outputs.{Console, RunsOutOfMemory, PrintsFailure, change_of}
 use Rattle.wire_server.specs.Serves.{Served}
 use Rattle.wire_server.specs.Sessions.{Says, failure, result_of}
 use Rattle.wire_server.specs.ServesAll.{ServesOn}
 use Rattle.wire_server.specs.declared.error.WireError.{WireError}
-use Rattle.wire_server.specs.declared.sessions.End.{End}
+use Rattle.wire_server.specs.declared.connection.End.{End}
 use Rattle.store.specs.View.{StoreView}
 use Rattle.wire.specs.Answers.{Answers}
 use Rattle.wire.specs.Worlds.{AnswersFrom, LeadsWorlds}
+
+-- what a call read and wrote on three streams, and the exit status
+abbrev pub on_streams : {R W E : Type 0} → (R → Option (List ℕ)) → (W → Option (List ℕ)) → (E → Option (List ℕ)) → R → R
+    → W → W → E → E → ℕ → Console
+on_streams input output errors from from' to to' says says' status = record {
+  input = change_of input from from';
+  written = record { output = change_of output to to'; errors = change_of errors says says'; status = status };
+}
 
 -- The status is 1 if a connection failed, or if an accept failed; a line says so.
 abbrev pub EndsOn : Result ℕ Error → Option (List ℕ) → Option (List ℕ) → ℕ → Type 0
@@ -25,59 +33,70 @@ EndsOn (Err fault) err err' status =
     PrintsFailure Input (record { writer = record { old = err; new = err' }; status = status })
 
 module _ {S : Type 0} where
-  -- one connection is served like this, and the status is 1 where it failed, which is said; or there was no memory to
-  -- begin with
-  abbrev pub EndsStreams : (S → S → Result ℕ WireError → Type 0) → Option (List ℕ) → Option (List ℕ) → Option (List ℕ)
-      → Option (List ℕ) → S → ℕ → Type 0
-  EndsStreams serving out out' err err' old status =
-      RunsOutOfMemory
-      (record { output = record { old = out; new = out' }; errors = record { old = err; new = err' }; status = status })
-      ⊎ ((end : End) × (new : S) × serving old new (result_of end) × Says end err err' × (status ≡ failure end))
+  -- one connection is served like this, up to the state that its last message left, and the status is 1 where it
+  -- failed, which is said; or there was no memory to begin with, nothing was read, and the state stays
+  abbrev pub EndsStreams : (S → S → Result ℕ WireError → Type 0) → Console → S → S → Type 0
+  EndsStreams serving c old new = (RunsOutOfMemory c.written × Keeps c.input.old c.input.new × (new ≡ old))
+      ⊎ ((end : End) × serving old new (result_of end)
+      × Says end c.written.errors.old c.written.errors.new × (c.written.status ≡ failure end))
 
-  -- connections of a port are served like this, with that on the errors; or there was no memory to begin with, or the
-  -- port couldn't be bound
-  abbrev pub EndsPort : (Option (List ℕ) → S → S → Result ℕ Error → Type 0) → Option (List ℕ) → Option (List ℕ) → S → ℕ
-      → Type 0
-  EndsPort serving err err' old status =
-      PrintsFailure Memory (record { writer = record { old = err; new = err' }; status = status })
-      ⊎ (PrintsFailure Input (record { writer = record { old = err; new = err' }; status = status })
-      ⊎ ((new : S) × (result : Result ℕ Error) × (said : Option (List ℕ)) × serving said old new result
+  -- connections of a port are served like this, up to the state that the last message left, with that on the errors; or
+  -- there was no memory to begin with, or the port couldn't be bound, and the state stays
+  abbrev pub EndsPort : (Option (List ℕ) → S → S → Result ℕ Error → Type 0) → Option (List ℕ) → Option (List ℕ) → S → S
+      → ℕ → Type 0
+  EndsPort serving err err' old new status =
+      (PrintsFailure Memory (record { writer = record { old = err; new = err' }; status = status }) × (new ≡ old))
+      ⊎ ((PrintsFailure Input (record { writer = record { old = err; new = err' }; status = status }) × (new ≡ old))
+      ⊎ ((result : Result ℕ Error) × (said : Option (List ℕ)) × serving said old new result
       × EndsOn result said err' status))
 
 module _ {S : Type 0} (answers : S → RequestHead → List ℕ → Replied → S → Type 0) where
+  -- what a connection writes for what it reads
+  abbrev pub ServedOn : Console → S → S → Result ℕ WireError → Type 0
+  ServedOn c = Served answers c.input.old c.written.output.old c.written.output.new
+
   -- one connection is served
-  abbrev pub ServesStreams : Option (List ℕ) → Option (List ℕ) → Option (List ℕ) → Option (List ℕ) → Option (List ℕ) → S
-      → ℕ → Type 0
-  ServesStreams known out out' = EndsStreams (Served answers known out out') out out'
+  abbrev pub ServesStreams : Console → S → S → Type 0
+  ServesStreams c = EndsStreams (ServedOn c) c
 
   -- a number of connections of a listener are served
-  abbrev pub ServesListener : ℕ → Option (List (List ℕ)) → Option (List (List ℕ)) → Option (List (List ℕ))
-      → Option (List (List ℕ)) → Option (List ℕ) → Option (List ℕ) → S → S → ℕ → Type 0
-  ServesListener n waiting waiting' closed closed' err err' old new status =
+  abbrev pub ServesListener : (Error → Type 0) → ℕ → Option (List (List ℕ)) → Option (List (List ℕ))
+      → Option (List (List ℕ)) → Option (List (List ℕ)) → Option (List ℕ) → Option (List ℕ) → S → S → ℕ → Type 0
+  ServesListener Fails n waiting waiting' closed closed' err err' old new status =
       (result : Result ℕ Error) × (said : Option (List ℕ))
-      × ServesOn answers n waiting waiting' closed closed' err said old new result × EndsOn result said err' status
+      × ServesOn answers Fails n waiting waiting' closed closed' err said old new result × EndsOn result said err' status
 
-  -- a number of connections are served of a listener, of which nothing is known; or there was no memory to begin with
+  -- a number of connections are served of a listener, of which nothing is known
+  abbrev pub ServesAny : ℕ → Option (List ℕ) → Option (List ℕ) → S → S → Result ℕ Error → Type 0
+  ServesAny n = ServesOn answers (λ _. ⊤) n None None None None
+
+  -- the same; or there was no memory to begin with
   abbrev pub ServesOver : ℕ → Option (List ℕ) → Option (List ℕ) → S → S → Result ℕ Error → Type 0
-  ServesOver n err err' old new result = ServesOn answers n None None None None err err' old new result
+  ServesOver n err err' old new result = ServesAny n err err' old new result
       ⊎ (IsErrAnd result (λ fault. error_kind fault ≡ OutOfMemory) × (new ≡ old) × Keeps err err')
 
   -- a number of connections of a port are served, of which nothing is known
-  abbrev pub ServesPort : ℕ → Option (List ℕ) → Option (List ℕ) → S → ℕ → Type 0
-  ServesPort n err err' = EndsPort (λ said. ServesOn answers n None None None None err said) err err'
+  abbrev pub ServesPort : ℕ → Option (List ℕ) → Option (List ℕ) → S → S → ℕ → Type 0
+  ServesPort n err err' = EndsPort (λ said. ServesAny n err said) err err'
 
 -- ---- a store, by the worlds of its tables
 
 module _ {S : Type 0} (g : Ghosts S) where
   -- a connection, from the store before to that afterwards; and by worlds, if the disk is clean then
-  abbrev pub ServedByWorlds : Option (List ℕ) → Option (List ℕ) → Option (List ℕ) → StoreView S → StoreView S
-      → Result ℕ WireError → Type 0
-  ServedByWorlds known out out' old new result = Served (Answers g) known out out' old new result
-      × LeadsWorlds g old new (λ w next. Served (AnswersFrom old.settings) known out out' w next result)
+  abbrev pub ServedByWorlds : Console → StoreView S → StoreView S → Result ℕ WireError → Type 0
+  ServedByWorlds c old new result = ServedOn (Answers g) c old new result
+      × LeadsWorlds g old new (λ w next. ServedOn (AnswersFrom old.settings) c w next result)
+
+  -- a connection on two streams, likewise
+  abbrev pub ServesStreamsByWorlds : Console → StoreView S → StoreView S → Type 0
+  ServesStreamsByWorlds c = EndsStreams (ServedByWorlds c) c
 
   -- the connections of a listener, likewise
   abbrev pub ServesByWorlds : ℕ → Option (List ℕ) → Option (List ℕ) → StoreView S → StoreView S → Result ℕ Error
       → Type 0
-  ServesByWorlds n err said old new result = ServesOn (Answers g) n None None None None err said old new result
-      × LeadsWorlds g old new
-      (λ w next. ServesOn (AnswersFrom old.settings) n None None None None err said w next result)
+  ServesByWorlds n err said old new result = ServesAny (Answers g) n err said old new result
+      × LeadsWorlds g old new (λ w next. ServesAny (AnswersFrom old.settings) n err said w next result)
+
+  -- the connections of a port, likewise
+  abbrev pub ServesPortByWorlds : ℕ → Option (List ℕ) → Option (List ℕ) → StoreView S → StoreView S → ℕ → Type 0
+  ServesPortByWorlds n err err' = EndsPort (ServesByWorlds n err) err err'

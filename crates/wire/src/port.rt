@@ -1,26 +1,24 @@
 //! A store, served on a port of this machine.
-ghost use Rattle.std.specs.Prelude.{◌≡◌, ◌⊎◌, None};
-ghost use Rattle.sqlite.specs.State.{HasCleanDisk};
-ghost use Rattle.sqlite.specs.Held.{Held, state};
-ghost use Rattle.model.specs.World.{World};
-ghost use Rattle.tables_writes.specs.TablesValue.{HasWorld};
-ghost use Rattle.wire.specs.Answers.{Answers};
+ghost use Rattle.std.specs.Prelude.{◌≡◌, ◌⊎◌, ⊤, None};
 ghost use Rattle.report.specs.Outputs.{PrintsFailure, change_of};
-ghost use Rattle.report.specs.declared.failures.Failure.TheVariants.{Input};
-ghost use Rattle.wire.specs.Worlds.{AnswersFrom, AnswersSome};
-ghost use Rattle.wire.specs.Ends.{EndsPort, ServesByWorlds, ServesListener, ServesPort};
+ghost use Rattle.model.specs.declared.failures.Failure.TheVariants.{Input};
+ghost use Rattle.wire.specs.Answers.{Answers};
+ghost use Rattle.wire.specs.Worlds.{AnswersFrom, AnswersSome, LeadsWorlds};
+ghost use Rattle.wire.specs.Ends.{ServesListener, ServesPort, ServesPortByWorlds};
 
-use crate::failures::{FAILED, NO_INPUT};
-use crate::opening::{close, open};
-use policy::Config;
+use crate::server::Server;
+use model::FAILED;
 use report::{Failure, print_failure};
-use sqlite::{Alter, Connection};
+use sqlite::Alter;
 use std::alloc::Global;
 use std::io::Write;
 use std::net::{Ipv4Addr, Net, TcpListener, TcpStream};
 use std::rt::Clock;
-use tables_writes::{Close, Tables};
+use store::Store;
 use wire_server::{Listener, Port, Responder};
+
+/// A port couldn't be bound, or no connection could be accepted on it.
+const NO_INPUT: Failure = Failure::Input;
 
 /// Serves a number of connections of a listener, and returns the exit status.
 fn serve_listener<L: Listener, E: Write, T, A: Responder<T>>(
@@ -31,9 +29,9 @@ fn serve_listener<L: Listener, E: Write, T, A: Responder<T>>(
     responder: &A,
     state: &mut T,
 ) -> u8
-    ensures { ServesListener A.answers connections (L.waiting listener.old) (L.waiting listener.new)
-        (L.closed listener.old) (L.closed listener.new) (E.contents errors.old) (E.contents errors.new) state.old
-        state.new result }
+    ensures { ServesListener A.answers (L.fails listener.new) connections (L.waiting listener.old)
+        (L.waiting listener.new) (L.closed listener.old) (L.closed listener.new) (E.contents errors.old)
+        (E.contents errors.new) state.old state.new result }
 {
     match wire_server::serve_on(alloc, listener, connections, errors, responder, state) {
         Ok(0) => 0,
@@ -52,10 +50,10 @@ fn listen<N: Net<Listener = TcpListener, Stream = TcpStream> + Clock, E: Write, 
     responder: &A,
     state: &mut T,
 ) -> u8
-    ensures { PrintsFailure Input
-        (record { writer = change_of E.contents errors.old errors.new; status = result })
-        ⊎ ServesListener A.answers connections None None None None (E.contents errors.old) (E.contents errors.new)
-        state.old state.new result }
+    ensures { (PrintsFailure Input (record { writer = change_of E.contents errors.old errors.new; status = result })
+        × (state.new ≡ state.old))
+        ⊎ ServesListener A.answers (λ _. ⊤) connections None None None None (E.contents errors.old)
+        (E.contents errors.new) state.old state.new result }
 {
     match TcpListener::bind(net, (Ipv4Addr::LOCALHOST, port)) {
         Ok(listener) => {
@@ -66,74 +64,54 @@ fn listen<N: Net<Listener = TcpListener, Stream = TcpStream> + Clock, E: Write, 
     }
 }
 
-/// Serves the store of these tables on a number of connections of a port of 127.0.0.1.
-fn serve<
-    N: Net<Listener = TcpListener, Stream = TcpStream> + Clock,
-    S: Alter + Drop + Close<Connection<S>>,
-    E: Write,
->(
+/// Serves a store on a number of connections of a port of 127.0.0.1.
+fn serve<N: Net<Listener = TcpListener, Stream = TcpStream> + Clock, S: Alter, E: Write>(
     net: &N,
     alloc: Global,
     port: u16,
     connections: u32,
-    config: Config,
-    tables: Tables<S>,
+    store: &mut Store<S>,
     errors: &mut E,
 ) -> u8
-    requires { tables.dir ≡ config.store_dir }
-    ensures { ServesPort (Answers S.Store) connections (E.contents errors.old) (E.contents errors.new)
-        (record { tables = tables; settings = config }) result }
+    ensures { ServesPort (Answers S.Store) connections (E.contents errors.old) (E.contents errors.new) store.old
+        store.new result }
 {
-    match open(alloc, config, tables) {
-        Ok((server, mut store)) => {
-            let status = listen(net, alloc, port, connections, errors, &server, &mut store);
-            close(store);
-            status
-        }
+    match Server::new(alloc) {
+        Ok(server) => listen(net, alloc, port, connections, errors, &server, store),
         Err(_) => print_failure(Failure::Memory, errors),
     }
 }
 
-/// Serves the store of these tables on a number of connections of a port of 127.0.0.1, one after another, and returns
-/// the exit status: 0 if each was served to its end, else 1.
+/// Serves a store on a number of connections of a port of 127.0.0.1, one after another, and returns the exit status: 0
+/// if each was served to its end, else 1. The store is that after the last message that was answered.
 ///
 /// A line on `errors` says why a connection failed: `failed: input`, `failed: output` or `failed: memory`. If the port
 /// can't be bound, or an accept fails, the line is `failed: input`, and nothing more is served.
 ///
 /// ```rust
-/// use policy::{Config, store_dir};
-/// use tables::Tables;
-///
-/// let config = Config::from_toml(alloc, b"")?;
-/// let tables = tables::open_in_memory(alloc, store_dir(&config))?;
 /// let mut errors = Vec::new(alloc);
-/// let status = wire::serve_port(&rt, alloc, 8080, 0, config, tables, &mut errors);
+/// let status = wire::serve_port(&rt, alloc, 8080, 0, store, &mut errors);
 /// assert!(rt; status == 0 && errors.is_empty());
 /// ```
-pub fn serve_port<
-    N: Net<Listener = TcpListener, Stream = TcpStream> + Clock,
-    S: Alter + Drop + Close<Connection<S>>,
-    E: Write,
->(
+pub fn serve_port<N: Net<Listener = TcpListener, Stream = TcpStream> + Clock, S: Alter, E: Write>(
     net: &N,
     alloc: Global,
     port: u16,
     connections: u32,
-    config: Config,
-    tables: Tables<S>,
+    store: &mut Store<S>,
     errors: &mut E,
 ) -> u8
-    requires { tables.dir ≡ config.store_dir }
-    ensures served { ServesPort (Answers S.Store) connections (E.contents errors.old) (E.contents errors.new)
-        (record { tables = tables; settings = config }) result }
-    ensures worlds { ((h : Held S) → HasCleanDisk (state S.Store h)) → (w : World) → HasWorld S.Store tables w
-        → ServesPort (AnswersFrom config) connections (E.contents errors.old) (E.contents errors.new) w result }
+    ensures served { ServesPort (Answers S.Store) connections (E.contents errors.old) (E.contents errors.new) store.old
+        store.new result }
     // Over a disk that is clean afterwards, each reply is that of a step.
-    ensures steps { EndsPort (ServesByWorlds S.Store connections (E.contents errors.old)) (E.contents errors.old)
-        (E.contents errors.new)
-        (record { tables = tables; settings = config }) result }
-    ensures replies { ServesPort (AnswersSome config) connections (E.contents errors.old) (E.contents errors.new) tt
-        result }
+    ensures worlds { LeadsWorlds S.Store store.old store.new (λ w next.
+        ServesPort (AnswersFrom store.old.settings) connections (E.contents errors.old) (E.contents errors.new) w next
+        result) }
+    // Likewise, of one end.
+    ensures steps { ServesPortByWorlds S.Store connections (E.contents errors.old) (E.contents errors.new) store.old
+        store.new result }
+    ensures replies { ServesPort (AnswersSome store.old.settings) connections (E.contents errors.old)
+        (E.contents errors.new) tt tt result }
 {
-    serve(net, alloc, port, connections, config, tables, errors)
+    serve(net, alloc, port, connections, store, errors)
 }

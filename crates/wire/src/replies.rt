@@ -1,15 +1,17 @@
-//! Replies of the store as responses.
+//! Replies of the store, and refusals of messages that aren't requests, as responses.
 ghost use Rattle.std.specs.Prelude.{◌≡◌, IfOk};
+ghost use Rattle.wire.specs.Replies as spec;
 ghost use Rattle.wire_server.specs.Responses.{replied};
 ghost use Rattle.store_types.specs.View.{reply_view};
-ghost use Rattle.wire.specs.Replies as spec;
 ghost use Rattle.wire.specs.Replies.{response_to};
+ghost use Rattle.wire.specs.Courses.{IsRefusalOf};
 
 use http::StatusCode;
 use paths::StoreDir;
-use report::reply_pieces;
+use report::{Refusal, reply_pieces};
 use std::alloc::{AllocError, Global};
 use store_types::{Answer, Reply};
+use wire_requests::AskError;
 use wire_server::{Response, refusal_status};
 
 /// The status of a reply.
@@ -46,4 +48,19 @@ pub(crate) fn respond(alloc: Global, dir: &StoreDir, reply: Reply) -> Result<Res
         allow: None,
         text: reply_pieces(alloc, dir, reply)?,
     })
+}
+
+/// The response to a message that isn't a request, by what its reading has decided.
+///
+/// # Errors
+///
+/// Memory was refused, for the reading or now.
+pub(crate) fn refuse(alloc: Global, fault: AskError) -> Result<Response, AllocError>
+    ensures { IsRefusalOf fault result }
+{
+    match fault {
+        AskError::BadPath => Response::refused(alloc, Refusal::BadStorePath, None),
+        AskError::BadBodyHead => Response::refused(alloc, Refusal::BadBodyHead, None),
+        AskError::Memory => Err(AllocError),
+    }
 }

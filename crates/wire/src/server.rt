@@ -1,17 +1,15 @@
 //! The server: answers messages from a store.
 ghost use Rattle.wire.specs.Answers.{Answers, Admits};
+ghost use Rattle.wire_requests.specs.Kept.{Represents};
 
-use crate::admission::{Admission, Endpoint};
-use crate::admitting::admit;
-use crate::arriving::Arriving;
-use crate::refusing::refuse;
-use crate::replies::respond;
+use crate::admission::{Endpoint, admit};
+use crate::replies::{refuse, respond};
 use policy::store_dir;
 use sqlite::Alter;
 use std::alloc::{AllocError, Global};
 use store::Store;
 use wire_requests::{Body, Routes, read_request};
-use wire_server::{Begun, Head, Responder, Response};
+use wire_server::{Begun, Head, Keeper, Responder, Response};
 
 /// Answers messages from a store, by the table of routes.
 #[derive(Drop)]
@@ -45,13 +43,13 @@ impl<S: Alter> Responder<Store<S>> for Server {
         held: &[u8],
         head: &Head,
         size: usize,
-    ) -> Result<Begun<Endpoint, Arriving>, AllocError> {
+    ) -> Result<Begun<(Endpoint, Arriving)>, AllocError> {
         match admit(self.alloc, &self.routes, store.config(), held, head)? {
-            Admission::Admitted(endpoint) => {
+            Begun::Accepted(endpoint) => {
                 let body = Body::new(self.alloc, endpoint.kind, size);
-                Ok(Begun::Accepted(endpoint, Arriving { body }))
+                Ok(Begun::Accepted((endpoint, Arriving { body })))
             }
-            Admission::Refused(response) => Ok(Begun::Refused(response)),
+            Begun::Refused(response) => Ok(Begun::Refused(response)),
         }
     }
 
@@ -76,5 +74,19 @@ impl<S: Alter> Responder<Store<S>> for Server {
             }
             Err(fault) => refuse(self.alloc, fault),
         }
+    }
+}
+
+/// The body of a message, as it arrives.
+#[derive(Drop)]
+pub(crate) struct Arriving {
+    pub body: Body,
+}
+
+impl Keeper for Arriving {
+    ghost represents = { λ it all. Represents it.body all };
+
+    fn keep(&mut self, piece: &[u8]) -> Result<(), AllocError> {
+        self.body.push(piece)
     }
 }

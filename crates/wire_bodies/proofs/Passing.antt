@@ -1,11 +1,13 @@
 -- The entries that lines stand for, and lines that are passed one after another.
-use Rattle.std.proofs.Common.{◌≡◌, ℕ, suc, ◌+◌, ◌-◌, true, false, cond, List, [], ◌∷◌, ◌++◌, length, take, drop, refl, sym, ap, ◌∙◌, arith, append_assoc, append-nil, subst, length-append}
+use Rattle.std.proofs.Common.{◌≡◌, ℕ, suc, ◌+◌, ◌-◌, true, false, cond, List, [], ◌∷◌, ◌++◌, length, take, drop, refl}
+use Rattle.std.proofs.Common.{sym, ap, ◌∙◌, arith, append_assoc, append-nil, subst, length-append}
 use Rattle.std.specs.Prelude.{Bool, not, Option, None, IsUtf8}
 use Rattle.std.specs.List.{list_all, position_or_len, before_first, after_first}
 use Rattle.std.specs.Str.{bytes_eq}
 use Rattle.std.proofs.Math.Seq.{take-append_seam, drop-append-add}
 use Rattle.std.proofs.lemmas.Bool.{ne_eqb}
-use Rattle.wire_bodies.specs.Lines.{IsWithout, Entry, entry_text, print_entries, AreEntries, AreLines, Reads, is_colon, entry_in, entries_from, entries_in}
+use Rattle.wire_bodies.specs.Lines.{IsWithout, Entry, entry_text, print_entries, AreEntries, AreLines, Reads, is_colon}
+use Rattle.wire_bodies.specs.Lines.{entry_in, entries_from, entries_in}
 use Rattle.wire_bodies.specs.Values.{values, each}
 use Rattle.wire_bodies.proofs.Reading.{divides, same_entry, Read}
 use Rattle.wire_bodies.proofs.ValueLemmas.{values-append, all_here, each_none}
@@ -32,10 +34,12 @@ entry_is e lacks =
     λ i. (key i, value i)
 
 -- a line and those after it
-pub line_continues : (prefix x text : List ℕ) → IsWithout 10 x → entries_from prefix (x ++ 10 ∷ text) ≡ entry_in (prefix ++ x) ∷ entries_from [] text
+pub line_continues : (prefix x text : List ℕ) → IsWithout 10 x
+    → entries_from prefix (x ++ 10 ∷ text) ≡ entry_in (prefix ++ x) ∷ entries_from [] text
 line_continues prefix [] text lacks = ap (λ t. entry_in t ∷ entries_from [] text) (sym (append-nil prefix))
 line_continues prefix (b ∷ x) text lacks =
-    ap (λ c. cond c (entry_in prefix ∷ entries_from [] (x ++ 10 ∷ text)) (entries_from (prefix ++ b ∷ []) (x ++ 10 ∷ text))) (ne_eqb b 10 (lacks 0 (omega arith)))
+    ap (λ c. cond c (entry_in prefix ∷ entries_from [] (x ++ 10 ∷ text))
+    (entries_from (prefix ++ b ∷ []) (x ++ 10 ∷ text))) (ne_eqb b 10 (lacks 0 (omega arith)))
     ∙ line_continues (prefix ++ b ∷ []) x text (λ i h. lacks (suc i) (omega arith))
     ∙ ap (λ t. entry_in t ∷ entries_from [] text) (append_assoc prefix (b ∷ []) x)
 
@@ -48,20 +52,25 @@ printed (e ∷ es) are =
     ∙ ap (λ xs. e ∷ xs) (printed es are.1)
 
 -- lines stand for the entries of which they are the lines
-pub lines_are : (text : List ℕ) (es : List Entry) → AreEntries es → text ≡ print_entries es → (entries_in text ≡ es) × AreLines text (entries_in text)
+pub lines_are : (text : List ℕ) (es : List Entry) → AreEntries es → text ≡ print_entries es
+    → (entries_in text ≡ es) × AreLines text (entries_in text)
 lines_are text es are is =
     let same : entries_in text ≡ es = ap entries_in is ∙ printed es are in
     (same, subst (AreLines text) (sym same) (are, is))
 
 -- the lines before the rest of a text that was read
-pub prefix_is : (text : List ℕ) (es : List Entry) (rest : List ℕ) → Read text es rest → take (length text - length rest) text ≡ print_entries es
+pub prefix_is : (text : List ℕ) (es : List Entry) (rest : List ℕ) → Read text es rest
+    → take (length text - length rest) text ≡ print_entries es
 prefix_is text es rest read =
-    let size : length text ≡ length (print_entries es) + length rest = ap length read.whole ∙ length-append (print_entries es) rest in
+    let size : length text ≡ length (print_entries es) + length rest =
+    ap length read.whole ∙ length-append (print_entries es) rest in
     let count : length text - length rest ≡ length (print_entries es) = omega arith in
-    ap (λ t. take (length text - length rest) t) read.whole ∙ ap (λ n. take n (print_entries es ++ rest)) count ∙ take-append_seam (print_entries es) rest
+    ap (λ t. take (length text - length rest) t) read.whole ∙ ap (λ n. take n (print_entries es ++ rest)) count
+    ∙ take-append_seam (print_entries es) rest
 
 -- a text of which all lines were read up to an empty one
-pub read_whole : (text : List ℕ) (es : List Entry) (rest line payload lines : List ℕ) → Read text es rest → rest ≡ line ++ 10 ∷ payload → line ≡ []
+pub read_whole : (text : List ℕ) (es : List Entry) (rest line payload lines : List ℕ) → Read text es rest
+    → rest ≡ line ++ 10 ∷ payload → line ≡ []
     → lines ≡ print_entries es → Reads text (entries_in lines) payload
 read_whole text es rest line payload lines read is none prefix =
     let same = (lines_are lines es read.entries prefix).0 in
@@ -79,15 +88,18 @@ has_feed (b ∷ x) rest lacks = has_feed x rest (λ i h. lacks (suc i) (omega ar
 
 pub none_left : (text : List ℕ) (es : List Entry) → AreLines text es → IsWithout 10 text → es ≡ []
 none_left text [] are lacks = refl
-none_left text (e ∷ es) are lacks = absurd (has_feed (entry_text e) (print_entries es) (subst (IsWithout 10) are.1 lacks))
+none_left text (e ∷ es) are lacks =
+    absurd (has_feed (entry_text e) (print_entries es) (subst (IsWithout 10) are.1 lacks))
 
-pub no_line : (text : List ℕ) (es : List Entry) (rest : List ℕ) → Read text es rest → IsWithout 10 rest → (fs : List Entry) (payload : List ℕ) → Reads text fs payload → ⊥
+pub no_line : (text : List ℕ) (es : List Entry) (rest : List ℕ) → Read text es rest → IsWithout 10 rest
+    → (fs : List Entry) (payload : List ℕ) → Reads text fs payload → ⊥
 no_line text es rest read lacks fs payload reads =
     let more = read.all fs payload reads in
     has_feed (print_entries more.0) payload (subst (IsWithout 10) more.2.whole lacks)
 
 module _ (text line after : List ℕ) (is : text ≡ line ++ 10 ∷ after) (lacks : IsWithout 10 line) where
-  pub is_entry : (es : List Entry) → AreLines text es → ((k v : List ℕ) → line ≡ entry_text (k, v) → IsWithout 58 k → IsUtf8 line → ⊥) → ⊥
+  pub is_entry : (es : List Entry) → AreLines text es
+      → ((k v : List ℕ) → line ≡ entry_text (k, v) → IsWithout 58 k → IsUtf8 line → ⊥) → ⊥
   is_entry [] are none =
       let size : length (line ++ 10 ∷ after) ≡ 0 = ap length (sym is ∙ are.1) in
       omega (arith, length-append line (10 ∷ after))
@@ -126,16 +138,21 @@ one_passed P Q all left new e sofar first more = record {
 }
 
 pub all_passed : (P : List Entry → Type 0) (all left : List Entry) → Sofar P all left → left ≡ [] → P all
-all_passed P all left sofar none = subst P (sym (sofar.whole ∙ ap (λ t. sofar.done ++ t) none ∙ append-nil sofar.done)) sofar.are
+all_passed P all left sofar none =
+    subst P (sym (sofar.whole ∙ ap (λ t. sofar.done ++ t) none ∙ append-nil sofar.done)) sofar.are
 
 -- an entry that doesn't pass a test
-pub not_all : (P : List Entry → Type 0) (p : Entry → Bool) (all left new : List Entry) (e : Entry) → Sofar P all left → left ≡ e ∷ new → p e ≡ false → list_all p all ≡ false
-not_all P p all left new e sofar first fails = ap (list_all p) (sofar.whole ∙ ap (λ t. sofar.done ++ t) first) ∙ all_here p sofar.done e new fails
+pub not_all : (P : List Entry → Type 0) (p : Entry → Bool) (all left new : List Entry) (e : Entry) → Sofar P all left
+    → left ≡ e ∷ new → p e ≡ false → list_all p all ≡ false
+not_all P p all left new e sofar first fails =
+    ap (list_all p) (sofar.whole ∙ ap (λ t. sofar.done ++ t) first) ∙ all_here p sofar.done e new fails
 
 -- a value that stands for nothing
-pub each_bad : {A : Type 0} (f : List ℕ → Option A) (P : List Entry → Type 0) (all left new : List Entry) (e : Entry) → Sofar P all left → left ≡ e ∷ new
+pub each_bad : {A : Type 0} (f : List ℕ → Option A) (P : List Entry → Type 0) (all left new : List Entry) (e : Entry)
+    → Sofar P all left → left ≡ e ∷ new
     → (key : List ℕ) → bytes_eq e.0 key ≡ true → f e.1 ≡ None → each f (values key all) ≡ None
 each_bad f P all left new e sofar first key same none =
     ap (λ t. each f (values key t)) (sofar.whole ∙ ap (λ t. sofar.done ++ t) first)
-    ∙ ap (each f) (values-append key sofar.done (e ∷ new) ∙ ap (λ b. values key sofar.done ++ cond b (e.1 ∷ values key new) (values key new)) same)
+    ∙ ap (each f) (values-append key sofar.done (e ∷ new)
+    ∙ ap (λ b. values key sofar.done ++ cond b (e.1 ∷ values key new) (values key new)) same)
     ∙ each_none f (values key sofar.done) e.1 (values key new) none

@@ -15,49 +15,70 @@ use Rattle.wire_requests.specs.Reads.{Reads, ReadsTarget}
 use Rattle.wire_requests.specs.declared.parameters.Parameters.{Parameters}
 
 -- what is read by the parameters of a kind, where the kind is known
-pub of_kind : (dir target body : List ℕ) (p : Parameters) (r : Result Request AskError) {kind known : Kind} → kind ≡ known → AreParameters kind target p
+pub of_kind : (dir target body : List ℕ) (p : Parameters) (r : Result Request AskError) {kind known : Kind}
+    → kind ≡ known → AreParameters kind target p
     → (AreParameters known target p → Reads dir known target body r) → Reads dir kind target body r
-of_kind dir target body p r is are reads = subst (λ k. Reads dir k target body r) (sym is) (reads (subst (λ k. AreParameters k target p) is are))
+of_kind dir target body p r is are reads =
+    subst (λ k. Reads dir k target body r) (sym is) (reads (subst (λ k. AreParameters k target p) is are))
 
 -- a kind that asks what its target says
-by_shape : (dir : List ℕ) (kind : Kind) (target body : List ℕ) (blank : Bool) (r : Result Request AskError) → is_blank body ≡ blank
+by_shape : (dir : List ℕ) (kind : Kind) (target body : List ℕ) (blank : Bool) (r : Result Request AskError)
+    → is_blank body ≡ blank
     → ((q : asked.Request) → (is_blank body ≡ true) × (by_target kind target ≡ Some q) → Asks dir kind target body q)
     → ((q : asked.Request) → Asks dir kind target body q → (is_blank body ≡ true) × (by_target kind target ≡ Some q))
     → has_bad_path kind target ≡ false → ReadsTarget kind target blank r → Reads dir kind target body r
 by_shape dir kind target body blank (Ok q) says present back good is = present (request_view q) (says ∙ is.0, is.1)
 by_shape dir kind target body blank (Err BadPath) says present back good is = absurd is
-by_shape dir kind target body blank (Err BadBodyHead) says present back good is = (good, λ q w. is q (sym says ∙ (back q w).0) (back q w).1)
+by_shape dir kind target body blank (Err BadBodyHead) says present back good is =
+    (good, λ q w. is q (sym says ∙ (back q w).0) (back q w).1)
 by_shape dir kind target body blank (Err Memory) says present back good is = tt
 
 -- each kind whose body says nothing, and that names no path in its target
-pub bare_reads : (dir : List ℕ) (kind : Kind) (target body : List ℕ) (blank : Bool) (r : Result Request AskError) → form_of kind ≡ Bare
+pub bare_reads : (dir : List ℕ) (kind : Kind) (target body : List ℕ) (blank : Bool) (r : Result Request AskError)
+    → form_of kind ≡ Bare
     → (kind ≡ kinds.Info → ⊥)
     → (kind ≡ kinds.Nar → ⊥)
     → (kind ≡ kinds.Ls → ⊥)
     → (kind ≡ kinds.RootsOf → ⊥)
     → is_blank body ≡ blank → ReadsTarget kind target blank r → Reads dir kind target body r
 bare_reads dir kinds.AddText target body blank r bare n0 n1 n2 n3 says is = let other : Whole ≡ Bare = bare in absurd cc
-bare_reads dir kinds.AddSource target body blank r bare n0 n1 n2 n3 says is = let other : Parted ≡ Bare = bare in absurd cc
+bare_reads dir kinds.AddSource target body blank r bare n0 n1 n2 n3 says is = let other : Parted ≡ Bare =
+    bare in absurd cc
 bare_reads dir kinds.Import target body blank r bare n0 n1 n2 n3 says is = let other : Parted ≡ Bare = bare in absurd cc
-bare_reads dir kinds.SetPermanent target body blank r bare n0 n1 n2 n3 says is = let other : Whole ≡ Bare = bare in absurd cc
-bare_reads dir kinds.SetUserRoot target body blank r bare n0 n1 n2 n3 says is = let other : Whole ≡ Bare = bare in absurd cc
-bare_reads dir kinds.SetProfile target body blank r bare n0 n1 n2 n3 says is = let other : Whole ≡ Bare = bare in absurd cc
+bare_reads dir kinds.SetPermanent target body blank r bare n0 n1 n2 n3 says is = let other : Whole ≡ Bare =
+    bare in absurd cc
+bare_reads dir kinds.SetUserRoot target body blank r bare n0 n1 n2 n3 says is = let other : Whole ≡ Bare =
+    bare in absurd cc
+bare_reads dir kinds.SetProfile target body blank r bare n0 n1 n2 n3 says is = let other : Whole ≡ Bare =
+    bare in absurd cc
 bare_reads dir kinds.AddTemp target body blank r bare n0 n1 n2 n3 says is = let other : Whole ≡ Bare = bare in absurd cc
-bare_reads dir kinds.ReplaceRuntime target body blank r bare n0 n1 n2 n3 says is = let other : Whole ≡ Bare = bare in absurd cc
+bare_reads dir kinds.ReplaceRuntime target body blank r bare n0 n1 n2 n3 says is = let other : Whole ≡ Bare =
+    bare in absurd cc
 bare_reads dir kinds.Collect target body blank r bare n0 n1 n2 n3 says is = let other : Whole ≡ Bare = bare in absurd cc
 bare_reads dir kinds.Delete target body blank r bare n0 n1 n2 n3 says is = let other : Whole ≡ Bare = bare in absurd cc
 bare_reads dir kinds.Info target body blank r bare n0 n1 n2 n3 says is = absurd (n0 refl)
 bare_reads dir kinds.Nar target body blank r bare n0 n1 n2 n3 says is = absurd (n1 refl)
 bare_reads dir kinds.Ls target body blank r bare n0 n1 n2 n3 says is = absurd (n2 refl)
 bare_reads dir kinds.RootsOf target body blank r bare n0 n1 n2 n3 says is = absurd (n3 refl)
-bare_reads dir kinds.List target body blank r bare n0 n1 n2 n3 says is = by_shape dir kinds.List target body blank r says (λ q w. w) (λ q w. w) refl is
-bare_reads dir kinds.ListRoots target body blank r bare n0 n1 n2 n3 says is = by_shape dir kinds.ListRoots target body blank r says (λ q w. w) (λ q w. w) refl is
-bare_reads dir kinds.Live target body blank r bare n0 n1 n2 n3 says is = by_shape dir kinds.Live target body blank r says (λ q w. w) (λ q w. w) refl is
-bare_reads dir kinds.Dead target body blank r bare n0 n1 n2 n3 says is = by_shape dir kinds.Dead target body blank r says (λ q w. w) (λ q w. w) refl is
-bare_reads dir kinds.Report target body blank r bare n0 n1 n2 n3 says is = by_shape dir kinds.Report target body blank r says (λ q w. w) (λ q w. w) refl is
-bare_reads dir kinds.DropPermanent target body blank r bare n0 n1 n2 n3 says is = by_shape dir kinds.DropPermanent target body blank r says (λ q w. w) (λ q w. w) refl is
-bare_reads dir kinds.DropUserRoot target body blank r bare n0 n1 n2 n3 says is = by_shape dir kinds.DropUserRoot target body blank r says (λ q w. w) (λ q w. w) refl is
-bare_reads dir kinds.Rollback target body blank r bare n0 n1 n2 n3 says is = by_shape dir kinds.Rollback target body blank r says (λ q w. w) (λ q w. w) refl is
-bare_reads dir kinds.Switch target body blank r bare n0 n1 n2 n3 says is = by_shape dir kinds.Switch target body blank r says (λ q w. w) (λ q w. w) refl is
-bare_reads dir kinds.DeleteGeneration target body blank r bare n0 n1 n2 n3 says is = by_shape dir kinds.DeleteGeneration target body blank r says (λ q w. w) (λ q w. w) refl is
-bare_reads dir kinds.EndSession target body blank r bare n0 n1 n2 n3 says is = by_shape dir kinds.EndSession target body blank r says (λ q w. w) (λ q w. w) refl is
+bare_reads dir kinds.List target body blank r bare n0 n1 n2 n3 says is =
+    by_shape dir kinds.List target body blank r says (λ q w. w) (λ q w. w) refl is
+bare_reads dir kinds.ListRoots target body blank r bare n0 n1 n2 n3 says is =
+    by_shape dir kinds.ListRoots target body blank r says (λ q w. w) (λ q w. w) refl is
+bare_reads dir kinds.Live target body blank r bare n0 n1 n2 n3 says is =
+    by_shape dir kinds.Live target body blank r says (λ q w. w) (λ q w. w) refl is
+bare_reads dir kinds.Dead target body blank r bare n0 n1 n2 n3 says is =
+    by_shape dir kinds.Dead target body blank r says (λ q w. w) (λ q w. w) refl is
+bare_reads dir kinds.Report target body blank r bare n0 n1 n2 n3 says is =
+    by_shape dir kinds.Report target body blank r says (λ q w. w) (λ q w. w) refl is
+bare_reads dir kinds.DropPermanent target body blank r bare n0 n1 n2 n3 says is =
+    by_shape dir kinds.DropPermanent target body blank r says (λ q w. w) (λ q w. w) refl is
+bare_reads dir kinds.DropUserRoot target body blank r bare n0 n1 n2 n3 says is =
+    by_shape dir kinds.DropUserRoot target body blank r says (λ q w. w) (λ q w. w) refl is
+bare_reads dir kinds.Rollback target body blank r bare n0 n1 n2 n3 says is =
+    by_shape dir kinds.Rollback target body blank r says (λ q w. w) (λ q w. w) refl is
+bare_reads dir kinds.Switch target body blank r bare n0 n1 n2 n3 says is =
+    by_shape dir kinds.Switch target body blank r says (λ q w. w) (λ q w. w) refl is
+bare_reads dir kinds.DeleteGeneration target body blank r bare n0 n1 n2 n3 says is =
+    by_shape dir kinds.DeleteGeneration target body blank r says (λ q w. w) (λ q w. w) refl is
+bare_reads dir kinds.EndSession target body blank r bare n0 n1 n2 n3 says is =
+    by_shape dir kinds.EndSession target body blank r says (λ q w. w) (λ q w. w) refl is

@@ -1,5 +1,6 @@
 -- What is copied by the names of a route is what a target has in place of its parameters.
-use Rattle.std.proofs.Common.{◌≡◌, ℕ, ◌<◌, ◌==◌, ◌&&◌, List, [], ◌∷◌, length, Bool, true, false, inl, inr, refl, sym, ap, subst, ◌∙◌, arith, ltb}
+use Rattle.std.proofs.Common.{◌≡◌, ℕ, ◌<◌, ◌==◌, ◌&&◌, List, [], ◌∷◌, length, Bool, true, false, inl, inr, refl, sym}
+use Rattle.std.proofs.Common.{ap, subst, ◌∙◌, arith, ltb}
 use Rattle.std.proofs.lemmas.Bool.{ltb-true}
 use Rattle.std.proofs.lemmas.Bool.Decides.{nat_tests}
 use Rattle.std.proofs.lemmas.Str.{IsUtf8-from_is_utf8}
@@ -34,47 +35,60 @@ zipped (name ∷ names) (n ∷ ns) target = (name, part n target) ∷ zipped nam
 -- what a route's text gives: parameters are whole parts, each with a name that is a text
 abbrev is_good : RouteOf Requests → Bool
 is_good r =
-    is_plain r.pattern && begins_parts false r.pattern && (length r.names == parameters_of r.pattern) && ltb (length r.pattern) 1000 && list_all (λ n. is_utf8 (part_of r.text n.0 n.1)) r.names
+    is_plain r.pattern && begins_parts false r.pattern && (length r.names == parameters_of r.pattern)
+    && ltb (length r.pattern) 1000 && list_all (λ n. is_utf8 (part_of r.text n.0 n.1)) r.names
 
 pairs_zipped : (pattern text path : List ℕ) (short : length pattern < 1000) (names : List (ℕ × ℕ)) (ns : List ℕ)
-    → pairs pattern text path short names (map (λ n. part n path) ns) ≡ zipped (map (λ n. part_of text n.0 n.1) names) ns path
+    → pairs pattern text path short names (map (λ n. part n path) ns)
+    ≡ zipped (map (λ n. part_of text n.0 n.1) names) ns path
 pairs_zipped pattern text path short [] ns = refl
 pairs_zipped pattern text path short (name ∷ names) [] = refl
-pairs_zipped pattern text path short (name ∷ names) (n ∷ ns) = ap (λ t. (part_of text name.0 name.1, part n path) ∷ t) (pairs_zipped pattern text path short names ns)
+pairs_zipped pattern text path short (name ∷ names) (n ∷ ns) =
+    ap (λ t. (part_of text name.0 name.1, part n path) ∷ t) (pairs_zipped pattern text path short names ns)
 
-all_text : (text target : List ℕ) (names : List (ℕ × ℕ)) (ns : List ℕ) → IsUtf8 target → list_all (λ n. is_utf8 (part_of text n.0 n.1)) names ≡ true
+all_text : (text target : List ℕ) (names : List (ℕ × ℕ)) (ns : List ℕ) → IsUtf8 target
+    → list_all (λ n. is_utf8 (part_of text n.0 n.1)) names ≡ true
     → AllText (zipped (map (λ n. part_of text n.0 n.1) names) ns target)
 all_text text target [] ns u e = tt
 all_text text target (name ∷ names) [] u e = tt
 all_text text target (name ∷ names) (n ∷ ns) u e = (
-  IsUtf8-from_is_utf8 (part_of text name.0 name.1) (and_first (is_utf8 (part_of text name.0 name.1)) (list_all (λ n. is_utf8 (part_of text n.0 n.1)) names) e),
+  IsUtf8-from_is_utf8 (part_of text name.0 name.1)
+      (and_first (is_utf8 (part_of text name.0 name.1)) (list_all (λ n. is_utf8 (part_of text n.0 n.1)) names) e),
   part_utf8 n target u,
-  all_text text target names ns u (and_last (is_utf8 (part_of text name.0 name.1)) (list_all (λ n. is_utf8 (part_of text n.0 n.1)) names) e),
+  all_text text target names ns u
+      (and_last (is_utf8 (part_of text name.0 name.1)) (list_all (λ n. is_utf8 (part_of text n.0 n.1)) names) e),
 )
 
 module _ (r : RouteOf Requests) (target : List ℕ) (good : is_good r ≡ true) (f : fits r.pattern target ≡ true) where
   pub walk_is : walk r.pattern r.text target r.names 0 0 ≡ zipped (names_of r) (places 0 r.pattern) target
   walk_is =
       let most = and_first _ (list_all (λ n. is_utf8 (part_of r.text n.0 n.1)) r.names) good in
-      let short : length r.pattern < 1000 = ltb-true (length r.pattern) 1000 (and_last _ (ltb (length r.pattern) 1000) most) in
+      let short : length r.pattern < 1000 =
+      ltb-true (length r.pattern) 1000 (and_last _ (ltb (length r.pattern) 1000) most) in
       let three = and_first _ (ltb (length r.pattern) 1000) most in
       let count = and_last _ (length r.names == parameters_of r.pattern) three in
       let two = and_first _ (length r.names == parameters_of r.pattern) three in
       let same : length r.names ≡ parameters_of r.pattern = grind (arith, nat_tests) in
-      walk_used r.pattern r.text target short r.names same (and_first (is_plain r.pattern) (begins_parts false r.pattern) two) f
-      ∙ ap (pairs r.pattern r.text target short r.names) (used_parts target r.pattern (and_last (is_plain r.pattern) (begins_parts false r.pattern) two) f)
+      walk_used r.pattern r.text target short r.names same
+      (and_first (is_plain r.pattern) (begins_parts false r.pattern) two) f
+      ∙ ap (pairs r.pattern r.text target short r.names)
+      (used_parts target r.pattern (and_last (is_plain r.pattern) (begins_parts false r.pattern) two) f)
       ∙ pairs_zipped r.pattern r.text target short r.names (places 0 r.pattern)
 
   pub walk_text : IsUtf8 target → AllText (walk r.pattern r.text target r.names 0 0)
-  walk_text u = subst AllText (sym walk_is) (all_text r.text target r.names (places 0 r.pattern) u (and_last _ (list_all (λ n. is_utf8 (part_of r.text n.0 n.1)) r.names) good))
+  walk_text u =
+      subst AllText (sym walk_is) (all_text r.text target r.names (places 0 r.pattern) u
+      (and_last _ (list_all (λ n. is_utf8 (part_of r.text n.0 n.1)) r.names) good))
 
 -- ---- row by row
 
--- the pattern of a row is that of its route, and what has the names of its parameters is what its requests want of a target
+-- the pattern of a row is that of its route, and what has the names of its parameters is what its requests want of a
+-- target
 abbrev IsNamedRow : List ℕ × RouteOf Requests → Type 0
 IsNamedRow row =
     (row.0 ≡ row.1.pattern) × (is_good row.1 ≡ true)
-    × ((target : List ℕ) (p : Parameters) → AreNamed (zipped (names_of row.1) (places 0 row.1.pattern) target) p → AreParametersOf row.1.value target p)
+    × ((target : List ℕ) (p : Parameters) → AreNamed (zipped (names_of row.1) (places 0 row.1.pattern) target) p
+    → AreParametersOf row.1.value target p)
 
 infixr 5 ◌then◌
 ◌then◌ : {A B : Type 0} → A → B → A × B
@@ -124,5 +138,6 @@ module _ (r : RouteOf Requests) (target t : List ℕ) (has : Has (t, r) rows) (f
   row_text u = walk_text r target row.1 fits_here u
 
   -- what is copied of it by the names is what its requests want
-  pub row_named : (p : Parameters) → AreNamed (walk r.pattern r.text target r.names 0 0) p → AreParametersOf r.value target p
+  pub row_named : (p : Parameters) → AreNamed (walk r.pattern r.text target r.names 0 0) p
+      → AreParametersOf r.value target p
   row_named p is = row.2 target p (subst (λ v. AreNamed v p) (walk_is r target row.1 fits_here) is)

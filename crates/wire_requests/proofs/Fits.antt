@@ -1,5 +1,6 @@
 -- A target fits one pattern of the table at most.
-use Rattle.std.proofs.Common.{◌≡◌, ℕ, List, [], ◌∷◌, Some, None, Bool, true, false, cond, ◌==◌, ◌&&◌, ◌||◌, not, inl, inr, refl, sym, ap, subst, ◌∙◌, arith}
+use Rattle.std.proofs.Common.{◌≡◌, ℕ, List, [], ◌∷◌, Some, None, Bool, true, false, cond, ◌==◌, ◌&&◌, ◌||◌, not, inl}
+use Rattle.std.proofs.Common.{inr, refl, sym, ap, subst, ◌∙◌, arith}
 use Rattle.std.specs.List.{list_all}
 use Rattle.std.specs.Prelude.{map}
 use Rattle.matchit.proofs.OnLiterals.{matchit_on_literals}
@@ -20,7 +21,8 @@ are_distinct [] [] = false
 are_distinct [] (y ∷ b) = true
 are_distinct (x ∷ a) [] = true
 are_distinct (x ∷ a) (y ∷ b) =
-    cond (x == 256) (cond (y == 256) (are_distinct a b) (y == 47)) (cond (y == 256) (x == 47) (not (x == y) || are_distinct a b))
+    cond (x == 256) (cond (y == 256) (are_distinct a b) (y == 47))
+    (cond (y == 256) (x == 47) (not (x == y) || are_distinct a b))
 
 -- no text fits both
 distinct_fits : (a b text : List ℕ) → are_distinct a b ≡ true → fits a text ≡ true → fits b text ≡ true → ⊥
@@ -37,7 +39,9 @@ distinct_fits (x ∷ a) (y ∷ b) (c ∷ text) e f g = by (x == 256) refl (y == 
         → cond v (not (c == 47) && fits a (suffix text)) (x == c && fits a text) ≡ true
         → cond w (not (c == 47) && fits b (suffix text)) (y == c && fits b text) ≡ true
         → ((t : List ℕ) → are_distinct a b ≡ true → fits a t ≡ true → fits b t ≡ true → ⊥) → ⊥
-    by true xv true yw e f g ih = ih (suffix text) e (and_last (not (c == 47)) (fits a (suffix text)) f) (and_last (not (c == 47)) (fits b (suffix text)) g)
+    by true xv true yw e f g ih =
+        ih (suffix text) e (and_last (not (c == 47)) (fits a (suffix text)) f)
+        (and_last (not (c == 47)) (fits b (suffix text)) g)
     by true xv false yw e f g ih =
         let no_slash = not_true (c == 47) (and_first (not (c == 47)) (fits a (suffix text)) f) in
         let same = and_first (y == c) (fits b text) g in
@@ -66,24 +70,33 @@ all_distinct [] = true
 all_distinct (row ∷ rows) = list_all (λ other. are_distinct row.0 other.0) rows && all_distinct rows
 
 -- the row that fits is the first that does
-first_is : (text : List ℕ) (rows : List (List ℕ × Requests)) (t : List ℕ) (requests : Requests) → all_distinct rows ≡ true → Has (t, requests) rows → fits t text ≡ true
+first_is : (text : List ℕ) (rows : List (List ℕ × Requests)) (t : List ℕ) (requests : Requests)
+    → all_distinct rows ≡ true → Has (t, requests) rows → fits t text ≡ true
     → first_fit text rows ≡ Some requests
 first_is text [] t requests e has f = absurd has
 first_is text (row ∷ rows) t requests e (inl is) f =
     ap (λ v. cond v (Some row.1) (first_fit text rows)) (ap (λ r. fits r.0 text) is ∙ f) ∙ ap (λ r. Some r.1) is
-first_is text (row ∷ rows) t requests e (inr has) f = by (fits row.0 text) refl (first_is text rows t requests (and_last _ (all_distinct rows) e) has f)
+first_is text (row ∷ rows) t requests e (inr has) f =
+    by (fits row.0 text) refl (first_is text rows t requests (and_last _ (all_distinct rows) e) has f)
   where
-    by : (v : Bool) → fits row.0 text ≡ v → first_fit text rows ≡ Some requests → cond v (Some row.1) (first_fit text rows) ≡ Some requests
+    by : (v : Bool) → fits row.0 text ≡ v → first_fit text rows ≡ Some requests
+        → cond v (Some row.1) (first_fit text rows) ≡ Some requests
     by true is ih =
-        let other = all_has (λ o. are_distinct row.0 o.0) (t, requests) rows (and_first (list_all (λ o. are_distinct row.0 o.0) rows) (all_distinct rows) e) has in
+        let other =
+        all_has (λ o. are_distinct row.0 o.0) (t, requests) rows
+        (and_first (list_all (λ o. are_distinct row.0 o.0) rows) (all_distinct rows) e) has in
         absurd (distinct_fits row.0 t text other is f)
     by false is ih = ih
 
-none_first : (text : List ℕ) (rows : List (List ℕ × Requests)) → ((t : List ℕ) (requests : Requests) → Has (t, requests) rows → fits t text ≡ true → ⊥) → first_fit text rows ≡ None
+none_first : (text : List ℕ) (rows : List (List ℕ × Requests))
+    → ((t : List ℕ) (requests : Requests) → Has (t, requests) rows → fits t text ≡ true → ⊥)
+    → first_fit text rows ≡ None
 none_first text [] none = refl
-none_first text (row ∷ rows) none = by (fits row.0 text) refl (none_first text rows (λ t requests has f. none t requests (inr has) f))
+none_first text (row ∷ rows) none =
+    by (fits row.0 text) refl (none_first text rows (λ t requests has f. none t requests (inr has) f))
   where
-    by : (v : Bool) → fits row.0 text ≡ v → first_fit text rows ≡ None → cond v (Some row.1) (first_fit text rows) ≡ None
+    by : (v : Bool) → fits row.0 text ≡ v → first_fit text rows ≡ None
+        → cond v (Some row.1) (first_fit text rows) ≡ None
     by true is ih = absurd (none row.0 row.1 (inl refl) is)
     by false is ih = ih
 
@@ -119,14 +132,17 @@ module _ (rs : RowsOf (RouteOf Requests)) (are : AreRows rs rows) (text : List �
   plain t r has = all_has (λ row. is_plain row.0) (t, r) rows rows_plain (are.each (t, r) has)
 
   -- what the router finds is a row that the target fits
-  pub found_row : AllBytes text → (r : RouteOf Requests) → first rs text ≡ Some r → (t : List ℕ) × Has (t, r) rows × (fits t text ≡ true)
-  found_row bytes r e = let found = found_fits rs text plain bytes r e in (found.0, are.each (found.0, r) found.1, found.2)
+  pub found_row : AllBytes text → (r : RouteOf Requests) → first rs text ≡ Some r
+      → (t : List ℕ) × Has (t, r) rows × (fits t text ≡ true)
+  found_row bytes r e = let found =
+      found_fits rs text plain bytes r e in (found.0, are.each (found.0, r) found.1, found.2)
 
   -- it has the requests of the target
   pub found_requests : AllBytes text → (r : RouteOf Requests) → first rs text ≡ Some r → requests_of text ≡ Some r.value
   found_requests bytes r e =
       let found = found_row bytes r e in
-      let present = subst (λ rows. Has (found.0, r.value) rows) rows_table (has_map requests_in (found.0, r) rows found.1) in
+      let present =
+      subst (λ rows. Has (found.0, r.value) rows) rows_table (has_map requests_in (found.0, r) rows found.1) in
       first_is text table found.0 r.value table_distinct present found.2
 
   pub missing_requests : first rs text ≡ None → requests_of text ≡ None

@@ -1,5 +1,6 @@
 -- A router after one more route.
-use Rattle.std.proofs.Common.{◌≡◌, ◌⊎◌, ℕ, List, [], ◌∷◌, ◌++◌, Result, Ok, Err, Bool, true, false, cond, inl, inr, sym, ap, subst, ◌∙◌, ◌+◌, ◌<◌, length, take, get_or}
+use Rattle.std.proofs.Common.{◌≡◌, ◌⊎◌, ℕ, List, [], ◌∷◌, ◌++◌, Result, Ok, Err, Bool, true, false, cond, inl, inr, sym}
+use Rattle.std.proofs.Common.{ap, subst, ◌∙◌, ◌+◌, ◌<◌, length, take, get_or}
 use Rattle.std.specs.Prelude.{map}
 use Rattle.std.proofs.lemmas.List.{take_more, map-append}
 use Rattle.matchit.specs.Rows.{RowsOf, comes_before}
@@ -17,7 +18,8 @@ module _ {K : Type 0} where
   placed_has r x [] (inr h) = absurd h
   placed_has r x (y ∷ rs) has = by (comes_before r.0 y.0) has (placed_has r x rs)
     where
-      by : (v : Bool) → Has x (cond v (r ∷ y ∷ rs) (y ∷ placed r rs)) → (Has x (placed r rs) → (r ≡ x) ⊎ Has x rs) → (r ≡ x) ⊎ Has x (y ∷ rs)
+      by : (v : Bool) → Has x (cond v (r ∷ y ∷ rs) (y ∷ placed r rs)) → (Has x (placed r rs) → (r ≡ x) ⊎ Has x rs)
+          → (r ≡ x) ⊎ Has x (y ∷ rs)
       by true (inl e) ih = inl e
       by true (inr h) ih = inr h
       by false (inl e) ih = inr (inl e)
@@ -28,7 +30,8 @@ module _ {K : Type 0} where
   has_placed r x [] (inr h) = absurd h
   has_placed r x (y ∷ rs) has = by (comes_before r.0 y.0) has (has_placed r x rs)
     where
-      by : (v : Bool) → (r ≡ x) ⊎ Has x (y ∷ rs) → ((r ≡ x) ⊎ Has x rs → Has x (placed r rs)) → Has x (cond v (r ∷ y ∷ rs) (y ∷ placed r rs))
+      by : (v : Bool) → (r ≡ x) ⊎ Has x (y ∷ rs) → ((r ≡ x) ⊎ Has x rs → Has x (placed r rs))
+          → Has x (cond v (r ∷ y ∷ rs) (y ∷ placed r rs))
       by true (inl e) ih = inl e
       by true (inr h) ih = inr h
       by false (inl e) ih = inr (ih (inl e))
@@ -56,7 +59,8 @@ ok_no_error : (u : Unit {0}) (e : InsertError) → Ok u ≡ Err e → ⊥
 ok_no_error u e h = cc
 
 -- one more route of the table
-pub one_row : (p : Result Scan InsertError) (requests : Requests) (old new table : RowsOf (RouteOf Requests)) (u : Unit {0})
+pub one_row : (p : Result Scan InsertError) (requests : Requests) (old new table : RowsOf (RouteOf Requests))
+    (u : Unit {0})
     → InsertsRead p requests old new (Ok u) → AreRows old table → AreRows new (table ++ read_row p requests ∷ [])
 one_row (Err e) requests old new table u (same, inl h) rows = absurd (ok_no_error u e h)
 one_row (Err e) requests old new table u (same, inr h) rows = absurd (ok_no_error u OutOfMemory h)

@@ -1,5 +1,6 @@
 -- Rows by their first token.
-use Rattle.std.proofs.Common.{◌≡◌, ℕ, List, [], ◌∷◌, drop, get_or, Some, None, Bool, true, false, cond, ◌==◌, inl, inr, refl, ap, ◌∙◌, arith, eq-eqb}
+use Rattle.std.proofs.Common.{◌≡◌, ℕ, List, [], ◌∷◌, drop, get_or, Some, None, Bool, true, false, cond, ◌==◌, inl, inr}
+use Rattle.std.proofs.Common.{refl, ap, ◌∙◌, arith, eq-eqb}
 use Rattle.std.proofs.lemmas.Bool.Decides.{nat_tests}
 use Rattle.std.proofs.lemmas.Slice.Eq.{bytes_eq-Decides}
 use Rattle.matchit.specs.Rows.{RowsOf}
@@ -25,7 +26,8 @@ module _ {K : Type 0} where
   step_has x t k (([], l) ∷ rs) has = inr (step_has x t k rs has)
   step_has x t k ((y ∷ u, l) ∷ rs) has = by (y == x) refl has (step_has x t k rs)
     where
-      by : (v : Bool) → (y == x) ≡ v → Has (t, k) (cond v ((u, l) ∷ step x rs) (step x rs)) → (Has (t, k) (step x rs) → Has (x ∷ t, k) rs)
+      by : (v : Bool) → (y == x) ≡ v → Has (t, k) (cond v ((u, l) ∷ step x rs) (step x rs))
+          → (Has (t, k) (step x rs) → Has (x ∷ t, k) rs)
           → Has (x ∷ t, k) ((y ∷ u, l) ∷ rs)
       by true is (inl e) ih = let same : y ≡ x = grind (arith, nat_tests) in inl (λ i. (same i ∷ (e i).0, (e i).1))
       by true is (inr has) ih = inr (ih has)
@@ -46,16 +48,19 @@ module _ {K : Type 0} where
   suffix_has s t k [] has = absurd has
   suffix_has s t k ((u, l) ∷ rs) has = by (same_text (segment u) s) has (suffix_has s t k rs)
     where
-      by : (v : Bool) → Has (t, k) (cond v ((u, l) ∷ with_suffix s rs) (with_suffix s rs)) → (Has (t, k) (with_suffix s rs) → Has (t, k) rs) → Has (t, k) ((u, l) ∷ rs)
+      by : (v : Bool) → Has (t, k) (cond v ((u, l) ∷ with_suffix s rs) (with_suffix s rs))
+          → (Has (t, k) (with_suffix s rs) → Has (t, k) rs) → Has (t, k) ((u, l) ∷ rs)
       by true (inl e) ih = inl e
       by true (inr has) ih = inr (ih has)
       by false has ih = inr (ih has)
 
-  pub has_suffix : (s t : List ℕ) (k : K) (rs : RowsOf K) → segment t ≡ s → Has (t, k) rs → Has (t, k) (with_suffix s rs)
+  pub has_suffix : (s t : List ℕ) (k : K) (rs : RowsOf K) → segment t ≡ s → Has (t, k) rs
+      → Has (t, k) (with_suffix s rs)
   has_suffix s t k [] is has = absurd has
   has_suffix s t k ((u, l) ∷ rs) is has = by (same_text (segment u) s) refl has (has_suffix s t k rs is)
     where
-      by : (v : Bool) → same_text (segment u) s ≡ v → Has (t, k) ((u, l) ∷ rs) → (Has (t, k) rs → Has (t, k) (with_suffix s rs))
+      by : (v : Bool) → same_text (segment u) s ≡ v → Has (t, k) ((u, l) ∷ rs)
+          → (Has (t, k) rs → Has (t, k) (with_suffix s rs))
           → Has (t, k) (cond v ((u, l) ∷ with_suffix s rs) (with_suffix s rs))
       by true e (inl q) ih = inl q
       by true e (inr has) ih = inr (ih has)

@@ -1,5 +1,6 @@
 -- Texts with slashes, and tests on them.
-use Rattle.std.proofs.Common.{◌≡◌, ℕ, suc, ◌-◌, ◌<◌, ◌≤◌, List, [], ◌∷◌, length, drop, get_or, Bool, true, false, cond, ◌==◌, ◌&&◌, not, refl, ap, ◌∙◌, arith, ltb}
+use Rattle.std.proofs.Common.{◌≡◌, ℕ, suc, ◌-◌, ◌<◌, ◌≤◌, List, [], ◌∷◌, length, drop, get_or, Bool, true, false, cond}
+use Rattle.std.proofs.Common.{◌==◌, ◌&&◌, not, refl, ap, ◌∙◌, arith, ltb}
 use Rattle.std.proofs.lemmas.Bool.{lt-ltb}
 use Rattle.std.proofs.lemmas.Bool.Decides.{nat_tests}
 use Rattle.std.specs.Prelude.{nat_eq}
@@ -13,7 +14,8 @@ pub no_slash : (text : List ℕ) → has_slash text ≡ false → suffix text �
 no_slash [] e = refl
 no_slash (b ∷ text) e = by (b == 47) refl e (no_slash text)
   where
-    by : (v : Bool) → (b == 47) ≡ v → cond v true (has_slash text) ≡ false → (has_slash text ≡ false → suffix text ≡ []) → cond v (b ∷ text) (suffix text) ≡ []
+    by : (v : Bool) → (b == 47) ≡ v → cond v true (has_slash text) ≡ false → (has_slash text ≡ false → suffix text ≡ [])
+        → cond v (b ∷ text) (suffix text) ≡ []
     by true is e ih = let h : true ≡ false = e in cc
     by false is e ih = ih e
 
@@ -21,7 +23,8 @@ pub with_slash : (text : List ℕ) → has_slash text ≡ true → (rest : List 
 with_slash [] e = let h : false ≡ true = e in cc
 with_slash (b ∷ text) e = by (b == 47) refl e (with_slash text)
   where
-    by : (v : Bool) → (b == 47) ≡ v → cond v true (has_slash text) ≡ true → (has_slash text ≡ true → (rest : List ℕ) × (suffix text ≡ 47 ∷ rest))
+    by : (v : Bool) → (b == 47) ≡ v → cond v true (has_slash text) ≡ true
+        → (has_slash text ≡ true → (rest : List ℕ) × (suffix text ≡ 47 ∷ rest))
         → (rest : List ℕ) × (cond v (b ∷ text) (suffix text) ≡ 47 ∷ rest)
     by true is e ih = let same : b ≡ 47 = grind (arith, nat_tests) in (text, ap (λ c. c ∷ text) same)
     by false is e ih = ih e
@@ -43,7 +46,8 @@ pub after_segment : (text : List ℕ) → has_slash text ≡ true → drop (leng
 after_segment [] e = refl
 after_segment (b ∷ text) e = by (b == 47) e (after_segment text)
   where
-    by : (v : Bool) → cond v true (has_slash text) ≡ true → (has_slash text ≡ true → drop (length (segment text) - 1) text ≡ suffix text)
+    by : (v : Bool) → cond v true (has_slash text) ≡ true
+        → (has_slash text ≡ true → drop (length (segment text) - 1) text ≡ suffix text)
         → drop (length (cond v (b ∷ []) (b ∷ segment text)) - 1) (b ∷ text) ≡ cond v (b ∷ text) (suffix text)
     by true e ih = refl
     by false e ih =
@@ -52,21 +56,27 @@ after_segment (b ∷ text) e = by (b == 47) e (after_segment text)
         ap (λ n. drop n (b ∷ text)) size ∙ ih e
 
 -- a segment ends in a slash where the text has one
-pub ends_in_slash : (b : ℕ) (text : List ℕ) → (b == 47) ≡ false → pointwise nat_eq (47 ∷ []) (drop (length (segment text)) (b ∷ segment text)) ≡ has_slash text
+pub ends_in_slash : (b : ℕ) (text : List ℕ) → (b == 47) ≡ false
+    → pointwise nat_eq (47 ∷ []) (drop (length (segment text)) (b ∷ segment text)) ≡ has_slash text
 ends_in_slash b [] e = let f : (47 == b) ≡ false = grind (arith, nat_tests) in rw f refl
 ends_in_slash b (c ∷ text) e = by (c == 47) refl (ends_in_slash c text)
   where
-    by : (v : Bool) → (c == 47) ≡ v → ((c == 47) ≡ false → pointwise nat_eq (47 ∷ []) (drop (length (segment text)) (c ∷ segment text)) ≡ has_slash text)
-        → pointwise nat_eq (47 ∷ []) (drop (length (cond v (c ∷ []) (c ∷ segment text))) (b ∷ cond v (c ∷ []) (c ∷ segment text))) ≡ cond v true (has_slash text)
+    by : (v : Bool) → (c == 47) ≡ v
+        → ((c == 47) ≡ false → pointwise nat_eq (47 ∷ []) (drop (length (segment text)) (c ∷ segment text))
+        ≡ has_slash text)
+        → pointwise nat_eq (47 ∷ []) (drop (length (cond v (c ∷ []) (c ∷ segment text)))
+        (b ∷ cond v (c ∷ []) (c ∷ segment text))) ≡ cond v true (has_slash text)
     by true is ih = let f : (47 == c) ≡ true = grind (arith, nat_tests) in rw f refl
     by false is ih = ih is
 
 -- where a parameter may stop at a slash
-pub cuts_more : (s : List ℕ) (b : ℕ) → 0 < length s → cuts (b ∷ s) (47 ∷ []) ≡ pointwise nat_eq (47 ∷ []) (drop (length s) (b ∷ s))
+pub cuts_more : (s : List ℕ) (b : ℕ) → 0 < length s
+    → cuts (b ∷ s) (47 ∷ []) ≡ pointwise nat_eq (47 ∷ []) (drop (length s) (b ∷ s))
 cuts_more s b some =
     let longer : ltb 1 (length (b ∷ s)) ≡ true = lt-ltb 1 (length (b ∷ s)) (omega arith) in
     let size : length (b ∷ s) - 1 ≡ length s = omega arith in
-    ap (λ v. v && ends_with nat_eq (b ∷ s) (47 ∷ [])) longer ∙ ap (λ n. pointwise nat_eq (47 ∷ []) (drop n (b ∷ s))) size
+    ap (λ v. v && ends_with nat_eq (b ∷ s) (47 ∷ [])) longer
+    ∙ ap (λ n. pointwise nat_eq (47 ∷ []) (drop n (b ∷ s))) size
 
 pub cuts_slash : (b : ℕ) (text : List ℕ) → (b == 47) ≡ false → cuts (segment (b ∷ text)) (47 ∷ []) ≡ has_slash text
 cuts_slash b [] e = rw e refl
@@ -111,11 +121,13 @@ short_after (b ∷ text) = by (b == 47) (short_after text)
     by false ih = omega arith
 
 -- a parameter that fits, and a byte
-pub fits_parameter : (t : List ℕ) (b : ℕ) (path : List ℕ) → (b == 47) ≡ false → fits t (suffix path) ≡ true → fits (256 ∷ t) (b ∷ path) ≡ true
+pub fits_parameter : (t : List ℕ) (b : ℕ) (path : List ℕ) → (b == 47) ≡ false → fits t (suffix path) ≡ true
+    → fits (256 ∷ t) (b ∷ path) ≡ true
 fits_parameter t b path e f = ap (λ v. not v && fits t (suffix path)) e ∙ f
 
 pub fits_byte : (t : List ℕ) (b : ℕ) (path : List ℕ) → b < 256 → fits t path ≡ true → fits (b ∷ t) (b ∷ path) ≡ true
 fits_byte t b path byte f =
     let no_parameter : (b == 256) ≡ false = grind (arith, nat_tests) in
     let same : (b == b) ≡ true = grind (arith, nat_tests) in
-    ap (λ v. cond v (not (b == 47) && fits t (suffix path)) (b == b && fits t path)) no_parameter ∙ ap (λ v. v && fits t path) same ∙ f
+    ap (λ v. cond v (not (b == 47) && fits t (suffix path)) (b == b && fits t path)) no_parameter
+    ∙ ap (λ v. v && fits t path) same ∙ f

@@ -1,5 +1,6 @@
 -- The methods of routes are words that need no memory.
-use Rattle.std.proofs.Common.{◌≡◌, ℕ, ◌≤◌, List, length, Bool, true, false, cond, Some, None, refl, sym, ap, ◌∙◌, subst, lit≤, lit<}
+use Rattle.std.proofs.Common.{◌≡◌, ℕ, ◌≤◌, List, length, Bool, true, false, cond, Some, None, refl, sym, ap, ◌∙◌, subst}
+use Rattle.std.proofs.Common.{lit≤, lit<}
 use Rattle.std.specs.Prelude.{codes}
 use Rattle.std.specs.Str.{bytes_eq}
 use Rattle.std.proofs.lemmas.Slice.Eq.{bytes_eq-Decides}
@@ -46,4 +47,5 @@ module _ (method : List ℕ) (none : IsToken method → length method ≤ 15 →
   no_kind (Post kind) = sym (ap (λ v. cond v (Some kind) None) is_post)
   no_kind (Delete kind) = sym (ap (λ v. cond v (Some kind) None) is_delete)
   no_kind (PostOrDelete kind other) =
-      sym (ap (λ v. cond v (Some kind) (cond (bytes_eq method (codes "DELETE")) (Some other) None)) is_post ∙ ap (λ v. cond v (Some other) None) is_delete)
+      sym (ap (λ v. cond v (Some kind) (cond (bytes_eq method (codes "DELETE")) (Some other) None)) is_post
+      ∙ ap (λ v. cond v (Some other) None) is_delete)

@@ -4,9 +4,13 @@ use Rattle.std.specs.Str.{bytes_eq}
 use Rattle.paths.specs.Decimal.{generation_number, session_number}
 use Rattle.paths.specs.StorePath.{is_base_name}
 use Rattle.model.specs.World.{Path, Pair}
-use Rattle.model.specs.Request.{Request, add_text, add_source, import_object, info, nar, ls, list, list_live, list_dead, list_roots, list_roots_of, set_permanent, drop_permanent, set_user_root, drop_user_root, set_profile, rollback, switch, delete_generation, replace_runtime, add_temp, end_session, collect, delete, report}
+use Rattle.model.specs.Request.{Request, add_text, add_source, import_object, info, nar, ls, list, list_live, list_dead}
+use Rattle.model.specs.Request.{list_roots, list_roots_of, set_permanent, drop_permanent, set_user_root, drop_user_root}
+use Rattle.model.specs.Request.{set_profile, rollback, switch, delete_generation, replace_runtime, add_temp}
+use Rattle.model.specs.Request.{end_session, collect, delete, report}
 use Rattle.wire_requests.specs.Parts.{path, user, name, number, session}
-use Rattle.wire_requests.specs.Table.{at_info, at_nar, at_ls, at_roots_of, at_permanent, at_user_root, at_profile, at_rollback, at_switch, at_generation, at_temp}
+use Rattle.wire_requests.specs.Table.{at_info, at_nar, at_ls, at_roots_of, at_permanent, at_user_root, at_profile}
+use Rattle.wire_requests.specs.Table.{at_rollback, at_switch, at_generation, at_temp}
 use Rattle.wire_requests.specs.declared.kind.Kind.{Kind}
 use Rattle.wire_requests.specs.declared.kind.Kind.TheVariants as kinds
 use Rattle.wire_bodies.specs.Lines.{spelled}

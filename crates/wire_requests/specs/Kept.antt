@@ -1,6 +1,7 @@
 -- What is kept of the body of a message, and the request that is made of it.
-use Rattle.std.specs.Prelude.{◌≡◌, ◌⊎◌, ◌==◌, ◌++◌, ℕ, Bool, true, false, cond, List, [], ◌∷◌, Option, Some, None, IsTrue}
-use Rattle.intake.specs.Arriving.{bytes_in}
+use Rattle.std.specs.Prelude.{◌≡◌, ◌⊎◌, ◌==◌, ◌++◌, ℕ, Bool, true, false, cond, List, [], ◌∷◌, Option, Some, None}
+use Rattle.std.specs.Prelude.{IsTrue}
+use Rattle.intake.specs.Arrival.{bytes_in}
 use Rattle.model.specs.Request as asked
 use Rattle.model.specs.Request.{add_source, import_object}
 use Rattle.store_types.specs.Spent.{is_spent}

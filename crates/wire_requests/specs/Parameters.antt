@@ -3,7 +3,8 @@ use Rattle.std.specs.Prelude.{◌≡◌, ℕ, List, [], codes, string_bytes, unw
 use Rattle.matchit.specs.Params.{walk, named}
 use Rattle.matchit.specs.declared.params.Params.{Params}
 use Rattle.wire_requests.specs.Parts.{path, user, name, number, session}
-use Rattle.wire_requests.specs.Table.{at_info, at_nar, at_ls, at_roots_of, at_permanent, at_user_root, at_profile, at_rollback, at_switch, at_generation, at_temp}
+use Rattle.wire_requests.specs.Table.{at_info, at_nar, at_ls, at_roots_of, at_permanent, at_user_root, at_profile}
+use Rattle.wire_requests.specs.Table.{at_rollback, at_switch, at_generation, at_temp}
 use Rattle.wire_requests.specs.declared.kind.Kind.{Kind}
 use Rattle.wire_requests.specs.declared.kind.Kind.TheVariants as kinds
 use Rattle.wire_requests.specs.declared.parameters.Parameters.{Parameters}

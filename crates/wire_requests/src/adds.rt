@@ -5,7 +5,7 @@ ghost use Rattle.wire_bodies.specs.Bodies.{IsNamedBody, IsImportBody};
 ghost use Rattle.wire_bodies.specs.Prefix.{prefix_of, rest_of};
 ghost use Rattle.wire_bodies.specs.declared.heads.NamedHead.{NamedHead as NamedOf};
 ghost use Rattle.wire_bodies.specs.declared.import.ImportHead.{ImportHead as ImportOf};
-ghost use Rattle.intake.specs.Arriving.{bytes_in};
+ghost use Rattle.intake.specs.Arrival.{bytes_in};
 ghost use Rattle.model.specs.Request.{import_object};
 ghost use Rattle.store_types.specs.View.{request_view};
 ghost use Rattle.wire_requests.specs.View as given;

@@ -1,7 +1,7 @@
 //! A body whose payload is an archive, as it arrives.
 ghost use Rattle.std.specs.Prelude.{◌≡◌, ◌++◌, ℕ, List, [], Ok, OnOk, Some, true};
 ghost use Rattle.wire_bodies.specs.Prefix.{prefix_of, rest_of};
-ghost use Rattle.intake.specs.Arriving.{bytes_in};
+ghost use Rattle.intake.specs.Arrival.{bytes_in};
 ghost use Rattle.wire_requests.specs.Kept.{IsParted, bytes_of};
 
 use intake::Intake;
@@ -22,7 +22,7 @@ pub struct Parted {
 impl Model for Parted {
     ghost use Rattle.std.specs.Prelude.{◌≡◌, ◌++◌, List, ℕ, Option};
     ghost use Rattle.wire_bodies.specs.Prefix.{prefix_of};
-    ghost use Rattle.intake.specs.Arriving.{bytes_in};
+    ghost use Rattle.intake.specs.Arrival.{bytes_in};
 
     ghost Value = { List ℕ × Option (List ℕ) };
 

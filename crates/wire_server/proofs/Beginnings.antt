@@ -10,15 +10,20 @@ use Rattle.wire_server.specs.Heads.{has_begun_in}
 
 -- it comes after any other bytes
 has_begun_after : (a b : List ℕ) → has_begun_in b ≡ true → has_begun_in (a ++ b) ≡ true
-has_begun_after a b has = list_any-append (λ x. not (x == 13 || x == 10)) a b ∙ ap (λ y. list_any (λ x. not (x == 13 || x == 10)) a || y) has ∙ or-true _
+has_begun_after a b has =
+    list_any-append (λ x. not (x == 13 || x == 10)) a b ∙ ap (λ y. list_any (λ x. not (x == 13 || x == 10)) a || y) has
+    ∙ or-true _
 
 pub none_in_line_ends : (buf : List ℕ) → has_begun_in buf ≡ false → HasNoRequest buf
 none_in_line_ends buf lacks h rest reads =
     let has : has_begun_in buf ≡ true =
-    ap has_begun_in (reads.1 ∙ print_request-append h rest) ∙ has_begun_after (print_blank h.blank) _ (has_begun_after h.method _ refl) in
+    ap has_begun_in (reads.1 ∙ print_request-append h rest)
+    ∙ has_begun_after (print_blank h.blank) _ (has_begun_after h.method _ refl) in
     cc
 
 -- in a prefix or after it
-pub has_begun_in-parts : (seen : ℕ) (buf : List ℕ) → has_begun_in buf ≡ (has_begun_in (take seen buf) || has_begun_in (drop seen buf))
+pub has_begun_in-parts : (seen : ℕ) (buf : List ℕ)
+    → has_begun_in buf ≡ (has_begun_in (take seen buf) || has_begun_in (drop seen buf))
 has_begun_in-parts seen buf =
-    ap has_begun_in (sym (take-append-drop seen buf)) ∙ list_any-append (λ b. not (b == 13 || b == 10)) (take seen buf) (drop seen buf)
+    ap has_begun_in (sym (take-append-drop seen buf))
+    ∙ list_any-append (λ b. not (b == 13 || b == 10)) (take seen buf) (drop seen buf)

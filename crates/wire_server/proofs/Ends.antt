@@ -1,12 +1,13 @@
 -- What one turn of the loop comes to.
-use Rattle.std.proofs.Common.{◌≡◌, ℕ, ◌+◌, ◌<◌, ◌-◌, ◌^◌, List, [], ◌∷◌, ◌++◌, length, take, drop, Option, Err, true, false, refl, sym, ap, ◌∙◌, arith, subst, inl, inr}
+use Rattle.std.proofs.Common.{◌≡◌, ℕ, ◌+◌, ◌<◌, ◌-◌, ◌^◌, List, [], ◌∷◌, ◌++◌, length, take, drop, Option, Err, true}
+use Rattle.std.proofs.Common.{false, refl, sym, ap, ◌∙◌, arith, subst, inl, inr}
 use Rattle.std.specs.Prelude.{IfSome}
 use Rattle.std.specs.Io.KnownBytes.{Consumes, IsAtEnd, Appends, Keeps}
 use Rattle.std.proofs.KnownBytes.{Appends-trans, Appends-nil, Appends-kept}
 use Rattle.streams.specs.Sends.{AppendsPrefix}
 use Rattle.httparse.specs.Grammar.{RequestHead}
 use Rattle.wire_server.specs.declared.head.Head.{Head}
-use Rattle.wire_server.specs.declared.fault.Fault.{Fault}
+use Rattle.wire_server.specs.declared.error.Fault.{Fault}
 use Rattle.wire_server.specs.Messages.{IsFault, HoldsMessage}
 use Rattle.wire_server.specs.Division.{message, faulty, closes}
 use Rattle.wire_server.specs.Responses.{Replied, reply_bytes}
@@ -14,20 +15,34 @@ use Rattle.wire_server.specs.Answers.{body_in}
 use Rattle.wire_server.specs.Serves.{fault_reply, joined, reported, IsWritten, Serves, Stops}
 use Rattle.wire_server.specs.declared.error.WireError.{WireError}
 use Rattle.wire_server.specs.declared.error.WireError.TheVariants.{Read, Write, Memory}
-use Rattle.wire_server.proofs.Reported.{Reported, divides_all, begins_all, follows_start, follows_read, follows_end, follows_any, follows_fault, follows_last, follows_more, follows_item, joined_more, counted_more, replies_item, replies_fault}
+use Rattle.wire_server.proofs.Reported.{Reported, divides_all, begins_all, follows_start, follows_read, follows_end}
+use Rattle.wire_server.proofs.Reported.{follows_any, follows_fault, follows_last, follows_more, follows_item}
+use Rattle.wire_server.proofs.Reported.{joined_more, counted_more, replies_item, replies_fault}
 
 full : (n k : ℕ) → n ≡ 340282366920938463463374607431768211455 → n ≡ k → k < 2 ^ 128 - 1 → ⊥
 full n k is same small = omega arith
 
 -- one more reply
-sent_more : (a b c : Option (List ℕ)) (replies : List (List ℕ)) (last : List ℕ) → Appends a b (joined replies) → Appends b c last → Appends a c (joined (replies ++ last ∷ []))
-sent_more a b c replies last first second = subst (Appends a c) (sym (joined_more replies last)) (Appends-trans a b c (joined replies) last first second)
+sent_more : (a b c : Option (List ℕ)) (replies : List (List ℕ)) (last : List ℕ) → Appends a b (joined replies)
+    → Appends b c last → Appends a c (joined (replies ++ last ∷ []))
+sent_more a b c replies last first second =
+    subst (Appends a c) (sym (joined_more replies last)) (Appends-trans a b c (joined replies) last first second)
 
-module _ {S : Type 0} (answers : S → RequestHead → List ℕ → Replied → S → Type 0) (input output : Option (List ℕ)) (s : S) where
+module _ {S : Type 0} (answers : S → RequestHead → List ℕ → Replied → S → Type 0) (input output : Option (List ℕ))
+    (s : S) where
   pub reported_start : Reported answers input input output output [] s s 0
-  reported_start = record { done = []; replies = []; counted = refl; follows = follows_start input; answered = refl; written = Appends-nil output }
+  reported_start =
+      record {
+        done = [];
+        replies = [];
+        counted = refl;
+        follows = follows_start input;
+        answered = refl;
+        written = Appends-nil output;
+      }
 
-  pub reported_read : (mid rest out : Option (List ℕ)) (held held' bs : List ℕ) (t : S) (n : ℕ) → Reported answers input mid output out held s t n
+  pub reported_read : (mid rest out : Option (List ℕ)) (held held' bs : List ℕ) (t : S) (n : ℕ)
+      → Reported answers input mid output out held s t n
       → Consumes mid rest bs → held' ≡ held ++ bs → Reported answers input rest output out held' s t n
   reported_read mid rest out held held' bs t n report read kept = record {
     done = report.done;
@@ -39,7 +54,8 @@ module _ {S : Type 0} (answers : S → RequestHead → List ℕ → Replied → 
   }
 
   -- broken off before another reply
-  pub stopped : (rest out : Option (List ℕ)) (held : List ℕ) (t : S) (n : ℕ) → Reported answers input rest output out held s t n
+  pub stopped : (rest out : Option (List ℕ)) (held : List ℕ) (t : S) (n : ℕ)
+      → Reported answers input rest output out held s t n
       → (e : WireError) → (e ≡ Write → ⊥) → Stops answers input output out s t e
   stopped rest out held t n report e reading = record {
     items = report.done;
@@ -61,7 +77,8 @@ module _ {S : Type 0} (answers : S → RequestHead → List ℕ → Replied → 
   unserved = stopped input output [] s 0 reported_start Memory (λ is. cc)
 
   -- a connection to whose writer nothing was given
-  pub still : (rest out out' : Option (List ℕ)) (held : List ℕ) (t : S) (n : ℕ) → Reported answers input rest output out held s t n → Keeps out out'
+  pub still : (rest out out' : Option (List ℕ)) (held : List ℕ) (t : S) (n : ℕ)
+      → Reported answers input rest output out held s t n → Keeps out out'
       → Reported answers input rest output out' held s t n
   still rest out out' held t n report kept = record {
     done = report.done;
@@ -73,7 +90,8 @@ module _ {S : Type 0} (answers : S → RequestHead → List ℕ → Replied → 
   }
 
   -- as many as are counted
-  pub counted_out : (rest out : Option (List ℕ)) (held : List ℕ) (t : S) (n : ℕ) → Reported answers input rest output out held s t n
+  pub counted_out : (rest out : Option (List ℕ)) (held : List ℕ) (t : S) (n : ℕ)
+      → Reported answers input rest output out held s t n
       → n ≡ 340282366920938463463374607431768211455 → Serves answers input output out s t 18446744073709551615
   counted_out rest out held t n report is = record {
     items = report.done;
@@ -86,7 +104,8 @@ module _ {S : Type 0} (answers : S → RequestHead → List ℕ → Replied → 
   }
 
   -- nothing is left
-  pub ended : (rest out : Option (List ℕ)) (held : List ℕ) (t : S) (n : ℕ) → Reported answers input rest output out held s t n → held ≡ [] → IsAtEnd rest
+  pub ended : (rest out : Option (List ℕ)) (held : List ℕ) (t : S) (n : ℕ)
+      → Reported answers input rest output out held s t n → held ≡ [] → IsAtEnd rest
       → Serves answers input output out s t (reported n)
   ended rest out held t n report none end = record {
     items = report.done;
@@ -100,7 +119,8 @@ module _ {S : Type 0} (answers : S → RequestHead → List ℕ → Replied → 
 
   -- ---- an input that begins with no message
 
-  module _ (rest out out' : Option (List ℕ)) (held : List ℕ) (t : S) (n : ℕ) (fault : Fault) (report : Reported answers input rest output out held s t n)
+  module _ (rest out out' : Option (List ℕ)) (held : List ℕ) (t : S) (n : ℕ) (fault : Fault)
+      (report : Reported answers input rest output out held s t n)
       (some : 0 < length held) (is : IfSome rest (λ more. IsFault (held ++ more) fault)) where
     pub refused : Appends out out' (fault_reply fault) → Serves answers input output out' s t (reported (n + 1))
     refused sent = record {
@@ -108,7 +128,8 @@ module _ {S : Type 0} (answers : S → RequestHead → List ℕ → Replied → 
       replies = report.replies ++ fault_reply fault ∷ [];
       counted = ap reported (counted_more report.done (faulty fault) n report.counted);
       prefix = begins_all input _ (follows_fault false input rest held report.done fault report.follows some is);
-      whole = λ small. divides_all input _ (follows_fault true input rest held report.done fault report.follows some is);
+      whole =
+          λ small. divides_all input _ (follows_fault true input rest held report.done fault report.follows some is);
       answered = replies_fault answers s t report.done report.replies fault report.answered;
       written = sent_more output out out' report.replies (fault_reply fault) report.written sent;
     }
@@ -128,14 +149,17 @@ module _ {S : Type 0} (answers : S → RequestHead → List ℕ → Replied → 
 
   module _ (rest out : Option (List ℕ)) (held : List ℕ) (t : S) (n : ℕ) (head : Head) (size : ℕ) (h : RequestHead)
       (report : Reported answers input rest output out held s t n) (is : HoldsMessage held head size h) where
-    answered_broken : (out' : Option (List ℕ)) (new : S) (r : Replied) (e : WireError) (bytes : List ℕ) → answers t h (body_in held head size) r new
-        → IsWritten e (report.replies ++ reply_bytes (closes h) r ∷ []) bytes → Appends output out' bytes → Stops answers input output out' s new e
+    answered_broken : (out' : Option (List ℕ)) (new : S) (r : Replied) (e : WireError) (bytes : List ℕ)
+        → answers t h (body_in held head size) r new
+        → IsWritten e (report.replies ++ reply_bytes (closes h) r ∷ []) bytes → Appends output out' bytes
+        → Stops answers input output out' s new e
     answered_broken out' new r e bytes answered written appended = record {
       items = report.done ++ message h (body_in held head size) ∷ [];
       replies = report.replies ++ reply_bytes (closes h) r ∷ [];
       bytes = bytes;
       prefix = begins_all input _ (follows_item held report.done head size h is input rest report.follows);
-      answered = replies_item answers s t new report.done report.replies h (body_in held head size) r report.answered answered;
+      answered =
+          replies_item answers s t new report.done report.replies h (body_in held head size) r report.answered answered;
       written = written;
       appended = appended;
     }
@@ -144,35 +168,45 @@ module _ {S : Type 0} (answers : S → RequestHead → List ℕ → Replied → 
     pub answered_in_part : (out' : Option (List ℕ)) (new : S) (r : Replied) → answers t h (body_in held head size) r new
         → AppendsPrefix out out' (reply_bytes (closes h) r) → Stops answers input output out' s new Write
     answered_in_part out' new r answered (k, below, sent) =
-        answered_broken out' new r Write (joined report.replies ++ take k (reply_bytes (closes h) r)) answered (report.replies, reply_bytes (closes h) r, k, refl, below, refl)
+        answered_broken out' new r Write (joined report.replies ++ take k (reply_bytes (closes h) r)) answered
+        (report.replies, reply_bytes (closes h) r, k, refl, below, refl)
         (Appends-trans output out out' (joined report.replies) (take k (reply_bytes (closes h) r)) report.written sent)
 
     -- nothing of it was
-    pub answered_lost : (out' : Option (List ℕ)) (new : S) (r : Replied) → answers t h (body_in held head size) r new → Keeps out out'
+    pub answered_lost : (out' : Option (List ℕ)) (new : S) (r : Replied) → answers t h (body_in held head size) r new
+        → Keeps out out'
         → Stops answers input output out' s new Memory
     answered_lost out' new r answered kept =
-        answered_broken out' new r Memory (joined report.replies) answered (inr (report.replies, reply_bytes (closes h) r, refl, refl))
+        answered_broken out' new r Memory (joined report.replies) answered
+        (inr (report.replies, reply_bytes (closes h) r, refl, refl))
         (Appends-kept output out out' (joined report.replies) report.written kept)
 
-    pub closed : (out' : Option (List ℕ)) (new : S) (r : Replied) → answers t h (body_in held head size) r new → closes h ≡ true
+    pub closed : (out' : Option (List ℕ)) (new : S) (r : Replied) → answers t h (body_in held head size) r new
+        → closes h ≡ true
         → Appends out out' (reply_bytes (closes h) r) → Serves answers input output out' s new (reported (n + 1))
     closed out' new r answered last sent = record {
       items = report.done ++ message h (body_in held head size) ∷ [];
       replies = report.replies ++ reply_bytes (closes h) r ∷ [];
       counted = ap reported (counted_more report.done _ n report.counted);
       prefix = begins_all input _ (follows_last held report.done head size h is false input rest report.follows last);
-      whole = λ small. divides_all input _ (follows_last held report.done head size h is true input rest report.follows last);
-      answered = replies_item answers s t new report.done report.replies h (body_in held head size) r report.answered answered;
+      whole =
+          λ small. divides_all input _
+          (follows_last held report.done head size h is true input rest report.follows last);
+      answered =
+          replies_item answers s t new report.done report.replies h (body_in held head size) r report.answered answered;
       written = sent_more output out out' report.replies (reply_bytes (closes h) r) report.written sent;
     }
 
-    pub goes_on : (out' : Option (List ℕ)) (new : S) (r : Replied) → answers t h (body_in held head size) r new → closes h ≡ false
-        → Appends out out' (reply_bytes (closes h) r) → Reported answers input rest output out' (drop (head.spans.len + size) held) s new (n + 1)
+    pub goes_on : (out' : Option (List ℕ)) (new : S) (r : Replied) → answers t h (body_in held head size) r new
+        → closes h ≡ false
+        → Appends out out' (reply_bytes (closes h) r)
+        → Reported answers input rest output out' (drop (head.spans.len + size) held) s new (n + 1)
     goes_on out' new r answered on sent = record {
       done = report.done ++ message h (body_in held head size) ∷ [];
       replies = report.replies ++ reply_bytes (closes h) r ∷ [];
       counted = counted_more report.done _ n report.counted;
       follows = follows_more held report.done head size h is input rest report.follows on;
-      answered = replies_item answers s t new report.done report.replies h (body_in held head size) r report.answered answered;
+      answered =
+          replies_item answers s t new report.done report.replies h (body_in held head size) r report.answered answered;
       written = sent_more output out out' report.replies (reply_bytes (closes h) r) report.written sent;
     }

@@ -7,20 +7,28 @@ pub takes_none : (a : Option (List (List ℕ))) → AcceptsPeers a a []
 takes_none None = tt
 takes_none (Some all) = ([], refl, refl)
 
-pub takes_more : (a b c : Option (List (List ℕ))) (xs ys : List (Option (List ℕ))) → AcceptsPeers a b xs → AcceptsPeers b c ys → AcceptsPeers a c (xs ++ ys)
+pub takes_more : (a b c : Option (List (List ℕ))) (xs ys : List (Option (List ℕ))) → AcceptsPeers a b xs
+    → AcceptsPeers b c ys → AcceptsPeers a c (xs ++ ys)
 takes_more None b c xs ys p q = tt
 takes_more (Some x) None c xs ys p q = absurd p
 takes_more (Some x) (Some y) None xs ys p q = absurd q
-takes_more (Some x) (Some y) (Some z) xs ys (first, e, f) (second, h, k) =
-    (first ++ second, ap₂ (λ s t. s ++ t) e h ∙ sym (map-append Some first second), f ∙ ap (λ t. first ++ t) k ∙ sym (append_assoc first second z))
+takes_more (Some x) (Some y) (Some z) xs ys (first, e, f) (second, h, k) = (
+  first ++ second,
+  ap₂ (λ s t. s ++ t) e h ∙ sym (map-append Some first second),
+  f ∙ ap (λ t. first ++ t) k ∙ sym (append_assoc first second z),
+)
 
 pub leaves_none : (a : Option (List (List ℕ))) → ClosesPeers a a []
 leaves_none None = tt
 leaves_none (Some all) = ([], refl, sym (append-nil all))
 
-pub leaves_more : (a b c : Option (List (List ℕ))) (xs ys : List (Option (List ℕ))) → ClosesPeers a b xs → ClosesPeers b c ys → ClosesPeers a c (xs ++ ys)
+pub leaves_more : (a b c : Option (List (List ℕ))) (xs ys : List (Option (List ℕ))) → ClosesPeers a b xs
+    → ClosesPeers b c ys → ClosesPeers a c (xs ++ ys)
 leaves_more None b c xs ys p q = tt
 leaves_more (Some x) None c xs ys p q = absurd p
 leaves_more (Some x) (Some y) None xs ys p q = absurd q
-leaves_more (Some x) (Some y) (Some z) xs ys (first, e, f) (second, h, k) =
-    (first ++ second, ap₂ (λ s t. s ++ t) e h ∙ sym (map-append Some first second), k ∙ ap (λ t. t ++ second) f ∙ append_assoc x first second)
+leaves_more (Some x) (Some y) (Some z) xs ys (first, e, f) (second, h, k) = (
+  first ++ second,
+  ap₂ (λ s t. s ++ t) e h ∙ sym (map-append Some first second),
+  k ∙ ap (λ t. t ++ second) f ∙ append_assoc x first second,
+)

@@ -1,5 +1,6 @@
 -- Bytes that are no text name no caller.
-use Rattle.std.proofs.Common.{◌≡◌, ℕ, ◌<◌, Bool, true, false, cond, eqb, not, ◌&&◌, List, [], ◌∷◌, length, get_or, Option, Some, None, arith, leb, refl, subst}
+use Rattle.std.proofs.Common.{◌≡◌, ℕ, ◌<◌, Bool, true, false, cond, eqb, not, ◌&&◌, List, [], ◌∷◌, length, get_or}
+use Rattle.std.proofs.Common.{Option, Some, None, arith, leb, refl, subst}
 use Rattle.std.specs.List.{list_all}
 use Rattle.std.specs.Str.{IsUtf8, IsAscii}
 use Rattle.std.proofs.lemmas.Bool.{and_parts}
@@ -24,7 +25,9 @@ plain_bytes (b ∷ bs) h =
 
 plain_name_is_text : (name : List ℕ) → is_plain_name name ≡ true → IsUtf8 name
 plain_name_is_text name h =
-    IsUtf8-from_ascii name (plain_bytes name (and_parts (leb 1 (length name) && leb (length name) 64 && not (eqb (get_or name 0 0) 45)) (list_all is_plain_byte name) h).1)
+    IsUtf8-from_ascii name (plain_bytes name
+    (and_parts (leb 1 (length name) && leb (length name) 64 && not (eqb (get_or name 0 0) 45))
+    (list_all is_plain_byte name) h).1)
 
 no_plain_name : (name : List ℕ) → (IsUtf8 name → ⊥) → is_plain_name name ≡ false
 no_plain_name name none = by (is_plain_name name) refl
@@ -46,16 +49,19 @@ no_group name group none = rw (no_plain_name group none) (by (is_plain_name name
     by false present = refl
 
 -- the one user, and a group that is no text
-pub no_group_of : (users groups : List (List ℕ)) (user group : Bor (List ℕ)) → Are users (values.One user) → Are groups (values.One group)
+pub no_group_of : (users groups : List (List ℕ)) (user group : Bor (List ℕ)) → Are users (values.One user)
+    → Are groups (values.One group)
     → (IsUtf8 group.now → ⊥) → caller_by users groups ≡ None
 no_group_of [] groups user group one-user one-group none = elim one-user [ ]
 no_group_of (u ∷ v ∷ us) groups user group one-user one-group none = elim one-user [ ]
 no_group_of (u ∷ []) [] user group one-user one-group none = elim one-group [ ]
 no_group_of (u ∷ []) (g ∷ h ∷ gs) user group one-user one-group none = elim one-group [ ]
-no_group_of (u ∷ []) (g ∷ []) user group one-user one-group none = no_group u g (subst (λ t. IsUtf8 t → ⊥) one-group none)
+no_group_of (u ∷ []) (g ∷ []) user group one-user one-group none =
+    no_group u g (subst (λ t. IsUtf8 t → ⊥) one-group none)
 
 -- the one user, and the one group
-pub two_named : (users groups : List (List ℕ)) (user group : Bor (List ℕ)) (text : List ℕ) → Are users (values.One user) → Are groups (values.One group)
+pub two_named : (users groups : List (List ℕ)) (user group : Bor (List ℕ)) (text : List ℕ) → Are users (values.One user)
+    → Are groups (values.One group)
     → text ≡ group.now → named user.now (Some text) ≡ caller_by users groups
 two_named [] groups user group text one-user one-group is = elim one-user [ ]
 two_named (u ∷ v ∷ us) groups user group text one-user one-group is = elim one-user [ ]

@@ -1,12 +1,13 @@
 -- A connection as far as it was served.
-use Rattle.std.proofs.Common.{◌≡◌, ℕ, ◌+◌, ◌<◌, Bool, List, [], ◌∷◌, ◌++◌, length, drop, Option, Some, None, true, false, cond, refl, sym, ap, ◌∙◌, arith, append_assoc, append-nil, subst, length-append}
+use Rattle.std.proofs.Common.{◌≡◌, ℕ, ◌+◌, ◌<◌, Bool, List, [], ◌∷◌, ◌++◌, length, drop, Option, Some, None, true}
+use Rattle.std.proofs.Common.{false, cond, refl, sym, ap, ◌∙◌, arith, append_assoc, append-nil, subst, length-append}
 use Rattle.std.specs.Prelude.{IfSome, codes, ◌==◌, ◌||◌}
 use Rattle.std.specs.List.{list_any}
 use Rattle.std.specs.Str.{str_eq_ignore_ascii_case}
 use Rattle.std.specs.Io.KnownBytes.{Consumes, IsAtEnd, Appends}
 use Rattle.httparse.specs.Grammar.{RequestHead}
 use Rattle.wire_server.specs.declared.head.Head.{Head}
-use Rattle.wire_server.specs.declared.fault.Fault.{Fault}
+use Rattle.wire_server.specs.declared.error.Fault.{Fault}
 use Rattle.wire_server.specs.Heads.{Holds}
 use Rattle.wire_server.specs.Fields.{fields_at, values}
 use Rattle.wire_server.specs.Messages.{IsMessage, IsFault, HoldsMessage}
@@ -58,33 +59,39 @@ begins_all (Some all) items p = parts_begin all items p
 abbrev pub Follows : Option (List ℕ) → Option (List ℕ) → List ℕ → List Item → Type 0
 Follows None new held done = Unit {0}
 Follows (Some all) None held done = ⊥
-Follows (Some all) (Some more) held done = (whole : Bool) (items : List Item) → Parts whole (held ++ more) items → Parts whole all (done ++ items)
+Follows (Some all) (Some more) held done =
+    (whole : Bool) (items : List Item) → Parts whole (held ++ more) items → Parts whole all (done ++ items)
 
 pub follows_start : (old : Option (List ℕ)) → Follows old old [] []
 follows_start None = tt
 follows_start (Some all) = λ whole items d. d
 
 -- one read changes nothing
-pub follows_read : (old mid new : Option (List ℕ)) (held held' bs : List ℕ) (done : List Item) → Follows old mid held done → Consumes mid new bs → held' ≡ held ++ bs → Follows old new held' done
+pub follows_read : (old mid new : Option (List ℕ)) (held held' bs : List ℕ) (done : List Item)
+    → Follows old mid held done → Consumes mid new bs → held' ≡ held ++ bs → Follows old new held' done
 follows_read None mid new held held' bs done reported read kept = tt
 follows_read (Some all) None new held held' bs done reported read kept = absurd reported
 follows_read (Some all) (Some more) None held held' bs done reported read kept = absurd read
 follows_read (Some all) (Some more) (Some left) held held' bs done reported read kept =
-    let same : held' ++ left ≡ held ++ more = ap (λ t. t ++ left) kept ∙ append_assoc held bs left ∙ ap (λ t. held ++ t) (sym read) in
+    let same : held' ++ left ≡ held ++ more =
+    ap (λ t. t ++ left) kept ∙ append_assoc held bs left ∙ ap (λ t. held ++ t) (sym read) in
     λ whole items d. reported whole items (subst (λ t. Parts whole t items) same d)
 
-pub follows_end : (old new : Option (List ℕ)) (held : List ℕ) (done : List Item) → Follows old new held done → held ≡ [] → IsAtEnd new → PartsAll true old done
+pub follows_end : (old new : Option (List ℕ)) (held : List ℕ) (done : List Item) → Follows old new held done → held ≡ []
+    → IsAtEnd new → PartsAll true old done
 follows_end None new held done reported none end = tt
 follows_end (Some all) None held done reported none end = absurd reported
 follows_end (Some all) (Some more) held done reported none end =
     subst (Parts true all) (append-nil done) (reported true [] (ap (λ t. t ++ more) none ∙ end))
 
-pub follows_any : (old new : Option (List ℕ)) (held : List ℕ) (done : List Item) → Follows old new held done → PartsAll false old done
+pub follows_any : (old new : Option (List ℕ)) (held : List ℕ) (done : List Item) → Follows old new held done
+    → PartsAll false old done
 follows_any None new held done reported = tt
 follows_any (Some all) None held done reported = absurd reported
 follows_any (Some all) (Some more) held done reported = subst (Parts false all) (append-nil done) (reported false [] tt)
 
-pub follows_fault : (whole : Bool) (old new : Option (List ℕ)) (held : List ℕ) (done : List Item) (fault : Fault) → Follows old new held done → 0 < length held
+pub follows_fault : (whole : Bool) (old new : Option (List ℕ)) (held : List ℕ) (done : List Item) (fault : Fault)
+    → Follows old new held done → 0 < length held
     → IfSome new (λ more. IsFault (held ++ more) fault) → PartsAll whole old (done ++ faulty fault ∷ [])
 follows_fault whole None new held done fault reported some is = tt
 follows_fault whole (Some all) None held done fault reported some is = absurd reported
@@ -92,8 +99,10 @@ follows_fault whole (Some all) (Some more) held done fault reported some is =
     let long : 0 < length (held ++ more) = omega (arith, length-append held more) in
     reported whole (faulty fault ∷ []) (long, is, refl)
 
-module _ (held : List ℕ) (done : List Item) (head : Head) (size : ℕ) (h : RequestHead) (is : HoldsMessage held head size h) where
-  pub follows_last : (whole : Bool) (old new : Option (List ℕ)) → Follows old new held done → closes h ≡ true → PartsAll whole old (done ++ message h (body_in held head size) ∷ [])
+module _ (held : List ℕ) (done : List Item) (head : Head) (size : ℕ) (h : RequestHead)
+    (is : HoldsMessage held head size h) where
+  pub follows_last : (whole : Bool) (old new : Option (List ℕ)) → Follows old new held done → closes h ≡ true
+      → PartsAll whole old (done ++ message h (body_in held head size) ∷ [])
   follows_last whole None new reported last = tt
   follows_last whole (Some all) None reported last = absurd reported
   follows_last whole (Some all) (Some more) reported last =
@@ -112,9 +121,11 @@ module _ (held : List ℕ) (done : List Item) (head : Head) (size : ℕ) (h : Re
       let prefix = message_of_input held more head size h is in
       let rest : cond (closes h) (items ≡ []) (Parts whole (drop (head.spans.len + size) held ++ more) items) =
       subst (λ v. cond v (items ≡ []) (Parts whole (drop (head.spans.len + size) held ++ more) items)) (sym on) d in
-      subst (Parts whole all) (sym (append_assoc done (item ∷ []) items)) (reported whole (item ∷ items) (_, prefix, rest))
+      subst (Parts whole all) (sym (append_assoc done (item ∷ []) items))
+      (reported whole (item ∷ items) (_, prefix, rest))
 
-  pub follows_item : (old new : Option (List ℕ)) → Follows old new held done → PartsAll false old (done ++ message h (body_in held head size) ∷ [])
+  pub follows_item : (old new : Option (List ℕ)) → Follows old new held done
+      → PartsAll false old (done ++ message h (body_in held head size) ∷ [])
   follows_item old new reported = by (closes h) refl
     where
       by : (v : Bool) → closes h ≡ v → PartsAll false old (done ++ message h (body_in held head size) ∷ [])
@@ -123,27 +134,35 @@ module _ (held : List ℕ) (done : List Item) (head : Head) (size : ℕ) (h : Re
 
 -- what the places of a head say of the connection
 pub closes_at : (held : List ℕ) (head : Head) (h : RequestHead) → Holds held head h
-    → ((head.spans.version == 0) || list_any (λ v. str_eq_ignore_ascii_case v (codes "close")) (values (codes "connection") (fields_at held head))) ≡ closes h
+    → ((head.spans.version == 0) || list_any (λ v. str_eq_ignore_ascii_case v (codes "close"))
+    (values (codes "connection") (fields_at held head))) ≡ closes h
 closes_at held head h is =
-    ap (λ v. (v == 0) || list_any (λ t. str_eq_ignore_ascii_case t (codes "close")) (values (codes "connection") (fields_at held head))) is.places.version
-    ∙ ap (λ fs. (h.minor == 0) || list_any (λ t. str_eq_ignore_ascii_case t (codes "close")) (values (codes "connection") fs)) is.places.fields
+    ap (λ v. (v == 0) || list_any (λ t. str_eq_ignore_ascii_case t (codes "close"))
+    (values (codes "connection") (fields_at held head))) is.places.version
+    ∙ ap (λ fs. (h.minor == 0) || list_any (λ t. str_eq_ignore_ascii_case t (codes "close"))
+    (values (codes "connection") fs)) is.places.fields
 
 -- the same head in the same buffer, by other names
-pub closes_in : (buf held : List ℕ) (places head : Head) (h : RequestHead) → Holds held head h → buf ≡ held → places ≡ head
-    → ((places.spans.version == 0) || list_any (λ v. str_eq_ignore_ascii_case v (codes "close")) (values (codes "connection") (fields_at buf places))) ≡ closes h
+pub closes_in : (buf held : List ℕ) (places head : Head) (h : RequestHead) → Holds held head h → buf ≡ held
+    → places ≡ head
+    → ((places.spans.version == 0)
+    || list_any (λ v. str_eq_ignore_ascii_case v (codes "close"))
+    (values (codes "connection") (fields_at buf places))) ≡ closes h
 closes_in buf held places head h is same at = rw (same, at) (closes_at held head h is)
 
 -- ---- the replies
 
 pub joined_more : (replies : List (List ℕ)) (last : List ℕ) → joined (replies ++ last ∷ []) ≡ joined replies ++ last
 joined_more [] last = append-nil last
-joined_more (r ∷ replies) last = ap (λ t. r ++ t) (joined_more replies last) ∙ sym (append_assoc r (joined replies) last)
+joined_more (r ∷ replies) last =
+    ap (λ t. r ++ t) (joined_more replies last) ∙ sym (append_assoc r (joined replies) last)
 
 pub counted_more : (done : List Item) (item : Item) (n : ℕ) → n ≡ length done → n + 1 ≡ length (done ++ item ∷ [])
 counted_more done item n is = omega (arith, length-append done (item ∷ []))
 
 module _ {S : Type 0} (answers : S → RequestHead → List ℕ → Replied → S → Type 0) where
-  replies_more : (s mid new : S) (done items : List Item) (before after : List (List ℕ)) → Replies answers s done before mid → Replies answers mid items after new
+  replies_more : (s mid new : S) (done items : List Item) (before after : List (List ℕ))
+      → Replies answers s done before mid → Replies answers mid items after new
       → Replies answers s (done ++ items) (before ++ after) new
   replies_more s mid new [] items [] after first second = subst (λ t. Replies answers t items after new) first second
   replies_more s mid new [] items (r ∷ before) after first second = absurd first
@@ -154,14 +173,17 @@ module _ {S : Type 0} (answers : S → RequestHead → List ℕ → Replied → 
   replies_more s mid new (faulty fault ∷ done) items (r ∷ before) after (is, rest) second =
       (is, replies_more s mid new done items before after rest second)
 
-  pub replies_item : (s mid new : S) (done : List Item) (before : List (List ℕ)) (h : RequestHead) (body : List ℕ) (r : Replied)
+  pub replies_item : (s mid new : S) (done : List Item) (before : List (List ℕ)) (h : RequestHead) (body : List ℕ)
+      (r : Replied)
       → Replies answers s done before mid → answers mid h body r new
       → Replies answers s (done ++ message h body ∷ []) (before ++ reply_bytes (closes h) r ∷ []) new
   replies_item s mid new done before h body r first answered =
-      replies_more s mid new done (message h body ∷ []) before (reply_bytes (closes h) r ∷ []) first (new, r, answered, refl, refl)
+      replies_more s mid new done (message h body ∷ []) before (reply_bytes (closes h) r ∷ []) first
+      (new, r, answered, refl, refl)
 
   pub replies_fault : (s new : S) (done : List Item) (before : List (List ℕ)) (fault : Fault)
-      → Replies answers s done before new → Replies answers s (done ++ faulty fault ∷ []) (before ++ fault_reply fault ∷ []) new
+      → Replies answers s done before new
+      → Replies answers s (done ++ faulty fault ∷ []) (before ++ fault_reply fault ∷ []) new
   replies_fault s new done before fault first =
       replies_more s new new done (faulty fault ∷ []) before (fault_reply fault ∷ []) first (refl, refl)
 

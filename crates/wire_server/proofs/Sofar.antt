@@ -1,12 +1,13 @@
 -- A server, as far as it has come.
-use Rattle.std.proofs.Common.{◌≡◌, ◌∙◌, ◌+◌, ◌≤◌, ℕ, List, [], ◌∷◌, ◌++◌, length, length-append, Option, Some, None, refl, sym, ap, subst, arith}
+use Rattle.std.proofs.Common.{◌≡◌, ◌∙◌, ◌+◌, ◌≤◌, ℕ, List, [], ◌∷◌, ◌++◌, length, length-append, Option, Some, None}
+use Rattle.std.proofs.Common.{refl, sym, ap, subst, arith}
 use Rattle.std.proofs.lemmas.List.{map-append}
 use Rattle.std.specs.Io.KnownBytes.{Appends, Keeps}
 use Rattle.std.proofs.KnownBytes.{Keeps-refl, Keeps-trans}
 use Rattle.httparse.specs.Grammar.{RequestHead}
 use Rattle.wire_server.specs.Responses.{Replied}
-use Rattle.wire_server.specs.declared.sessions.End.{End}
-use Rattle.wire_server.specs.declared.sessions.End.TheVariants as ends
+use Rattle.wire_server.specs.declared.connection.End.{End}
+use Rattle.wire_server.specs.declared.connection.End.TheVariants as ends
 use Rattle.wire_server.specs.Peers.{IsFresh, ClosesPeers, AcceptsPeers}
 use Rattle.wire_server.specs.Serves.{Served}
 use Rattle.wire_server.specs.Sessions.{Says, failure, result_of}
@@ -42,13 +43,15 @@ failures_le [] = omega arith
 failures_le (session ∷ sessions) = omega (arith, failure_le session.end, failures_le sessions)
 
 module _ {S : Type 0} (answers : S → RequestHead → List ℕ → Replied → S → Type 0) where
-  follow_kept : (old new : S) (err said err' : Option (List ℕ)) (sessions : List Session) → Keeps err said → Follow answers old said sessions new err'
+  follow_kept : (old new : S) (err said err' : Option (List ℕ)) (sessions : List Session) → Keeps err said
+      → Follow answers old said sessions new err'
       → Follow answers old err sessions new err'
   follow_kept old new err said err' [] kept (same, more) = (same, Keeps-trans err said err' kept more)
   follow_kept old new err said err' (session ∷ sessions) kept (before, mid, line, fresh, served, says, rest) =
       (before, mid, line, fresh, served, says_kept session.end err said line kept says, rest)
 
-  follow_more : (old mid new : S) (err said err' : Option (List ℕ)) (sessions more : List Session) → Follow answers old err sessions mid said
+  follow_more : (old mid new : S) (err said err' : Option (List ℕ)) (sessions more : List Session)
+      → Follow answers old err sessions mid said
       → Follow answers mid said more new err' → Follow answers old err (sessions ++ more) new err'
   follow_more old mid new err said err' [] more (same, kept) second =
       follow_kept old new err said err' more kept (subst (λ s. Follow answers s said more new err') same second)
@@ -56,13 +59,15 @@ module _ {S : Type 0} (answers : S → RequestHead → List ℕ → Replied → 
       (before, s, line, fresh, served, says, follow_more s mid new line said err' sessions more rest second)
 
   -- a number of connections were served
-  pub record Sofar (waiting waiting' closed closed' : Option (List (List ℕ))) (err err' : Option (List ℕ)) (old new : S) (n count : ℕ) : Type 0 where
+  pub record Sofar (waiting waiting' closed closed' : Option (List (List ℕ))) (err err' : Option (List ℕ)) (old new : S)
+      (n count : ℕ) : Type 0 where
     pub sessions : List Session
     pub serves : Serves answers waiting waiting' closed closed' err err' old new sessions
     pub counted : length sessions ≡ n
     pub failing : count ≡ failures sessions
 
-  pub sofar_start : (waiting closed : Option (List (List ℕ))) (err : Option (List ℕ)) (s : S) → Sofar waiting waiting closed closed err err s s 0 0
+  pub sofar_start : (waiting closed : Option (List (List ℕ))) (err : Option (List ℕ)) (s : S)
+      → Sofar waiting waiting closed closed err err s s 0 0
   sofar_start waiting closed err s = record {
     sessions = [];
     serves = record { accepted = takes_none waiting; left = leaves_none closed; followed = (refl, Keeps-refl err) };
@@ -70,19 +75,26 @@ module _ {S : Type 0} (answers : S → RequestHead → List ℕ → Replied → 
     failing = refl;
   }
 
-  module _ (waiting waiting' closed closed' : Option (List (List ℕ))) (err err' : Option (List ℕ)) (old new : S) (n count : ℕ)
+  module _ (waiting waiting' closed closed' : Option (List (List ℕ))) (err err' : Option (List ℕ)) (old new : S)
+      (n count : ℕ)
       (sofar : Sofar waiting waiting' closed closed' err err' old new n count) where
     -- no more was taken, left or said
-    pub sofar_still : (waiting'' closed'' : Option (List (List ℕ))) → AcceptsPeers waiting' waiting'' [] → ClosesPeers closed' closed'' []
+    pub sofar_still : (waiting'' closed'' : Option (List (List ℕ))) → AcceptsPeers waiting' waiting'' []
+        → ClosesPeers closed' closed'' []
         → Serves answers waiting waiting'' closed closed'' err err' old new (sofar.sessions ++ [])
     sofar_still waiting'' closed'' accepted left = record {
-      accepted = subst (AcceptsPeers waiting waiting'') (sym (map-append (λ s. s.input) sofar.sessions [])) (takes_more waiting waiting' waiting'' _ [] sofar.serves.accepted accepted);
-      left = subst (ClosesPeers closed closed'') (sym (map-append (λ s. s.output) sofar.sessions [])) (leaves_more closed closed' closed'' _ [] sofar.serves.left left);
+      accepted =
+          subst (AcceptsPeers waiting waiting'') (sym (map-append (λ s. s.input) sofar.sessions []))
+          (takes_more waiting waiting' waiting'' _ [] sofar.serves.accepted accepted);
+      left =
+          subst (ClosesPeers closed closed'') (sym (map-append (λ s. s.output) sofar.sessions []))
+          (leaves_more closed closed' closed'' _ [] sofar.serves.left left);
       followed = follow_more old new new err err' err' sofar.sessions [] sofar.serves.followed (refl, Keeps-refl err');
     }
 
     -- one more connection
-    pub sofar_more : (waiting'' closed'' : Option (List (List ℕ))) (err'' input before output : Option (List ℕ)) (new' : S) (end : End)
+    pub sofar_more : (waiting'' closed'' : Option (List (List ℕ))) (err'' input before output : Option (List ℕ))
+        (new' : S) (end : End)
         → AcceptsPeers waiting' waiting'' (input ∷ []) → ClosesPeers closed' closed'' (output ∷ []) → IsFresh before
         → Served answers input before output new new' (result_of end) → Says end err' err''
         → Sofar waiting waiting'' closed closed'' err err'' old new' (n + 1) (count + failure end)
@@ -91,9 +103,15 @@ module _ {S : Type 0} (answers : S → RequestHead → List ℕ → Replied → 
         record {
           sessions = sofar.sessions ++ session ∷ [];
           serves = record {
-            accepted = subst (AcceptsPeers waiting waiting'') (sym (map-append (λ s. s.input) sofar.sessions (session ∷ []))) (takes_more waiting waiting' waiting'' _ (input ∷ []) sofar.serves.accepted accepted);
-            left = subst (ClosesPeers closed closed'') (sym (map-append (λ s. s.output) sofar.sessions (session ∷ []))) (leaves_more closed closed' closed'' _ (output ∷ []) sofar.serves.left left);
-            followed = follow_more old new new' err err' err'' sofar.sessions (session ∷ []) sofar.serves.followed (before, new', err'', fresh, served, says, (refl, Keeps-refl err''));
+            accepted =
+                subst (AcceptsPeers waiting waiting'') (sym (map-append (λ s. s.input) sofar.sessions (session ∷ [])))
+                (takes_more waiting waiting' waiting'' _ (input ∷ []) sofar.serves.accepted accepted);
+            left =
+                subst (ClosesPeers closed closed'') (sym (map-append (λ s. s.output) sofar.sessions (session ∷ [])))
+                (leaves_more closed closed' closed'' _ (output ∷ []) sofar.serves.left left);
+            followed =
+                follow_more old new new' err err' err'' sofar.sessions (session ∷ []) sofar.serves.followed
+                (before, new', err'', fresh, served, says, (refl, Keeps-refl err''));
           };
           counted = omega (arith, length-append sofar.sessions (session ∷ []), sofar.counted);
           failing = omega (arith, failures_append sofar.sessions (session ∷ []), sofar.failing);

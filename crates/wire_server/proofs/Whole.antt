@@ -1,5 +1,6 @@
 -- The bytes that are held are what the whole input begins with.
-use Rattle.std.proofs.Common.{◌≡◌, ℕ, ◌+◌, List, ◌++◌, length, take, drop, Ok, sym, ap, ◌∙◌, arith, append_assoc, subst, length-take, length-drop, take-append-drop}
+use Rattle.std.proofs.Common.{◌≡◌, ℕ, ◌+◌, List, ◌++◌, length, take, drop, Ok, sym, ap, ◌∙◌, arith, append_assoc, subst}
+use Rattle.std.proofs.Common.{length-take, length-drop, take-append-drop}
 use Rattle.std.proofs.lemmas.List.{drop-drop}
 use Rattle.httparse.specs.Grammar.{RequestHead}
 use Rattle.wire_server.specs.declared.head.Head.{Head}
@@ -21,7 +22,8 @@ message_of_input held more head size h is =
     sym (take-append-drop size behind) ∙ ap (λ t. take size behind ++ t) (drop-drop size len held) in
     let after : behind ++ more ≡ take size behind ++ (drop (len + size) held ++ more) =
     ap (λ t. t ++ more) parts ∙ append_assoc (take size behind) (drop (len + size) held) more in
-    let count : length (take size behind) ≡ size = omega (arith, length-take size behind, length-drop len held, is.whole) in
+    let count : length (take size behind) ≡ size =
+    omega (arith, length-take size behind, length-drop len held, is.whole) in
     record {
       head = subst (IsHead (held ++ more) h) after (head-append held more h behind is.holds.is_head);
       size = is.states ∙ ap Ok (sym count);

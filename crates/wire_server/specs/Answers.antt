@@ -3,10 +3,8 @@ use Rattle.std.specs.Prelude.{◌≡◌, ◌⊎◌, ℕ, List, [], take, drop, R
 use Rattle.std.specs.declared.alloc.AllocError.{AllocError}
 use Rattle.httparse.specs.Grammar.{RequestHead}
 use Rattle.wire_server.specs.declared.head.Head.{Head}
-use Rattle.wire_server.specs.declared.begun.Begun.{Begun}
-use Rattle.wire_server.specs.declared.begun.Begun.TheVariants.{Accepted, Refused}
-use Rattle.wire_server.specs.declared.ready.Ready.{Ready}
-use Rattle.wire_server.specs.declared.ready.Ready.TheVariants as ready
+use Rattle.wire_server.specs.declared.responder.Begun.{Begun}
+use Rattle.wire_server.specs.declared.responder.Begun.TheVariants.{Accepted, Refused}
 use Rattle.wire_server.specs.declared.response.Response.{Response}
 use Rattle.wire_server.specs.Responses.{Replied, replied}
 
@@ -24,11 +22,11 @@ module _ {S C B : Type 0} (answers : S → RequestHead → List ℕ → Replied 
     (decides : S → RequestHead → C → Type 0) (represents : B → List ℕ → Type 0) where
   -- A head decides this from a state: a course, and what keeps the body stands for no bytes yet; or the response,
   -- whatever the body is, which leaves the state as it is.
-  abbrev pub IsBegun : S → RequestHead → Begun C B → Type 0
-  IsBegun s h (Accepted course body) = decides s h course × represents body []
+  abbrev pub IsBegun : S → RequestHead → Begun (C × B) → Type 0
+  IsBegun s h (Accepted it) = decides s h it.0 × represents it.1 []
   IsBegun s h (Refused response) = (all : List ℕ) → answers s h all (replied response) s
 
   -- The message once its body has come: what was kept stands for the body.
-  abbrev pub IsReady : S → RequestHead → List ℕ → Ready C B → Type 0
-  IsReady s h all (ready.Kept course body) = decides s h course × represents body all
-  IsReady s h all (ready.Refused response) = answers s h all (replied response) s
+  abbrev pub IsReady : S → RequestHead → List ℕ → Begun (C × B) → Type 0
+  IsReady s h all (Accepted it) = decides s h it.0 × represents it.1 all
+  IsReady s h all (Refused response) = answers s h all (replied response) s

@@ -5,7 +5,7 @@ use Rattle.std.specs.Str.{str_eq_ignore_ascii_case}
 use Rattle.httparse.specs.Grammar.{RequestHead}
 use Rattle.wire_server.specs.Fields.{fields_of, values}
 use Rattle.wire_server.specs.Messages.{IsMessage, IsFault}
-use Rattle.wire_server.specs.declared.fault.Fault.{Fault}
+use Rattle.wire_server.specs.declared.error.Fault.{Fault}
 
 pub data Item : Type 0 where
   -- a head and a body

@@ -1,10 +1,11 @@
 -- The response to what is next on a connection.
-use Rattle.std.specs.Prelude.{◌≡◌, ◌⊎◌, ℕ, ◌+◌, ◌<◌, true, List, [], ◌++◌, length, drop, Option, Some, None, Result, Ok, Err, IfSome}
+use Rattle.std.specs.Prelude.{◌≡◌, ◌⊎◌, ℕ, ◌+◌, ◌<◌, true, List, [], ◌++◌, length, drop, Option, Some, None, Result, Ok}
+use Rattle.std.specs.Prelude.{Err, IfSome}
 use Rattle.std.specs.Io.KnownBytes.{Consumes, IsAtEnd}
 use Rattle.std.specs.declared.alloc.AllocError.{AllocError}
 use Rattle.httparse.specs.Grammar.{RequestHead}
 use Rattle.wire_server.specs.declared.head.Head.{Head}
-use Rattle.wire_server.specs.declared.fault.Fault.{Fault}
+use Rattle.wire_server.specs.declared.error.Fault.{Fault}
 use Rattle.wire_server.specs.Messages.{HoldsMessage, IsFault}
 use Rattle.wire_server.specs.Division.{closes}
 use Rattle.wire_server.specs.Responses.{Replied, replied, refused}

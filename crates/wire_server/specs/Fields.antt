@@ -1,5 +1,6 @@
 -- What the fields of a head say: their values by name, and the length of the body.
-use Rattle.std.specs.Prelude.{ℕ, ◌&&◌, Bool, List, [], ◌∷◌, ⊤, length, take, map, codes, ◌≡◌, cond, nat_lt, nat_le, Result, Ok, Err}
+use Rattle.std.specs.Prelude.{ℕ, ◌&&◌, Bool, List, [], ◌∷◌, ⊤, length, take, map, codes, ◌≡◌, cond, nat_lt, nat_le}
+use Rattle.std.specs.Prelude.{Result, Ok, Err}
 use Rattle.std.specs.List.{list_all}
 use Rattle.std.specs.Char.{is_ascii_digit}
 use Rattle.std.specs.Str.{str_eq_ignore_ascii_case}
@@ -7,8 +8,8 @@ use Rattle.std.specs.Str.Parse.{digits_value}
 use Rattle.httparse.specs.Grammar.{RequestHead}
 use Rattle.httparse.specs.Spans.{header_bytes, name_and_value}
 use Rattle.wire_server.specs.declared.head.Head.{Head}
-use Rattle.wire_server.specs.declared.fault.Fault.{Fault}
-use Rattle.wire_server.specs.declared.fault.Fault.TheVariants.{BadLength, TooLarge}
+use Rattle.wire_server.specs.declared.error.Fault.{Fault}
+use Rattle.wire_server.specs.declared.error.Fault.TheVariants.{BadLength, TooLarge}
 use Rattle.wire_server.specs.declared.fields.Values.{Values}
 use Rattle.wire_server.specs.declared.fields.Values.TheVariants.{None, One, More}
 

@@ -1,11 +1,9 @@
 -- The head of a message at the beginning of an input.
-use Rattle.std.specs.Prelude.{ℕ, Bool, not, ◌||◌, ◌≤◌, ◌<◌, ◌==◌, ◌++◌, List, length, take, drop, ◌≡◌}
+use Rattle.std.specs.Prelude.{ℕ, Bool, not, ◌||◌, ◌≤◌, ◌==◌, List, length, take, drop, ◌≡◌}
 use Rattle.std.specs.List.{list_any}
 use Rattle.httparse.specs.Grammar.{RequestHead, print_request, ReadsRequest, HasNoRequest}
 use Rattle.httparse.specs.Spans.{IsRequestAt, IsRequestWithin}
 use Rattle.wire_server.specs.declared.head.Head.{Head}
-use Rattle.wire_server.specs.declared.head.Look.{Look}
-use Rattle.wire_server.specs.declared.head.Look.TheVariants.{Whole, Unfinished, Faulty}
 
 -- the most bytes of a head, and the most fields
 abbrev pub max_head : ℕ
@@ -39,9 +37,3 @@ pub record Holds (buf : List ℕ) (head : Head) (h : RequestHead) : Type 0 where
   pub is_head : IsHead buf h (drop head.spans.len buf)
   pub places : IsRequestAt buf head.fields head.spans h
   pub within : IsRequestWithin buf head.fields head.spans
-
--- the result of a look at the bytes so far is right, whatever follows them
-abbrev pub LookFinds : List ℕ → Look → Type 0
-LookFinds buf (Whole head) = (h : RequestHead) × Holds buf head h
-LookFinds buf Unfinished = HasNoRequest buf × (length buf < max_head)
-LookFinds buf Faulty = (more : List ℕ) → HasNoHead (buf ++ more)

@@ -1,17 +1,19 @@
 -- How an input divides from its beginning into messages, and what one read of a message leaves.
-use Rattle.std.specs.Prelude.{◌≡◌, ◌⊎◌, ℕ, ◌+◌, ◌<◌, ◌≤◌, List, [], ◌++◌, length, Option, Result, Ok, Err, Bool, true, false, IfOk, IfSome, OnOk}
+use Rattle.std.specs.Prelude.{◌≡◌, ◌⊎◌, ℕ, ◌+◌, ◌<◌, ◌≤◌, List, [], ◌++◌, length, Option, Result, Ok, Err, Bool, true}
+use Rattle.std.specs.Prelude.{false, IfOk, IfErr, IfSome, OnOk}
 use Rattle.std.specs.Io.KnownBytes.{Consumes, IsAtEnd}
-use Rattle.httparse.specs.Grammar.{RequestHead}
-use Rattle.wire_server.specs.Heads.{IsHead, HasNoHead, Holds}
+use Rattle.httparse.specs.Grammar.{RequestHead, HasNoRequest}
+use Rattle.httparse.specs.declared.Status.{Status}
+use Rattle.httparse.specs.declared.Status.TheVariants.{Complete, Partial}
+use Rattle.wire_server.specs.Heads.{IsHead, HasNoHead, Holds, max_head}
 use Rattle.wire_server.specs.Fields.{fields_of, body_length}
 use Rattle.wire_server.specs.declared.head.Head.{Head}
-use Rattle.wire_server.specs.declared.fault.Fault.{Fault}
-use Rattle.wire_server.specs.declared.fault.Fault.TheVariants.{BadHead, BadLength, TooLarge}
-use Rattle.wire_server.specs.declared.fault.ReceiveError.{ReceiveError}
-use Rattle.wire_server.specs.declared.receive.Start.{Start}
-use Rattle.wire_server.specs.declared.receive.Start.TheVariants.{NoMore, Begun, NoHead}
-use Rattle.wire_server.specs.declared.receive.Received.{Received}
-use Rattle.wire_server.specs.declared.receive.Received.TheVariants.{End, Message, Faulty}
+use Rattle.wire_server.specs.declared.error.Fault.{Fault}
+use Rattle.wire_server.specs.declared.error.Fault.TheVariants.{BadHead, BadLength, TooLarge}
+use Rattle.wire_server.specs.declared.error.WireError.{WireError}
+use Rattle.wire_server.specs.Bodies.{IsOfReading}
+use Rattle.wire_server.specs.declared.message.Received.{Received}
+use Rattle.wire_server.specs.declared.message.Received.TheVariants.{End, Message, Faulty}
 
 -- The input begins with a message of this head and this body, and rest follows it.
 pub record IsMessage (input : List ℕ) (h : RequestHead) (body rest : List ℕ) : Type 0 where
@@ -37,19 +39,31 @@ IsFault input TooLarge = FaultOfHead input TooLarge
 
 -- ---- reading
 
+-- the result of a look at the bytes so far is right, whatever follows them
+abbrev pub LookFinds : List ℕ → Result (Status Head) Fault → Type 0
+LookFinds buf (Ok (Complete head)) = (h : RequestHead) × Holds buf head h
+LookFinds buf (Ok Partial) = HasNoRequest buf × (length buf < max_head)
+LookFinds buf (Err fault) = (more : List ℕ) → IsFault (buf ++ more) fault
+
 -- One more read: the bytes that it took are appended to those that were held. It took at least one byte, or the input
 -- was at its end.
 pub record ReadsMore (old new : Option (List ℕ)) (held held' : List ℕ)
-    (result : Result Bool ReceiveError) : Type 0 where
+    (result : Result Bool WireError) : Type 0 where
   pub consumed : (bs : List ℕ) × Consumes old new bs × OnOk result (held' ≡ held ++ bs)
   pub some : result ≡ Ok true → length held < length held'
   pub at_end : result ≡ Ok false → IsAtEnd new × (held' ≡ held)
+  pub fault : IfErr result IsOfReading
 
--- the bytes that are held, with what may follow them, begin in this way
-abbrev pub Starts : List ℕ → Option (List ℕ) → Start → Type 0
-Starts held rest NoMore = (held ≡ []) × IsAtEnd rest
-Starts held rest (Begun head) = (0 < length held) × ((h : RequestHead) × Holds held head h)
-Starts held rest NoHead = (0 < length held) × IfSome rest (λ more. HasNoHead (held ++ more))
+-- The bytes, with what may follow them, begin with what this says of them, or with no message, for that fault; or
+-- there are none, at the end of the input.
+abbrev pub IsReceived : {T : Type 0} → (T → Type 0) → List ℕ → Option (List ℕ) → Received T → Type 0
+IsReceived is bytes rest End = (bytes ≡ []) × IsAtEnd rest
+IsReceived is bytes rest (Message it) = is it
+IsReceived is bytes rest (Faulty fault) = (0 < length bytes) × IfSome rest (λ more. IsFault (bytes ++ more) fault)
+
+-- the bytes that are held begin with this head
+abbrev pub Starts : List ℕ → Option (List ℕ) → Received Head → Type 0
+Starts held = IsReceived (λ head. (0 < length held) × ((h : RequestHead) × Holds held head h)) held
 
 -- the bytes that are held begin with the head of a message and its body of that size
 pub record HoldsMessage (held : List ℕ) (head : Head) (size : ℕ) (h : RequestHead) : Type 0 where
@@ -61,15 +75,14 @@ pub record HoldsMessage (held : List ℕ) (head : Head) (size : ℕ) (h : Reques
 abbrev pub HoldsHead : List ℕ → Head → ℕ → Type 0
 HoldsHead held head size = (h : RequestHead) × Holds held head h × (body_length (fields_of h) ≡ Ok size)
 
--- the bytes that are held, with what may follow them, begin with such a head, or with no message
-abbrev pub Announces : List ℕ → Option (List ℕ) → Received → Type 0
-Announces held rest End = (held ≡ []) × IsAtEnd rest
-Announces held rest (Message head size) = HoldsHead held head size
-Announces held rest (Faulty fault) = (0 < length held) × IfSome rest (λ more. IsFault (held ++ more) fault)
+-- the bytes that are held begin with such a head
+abbrev pub Announces : List ℕ → Option (List ℕ) → Received (Head × ℕ) → Type 0
+Announces held = IsReceived (λ it. HoldsHead held it.0 it.1) held
 
 -- The bytes that were read are appended to those that were held, and the result is right for them and for what may
--- follow.
+-- follow, or it is an error of the reading.
 abbrev pub Receives : {A : Type 0} → (List ℕ → Option (List ℕ) → A → Type 0) → Option (List ℕ) → Option (List ℕ)
-    → List ℕ → List ℕ → Result A ReceiveError → Type 0
+    → List ℕ → List ℕ → Result A WireError → Type 0
 Receives is old new held held' result =
     ((bs : List ℕ) × Consumes old new bs × OnOk result (held' ≡ held ++ bs)) × IfOk result (is held' new)
+    × IfErr result IsOfReading

@@ -1,8 +1,9 @@
 -- What is replied, and the bytes of a reply.
 use Rattle.std.specs.Prelude.{ℕ, Bool, List, ◌++◌, length, codes, Option, None, option_map}
 use Rattle.model.specs.declared.refusal.Refusal.{Refusal}
-use Rattle.model.specs.declared.refusal.Refusal.TheVariants.{NotValid, NoRoot, NoProfile, NoGeneration, NoRoute, BadMethod}
-use Rattle.report.specs.Refusals.{refusal_line}
+use Rattle.model.specs.declared.refusal.Refusal.TheVariants.{NotValid, NoRoot, NoProfile, NoGeneration, NoRoute}
+use Rattle.model.specs.declared.refusal.Refusal.TheVariants.{BadMethod}
+use Rattle.model.specs.Refusals.{refusal_line}
 use Rattle.wire_server.specs.ReplyHead.{reply_head}
 use Rattle.wire_server.specs.declared.response.Response.{Response}
 

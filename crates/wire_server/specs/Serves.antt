@@ -1,12 +1,13 @@
 -- What a connection writes for what it reads.
-use Rattle.std.specs.Prelude.{◌≡◌, ◌⊎◌, ℕ, ◌<◌, ◌-◌, ◌^◌, true, min, cond, List, [], ◌∷◌, ◌++◌, length, take, Option, Some, None, Result, Ok, Err, ⊤}
+use Rattle.std.specs.Prelude.{◌≡◌, ◌⊎◌, ℕ, ◌<◌, ◌-◌, ◌^◌, true, min, cond, List, [], ◌∷◌, ◌++◌, length, take, Option}
+use Rattle.std.specs.Prelude.{Some, None, Result, Ok, Err, ⊤}
 use Rattle.std.specs.List.{flat_map}
 use Rattle.std.specs.Io.KnownBytes.{Appends}
 use Rattle.httparse.specs.Grammar.{RequestHead}
 use Rattle.wire_server.specs.Messages.{IsMessage, IsFault}
 use Rattle.wire_server.specs.Division.{Item, message, faulty, closes, Divides}
-use Rattle.wire_server.specs.declared.fault.Fault.{Fault}
-use Rattle.wire_server.specs.declared.fault.Fault.TheVariants.{BadHead, BadLength, TooLarge}
+use Rattle.wire_server.specs.declared.error.Fault.{Fault}
+use Rattle.wire_server.specs.declared.error.Fault.TheVariants.{BadHead, BadLength, TooLarge}
 use Rattle.model.specs.declared.refusal.Refusal.{Refusal}
 use Rattle.model.specs.declared.refusal.Refusal.TheVariants as refusals
 use Rattle.wire_server.specs.Responses.{Replied, refused, reply_bytes}

@@ -7,7 +7,7 @@ use Rattle.wire_server.specs.Responses.{Replied}
 use Rattle.wire_server.specs.Peers.{IsFresh, ClosesPeers, AcceptsPeers}
 use Rattle.wire_server.specs.Serves.{Served}
 use Rattle.wire_server.specs.Sessions.{Says, failure, result_of}
-use Rattle.wire_server.specs.declared.sessions.End.{End}
+use Rattle.wire_server.specs.declared.connection.End.{End}
 
 -- a connection: what its peer sent, what was written to the peer, and how it ended
 pub record Session : Type 0 where
@@ -37,13 +37,14 @@ module _ {S : Type 0} (answers : S → RequestHead → List ℕ → Replied → 
     pub left : ClosesPeers closed closed' (map (λ session. session.output) sessions)
     pub followed : Follow old err sessions new err'
 
-  -- A number of connections was served, and those that failed are counted; or fewer were, and then an accept failed.
-  abbrev pub ServesOn : ℕ → Option (List (List ℕ)) → Option (List (List ℕ)) → Option (List (List ℕ))
-      → Option (List (List ℕ)) → Option (List ℕ) → Option (List ℕ) → S → S
+  -- A number of connections was served, and those that failed are counted; or fewer were, and then an accept failed
+  -- with that error.
+  abbrev pub ServesOn : (Error → Type 0) → ℕ → Option (List (List ℕ)) → Option (List (List ℕ))
+      → Option (List (List ℕ)) → Option (List (List ℕ)) → Option (List ℕ) → Option (List ℕ) → S → S
       → Result ℕ Error → Type 0
-  ServesOn n waiting waiting' closed closed' err err' old new (Ok count) =
+  ServesOn Fails n waiting waiting' closed closed' err err' old new (Ok count) =
       (sessions : List Session) × Serves waiting waiting' closed closed' err err' old new sessions
       × (length sessions ≡ n) × (count ≡ failures sessions)
-  ServesOn n waiting waiting' closed closed' err err' old new (Err fault) =
+  ServesOn Fails n waiting waiting' closed closed' err err' old new (Err fault) =
       (sessions : List Session) × Serves waiting waiting' closed closed' err err' old new sessions
-      × (length sessions < n)
+      × (length sessions < n) × Fails fault

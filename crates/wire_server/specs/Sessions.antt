@@ -2,13 +2,13 @@
 use Rattle.std.specs.Prelude.{◌≡◌, ℕ, List, Option, Result, Ok, Err}
 use Rattle.std.specs.Io.KnownBytes.{Appends, Keeps}
 use Rattle.streams.specs.Sends.{AppendsPrefix}
-use Rattle.report.specs.Failures.{failure_line}
-use Rattle.report.specs.declared.failures.Failure.{Failure}
-use Rattle.report.specs.declared.failures.Failure.TheVariants as failures
+use Rattle.model.specs.Failures.{failure_line}
+use Rattle.model.specs.declared.failures.Failure.{Failure}
+use Rattle.model.specs.declared.failures.Failure.TheVariants as failures
 use Rattle.wire_server.specs.declared.error.WireError.{WireError}
 use Rattle.wire_server.specs.declared.error.WireError.TheVariants.{Read, Write, Memory}
-use Rattle.wire_server.specs.declared.sessions.End.{End}
-use Rattle.wire_server.specs.declared.sessions.End.TheVariants.{Served, Reported, Unreported}
+use Rattle.wire_server.specs.declared.connection.End.{End}
+use Rattle.wire_server.specs.declared.connection.End.TheVariants.{Served, Reported, Unreported}
 
 -- the failure as which the error of a connection is reported
 abbrev pub failure_of : WireError → Failure

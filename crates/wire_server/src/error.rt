@@ -1,9 +1,7 @@
-//! Why a connection ends before its input does.
+//! Why an input begins with no message, and why a connection ends before its input does.
 ghost use Rattle.std.specs.Prelude.{◌≡◌};
-ghost use Rattle.wire_server.specs.Arrivals.{fault_of};
 ghost use Rattle.wire_server.specs.declared.error.WireError.TheVariants.{Memory, Write};
 
-use crate::fault::ReceiveError;
 use std::alloc::AllocError;
 use std::io;
 use thiserror::Error;
@@ -30,22 +28,25 @@ impl From<AllocError> for WireError {
     }
 }
 
-impl From<ReceiveError> for WireError {
-    ghost from_gives = { λ fault e. e ≡ fault_of fault };
-
-    fn from(fault: ReceiveError) -> WireError {
-        match fault {
-            ReceiveError::Read => WireError::Read,
-            ReceiveError::Memory => WireError::Memory,
-        }
-    }
-}
-
-/// A write error, never a receive error: that is a `ReceiveError`.
+/// A write error, never one of a reader.
 impl From<io::Error> for WireError {
     ghost from_gives = { λ _ e. e ≡ Write };
 
     fn from(_: io::Error) -> WireError {
         WireError::Write
     }
+}
+
+/// What is wrong with the beginning of an input.
+#[derive(Clone, Copy, Debug, PartialEq, Eq, Error)]
+pub enum Fault {
+    /// The input begins with no request head of at most 16,384 bytes and 64 fields.
+    #[error("bad-head")]
+    BadHead,
+    /// The length of its body is malformed, is given twice or is coded otherwise, or the input ends inside the body.
+    #[error("bad-length")]
+    BadLength,
+    /// The body would have more than 20,971,520 bytes.
+    #[error("too-large")]
+    TooLarge,
 }

@@ -1,21 +1,26 @@
-//! The next message of a connection, and its response.
-ghost use Rattle.std.specs.Prelude.{IfOk, List, ℕ, Option};
+//! The response to what is next on a connection, and its writing.
+ghost use Rattle.std.specs.Prelude.{IfOk, List, ℕ, Option, ◌≡◌, drop, None, ◌++◌};
 ghost use Rattle.httparse.specs.Grammar.{RequestHead};
 ghost use Rattle.wire_server.specs.Heads.{Holds};
 ghost use Rattle.wire_server.specs.Answers.{Answered, IsReady};
 ghost use Rattle.wire_server.specs.Arrivals.{Arrived, Whole};
 ghost use Rattle.wire_server.specs.Exchanges.{Comes, IsRefusal, Responds};
+ghost use Rattle.wire_server.specs.Responses.{replied, reply_bytes};
+ghost use Rattle.streams.specs.Sends.{Sends};
+ghost use Rattle.wire_server.specs.Sends.{SendsReply};
 
-use crate::buffer::drain_prefix;
-use crate::fault::Fault;
-use crate::faults::refuse;
+use crate::arrival::Message;
+use crate::error::{Fault, WireError};
 use crate::fields::{HeadFields, closes};
 use crate::head::Head;
-use crate::ready::Ready;
-use crate::receiving::Next;
-use crate::responder::Responder;
+use crate::message::Received;
+use crate::responder::{Begun, Responder};
 use crate::response::Response;
+use model::Refusal;
 use std::alloc::{AllocError, Global};
+use std::io;
+use std::io::Write;
+use streams::{Pieces, send_bytes, send_pieces};
 
 /// A response, and whether the connection is closed after it.
 #[derive(Drop)]
@@ -28,8 +33,13 @@ pub(crate) struct Exchange {
 fn refused(alloc: Global, fault: Fault) -> Result<Exchange, AllocError>
     ensures { IfOk result (IsRefusal fault) }
 {
+    let refusal = match fault {
+        Fault::BadHead => Refusal::BadHead,
+        Fault::BadLength => Refusal::BadBodyLength,
+        Fault::TooLarge => Refusal::BodyTooLarge,
+    };
     Ok(Exchange {
-        response: refuse(alloc, fault)?,
+        response: Response::refused(alloc, refusal, None)?,
         close: true,
     })
 }
@@ -40,7 +50,7 @@ fn respond<T, A: Responder<T>>(
     state: &mut T,
     held: &[u8],
     head: &Head,
-    ready: Ready<A::Course, A::Body>,
+    ready: Begun<(A::Course, A::Body)>,
 ) -> Result<Response, AllocError>
     requires { (h : RequestHead) × (body : List ℕ) × Holds held.now head.now h
         × IsReady A.answers A.decides A.Body.represents state.old h body ready }
@@ -49,8 +59,8 @@ fn respond<T, A: Responder<T>>(
         → Answered A.answers state.old h body result state.new }
 {
     match ready {
-        Ready::Kept(course, body) => responder.answer(state, held, head, course, body),
-        Ready::Refused(response) => Ok(response),
+        Begun::Accepted((course, body)) => responder.answer(state, held, head, course, body),
+        Begun::Refused(response) => Ok(response),
     }
 }
 
@@ -61,7 +71,7 @@ fn answer_message<T, A: Responder<T>>(
     buffer: &mut Vec<u8>,
     head: &Head,
     size: usize,
-    ready: Ready<A::Course, A::Body>,
+    ready: Begun<(A::Course, A::Body)>,
 ) -> Result<Exchange, AllocError>
     requires { (all : List ℕ) × Whole A.answers A.decides A.Body.represents state.old all buffer.old.items
         head.now size ready }
@@ -85,7 +95,7 @@ pub(crate) fn answer_next<T, A: Responder<T>>(
     responder: &A,
     state: &mut T,
     buffer: &mut Vec<u8>,
-    next: Next<A::Course, A::Body>,
+    next: Received<Message<A::Course, A::Body>>,
 ) -> Result<Option<Exchange>, AllocError>
     requires { (all : List ℕ) × (rest : Option (List ℕ))
         × Arrived A.answers A.decides A.Body.represents state.old all buffer.old.items rest next }
@@ -94,11 +104,49 @@ pub(crate) fn answer_next<T, A: Responder<T>>(
         → Comes A.answers all buffer.new.items rest state.old state.new result }
 {
     match next {
-        Next::End => Ok(None),
-        Next::Message(head, size, ready) => {
+        Received::End => Ok(None),
+        Received::Message((head, size, ready)) => {
             let exchange = answer_message(responder, state, buffer, &head, size, ready)?;
             Ok(Some(exchange))
         }
-        Next::Faulty(fault) => Ok(Some(refused(alloc, fault)?)),
+        Received::Faulty(fault) => Ok(Some(refused(alloc, fault)?)),
     }
+}
+
+/// Removes a number of bytes from the beginning of a buffer, or all if the buffer has fewer.
+fn drain_prefix(buffer: &mut Vec<u8>, n: usize)
+    ensures { buffer.new.items ≡ drop n buffer.old.items }
+{
+    let accepted = n.min(buffer.len());
+    let rest = buffer.len() - accepted;
+    buffer.copy_within(accepted.., 0);
+    buffer.truncate(rest);
+}
+
+/// Writes a head and a text.
+fn send_both<W: Write>(output: &mut W, head: &[u8], text: &Pieces) -> io::Result<()>
+    ensures { Sends (W.contents output.old) (W.contents output.new) (head.now ++ text.now) result }
+{
+    send_bytes(output, head)?;
+    send_pieces(output, text)
+}
+
+/// Writes a reply: its head, and its text.
+///
+/// # Errors
+///
+/// `Write` if the writer fails, which then has a prefix of the reply, and not all; `Memory` if memory is refused, and
+/// then nothing is written.
+pub(crate) fn send_reply<W: Write>(
+    alloc: Global,
+    output: &mut W,
+    response: &Response,
+    close: bool,
+) -> Result<(), WireError>
+    ensures { SendsReply (W.contents output.old) (W.contents output.new) (reply_bytes close (replied response.now))
+        result }
+{
+    let head = response.head(alloc, close)?;
+    send_both(output, head.as_bytes(), &response.text)?;
+    Ok(())
 }

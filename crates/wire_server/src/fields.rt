@@ -5,7 +5,7 @@ ghost use Rattle.std.specs.Str.{str_eq_ignore_ascii_case};
 ghost use Rattle.httparse.specs.Spans.{IsRequestWithin};
 ghost use Rattle.wire_server.specs.Fields.{Are, values, fields_at, stated, body_length};
 
-use crate::fault::Fault;
+use crate::error::Fault;
 use crate::head::Head;
 
 /// How many bytes a body has at most.

@@ -1,8 +1,10 @@
 //! The head of a message at the beginning of a buffer.
 ghost use Rattle.std.specs.Prelude.{◌≡◌, ◌≤◌, ◌||◌, take, length};
 ghost use Rattle.httparse.specs.Grammar.{HasNoRequest};
-ghost use Rattle.wire_server.specs.Heads.{LookFinds, WasSeen, has_begun_in};
+ghost use Rattle.wire_server.specs.Heads.{WasSeen, has_begun_in};
+ghost use Rattle.wire_server.specs.Messages.{LookFinds};
 
+use crate::error::Fault;
 use httparse::Status;
 use httparse::spans::{EMPTY_HEADER_SPAN, HeaderSpan, RequestSpans, parse_request};
 
@@ -17,19 +19,13 @@ pub struct Head {
     pub fields: [HeaderSpan; 64],
 }
 
-/// What the bytes that have come so far are: a head, the start of one, or neither.
-#[derive(Clone, Copy)]
-pub enum Look {
-    /// The bytes begin with a head.
-    Whole(Head),
-    /// The head is not complete yet.
-    Unfinished,
-    /// The bytes don't begin with a head, whatever follows.
-    Faulty,
-}
-
-/// Looks for a head at the beginning of a buffer, whose first `seen` bytes were found to have none.
-pub fn look_for_head(buf: &[u8], seen: usize) -> Look
+/// Looks for a head at the beginning of a buffer, whose first `seen` bytes were found to have none. It may not be
+/// complete yet.
+///
+/// # Errors
+///
+/// `BadHead` if the bytes don't begin with a head, whatever follows.
+pub fn look_for_head(buf: &[u8], seen: usize) -> Result<Status<Head>, Fault>
     requires within { seen ≤ length buf.now }
     requires none { HasNoRequest (take seen buf.now) }
     ensures { LookFinds buf.now result }
@@ -41,13 +37,13 @@ pub fn look_for_head(buf: &[u8], seen: usize) -> Look
     match parse_request(buf, &mut fields) {
         Ok(Status::Complete(spans)) => {
             if spans.len <= MAX_HEAD {
-                Look::Whole(Head { spans, fields })
+                Ok(Status::Complete(Head { spans, fields }))
             } else {
-                Look::Faulty
+                Err(Fault::BadHead)
             }
         }
         Ok(Status::Partial) => without_head(buf),
-        Err(_) => Look::Faulty,
+        Err(_) => Err(Fault::BadHead),
     }
 }
 
@@ -67,7 +63,11 @@ fn has_begun(before: bool, came: &[u8]) -> bool
 
 /// Looks for a head in a buffer after more bytes came, and whether anything but line ends is there. Line ends alone are
 /// no head, so empty lines that come one after another aren't read again for each of them.
-pub(crate) fn look_again(buf: &[u8], seen: usize, before: bool) -> (bool, Look)
+pub(crate) fn look_again(
+    buf: &[u8],
+    seen: usize,
+    before: bool,
+) -> (bool, Result<Status<Head>, Fault>)
     requires { WasSeen buf.now seen before }
     ensures begun { result.0 ≡ has_begun_in buf.now }
     ensures found { LookFinds buf.now result.1 }
@@ -81,12 +81,12 @@ pub(crate) fn look_again(buf: &[u8], seen: usize, before: bool) -> (bool, Look)
 }
 
 /// What bytes are that don't begin with a head: the start of one, or neither if they are too many.
-fn without_head(buf: &[u8]) -> Look
+fn without_head(buf: &[u8]) -> Result<Status<Head>, Fault>
     ensures { HasNoRequest buf.now → LookFinds buf.now result }
 {
     if buf.len() < MAX_HEAD {
-        Look::Unfinished
+        Ok(Status::Partial)
     } else {
-        Look::Faulty
+        Err(Fault::BadHead)
     }
 }

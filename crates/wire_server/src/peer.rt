@@ -1,12 +1,11 @@
 //! The two directions of a connection of a port.
-ghost use Rattle.std.specs.Prelude.{◌≡◌, IfOk, None, is_ok, nat_lt, nat_le, true};
+ghost use Rattle.std.specs.Prelude.{◌≡◌, IfOk, is_ok, nat_lt, nat_le, option_and_then, true};
 ghost use Rattle.std.specs.Io.{ReadsAtMost};
 ghost use Rattle.std.specs.Io.KnownBytes.{ReadConsumes};
 ghost use Rattle.std.specs.Duration.{as_nanos};
 
 use std::io;
 use std::io::{Error, ErrorKind, Read, Write};
-use std::net::TcpStream;
 use std::rt::Clock;
 use std::time::{Duration, Instant};
 
@@ -14,22 +13,23 @@ use std::time::{Duration, Instant};
 /// the system, which may end a little earlier than 60 seconds by the clock.
 const OVER: u64 = 59;
 
-/// The input of a connection. Each read fails if the connection couldn't be prepared.
+/// The input of a connection: what its stream has left. Each read fails if the connection couldn't be prepared.
 #[derive(Drop)]
-pub struct Incoming {
-    stream: TcpStream,
+pub struct Incoming<R> {
+    stream: R,
     is_ready: bool,
 }
 
-/// The output of a connection. Each write fails if the connection couldn't be prepared, and after a write that hit its
-/// time limit before all of its bytes were sent.
+/// The output of a connection: what its stream has. Each write fails if the connection couldn't be prepared, and after
+/// a write that hit its time limit before all of its bytes were sent.
 #[derive(Drop)]
-pub struct Outgoing<'a, C: Clock> {
-    stream: Option<TcpStream>,
+pub struct Outgoing<'a, W, C: Clock> {
+    stream: Option<W>,
+    is_stuck: bool,
     clock: &'a C,
 }
 
-/// The error of each read and write on a connection that couldn't be prepared.
+/// The error of each read and write on a connection that couldn't be prepared, and of each write after a time limit.
 fn unprepared() -> Error {
     Error::from(ErrorKind::NotConnected)
 }
@@ -48,12 +48,20 @@ fn is_over(waited: Duration) -> bool
     waited >= Duration::from_secs(OVER)
 }
 
+/// Whether a short write that began then hit its time limit, which is assumed where the clock fails.
+fn is_stuck<C: Clock>(clock: &C, start: Instant) -> bool {
+    match start.elapsed(clock) {
+        Ok(waited) => is_over(waited),
+        Err(_) => true,
+    }
+}
+
 /// The two directions of a connection. `output` is a second handle of it, or why it couldn't be prepared.
-pub(crate) fn directions<'a, C: Clock>(
+pub(crate) fn directions<'a, R, W, C: Clock>(
     clock: &'a C,
-    input: TcpStream,
-    output: io::Result<TcpStream>,
-) -> (Incoming, Outgoing<'a, C>)
+    input: R,
+    output: io::Result<W>,
+) -> (Incoming<R>, Outgoing<'a, W, C>)
     ensures { result.0.is_ready ≡ is_ok output }
 {
     let incoming = Incoming {
@@ -62,22 +70,25 @@ pub(crate) fn directions<'a, C: Clock>(
     };
     let outgoing = Outgoing {
         stream: output.ok(),
+        is_stuck: false,
         clock,
     };
     (incoming, outgoing)
 }
 
-impl Incoming {
+impl<R> Incoming<R> {
     /// The connection.
-    pub(crate) fn stream(&mut self) -> &mut TcpStream {
+    pub(crate) fn stream(&mut self) -> &mut R {
         &mut self.stream
     }
 }
 
-impl Read for Incoming {
+impl<R: Read> Read for Incoming<R> {
+    ghost remaining = { λ input. R.remaining input.stream };
+
     fn read(&mut self, buf: &mut [u8]) -> io::Result<usize>
         ensures bound { ReadsAtMost result buf.new }
-        ensures bytes { ReadConsumes None None result buf.new }
+        ensures bytes { ReadConsumes (R.remaining self.old.stream) (R.remaining self.new.stream) result buf.new }
         // A connection that couldn't be prepared isn't one that has ended.
         ensures prepared { IfOk result (λ _. self.old.is_ready ≡ true) }
     {
@@ -88,18 +99,21 @@ impl Read for Incoming {
     }
 }
 
-impl<'a, C: Clock> Write for Outgoing<'a, C> {
+impl<'a, W: Write, C: Clock> Write for Outgoing<'a, W, C> {
+    ghost contents = { λ output. option_and_then W.contents output.stream };
+
     /// Writes some bytes. After a short write that hit its time limit, each further write fails: a count above 0 may
     /// come from room in the system's own buffer, and is no sign of a peer who reads.
     fn write(&mut self, buf: &[u8]) -> io::Result<usize> {
         let Some(stream) = &mut self.stream else {
             return Err(unprepared());
         };
+        if self.is_stuck {
+            return Err(unprepared());
+        }
         let start = Instant::now(self.clock)?;
         let count = stream.write(buf)?;
-        if is_short(count, buf.len()) && is_over(start.elapsed(self.clock)?) {
-            self.stream = None;
-        }
+        self.is_stuck = is_short(count, buf.len()) && is_stuck(self.clock, start);
         Ok(count)
     }
 

@@ -1,11 +1,10 @@
-//! The trait of servers that answer the messages of a connection.
+//! What answers the messages of a connection.
 ghost use Rattle.std.specs.Prelude.{ℕ, List, IfOk};
 ghost use Rattle.httparse.specs.Grammar.{RequestHead};
 ghost use Rattle.wire_server.specs.Heads.{Holds};
 ghost use Rattle.wire_server.specs.Responses.{Replied};
 ghost use Rattle.wire_server.specs.Answers.{Answered, IsBegun};
 
-use crate::begun::Begun;
 use crate::head::Head;
 use crate::keeper::Keeper;
 use crate::response::Response;
@@ -26,7 +25,7 @@ pub trait Responder<T> {
     ghost decides: { T → RequestHead → Self.Course → Type 0 };
 
     /// The decision by the head of a message, which is a prefix of `held`. The body, of `size` bytes, hasn't arrived
-    /// yet.
+    /// yet. A message that is accepted has its course, and a keeper that has no bytes yet.
     ///
     /// # Errors
     ///
@@ -37,7 +36,7 @@ pub trait Responder<T> {
         held: &[u8],
         head: &Head,
         size: usize,
-    ) -> Result<Begun<Self::Course, Self::Body>, AllocError>
+    ) -> Result<Begun<(Self::Course, Self::Body)>, AllocError>
         requires { (h : RequestHead) × Holds held.now head.now h }
         ensures { (h : RequestHead) → Holds held.now head.now h
             → IfOk result (IsBegun answers decides Self.Body.represents state.now h) };
@@ -56,4 +55,13 @@ pub trait Responder<T> {
         ensures { (h : RequestHead) (all : List ℕ) → Holds held.now head.now h → decides state.old h course
             → Self.Body.represents body all
             → Answered answers state.old h all result state.new };
+}
+
+/// What the head of a message decides.
+#[derive(Drop)]
+pub enum Begun<T> {
+    /// The message is answered by this once its body has arrived.
+    Accepted(T),
+    /// The response, whatever the body is. The body is dropped.
+    Refused(Response),
 }

@@ -1,12 +1,11 @@
-//! The responses to messages.
+//! The responses to messages, and the statuses of refusals.
 ghost use Rattle.std.specs.Prelude.{◌≡◌, IfOk, length, option_map, string_bytes};
 ghost use Rattle.wire_server.specs.ReplyHead.{reply_head};
-ghost use Rattle.wire_server.specs.Responses.{replied, plain, refused};
+ghost use Rattle.wire_server.specs.Responses.{replied, plain, refused, status_of};
 
 use crate::reply_head::{ReplyHead, write_reply_head};
-use crate::statuses::refusal_status;
 use http::StatusCode;
-use report::{Refusal, refusal_line};
+use model::{Refusal, refusal_line};
 use std::alloc::{AllocError, Global};
 use streams::{Pieces, in_pieces};
 
@@ -67,5 +66,21 @@ impl Response {
             allow,
             text: in_pieces(alloc, refusal_line(refusal).as_bytes())?,
         })
+    }
+}
+
+/// The status of a refusal: 404 for something that doesn't exist, 405 for a method that the route doesn't have, else
+/// 400.
+pub fn refusal_status(refusal: Refusal) -> StatusCode
+    ensures { result ≡ status_of refusal }
+{
+    match refusal {
+        Refusal::NotValid
+        | Refusal::NoRoot
+        | Refusal::NoProfile
+        | Refusal::NoGeneration
+        | Refusal::NoRoute => StatusCode::NOT_FOUND,
+        Refusal::BadMethod => StatusCode::METHOD_NOT_ALLOWED,
+        _ => StatusCode::BAD_REQUEST,
     }
 }

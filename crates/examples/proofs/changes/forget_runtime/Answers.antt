@@ -8,5 +8,7 @@ use Rattle.examples.proofs.changes.forget_runtime.Goals as goal
 
 pub replace_runtime-requires : goal.replace_runtime-requires
 replace_runtime-requires g c = record {
-  sound = λ w t. subst (λ keys. IsSound c.args.tables.now.dir (with_runtime w (seen_set pair_cmp labelled_bytes keys))) (sym c.new.ensures.empty) (runtime_replaced c.args.tables.now.dir w t.sound [] refl);
+  sound =
+      λ w t. subst (λ keys. IsSound c.args.tables.now.dir (with_runtime w (seen_set pair_cmp labelled_bytes keys)))
+      (sym c.new.ensures.empty) (runtime_replaced c.args.tables.now.dir w t.sound [] refl);
 }

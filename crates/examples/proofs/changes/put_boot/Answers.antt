@@ -8,6 +8,9 @@ use Rattle.examples.proofs.changes.put_boot.Goals as goal
 
 pub put_permanent-requires : goal.put_permanent-requires
 put_permanent-requires g c = record {
-  sound = λ w t. permanent_set c.args.tables.now.dir w t.sound (codes "boot") c.args.path.now refl (valid_by_outline g.S.Store c.args.tables.now w t c.args.path.now
-      ∙ ap (λ (o : OutlineValue). finite.contains_key o.objects c.args.path.now) (sym c.outline.ensures) ∙ sym c.has.ensures ∙ c.if-not-has.false);
+  sound =
+      λ w t. permanent_set c.args.tables.now.dir w t.sound (codes "boot") c.args.path.now refl
+      (valid_by_outline g.S.Store c.args.tables.now w t c.args.path.now
+      ∙ ap (λ (o : OutlineValue). finite.contains_key o.objects c.args.path.now) (sym c.outline.ensures)
+      ∙ sym c.has.ensures ∙ c.if-not-has.false);
 }

@@ -7,5 +7,8 @@ use Rattle.tables.proofs.SoundRoots.{user_root_set}
 use Rattle.examples.proofs.changes.put_editor.Goals as goal
 
 pub put_root-requires : goal.put_root-requires
-put_root-requires g c = λ w t. user_root_set c.args.tables.now.dir w t.sound (codes "ann") (codes "editor") c.args.path.now refl (valid_by_outline g.S.Store c.args.tables.now w t c.args.path.now
-    ∙ ap (λ (o : OutlineValue). finite.contains_key o.objects c.args.path.now) (sym c.outline.ensures) ∙ sym c.has.ensures ∙ c.if-not-has.false)
+put_root-requires g c =
+    λ w t. user_root_set c.args.tables.now.dir w t.sound (codes "ann") (codes "editor") c.args.path.now refl
+    (valid_by_outline g.S.Store c.args.tables.now w t c.args.path.now
+    ∙ ap (λ (o : OutlineValue). finite.contains_key o.objects c.args.path.now) (sym c.outline.ensures)
+    ∙ sym c.has.ensures ∙ c.if-not-has.false)

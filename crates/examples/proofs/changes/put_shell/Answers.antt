@@ -8,6 +8,9 @@ use Rattle.examples.proofs.changes.put_shell.Goals as goal
 
 pub put_user_root-requires : goal.put_user_root-requires
 put_user_root-requires g c = record {
-  sound = λ w t. user_root_set c.args.tables.now.dir w t.sound (codes "ann") (codes "shell") c.args.path.now refl (valid_by_outline g.S.Store c.args.tables.now w t c.args.path.now
-      ∙ ap (λ (o : OutlineValue). finite.contains_key o.objects c.args.path.now) (sym c.outline.ensures) ∙ sym c.has.ensures ∙ c.if-not-has.false);
+  sound =
+      λ w t. user_root_set c.args.tables.now.dir w t.sound (codes "ann") (codes "shell") c.args.path.now refl
+      (valid_by_outline g.S.Store c.args.tables.now w t c.args.path.now
+      ∙ ap (λ (o : OutlineValue). finite.contains_key o.objects c.args.path.now) (sym c.outline.ensures)
+      ∙ sym c.has.ensures ∙ c.if-not-has.false);
 }

@@ -13,7 +13,13 @@ switch_generation-requires-clause-sound g c w t =
     let n = c.args.number in
     let owner = string_bytes c.args.owned.now.0 in
     let name = string_bytes c.args.owned.now.1 in
-    let present : IsTrue (has_profile w (owner, name)) = ap (λ (o : OutlineValue). finite.contains_key o.profiles (owner, name)) (t.outline ∙ sym c.outline.ensures) ∙ sym c.has_profile.ensures ∙ c.if-not-has_profile.false in
-    let there : IsTrue (has_generation (profile_at w (owner, name)) n) = ap (λ (o : OutlineValue). has_generation (profile_of o (owner, name)) n) (t.outline ∙ sym c.outline-2.ensures) ∙ sym c.has_generation.ensures ∙ c.if-not-has_generation.false in
-    subst (λ (x : List ℕ). IsSound dir (with_profile_by (x, c.as_str-2.result.now) (λ p. switched p n) w)) (sym c.as_str.ensures.value)
-    (subst (λ (x : List ℕ). IsSound dir (with_profile_by (owner, x) (λ p. switched p n) w)) (sym c.as_str-2.ensures.value) (profile_switched dir w t.sound owner name n present there))
+    let present : IsTrue (has_profile w (owner, name)) =
+    ap (λ (o : OutlineValue). finite.contains_key o.profiles (owner, name)) (t.outline ∙ sym c.outline.ensures)
+    ∙ sym c.has_profile.ensures ∙ c.if-not-has_profile.false in
+    let there : IsTrue (has_generation (profile_at w (owner, name)) n) =
+    ap (λ (o : OutlineValue). has_generation (profile_of o (owner, name)) n) (t.outline ∙ sym c.outline-2.ensures)
+    ∙ sym c.has_generation.ensures ∙ c.if-not-has_generation.false in
+    subst (λ (x : List ℕ). IsSound dir (with_profile_by (x, c.as_str-2.result.now) (λ p. switched p n) w))
+    (sym c.as_str.ensures.value)
+    (subst (λ (x : List ℕ). IsSound dir (with_profile_by (owner, x) (λ p. switched p n) w))
+    (sym c.as_str-2.ensures.value) (profile_switched dir w t.sound owner name n present there))

@@ -8,5 +8,6 @@ use Rattle.intake.proofs.contents.begins_plain.Goals as goal
 pub returns : goal.returns
 unfolding plain_prefix string
 returns c =
-    let front = c.split_at.ensures.front ∙ ap (λ n. take n c.args.archive.now) c.min.ensures ∙ take_min 88 c.args.archive.now in
+    let front =
+    c.split_at.ensures.front ∙ ap (λ n. take n c.args.archive.now) c.min.ensures ∙ take_min 88 c.args.archive.now in
     c.eq.ensures ∙ ap (λ t. bytes_eq t plain_prefix) front

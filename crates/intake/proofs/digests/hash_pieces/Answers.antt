@@ -7,4 +7,5 @@ pub pieces-preserved : goal.pieces-preserved
 pieces-preserved c = λ was.
     let bytes = c.args.part.pieces.now in
     let before = take (65536 * c.pieces.i) bytes in
-    subst (Holds256 c.update.new.self) (one_more bytes c.pieces.i c.piece.result.now c.piece.ensures) (c.update.ensures before (c.pieces.invariant was))
+    subst (Holds256 c.update.new.self) (one_more bytes c.pieces.i c.piece.result.now c.piece.ensures)
+    (c.update.ensures before (c.pieces.invariant was))

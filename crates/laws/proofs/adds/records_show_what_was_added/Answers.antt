@@ -1,4 +1,5 @@
-use Rattle.laws.proofs.Tellings.{records_report, archives_are_the_objects, text_recorded, source_recorded, import_recorded}
+use Rattle.laws.proofs.Tellings.{records_report, archives_are_the_objects, text_recorded, source_recorded}
+use Rattle.laws.proofs.Tellings.{import_recorded}
 use Rattle.laws.proofs.adds.records_show_what_was_added.Goals as goal
 
 pub returns-clause-record : goal.returns-clause-record

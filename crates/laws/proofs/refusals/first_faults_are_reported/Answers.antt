@@ -1,4 +1,5 @@
-use Rattle.laws.proofs.Faults.{session_faults_are_reported, names_come_first, profiles_come_next, paths_come_before_numbers, named_are_present}
+use Rattle.laws.proofs.Faults.{session_faults_are_reported, names_come_first, profiles_come_next}
+use Rattle.laws.proofs.Faults.{paths_come_before_numbers, named_are_present}
 use Rattle.laws.proofs.refusals.first_faults_are_reported.Goals as goal
 
 pub returns-clause-sessions : goal.returns-clause-sessions

@@ -10,4 +10,6 @@ unfolding spec.source_path
 returns-clause-value c = λ made_of is.
     let dir = c.args.dir.now in
     let refs = c.args.refs.now in
-    IfOk-weaker c.path_of.result _ _ (λ p h. h ∙ ap (λ n. path_of (codes "source") dir n refs c.args.nar_hash.now) c.as_str.ensures.value ∙ ap (path_of (codes "source") dir c.args.name.now refs) is) c.path_of.ensures.value
+    IfOk-weaker c.path_of.result _ _
+    (λ p h. h ∙ ap (λ n. path_of (codes "source") dir n refs c.args.nar_hash.now) c.as_str.ensures.value
+    ∙ ap (path_of (codes "source") dir c.args.name.now refs) is) c.path_of.ensures.value

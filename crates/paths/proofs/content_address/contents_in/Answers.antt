@@ -9,7 +9,8 @@ use Rattle.paths.proofs.content_address.contents_in.Goals as goal
 pub returns-in-Ok : goal.returns-in-Ok
 returns-in-Ok c =
     let bytes : IsBytes c.args.nar.now = λ i. omega (arith, c.type_inv.nar i) in
-    c.plain_contents.ensures ∙ sym (ap plain_contents ((outcome_archive c.args.nar.now _ bytes).1 c.in-Ok.ensures.found))
+    c.plain_contents.ensures ∙ sym
+    (ap plain_contents ((outcome_archive c.args.nar.now _ bytes).1 c.in-Ok.ensures.found))
 
 pub returns-in_default : goal.returns-in_default
 returns-in_default c =

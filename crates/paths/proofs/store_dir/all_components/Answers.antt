@@ -6,5 +6,7 @@ use Rattle.paths.proofs.store_dir.all_components.Goals as goal
 
 pub returns : goal.returns
 returns c =
-    let parts = YieldsList-from_str_split 47 c.args.text.now (lit< tt) c.split.ensures.text c.split.ensures.has_more c.split.ensures.pattern in
+    let parts =
+    YieldsList-from_str_split 47 c.args.text.now (lit< tt) c.split.ensures.text c.split.ensures.has_more
+    c.split.ensures.pattern in
     all_from_yields_List is_component _ _ _ c.all.ensures.ran parts (λ x b q k. search (rules, tests))

@@ -1,5 +1,5 @@
 use Rattle.std.proofs.Common.{ap, ◌∙◌}
-use Rattle.report.specs.Refusals.{number}
+use Rattle.model.specs.Refusals.{number}
 use Rattle.report.proofs.Numbered.{configured, whole}
 use Rattle.report.proofs.numbers.known_line.Goals as goal
 

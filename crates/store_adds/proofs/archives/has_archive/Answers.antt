@@ -14,12 +14,18 @@ returns-then-not-is_writable-clause-reported c =
     let contents = c.args.contents.now in
     let bytes : IsBytes contents = λ i. omega (arith, c.type_inv.contents i) in
     ap (λ b. unless b TooLarge) (false_from_ne_true (nat_le (text_archive_size contents) limit) (λ h.
-    false≢true (sym c.if-not-is_writable.true ∙ c.is_writable.ensures.1 (subst IsWritable (sym c.plain-file.ensures) (writable contents bytes (leb-true _ _ h))))))
+    false≢true (sym c.if-not-is_writable.true
+    ∙ c.is_writable.ensures.1 (subst IsWritable (sym c.plain-file.ensures)
+    (writable contents bytes (leb-true _ _ h))))))
 
 pub returns-clause-reported : goal.returns-clause-reported
 returns-clause-reported c =
     let contents = c.args.contents.now in
-    ap (λ b. unless b TooLarge) (le-leb _ _ (small_enough contents (subst IsWritable c.plain-file.ensures (c.is_writable.ensures.0 c.if-not-is_writable.false))))
+    ap (λ b. unless b TooLarge) (le-leb _ _
+    (small_enough contents (subst IsWritable c.plain-file.ensures
+    (c.is_writable.ensures.0 c.if-not-is_writable.false))))
 
 pub returns-clause-fits : goal.returns-clause-fits
-returns-clause-fits c = small_enough c.args.contents.now (subst IsWritable c.plain-file.ensures (c.is_writable.ensures.0 c.if-not-is_writable.false))
+returns-clause-fits c =
+    small_enough c.args.contents.now
+    (subst IsWritable c.plain-file.ensures (c.is_writable.ensures.0 c.if-not-is_writable.false))

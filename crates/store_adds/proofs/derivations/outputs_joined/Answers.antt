@@ -12,7 +12,8 @@ returns c =
     let same : c.as_slice.result.now ≡ c.args.nar.now = c.as_slice.ensures.value ∙ c.in_ok-nar.ensures in
     let reported = rw c.in-Some.is at c.in_ok-text.ensures in
     let both = with_text dir (outcome_of c.as_slice.result.now) c.in-Some.text.now reported in
-    given_as c.outputs_of.result (λ m. outputs_view m.entries) _ _ _ _ (both.0 ∙ ap (λ (b : List ℕ). tree_fault dir (outcome_of b)) same)
+    given_as c.outputs_of.result (λ m. outputs_view m.entries) _ _ _ _
+    (both.0 ∙ ap (λ (b : List ℕ). tree_fault dir (outcome_of b)) same)
     (both.1 ∙ ap (λ (b : List ℕ). tree_outputs dir (outcome_of b)) same) c.outputs_of.ensures
 
 pub returns-in_default : goal.returns-in_default
@@ -20,4 +21,5 @@ returns-in_default c =
     let dir = c.args.dir.now in
     let same : c.as_slice.result.now ≡ c.args.nar.now = c.as_slice.ensures.value ∙ c.in_ok-nar.ensures in
     let reported = rw c.in_default.is at c.in_ok-text.ensures in
-    sym (ap (λ (b : List ℕ). tree_fault dir (outcome_of b)) same) ∙ no_text dir (outcome_of c.as_slice.result.now) reported
+    sym (ap (λ (b : List ℕ). tree_fault dir (outcome_of b)) same)
+    ∙ no_text dir (outcome_of c.as_slice.result.now) reported

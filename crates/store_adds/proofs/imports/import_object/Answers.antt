@@ -14,23 +14,32 @@ use Rattle.store_adds.proofs.imports.import_object.Goals as goal
 
 pub add-requires : goal.add-requires
 add-requires g c =
-    import_stays_sound g.S.Store c.args.tables.now c.args.config.now (import_view c.args.import) (added_view c.in_ok-added.added) c.requires.dir c.in_ok-added.ensures.formed
-    (import_given (import_view c.args.import) c.outline.result.now c.args.tables.now.outline c.store_dir-dir.result.now c.args.config.now.store_dir
+    import_stays_sound g.S.Store c.args.tables.now c.args.config.now (import_view c.args.import)
+    (added_view c.in_ok-added.added) c.requires.dir c.in_ok-added.ensures.formed
+    (import_given (import_view c.args.import) c.outline.result.now c.args.tables.now.outline c.store_dir-dir.result.now
+    c.args.config.now.store_dir
     c.outline.ensures c.store_dir-dir.ensures (added_view c.in_ok-added.added) c.in_ok-added.ensures.reported)
 
 pub returns-clause-met : goal.returns-clause-met
 returns-clause-met g c caller =
-    met_by_adding g.S.Store c.args.config.now caller (import_object (import_view c.args.import)) c.add.result c.args.tables.now c.add.new.tables
+    met_by_adding g.S.Store c.args.config.now caller (import_object (import_view c.args.import)) c.add.result
+    c.args.tables.now c.add.new.tables
     (added_view c.in_ok-added.added) (added_import c.args.config.now.store_dir (import_view c.args.import))
-    (import_given (import_view c.args.import) c.outline.result.now c.args.tables.now.outline c.store_dir-dir.result.now c.args.config.now.store_dir
+    (import_given (import_view c.args.import) c.outline.result.now c.args.tables.now.outline c.store_dir-dir.result.now
+    c.args.config.now.store_dir
     c.outline.ensures c.store_dir-dir.ensures (added_view c.in_ok-added.added) c.in_ok-added.ensures.reported)
     (λ w. refl) (λ w. refl) refl refl
-    (subst (λ (d : List ℕ). AreAmong (ObjectRowsPut (added_import d (import_view c.args.import))) (ObjectRowsPut (added_import c.args.tables.now.dir (import_view c.args.import)))) c.requires.dir (own_among (ObjectRowsPut (added_import c.args.tables.now.dir (import_view c.args.import))))) c.add.ensures
+    (subst (λ (d : List ℕ). AreAmong (ObjectRowsPut (added_import d (import_view c.args.import)))
+    (ObjectRowsPut (added_import c.args.tables.now.dir (import_view c.args.import)))) c.requires.dir
+    (own_among (ObjectRowsPut (added_import c.args.tables.now.dir (import_view c.args.import))))) c.add.ensures
 
 pub returns-in_err-added-clause-met : goal.returns-in_err-added-clause-met
 returns-in_err-added-clause-met g c caller =
     let p = err_from_is_err_and c.from_residual.result c.from_residual.ensures.1 in
-    rw (p.1, p.2) (met_by_reading g.S.Store c.args.config.now caller (import_object (import_view c.args.import)) (Err c.in_err-added.field-0.0) c.args.tables.now c.args.tables.now.outline refl
-    (reads_stopped c.args.config.now caller c.args.tables.now.outline (import_object (import_view c.args.import)) c.in_err-added.field-0.0
-    (import_stopped (import_view c.args.import) c.outline.result.now c.args.tables.now.outline c.store_dir-dir.result.now c.args.config.now.store_dir
+    rw (p.1, p.2) (met_by_reading g.S.Store c.args.config.now caller (import_object (import_view c.args.import))
+    (Err c.in_err-added.field-0.0) c.args.tables.now c.args.tables.now.outline refl
+    (reads_stopped c.args.config.now caller c.args.tables.now.outline (import_object (import_view c.args.import))
+    c.in_err-added.field-0.0
+    (import_stopped (import_view c.args.import) c.outline.result.now c.args.tables.now.outline
+    c.store_dir-dir.result.now c.args.config.now.store_dir
     c.outline.ensures c.store_dir-dir.ensures c.in_err-added.field-0.0 c.in_err-added.ensures.reported)))

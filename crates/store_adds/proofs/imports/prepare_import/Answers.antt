@@ -15,7 +15,8 @@ returns-clause-reported c w is =
     let d = c.in_ok-import.import in
     let added : Added = record { path = d.path; object = with_archive d.nar.pieces c.in_ok-object.object } in
     let examined = c.in_ok-outputs.ensures.reported w is in
-    subst (λ (i : Imported). (first_failing (import_tests dir w i) ≡ None) × (added ≡ added_import dir i)) c.in_ok-import.ensures.same (
+    subst (λ (i : Imported). (first_failing (import_tests dir w i) ≡ None) × (added ≡ added_import dir i))
+    c.in_ok-import.ensures.same (
       examined.0,
       λ i. record {
         path = d.path;

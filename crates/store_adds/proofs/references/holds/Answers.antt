@@ -7,4 +7,5 @@ use Rattle.store_adds.proofs.references.holds.Goals as goal
 pub returns : goal.returns
 returns c =
     c.contains.ensures.value
-    ∙ λ i. list_any (λ r. (texts_ties r c.args.path.now ∙ (eq_by_cmp_equiv nat_list_cmp_total).symm r c.args.path.now) i) c.args.refs.now
+    ∙ λ i. list_any (λ r. (texts_ties r c.args.path.now ∙ (eq_by_cmp_equiv nat_list_cmp_total).symm r c.args.path.now)
+    i) c.args.refs.now

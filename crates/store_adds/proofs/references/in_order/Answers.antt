@@ -18,7 +18,8 @@ abbrev same_path : Path → Path → Bool
 same_path x y = pointwise nat_eq x y
 
 -- sorted, and each once
-ordered_is : (before sorted : List Path) → IsPermutation before sorted → IsSorted bytes_cmp sorted → InPathOrder before (dedup same_path sorted)
+ordered_is : (before sorted : List Path) → IsPermutation before sorted → IsSorted bytes_cmp sorted
+    → InPathOrder before (dedup same_path sorted)
 ordered_is before sorted moved rises = record {
   rising = IsStrictlySortedBy-dedup nat_list_cmp_total (λ x y. texts_ties x y) sorted rises;
   same = λ r. (
@@ -35,4 +36,5 @@ unfolding in_path_order
 returns c =
     let sorted = c.sort_unstable.new.self.items in
     let kept : c.dedup.new.self.items ≡ dedup same_path sorted = dedup_is same_path _ _ c.dedup.ensures.filtered in
-    kept ∙ sym (in_path_order-is c.args.refs.items (dedup same_path sorted) (ordered_is c.args.refs.items sorted c.sort_unstable.ensures.permutation c.sort_unstable.ensures.sorted))
+    kept ∙ sym (in_path_order-is c.args.refs.items (dedup same_path sorted)
+    (ordered_is c.args.refs.items sorted c.sort_unstable.ensures.permutation c.sort_unstable.ensures.sorted))

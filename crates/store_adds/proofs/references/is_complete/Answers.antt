@@ -12,5 +12,7 @@ returns c =
     let o = c.args.outline.now in
     let p = c.args.path.now in
     let refs = c.args.refs.now in
-    all_from_yields_List (λ r. finite.contains_key o.objects r || same r p) _ _ _ c.all.ensures.ran (YieldsList-from_slice refs cc) (λ x b q k. search (rules, tests))
-    ∙ ap (λ b. b || list_all (λ r. finite.contains_key o.objects r || same r p) refs) (sym (sym c.has.ensures ∙ c.if-has.false))
+    all_from_yields_List (λ r. finite.contains_key o.objects r || same r p) _ _ _ c.all.ensures.ran
+    (YieldsList-from_slice refs cc) (λ x b q k. search (rules, tests))
+    ∙ ap (λ b. b || list_all (λ r. finite.contains_key o.objects r || same r p) refs)
+    (sym (sym c.has.ensures ∙ c.if-has.false))

@@ -5,7 +5,9 @@ use Rattle.store_adds.proofs.Ordered.{keys_of_set_rise, set_again}
 use Rattle.store_adds.proofs.summaries.summary.Goals as goal
 
 pub new-requires-clause-references : goal.new-requires-clause-references
-new-requires-clause-references c = subst (λ (l : List (List ℕ)). IsTrue (rise l)) (sym c.in_order.ensures) (keys_of_set_rise (set_of bytes_cmp c.args.refs.items))
+new-requires-clause-references c =
+    subst (λ (l : List (List ℕ)). IsTrue (rise l)) (sym c.in_order.ensures)
+    (keys_of_set_rise (set_of bytes_cmp c.args.refs.items))
 
 pub returns : goal.returns
 returns c =
@@ -15,5 +17,5 @@ returns c =
       references = (ap (set_of bytes_cmp) c.in_order.ensures ∙ set_again (set_of bytes_cmp c.args.refs.items)) i;
       deriver = c.args.deriver;
       ca = c.args.ca;
-      outputs = c.in_ok-names.ensures.value i;
+      outputs = c.in_ok-names.ensures.all i;
     })

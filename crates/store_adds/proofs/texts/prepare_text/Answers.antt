@@ -30,19 +30,27 @@ returns-clause-reported c w is =
     let refs = c.args.refs.items in
     let examined = c.in_ok-outputs.ensures w is in
     let path_is : c.in_ok-path.path ≡ text_path dir c.args.name.now refs contents =
-    c.in_ok-path.ensures.value contents c.in_ok-archive.ensures.contents ∙ ap (λ (r : List (List ℕ)). text_path dir c.args.name.now r contents) c.deref-2.ensures.value in (
+    c.in_ok-path.ensures.value contents c.in_ok-archive.ensures.contents
+    ∙ ap (λ (r : List (List ℕ)). text_path dir c.args.name.now r contents) c.deref-2.ensures.value in (
       sym (ap (λ (p : List ℕ). first_failing (text_tests dir w p refs contents)) path_is)
-          ∙ pass _ _ (ap (λ (r : List (List ℕ)). unless (nat_le (length r) most_references) TooManyReferences) (sym c.deref.ensures.value) ∙ c.in_ok-are_few.ensures)
+          ∙ pass _ _ (ap (λ (r : List (List ℕ)). unless (nat_le (length r) most_references) TooManyReferences)
+          (sym c.deref.ensures.value) ∙ c.in_ok-are_few.ensures)
           ∙ pass _ _ c.in_ok-has_archive.ensures.reported
-          ∙ ap (λ (r : List (List ℕ)). first_failing (drop 2 (text_tests dir w c.in_ok-path.path r contents))) (sym c.deref-3.ensures.value) ∙ examined.0,
+          ∙ ap (λ (r : List (List ℕ)). first_failing (drop 2 (text_tests dir w c.in_ok-path.path r contents)))
+          (sym c.deref-3.ensures.value) ∙ examined.0,
       λ i. record {
         path = path_is i;
         object = record {
           nar = c.in_ok-archive.ensures.pieces i;
           references = ap (λ (o : Outlined). o.references) c.in_ok-object.ensures i;
           deriver = ap (λ (o : Outlined). o.deriver) c.in_ok-object.ensures i;
-          ca = (ap (λ (o : Outlined). o.ca) c.in_ok-object.ensures ∙ ap (λ (a : ContentAddress). Some a) (c.new-ca.ensures ∙ ap as_address c.in_ok-archive.ensures.contents)) i;
-          outputs = (ap (λ (o : Outlined). o.outputs) c.in_ok-object.ensures ∙ examined.1 ∙ ap (λ (p : List ℕ). outputs_at dir p (text_archive contents)) path_is) i;
+          ca =
+              (ap (λ (o : Outlined). o.ca) c.in_ok-object.ensures
+              ∙ ap (λ (a : ContentAddress). Some a)
+              (c.new-ca.ensures ∙ ap as_address c.in_ok-archive.ensures.contents)) i;
+          outputs =
+              (ap (λ (o : Outlined). o.outputs) c.in_ok-object.ensures ∙ examined.1
+              ∙ ap (λ (p : List ℕ). outputs_at dir p (text_archive contents)) path_is) i;
         };
       },
     )

@@ -8,8 +8,12 @@ use Rattle.store_promises.proofs.validity.has_user_root.Goals as goal
 
 pub returns-then-not-has_user_root : goal.returns-then-not-has_user_root
 returns-then-not-has_user_root c w is =
-    ap (λ b. unless b NoRoot) (ap (λ (o : OutlineValue). finite.contains_key o.user_roots (string_bytes c.args.owned.now.0, string_bytes c.args.owned.now.1)) is ∙ sym c.has_user_root.ensures ∙ c.if-not-has_user_root.true)
+    ap (λ b. unless b NoRoot) (ap (λ (o : OutlineValue). finite.contains_key o.user_roots
+    (string_bytes c.args.owned.now.0, string_bytes c.args.owned.now.1)) is ∙ sym c.has_user_root.ensures
+    ∙ c.if-not-has_user_root.true)
 
 pub returns : goal.returns
 returns c w is =
-    ap (λ b. unless b NoRoot) (ap (λ (o : OutlineValue). finite.contains_key o.user_roots (string_bytes c.args.owned.now.0, string_bytes c.args.owned.now.1)) is ∙ sym c.has_user_root.ensures ∙ c.if-not-has_user_root.false)
+    ap (λ b. unless b NoRoot) (ap (λ (o : OutlineValue). finite.contains_key o.user_roots
+    (string_bytes c.args.owned.now.0, string_bytes c.args.owned.now.1)) is ∙ sym c.has_user_root.ensures
+    ∙ c.if-not-has_user_root.false)

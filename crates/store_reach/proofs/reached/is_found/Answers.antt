@@ -9,4 +9,5 @@ returns-in-Some c keep g named are found =
     c.has.ensures ∙ found c.in-Some.number at.2 ∙ ap (reaches_any keep g named) at.3
 
 pub returns-in-None : goal.returns-in-None
-returns-in-None c keep g named are found = sym (reaching_none g c.args.links.now are keep named c.args.path.now c.in-None.ensures.none)
+returns-in-None c keep g named are found =
+    sym (reaching_none g c.args.links.now are keep named c.args.path.now c.in-None.ensures.none)

@@ -13,10 +13,14 @@ loop-root-preserved c = λ keep g named are found.
     elim c.if-is_found.branch [
       | then-is_found+in_ok-push w ↦
           ap (λ (v : Vec Handed Global). roots_view v.items) w.found-is ∙ ap roots_view w.in_ok-push.ensures.items
-          ∙ root_found test c.args.roots.now c.loop-root.root-index c.root-item.result c.loop-root-test.true c.root-item.is c.loop-root.found.items
-          (c.loop-root.invariant keep g named are found) (sym (c.is_found.ensures keep g named are found) ∙ w.if-is_found.true)
+          ∙ root_found test c.args.roots.now c.loop-root.root-index c.root-item.result c.loop-root-test.true
+          c.root-item.is c.loop-root.found.items
+          (c.loop-root.invariant keep g named are found) w.borrowed.result w.borrowed.ensures
+          (sym (c.is_found.ensures keep g named are found) ∙ w.if-is_found.true)
       | else-is_found w ↦
           ap (λ (v : Vec Handed Global). roots_view v.items) w.found-is
-          ∙ root_missed test c.args.roots.now c.loop-root.root-index c.root-item.result c.loop-root-test.true c.root-item.is c.loop-root.found.items
-          (c.loop-root.invariant keep g named are found) (sym (c.is_found.ensures keep g named are found) ∙ w.if-is_found.false)
+          ∙ root_missed test c.args.roots.now c.loop-root.root-index c.root-item.result c.loop-root-test.true
+          c.root-item.is c.loop-root.found.items
+          (c.loop-root.invariant keep g named are found)
+          (sym (c.is_found.ensures keep g named are found) ∙ w.if-is_found.false)
     ]

@@ -7,8 +7,14 @@ use Rattle.store_roots.proofs.generations.is_not_current.Goals as goal
 
 pub returns-then-is_current : goal.returns-then-is_current
 returns-then-is_current c w is =
-    ap (λ b. unless (not b) CurrentGeneration) (ap (λ (o : OutlineValue). (profile_of o (string_bytes c.args.owned.now.0, string_bytes c.args.owned.now.1)).current == c.args.number) is ∙ sym c.is_current.ensures ∙ c.if-is_current.true)
+    ap (λ b. unless (not b) CurrentGeneration)
+    (ap (λ (o : OutlineValue). (profile_of o
+    (string_bytes c.args.owned.now.0, string_bytes c.args.owned.now.1)).current == c.args.number) is
+    ∙ sym c.is_current.ensures ∙ c.if-is_current.true)
 
 pub returns : goal.returns
 returns c w is =
-    ap (λ b. unless (not b) CurrentGeneration) (ap (λ (o : OutlineValue). (profile_of o (string_bytes c.args.owned.now.0, string_bytes c.args.owned.now.1)).current == c.args.number) is ∙ sym c.is_current.ensures ∙ c.if-is_current.false)
+    ap (λ b. unless (not b) CurrentGeneration)
+    (ap (λ (o : OutlineValue). (profile_of o
+    (string_bytes c.args.owned.now.0, string_bytes c.args.owned.now.1)).current == c.args.number) is
+    ∙ sym c.is_current.ensures ∙ c.if-is_current.false)

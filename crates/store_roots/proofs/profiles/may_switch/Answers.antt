@@ -5,7 +5,9 @@ use Rattle.store_roots.proofs.profiles.may_switch.Goals as goal
 
 pub returns : goal.returns
 returns c = record {
-  reported = λ s w is. pass _ _ c.in_ok-are_named.ensures ∙ pass _ _ (c.in_ok-has_profile.ensures.reported w is) ∙ pass _ _ (c.in_ok-has_generation.ensures w is);
+  reported =
+      λ s w is. pass _ _ c.in_ok-are_named.ensures ∙ pass _ _ (c.in_ok-has_profile.ensures.reported w is)
+      ∙ pass _ _ (c.in_ok-has_generation.ensures w is);
   present = c.in_ok-has_profile.ensures.present;
 }
 

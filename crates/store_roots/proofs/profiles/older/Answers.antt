@@ -5,7 +5,9 @@ use Rattle.store_roots.proofs.profiles.older.Goals as goal
 
 pub returns-clause-tested : goal.returns-clause-tested
 returns-clause-tested c = record {
-  reported = λ s w is. pass _ _ c.in_ok-are_named.ensures ∙ pass _ _ (c.in_ok-has_profile.ensures.reported w is) ∙ pass _ _ (c.in_ok-number.ensures w is).0;
+  reported =
+      λ s w is. pass _ _ c.in_ok-are_named.ensures ∙ pass _ _ (c.in_ok-has_profile.ensures.reported w is)
+      ∙ pass _ _ (c.in_ok-number.ensures w is).0;
   present = c.in_ok-has_profile.ensures.present;
 }
 

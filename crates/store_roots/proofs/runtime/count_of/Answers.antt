@@ -7,6 +7,8 @@ use Rattle.store_roots.proofs.runtime.count_of.Goals as goal
 
 pub returns : goal.returns
 returns c = record {
-  count = c.len.ensures.len ∙ sym (counted pair_cmp labelled_bytes pair_total pair_antisymmetric c.args.roots.now.keys c.len.ensures.ordered);
+  count =
+      c.len.ensures.len ∙ sym (counted pair_cmp labelled_bytes pair_total pair_antisymmetric c.args.roots.now.keys
+      c.len.ensures.ordered);
   ordered = c.len.ensures.ordered;
 }

@@ -10,10 +10,13 @@ use Rattle.store_roots.proofs.runtime.put_valid.Goals as goal
 pub returns-then-not-has : goal.returns-then-not-has
 returns-then-not-has c =
     let old = seen_set pair_cmp labelled_bytes c.args.valid.now.keys in
-    sym (ap (λ b. if b then finite.insert old (labelled_bytes c.args.pair) tt else old) (sym c.has.ensures ∙ c.if-not-has.true))
+    sym (ap (λ b. if b then finite.insert old (labelled_bytes c.args.pair) tt else old)
+    (sym c.has.ensures ∙ c.if-not-has.true))
 
 pub returns : goal.returns
 returns c =
     let old = seen_set pair_cmp labelled_bytes c.args.valid.now.keys in
-    ap (seen_set pair_cmp labelled_bytes) c.in_ok-insert.ensures.keys ∙ key_put pair_cmp labelled_bytes pair_total pair_antisymmetric c.args.valid.now.keys c.args.pair
-    ∙ sym (ap (λ b. if b then finite.insert old (labelled_bytes c.args.pair) tt else old) (sym c.has.ensures ∙ c.if-not-has.false))
+    ap (seen_set pair_cmp labelled_bytes) c.in_ok-insert.ensures.keys
+    ∙ key_put pair_cmp labelled_bytes pair_total pair_antisymmetric c.args.valid.now.keys c.args.pair
+    ∙ sym (ap (λ b. if b then finite.insert old (labelled_bytes c.args.pair) tt else old)
+    (sym c.has.ensures ∙ c.if-not-has.false))

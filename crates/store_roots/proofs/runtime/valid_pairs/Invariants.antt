@@ -9,7 +9,8 @@ use Rattle.store_roots.proofs.runtime.valid_pairs.Given as goal
 -- what is left
 abbrev pub invariant-loop-pair : goal.invariant-loop-pair
 invariant-loop-pair l =
-    Precede pair_cmp (entries_of labelled_bytes (λ (p : Pair). finite.contains_key l.outline.objects p.1) l.left.items) (seen_set pair_cmp labelled_bytes l.valid.keys)
+    Precede pair_cmp (entries_of labelled_bytes (λ (p : Pair). finite.contains_key l.outline.objects p.1) l.left.items)
+    (seen_set pair_cmp labelled_bytes l.valid.keys)
     (entries_of labelled_bytes (λ (p : Pair). finite.contains_key l.outline.objects p.1) l.fn.pairs.items)
 
 abbrev pub decreases-loop-pair : goal.decreases-loop-pair

@@ -15,20 +15,30 @@ use Rattle.store_promises.proofs.Written.{met_by_stopping, met_by_writing}
 use Rattle.store_roots.proofs.user_roots.drop_user_root.Goals as goal
 
 pub drop_user_root-requires : goal.drop_user_root-requires
-drop_user_root-requires g c = record { sound = λ w t. user_root_dropped c.args.tables.now.dir w t.sound c.as_str.result.now c.as_str-2.result.now }
+drop_user_root-requires g c =
+    record {
+      sound = λ w t. user_root_dropped c.args.tables.now.dir w t.sound c.as_str.result.now c.as_str-2.result.now;
+    }
 
 pub returns-in_err-may_drop : goal.returns-in_err-may_drop
 returns-in_err-may_drop g c s caller =
     let p = err_from_is_err_and c.from_residual.result c.from_residual.ensures.1 in
-    rw (p.1, p.2) (met_by_stopping g.S.Store s caller (drop_user_root (string_bytes c.args.owned.0) (string_bytes c.args.owned.1)) c.args.tables.now (Refused c.in_err-may_drop.field-0.0) c.outline.result.now c.outline.ensures (λ w is. c.in_err-may_drop.ensures s w is))
+    rw (p.1, p.2) (met_by_stopping g.S.Store s caller
+    (drop_user_root (string_bytes c.args.owned.0) (string_bytes c.args.owned.1)) c.args.tables.now
+    (Refused c.in_err-may_drop.field-0.0) c.outline.result.now c.outline.ensures
+    (λ w is. c.in_err-may_drop.ensures s w is))
 
 pub returns : goal.returns
 returns g c s caller =
     let owner = string_bytes c.args.owned.0 in
     let name = string_bytes c.args.owned.1 in
-    subst (λ (r : Result Answer Stop). IsMet g.S.Store s caller (drop_user_root owner name) r c.args.tables.now c.drop_user_root.new.self) (sym c.answered.ensures)
-    (met_by_writing g.S.Store s caller (drop_user_root owner name) c.args.tables.now c.drop_user_root.new.self (λ w. without_user_root w (c.as_str.result.now, c.as_str-2.result.now)) Changed
+    subst (λ (r : Result Answer Stop). IsMet g.S.Store s caller (drop_user_root owner name) r c.args.tables.now
+    c.drop_user_root.new.self) (sym c.answered.ensures)
+    (met_by_writing g.S.Store s caller (drop_user_root owner name) c.args.tables.now c.drop_user_root.new.self
+    (λ w. without_user_root w (c.as_str.result.now, c.as_str-2.result.now)) Changed
     (λ w is. c.in_ok-may_drop.ensures s w (is ∙ sym c.outline.ensures))
-    (λ w is. refl) (λ w is. ap₂ (λ (o n : List ℕ). without_user_root w (o, n)) c.as_str.ensures.value c.as_str-2.ensures.value)
+    (λ w is. refl) (λ w is. ap₂ (λ (o n : List ℕ). without_user_root w (o, n)) c.as_str.ensures.value
+    c.as_str-2.ensures.value)
     c.drop_user_root.result c.drop_user_root.ensures.frame
-    (write_fails g.S.Store (drop_user_root owner name) c.args.tables.now c.drop_user_root.new.self refl NoRow (own_among NoRow) (λ t row none. absurd none) Changed c.drop_user_root.result c.drop_user_root.ensures.cause))
+    (write_fails g.S.Store (drop_user_root owner name) c.args.tables.now c.drop_user_root.new.self refl NoRow
+    (own_among NoRow) (λ t row none. absurd none) Changed c.drop_user_root.result c.drop_user_root.ensures.cause))

@@ -8,8 +8,10 @@ use Rattle.streams.specs.declared.error.ReadError.TheVariants.{Input, Memory}
 use Rattle.streams.proofs.receive.receive_at_most.Goals as goal
 
 -- a read that failed after others, or whose bytes were not passed on
-ended : (old mid new : Option (List ℕ)) (most left room : ℕ) (bs held held' held'' : List ℕ) (fault : ReadError) → 0 < left → room ≤ left
-    → Consumes old mid bs → length bs + left ≡ most → held' ≡ held ++ bs → ReadsOn room mid new held' held'' (Err fault) → Receives most old new held held'' (Err fault)
+ended : (old mid new : Option (List ℕ)) (most left room : ℕ) (bs held held' held'' : List ℕ) (fault : ReadError)
+    → 0 < left → room ≤ left
+    → Consumes old mid bs → length bs + left ≡ most → held' ≡ held ++ bs → ReadsOn room mid new held' held'' (Err fault)
+    → Receives most old new held held'' (Err fault)
 ended old mid new most left room bs held held' held'' Input some within taken sum is (kept, same) =
     (bs, Consumes-kept old mid new bs taken kept, omega arith, (omega arith, same ∙ is))
 ended old mid new most left room bs held held' held'' Memory some within taken sum is (more, came, least, fits) =
@@ -20,4 +22,5 @@ pub returns-in_err-count : goal.returns-in_err-count
 returns-in_err-count g c =
     let before = c.reads.invariant in
     let p = err_from_is_err_and c.from_residual.result c.from_residual.ensures.1 in
-    rw (p.1, p.2) (ended _ _ _ c.args.most c.reads.left _ before.0 _ _ _ c.in_err-count.field-0.0 c.reads-test.true (search rules) before.1 before.2 before.3 c.in_err-count.ensures)
+    rw (p.1, p.2) (ended _ _ _ c.args.most c.reads.left _ before.0 _ _ _ c.in_err-count.field-0.0 c.reads-test.true
+    (search rules) before.1 before.2 before.3 c.in_err-count.ensures)

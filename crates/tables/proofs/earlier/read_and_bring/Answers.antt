@@ -17,7 +17,9 @@ bring-requires-clause-tables g c =
     record {
       idle = c.read_as.ensures.frame.idle;
       ready = λ clean. c.read_as.ensures.frame.ready clean (c.in_ok-loaded.ensures.unchanged clean).0.is_open;
-      found = λ clean. subst (IsFoundBy c.args.schema) (sym (c.in_ok-loaded.ensures.unchanged clean).0.now_is) (c.requires.found (clean_before a b _ c.read_as.ensures.frame.survives clean));
+      found =
+          λ clean. subst (IsFoundBy c.args.schema) (sym (c.in_ok-loaded.ensures.unchanged clean).0.now_is)
+          (c.requires.found (clean_before a b _ c.read_as.ensures.frame.survives clean));
     }
 
 pub returns-clause-brought : goal.returns-clause-brought
@@ -26,7 +28,8 @@ returns-clause-brought g c clean =
     let b = state g.S.Store c.read_as.new.conn in
     let d = state g.S.Store c.bring.new.conn in
     both_migrate c.args.schema c.args.dir.now a b d c.in_ok-loaded.ensures.unchanged
-    (λ early. subst (λ (x : List ℕ). IsSoundBy c.args.schema x (contents_of a.now)) c.in_ok-loaded.ensures.dir (c.in_ok-loaded.ensures.reported early).0)
+    (λ early. subst (λ (x : List ℕ). IsSoundBy c.args.schema x (contents_of a.now)) c.in_ok-loaded.ensures.dir
+    (c.in_ok-loaded.ensures.reported early).0)
     (clean_before b d _ c.bring.ensures.migrates.survives clean) (c.in_ok-bring.ensures.migrates.done clean)
 
 pub returns-clause-survives : goal.returns-clause-survives
@@ -35,7 +38,8 @@ returns-clause-survives g c =
     let b = state g.S.Store c.read_as.new.conn in
     let d = state g.S.Store c.bring.new.conn in
     both_leave c.args.schema c.args.dir.now a b d c.in_ok-loaded.ensures.unchanged
-    (λ early. subst (λ (x : List ℕ). IsSoundBy c.args.schema x (contents_of a.now)) c.in_ok-loaded.ensures.dir (c.in_ok-loaded.ensures.reported early).0)
+    (λ early. subst (λ (x : List ℕ). IsSoundBy c.args.schema x (contents_of a.now)) c.in_ok-loaded.ensures.dir
+    (c.in_ok-loaded.ensures.reported early).0)
     c.requires.found c.read_as.ensures.frame.survives c.bring.ensures.migrates.survives
 
 pub returns-in_err-bring-clause-survives : goal.returns-in_err-bring-clause-survives
@@ -44,7 +48,8 @@ returns-in_err-bring-clause-survives g c =
     let b = state g.S.Store c.read_as.new.conn in
     let d = state g.S.Store c.bring.new.conn in
     both_leave c.args.schema c.args.dir.now a b d c.in_ok-loaded.ensures.unchanged
-    (λ early. subst (λ (x : List ℕ). IsSoundBy c.args.schema x (contents_of a.now)) c.in_ok-loaded.ensures.dir (c.in_ok-loaded.ensures.reported early).0)
+    (λ early. subst (λ (x : List ℕ). IsSoundBy c.args.schema x (contents_of a.now)) c.in_ok-loaded.ensures.dir
+    (c.in_ok-loaded.ensures.reported early).0)
     c.requires.found c.read_as.ensures.frame.survives c.bring.ensures.migrates.survives
 
 pub returns-in_err-bring-clause-cause : goal.returns-in_err-bring-clause-cause
@@ -55,5 +60,7 @@ returns-in_err-bring-clause-cause g c clean =
     let read = clean_before b d _ c.bring.ensures.migrates.survives clean in
     let early = clean_before a b _ c.read_as.ensures.frame.survives read in
     let p = err_from_is_err_and c.from_residual-in_err-bring.result c.from_residual-in_err-bring.ensures.1 in
-    rw (p.1, p.2) (migration_cause c.args.dir.now a d c.in_err-bring.field-0.0 c.args.schema (c.requires.found early) c.in_err-bring.ensures.needed
-    (whole_before c.args.schema a b d (c.in_ok-loaded.ensures.unchanged read) c.read_as.ensures.frame.survives c.in_err-bring.field-0.0 (c.in_err-bring.ensures.migrates.cause clean)))
+    rw (p.1, p.2) (migration_cause c.args.dir.now a d c.in_err-bring.field-0.0 c.args.schema (c.requires.found early)
+    c.in_err-bring.ensures.needed
+    (whole_before c.args.schema a b d (c.in_ok-loaded.ensures.unchanged read) c.read_as.ensures.frame.survives
+    c.in_err-bring.field-0.0 (c.in_err-bring.ensures.migrates.cause clean)))

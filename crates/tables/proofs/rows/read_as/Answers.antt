@@ -22,7 +22,9 @@ returns-in_default g c = record {
   cause = λ clean.
       let a = state g.S.Store c.args.conn.now in
       let b = state g.S.Store c.read.new.conn in
-      no_store_cause c.args.dir.now a.now (unsound c.args.schema a.now (c.requires.found (clean_before a b _ c.read.ensures.read.frame.survives clean)) (none_reported _ _ c.in_ok-loaded.field-0 c.in_default.is (c.in_ok-loaded.ensures.reported clean)));
+      no_store_cause c.args.dir.now a.now
+      (unsound c.args.schema a.now (c.requires.found (clean_before a b _ c.read.ensures.read.frame.survives clean))
+      (none_reported _ _ c.in_ok-loaded.field-0 c.in_default.is (c.in_ok-loaded.ensures.reported clean)));
 }
 
 pub returns-in_err-loaded : goal.returns-in_err-loaded
@@ -33,5 +35,7 @@ returns-in_err-loaded g c =
       dir = tt;
       reported = λ clean. tt;
       unchanged = λ clean. tt;
-      cause = λ clean. read_cause c.args.dir.now (state g.S.Store c.args.conn.now) (state g.S.Store c.read.new.conn) c.in_err-loaded.field-0.0 (c.in_err-loaded.ensures.read.cause clean);
+      cause =
+          λ clean. read_cause c.args.dir.now (state g.S.Store c.args.conn.now) (state g.S.Store c.read.new.conn)
+          c.in_err-loaded.field-0.0 (c.in_err-loaded.ensures.read.cause clean);
     })

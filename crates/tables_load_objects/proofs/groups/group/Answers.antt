@@ -13,8 +13,16 @@ returns g c up =
     let start = c.partition_point-start in
     let count = c.partition_point-count in
     let rest = c.split_at.result.1.now in
-    let first = IsPartitionPoint-from_clause (below key p) xs start.result start.ensures.partitioned (below_parted key p xs up) (λ a r f k. search (rules, of_calls)) in
-    let parts = subst (λ q. IsPartitionedBy q rest) (sym (own_texts key p)) (own_parted key p xs rest up start.result start.ensures.bound first c.split_at.ensures.back) in
-    let tested = IsPartitionPoint-from_clause (λ row. bytes_eq p (key row)) rest count.result count.ensures.partitioned parts (λ a r f k. search (rules, of_calls)) in
-    let second = subst (λ q. IsPartitionPoint (λ y. q y ≡ true) (λ y. q y ≡ false) rest count.result) (own_texts key p) tested in
-    c.split_at-2.ensures.front ∙ group_found key p xs rest up start.result start.ensures.bound first c.split_at.ensures.back count.result count.ensures.bound second
+    let first =
+    IsPartitionPoint-from_clause (below key p) xs start.result start.ensures.partitioned (below_parted key p xs up)
+    (λ a r f k. search (rules, of_calls)) in
+    let parts =
+    subst (λ q. IsPartitionedBy q rest) (sym (own_texts key p))
+    (own_parted key p xs rest up start.result start.ensures.bound first c.split_at.ensures.back) in
+    let tested =
+    IsPartitionPoint-from_clause (λ row. bytes_eq p (key row)) rest count.result count.ensures.partitioned parts
+    (λ a r f k. search (rules, of_calls)) in
+    let second =
+    subst (λ q. IsPartitionPoint (λ y. q y ≡ true) (λ y. q y ≡ false) rest count.result) (own_texts key p) tested in
+    c.split_at-2.ensures.front ∙ group_found key p xs rest up start.result start.ensures.bound first
+    c.split_at.ensures.back count.result count.ensures.bound second

@@ -14,13 +14,18 @@ returns-then-not-has_pieces g c =
       frame = as_it_was c.args.conn.now c.requires.tables.frame c.requires.opened;
       reads = λ clean. (
         no_change s (c.requires.opened clean),
-        ap (map numbered_in) c.new.ensures.items ∙ sym (no_pieces (contents_of s.now).pieces (c.requires.tables.pieces.no_table clean (sym c.has_pieces.ensures ∙ c.if-not-has_pieces.true) (c.requires.opened clean))),
+        ap (map numbered_in) c.new.ensures.items
+            ∙ sym (no_pieces (contents_of s.now).pieces
+            (c.requires.tables.pieces.no_table clean (sym c.has_pieces.ensures ∙ c.if-not-has_pieces.true)
+            (c.requires.opened clean))),
       );
       cause = λ _. tt;
     }
 
 pub find-requires-clause-exists : goal.find-requires-clause-exists
-find-requires-clause-exists g c clean is_open = c.requires.tables.pieces.exists clean (sym c.has_pieces.ensures ∙ c.if-not-has_pieces.false) is_open
+find-requires-clause-exists g c clean is_open =
+    c.requires.tables.pieces.exists clean (sym c.has_pieces.ensures ∙ c.if-not-has_pieces.false) is_open
 
 pub returns : goal.returns
-returns g c = finds_one _ _ c.find.result _ c.find.ensures.found.frame c.find.ensures.found.reads c.find.ensures.found.cause
+returns g c =
+    finds_one _ _ c.find.result _ c.find.ensures.found.frame c.find.ensures.found.reads c.find.ensures.found.cause

@@ -13,26 +13,36 @@ keys_of-requires-clause-opened g c clean = (c.in_ok-outputs.ensures.found.reads 
 
 pub keys_of-requires-clause-tables : goal.keys_of-requires-clause-tables
 keys_of-requires-clause-tables g c =
-    by_after c.args.schema c.args.conn.now c.find-2.new.conn (left_then _ _ _ c.find.ensures.found.frame c.find-2.ensures.found.frame)
-    (unchanged_both (state g.S.Store c.args.conn.now) (state g.S.Store c.find.new.conn) (state g.S.Store c.find-2.new.conn)
-    (λ early. (c.in_ok-references.ensures.found.reads early).0) (λ late. (c.in_ok-outputs.ensures.found.reads late).0) c.find-2.ensures.found.frame.survives) c.requires
+    by_after c.args.schema c.args.conn.now c.find-2.new.conn
+    (left_then _ _ _ c.find.ensures.found.frame c.find-2.ensures.found.frame)
+    (unchanged_both (state g.S.Store c.args.conn.now) (state g.S.Store c.find.new.conn)
+    (state g.S.Store c.find-2.new.conn)
+    (λ early. (c.in_ok-references.ensures.found.reads early).0) (λ late. (c.in_ok-outputs.ensures.found.reads late).0)
+    c.find-2.ensures.found.frame.survives) c.requires
 
 pub returns-in_err-references : goal.returns-in_err-references
 returns-in_err-references g c =
-    finds_failed _ _ c.from_residual.result _ _ c.from_residual.ensures.1 (one_failed _ _ _ _ c.from_residual.ensures.1 c.find.ensures.found.frame c.in_err-references.ensures.found.cause)
+    finds_failed _ _ c.from_residual.result _ _ c.from_residual.ensures.1
+    (one_failed _ _ _ _ c.from_residual.ensures.1 c.find.ensures.found.frame
+    c.in_err-references.ensures.found.cause)
 
 pub returns-in_err-outputs : goal.returns-in_err-outputs
 returns-in_err-outputs g c =
     finds_failed _ _ c.from_residual-in_err-outputs.result _ _ c.from_residual-in_err-outputs.ensures.1
-    (reads_then c.args.conn.now c.find.new.conn c.find-2.new.conn _ c.find.ensures.found.frame (λ clean. (c.in_ok-references.ensures.found.reads clean).0)
-    (one_failed _ _ _ _ c.from_residual-in_err-outputs.ensures.1 c.find-2.ensures.found.frame c.in_err-outputs.ensures.found.cause))
+    (reads_then c.args.conn.now c.find.new.conn c.find-2.new.conn _ c.find.ensures.found.frame
+    (λ clean. (c.in_ok-references.ensures.found.reads clean).0)
+    (one_failed _ _ _ _ c.from_residual-in_err-outputs.ensures.1 c.find-2.ensures.found.frame
+    c.in_err-outputs.ensures.found.cause))
 
 pub returns-in_err-pieces : goal.returns-in_err-pieces
 returns-in_err-pieces g c =
     finds_failed _ _ c.from_residual-in_err-pieces.result _ _ c.from_residual-in_err-pieces.ensures.1
-    (reads_then c.args.conn.now c.find.new.conn c.keys_of.new.conn _ c.find.ensures.found.frame (λ clean. (c.in_ok-references.ensures.found.reads clean).0)
-    (reads_then c.find.new.conn c.find-2.new.conn c.keys_of.new.conn _ c.find-2.ensures.found.frame (λ clean. (c.in_ok-outputs.ensures.found.reads clean).0)
-    (several_failed _ _ _ _ c.from_residual-in_err-pieces.ensures.1 c.keys_of.ensures.frame c.in_err-pieces.ensures.cause)))
+    (reads_then c.args.conn.now c.find.new.conn c.keys_of.new.conn _ c.find.ensures.found.frame
+    (λ clean. (c.in_ok-references.ensures.found.reads clean).0)
+    (reads_then c.find.new.conn c.find-2.new.conn c.keys_of.new.conn _ c.find-2.ensures.found.frame
+    (λ clean. (c.in_ok-outputs.ensures.found.reads clean).0)
+    (several_failed _ _ _ _ c.from_residual-in_err-pieces.ensures.1 c.keys_of.ensures.frame
+    c.in_err-pieces.ensures.cause)))
 
 pub returns : goal.returns
 returns g c =
@@ -41,7 +51,9 @@ returns g c =
     let s2 = state g.S.Store c.find-2.new.conn in
     let s3 = state g.S.Store c.keys_of.new.conn in
     record {
-      frame = left_then _ _ _ c.find.ensures.found.frame (left_then _ _ _ c.find-2.ensures.found.frame c.keys_of.ensures.frame);
+      frame =
+          left_then _ _ _ c.find.ensures.found.frame
+          (left_then _ _ _ c.find-2.ensures.found.frame c.keys_of.ensures.frame);
       reads = λ clean.
           let clean2 = clean_before s2 s3 (λ _. ⊥) c.keys_of.ensures.frame.survives clean in
           let clean1 = clean_before s1 s2 (λ _. ⊥) c.find-2.ensures.found.frame.survives clean2 in

@@ -8,6 +8,7 @@ use Rattle.tables_load_objects.proofs.members.are_references.Given as goal
 -- what is left decides, and the last base is known
 abbrev pub invariant-rows : goal.invariant-rows
 invariant-rows l = record {
-  decides : list_all (is_known_reference l.paths) (map reference_of (drop l.row-index l.rows)) ≡ list_all (is_known_reference l.paths) (map reference_of l.rows);
+  decides : list_all (is_known_reference l.paths) (map reference_of (drop l.row-index l.rows))
+      ≡ list_all (is_known_reference l.paths) (map reference_of l.rows);
   last : ForSome (option_copied l.last) (λ base. is_known l.paths base ≡ true);
 }

@@ -16,7 +16,10 @@ returns-then-not-has_pieces g c =
       frame = as_it_was c.args.conn.now c.requires.frame c.requires.opened;
       reads = λ clean. (
         no_change s (c.requires.opened clean),
-        ap (map piece_in) c.new.ensures.items ∙ sym (none_listed (contents_of s.now).pieces c.args.base.now (c.requires.pieces.no_table clean (sym c.has_pieces.ensures ∙ c.if-not-has_pieces.true) (c.requires.opened clean))),
+        ap (map piece_in) c.new.ensures.items
+            ∙ sym (none_listed (contents_of s.now).pieces c.args.base.now
+            (c.requires.pieces.no_table clean (sym c.has_pieces.ensures ∙ c.if-not-has_pieces.true)
+            (c.requires.opened clean))),
       );
       cause = λ _. tt;
     }
@@ -29,13 +32,17 @@ returns-then-is_empty g c =
       reads = λ clean. (
         no_change s (c.requires.opened clean),
         ap (map piece_in) c.new-then-is_empty.ensures.items
-            ∙ sym (no_parts (contents_of s.now) c.args.base.now c.deref.result.now c.group.result.now (ap (map numbered_in) c.deref.ensures.value ∙ (c.requires.joined clean).pieces) c.group.ensures (none_left c.group.result.now (sym c.is_empty.ensures ∙ c.if-is_empty.true))),
+            ∙ sym (no_parts (contents_of s.now) c.args.base.now c.deref.result.now c.group.result.now
+            (ap (map numbered_in) c.deref.ensures.value ∙ (c.requires.joined clean).pieces) c.group.ensures
+            (none_left c.group.result.now (sym c.is_empty.ensures ∙ c.if-is_empty.true))),
       );
       cause = λ _. tt;
     }
 
 pub find-requires-clause-exists : goal.find-requires-clause-exists
-find-requires-clause-exists g c clean is_open = c.requires.pieces.exists clean (sym c.has_pieces.ensures ∙ c.if-not-has_pieces.false) is_open
+find-requires-clause-exists g c clean is_open =
+    c.requires.pieces.exists clean (sym c.has_pieces.ensures ∙ c.if-not-has_pieces.false) is_open
 
 pub returns : goal.returns
-returns g c = finds_one _ _ c.find.result _ c.find.ensures.found.frame c.find.ensures.found.reads c.find.ensures.found.cause
+returns g c =
+    finds_one _ _ c.find.result _ c.find.ensures.found.frame c.find.ensures.found.reads c.find.ensures.found.cause

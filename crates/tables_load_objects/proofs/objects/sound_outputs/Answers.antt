@@ -4,4 +4,5 @@ use Rattle.tables_load_objects.proofs.objects.sound_outputs.Goals as goal
 
 pub returns : goal.returns
 returns c =
-    reported_of c.args.dir.now c.args.path.now c.args.archive.now c.archive.inside.arrived.pieces c.archive.view_is c.archive.invariant.bytes c.requires c.recorded.result (named_of c.args.rows.now) c.recorded.ensures
+    reported_of c.args.dir.now c.args.path.now c.args.archive.now c.archive.inside.arrived.pieces c.archive.view_is
+    c.archive.invariant.bytes c.requires c.recorded.result (named_of c.args.rows.now) c.recorded.ensures

@@ -8,5 +8,6 @@ abbrev pub invariant-rows : goal.invariant-rows
 invariant-rows l = record {
   can : (goal.iterator-rows).can_next l.left;
   ends : (goal.iterator-rows).is_finite l.left;
-  decides : same_outputs (named_of (drop l.row-index l.rows)) (pairs l.left) ≡ same_outputs (named_of l.rows) (pairs l.found.entries);
+  decides : same_outputs (named_of (drop l.row-index l.rows)) (pairs l.left)
+      ≡ same_outputs (named_of l.rows) (pairs l.found.entries);
 }

@@ -6,5 +6,6 @@ use Rattle.tables_load_objects.proofs.piece_sizes.go_on.Given as goal
 abbrev pub invariant-pieces : goal.invariant-pieces
 invariant-pieces l = record {
   number : l.number ≡ l.piece-index + 1;
-  decides : continues l.size l.number (parts_of (drop l.piece-index l.pieces)) ≡ continues (length l.row) 1 (parts_of l.pieces);
+  decides : continues l.size l.number (parts_of (drop l.piece-index l.pieces))
+      ≡ continues (length l.row) 1 (parts_of l.pieces);
 }

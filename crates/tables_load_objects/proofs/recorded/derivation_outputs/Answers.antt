@@ -8,9 +8,13 @@ use Rattle.tables_load_objects.proofs.recorded.derivation_outputs.Goals as goal
 pub returns-in-Some : goal.returns-in-Some
 returns-in-Some c = λ t is.
     let read : Some c.in-Some.text.now ≡ contents_of (Ok t) =
-    sym (ap option_copied c.in-Some.is) ∙ c.in_ok-text.ensures ∙ ap (λ (l : List ℕ). contents_of (outcome_of l)) (c.deref.ensures.value ∙ c.in_ok-bytes.ensures) ∙ ap contents_of is in
+    sym (ap option_copied c.in-Some.is) ∙ c.in_ok-text.ensures
+    ∙ ap (λ (l : List ℕ). contents_of (outcome_of l)) (c.deref.ensures.value ∙ c.in_ok-bytes.ensures)
+    ∙ ap contents_of is in
     of_text c.args.dir.now c.in-Some.text.now t read c.outputs_of.result c.outputs_of.ensures
 
 pub returns : goal.returns
 returns c = λ t is.
-    of_none c.args.dir.now t (sym (ap option_copied c.in-None.is) ∙ c.in_ok-text.ensures ∙ ap (λ (l : List ℕ). contents_of (outcome_of l)) (c.deref.ensures.value ∙ c.in_ok-bytes.ensures) ∙ ap contents_of is)
+    of_none c.args.dir.now t (sym (ap option_copied c.in-None.is) ∙ c.in_ok-text.ensures
+    ∙ ap (λ (l : List ℕ). contents_of (outcome_of l)) (c.deref.ensures.value ∙ c.in_ok-bytes.ensures)
+    ∙ ap contents_of is)

@@ -18,14 +18,18 @@ returns-then-not-is_empty g c = record {
 
 pub returns-in_err-found : goal.returns-in_err-found
 returns-in_err-found g c =
-    finds_failed _ _ c.from_residual.result _ _ c.from_residual.ensures.1 (one_failed _ _ _ _ c.from_residual.ensures.1 c.find.ensures.found.frame c.in_err-found.ensures.found.cause)
+    finds_failed _ _ c.from_residual.result _ _ c.from_residual.ensures.1
+    (one_failed _ _ _ _ c.from_residual.ensures.1 c.find.ensures.found.frame c.in_err-found.ensures.found.cause)
 
 pub returns : goal.returns
 returns g c = record {
   frame = c.find.ensures.found.frame;
   reads = λ clean.
       let read = c.in_ok-found.ensures.found.reads clean in
-      let x = contents_of (state g.S.Store c.args.conn.now).now in
-      (read.0, subst (AreStored x) (sym c.from_vec.ensures.items) (stored_all x (is_between c.args.base.now c.last_with-last.result.now) c.in_ok-found.found.items read.1));
+      let x = contents_of (state g.S.Store c.args.conn.now).now in (
+        read.0,
+        subst (AreStored x) (sym c.from_vec.ensures.items)
+            (stored_all x (is_between c.args.base.now c.last_with-last.result.now) c.in_ok-found.found.items read.1),
+      );
   cause = λ _. tt;
 }

@@ -17,12 +17,20 @@ returns-in_err-sound g c =
 
 pub returns : goal.returns
 returns g c = record {
-  read = record { frame = c.all.ensures.frame; unchanged = λ clean. (c.in_ok-rows.ensures.reads clean).0; cause = λ _. tt };
+  read =
+      record {
+        frame = c.all.ensures.frame;
+        unchanged = λ clean. (c.in_ok-rows.ensures.reads clean).0;
+        cause = λ _. tt;
+      };
   reported = λ clean.
-      let early : HasCleanDisk (state g.S.Store c.args.conn.now) = omega (arith, c.all.ensures.frame.survives.clean, clean) in
-      c.in_ok-sound.ensures.reported ∙ ((c.in_ok-rows.ensures.reads clean).1 c.args.outline.now (c.requires.roots.fits early)).reported;
+      let early : HasCleanDisk (state g.S.Store c.args.conn.now) =
+      omega (arith, c.all.ensures.frame.survives.clean, clean) in
+      c.in_ok-sound.ensures.reported
+      ∙ ((c.in_ok-rows.ensures.reads clean).1 c.args.outline.now (c.requires.roots.fits early)).reported;
   loaded = λ clean ok.
-      let early : HasCleanDisk (state g.S.Store c.args.conn.now) = omega (arith, c.all.ensures.frame.survives.clean, clean) in
+      let early : HasCleanDisk (state g.S.Store c.args.conn.now) =
+      omega (arith, c.all.ensures.frame.survives.clean, clean) in
       let load = (c.in_ok-rows.ensures.reads clean).1 c.args.outline.now (c.requires.roots.fits early) in
       c.in_ok-sound.ensures.loaded ok ∙ load.loaded (sym (c.in_ok-sound.ensures.reported ∙ load.reported) ∙ ok);
 }

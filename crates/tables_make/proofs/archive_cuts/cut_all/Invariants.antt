@@ -16,11 +16,18 @@ use Rattle.tables_make.proofs.archive_cuts.cut_all.Given as goal
 abbrev pub invariant-bases : goal.invariant-bases
 invariant-bases g l = record {
   same_reference : l.tx.conn.ghost_name ≡ l.fn.tx.conn.ghost_name;
-  goes : HasCleanDisk (state g.S.Store l.tx.conn.now) → Goes cut_objects (map string_bytes l.bases) (state g.S.Store l.fn.tx.conn.now) (state g.S.Store l.tx.conn.now) (map string_bytes (drop l.base-index l.bases));
+  goes : HasCleanDisk (state g.S.Store l.tx.conn.now)
+      → Goes cut_objects (map string_bytes l.bases) (state g.S.Store l.fn.tx.conn.now) (state g.S.Store l.tx.conn.now)
+      (map string_bytes (drop l.base-index l.bases));
   exists : HasCleanDisk (state g.S.Store l.tx.conn.now) → HasFurther (state g.S.Store l.tx.conn.now).now piece;
   uncut : HasCleanDisk (state g.S.Store l.tx.conn.now) → IsUncut (contents_of (state g.S.Store l.tx.conn.now).now);
-  among : HasCleanDisk (state g.S.Store l.tx.conn.now) → (p : Path) → AreAmong (CutRowsAt (contents_of (state g.S.Store l.tx.conn.now).now) p) (CutRowsAt (contents_of (state g.S.Store l.fn.tx.conn.now).now) p);
+  among : HasCleanDisk (state g.S.Store l.tx.conn.now) → (p : Path)
+      → AreAmong (CutRowsAt (contents_of (state g.S.Store l.tx.conn.now).now) p)
+      (CutRowsAt (contents_of (state g.S.Store l.fn.tx.conn.now).now) p);
   left : HasCleanDisk (state g.S.Store l.tx.conn.now)
-      → AreLeft (RowsOf (CutRowsAt (contents_of (state g.S.Store l.fn.tx.conn.now).now)) (map string_bytes l.bases)) (RowsOf (CutRowsAt (contents_of (state g.S.Store l.fn.tx.conn.now).now)) (map string_bytes (drop l.base-index l.bases))) (state g.S.Store l.fn.tx.conn.now).now (state g.S.Store l.tx.conn.now).now;
+      → AreLeft (RowsOf (CutRowsAt (contents_of (state g.S.Store l.fn.tx.conn.now).now)) (map string_bytes l.bases))
+      (RowsOf (CutRowsAt (contents_of (state g.S.Store l.fn.tx.conn.now).now))
+      (map string_bytes (drop l.base-index l.bases))) (state g.S.Store l.fn.tx.conn.now).now
+      (state g.S.Store l.tx.conn.now).now;
   survives : Survives (state g.S.Store l.fn.tx.conn.now) (state g.S.Store l.tx.conn.now) (λ _. ⊥);
 }

@@ -28,29 +28,40 @@ returns-then-len-gt-PIECE_SIZE g c = record {
       let a = state g.S.Store c.args.tx.now.conn.now in
       let b = state g.S.Store c.put_cut.new.tx.conn.now in
       let it = stored_of c.args.object.now in
-      on_done c.put_cut.result _ _ (changes_at a b _ _ (long_cut it.0 it.0 it.1 (contents_of a.now) refl ((c.requires.fits (clean_before a b _ c.put_cut.ensures.frame.survives clean)).present))) (c.put_cut.ensures.done clean);
+      on_done c.put_cut.result _ _ (changes_at a b _ _
+      (long_cut it.0 it.0 it.1 (contents_of a.now) refl
+      ((c.requires.fits (clean_before a b _ c.put_cut.ensures.frame.survives clean)).present)))
+      (c.put_cut.ensures.done clean);
   numbers = λ clean.
       let a = state g.S.Store c.args.tx.now.conn.now in
       let b = state g.S.Store c.put_cut.new.tx.conn.now in
       let it = stored_of c.args.object.now in
       let long : piece_size < length it.1.nar = omega (arith, size) in
-      on_ok c.put_cut.result _ _ (as_long (λ rows. NumbersOn rows.count a.now b.now) it.0 it.1 long) (c.put_cut.ensures.numbers clean);
+      on_ok c.put_cut.result _ _ (as_long (λ rows. NumbersOn rows.count a.now b.now) it.0 it.1 long)
+      (c.put_cut.ensures.numbers clean);
   cause = λ clean.
       let it = stored_of c.args.object.now in
       let long : piece_size < length it.1.nar = omega (arith, size) in
       let a = state g.S.Store c.args.tx.now.conn.now in
       let b = state g.S.Store c.put_cut.new.tx.conn.now in
-      as_reason _ _ (λ f. as_long (λ rows. IsReason rows a b f) it.0 it.1 long) c.put_cut.result (c.put_cut.ensures.cause clean);
+      as_reason _ _ (λ f. as_long (λ rows. IsReason rows a b f) it.0 it.1 long) c.put_cut.result
+      (c.put_cut.ensures.cause clean);
 }
 
 pub returns-else-len-gt-PIECE_SIZE : goal.returns-else-len-gt-PIECE_SIZE
 returns-else-len-gt-PIECE_SIZE g c = record {
-  frame = record { same_reference = refl; failed = λ clean. tt; survives = survives_none (state g.S.Store c.args.tx.now.conn.now) };
+  frame =
+      record {
+        same_reference = refl;
+        failed = λ clean. tt;
+        survives = survives_none (state g.S.Store c.args.tx.now.conn.now);
+      };
   done = λ clean.
       let a = state g.S.Store c.args.tx.now.conn.now in
       let it = stored_of c.args.object.now in
       let short : length it.1.nar ≤ 65536 = omega arith in
-      changes_at a a (λ x. x) _ (short_cut it.0 it.1 (contents_of a.now) short (c.requires.fits clean).present) (changes_none a (c.requires.under_way clean) (c.requires.is_open clean));
+      changes_at a a (λ x. x) _ (short_cut it.0 it.1 (contents_of a.now) short (c.requires.fits clean).present)
+      (changes_none a (c.requires.under_way clean) (c.requires.is_open clean));
   numbers = λ clean.
       let db = (state g.S.Store c.args.tx.now.conn.now).now in
       let rows = LongRows (stored_of c.args.object.now).0 (stored_of c.args.object.now).1 in
@@ -61,4 +72,9 @@ returns-else-len-gt-PIECE_SIZE g c = record {
 pub put_cut-requires-clause-frame : goal.put_cut-requires-clause-frame
 put_cut-requires-clause-frame g c =
     let long : piece_size < length (stored_of c.args.object.now).1.nar = omega (arith, size) in
-    record { under_way = c.requires.under_way; is_open = c.requires.is_open; exists = c.requires.exists; fits = λ clean. (c.requires.fits clean).free long }
+    record {
+      under_way = c.requires.under_way;
+      is_open = c.requires.is_open;
+      exists = c.requires.exists;
+      fits = λ clean. (c.requires.fits clean).free long;
+    }

@@ -18,9 +18,15 @@ use Rattle.tables_make.proofs.archive_cuts.put_pieces.Given as goal
 abbrev pub invariant-pieces : goal.invariant-pieces
 invariant-pieces g l = record {
   same_reference : l.tx.conn.ghost_name ≡ l.fn.tx.conn.ghost_name;
-  goes : HasCleanDisk (state g.S.Store l.tx.conn.now) → Goes (λ es (c : Contents). record c { pieces = put_pieces l.base es c.pieces }) (pieces_by l.bytes 1 l.bytes) (state g.S.Store l.fn.tx.conn.now) (state g.S.Store l.tx.conn.now) (pieces_by l.rest l.number l.rest);
+  goes : HasCleanDisk (state g.S.Store l.tx.conn.now)
+      → Goes (λ es (c : Contents). record c { pieces = put_pieces l.base es c.pieces }) (pieces_by l.bytes 1 l.bytes)
+      (state g.S.Store l.fn.tx.conn.now) (state g.S.Store l.tx.conn.now) (pieces_by l.rest l.number l.rest);
   exists : HasCleanDisk (state g.S.Store l.tx.conn.now) → HasFurther (state g.S.Store l.tx.conn.now).now piece;
-  free : HasCleanDisk (state g.S.Store l.tx.conn.now) → (k : ℕ) → l.number ≤ k → finite.get (contents_of (state g.S.Store l.tx.conn.now).now).pieces (l.base, pos k) ≡ None;
-  left : HasCleanDisk (state g.S.Store l.tx.conn.now) → AreLeft (RowsOf (PieceRow l.base) (pieces_by l.bytes 1 l.bytes)) (RowsOf (PieceRow l.base) (pieces_by l.rest l.number l.rest)) (state g.S.Store l.fn.tx.conn.now).now (state g.S.Store l.tx.conn.now).now;
+  free : HasCleanDisk (state g.S.Store l.tx.conn.now) → (k : ℕ) → l.number ≤ k
+      → finite.get (contents_of (state g.S.Store l.tx.conn.now).now).pieces (l.base, pos k) ≡ None;
+  left : HasCleanDisk (state g.S.Store l.tx.conn.now)
+      → AreLeft (RowsOf (PieceRow l.base) (pieces_by l.bytes 1 l.bytes))
+      (RowsOf (PieceRow l.base) (pieces_by l.rest l.number l.rest)) (state g.S.Store l.fn.tx.conn.now).now
+      (state g.S.Store l.tx.conn.now).now;
   survives : Survives (state g.S.Store l.fn.tx.conn.now) (state g.S.Store l.tx.conn.now) (λ _. ⊥);
 }

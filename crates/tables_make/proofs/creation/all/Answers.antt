@@ -11,7 +11,9 @@ use Rattle.tables_rows.proofs.Failed.{none_done}
 use Rattle.tables_make.proofs.creation.all.Goals as goal
 
 pub one-requires : goal.one-requires
-one-requires g c clean = next_making c.args.tables.now c.tables.table-index c.tables-test.true _ _ (state g.S.Store c.tables.tx.conn.now) (c.tables.invariant.made clean)
+one-requires g c clean =
+    next_making c.args.tables.now c.tables.table-index c.tables-test.true _ _ (state g.S.Store c.tables.tx.conn.now)
+    (c.tables.invariant.made clean)
 
 pub tables-init : goal.tables-init
 tables-init g c = record {
@@ -26,7 +28,8 @@ tables-preserved g c = record {
   same_reference = c.one.ensures.frame.same_reference ∙ c.tables.invariant.same_reference;
   made = λ clean.
       let before = c.tables.invariant.made (clean_before _ _ _ c.one.ensures.frame.survives clean) in
-      next_made c.args.tables.now c.tables.table-index c.tables-test.true _ _ _ c.requires.distinct before (c.in_ok-one.ensures.done clean);
+      next_made c.args.tables.now c.tables.table-index c.tables-test.true _ _ _ c.requires.distinct before
+      (c.in_ok-one.ensures.done clean);
   kept = both_keep_commit _ _ _ c.tables.invariant.kept c.one.ensures.frame.kept c.one.ensures.frame.survives;
   survives = survives_both _ _ _ c.tables.invariant.survives c.one.ensures.frame.survives;
 }
@@ -34,18 +37,32 @@ tables-preserved g c = record {
 pub returns-in_err-one : goal.returns-in_err-one
 returns-in_err-one g c = record {
   frame =
-      let before : KeepsInside g.S.Store c.args.tx.now.conn c.tables.tx.conn = record { same_reference = c.tables.invariant.same_reference; kept = c.tables.invariant.kept; survives = c.tables.invariant.survives } in
+      let before : KeepsInside g.S.Store c.args.tx.now.conn c.tables.tx.conn =
+      record {
+        same_reference = c.tables.invariant.same_reference;
+        kept = c.tables.invariant.kept;
+        survives = c.tables.invariant.survives;
+      } in
       both_keep g.S.Store c.args.tx.now.conn c.tables.tx.conn c.one.new.tx.conn before c.one.ensures.frame;
   done = λ clean. none_done c.from_residual.result _ _ c.from_residual.ensures.1;
   cause = λ clean.
       let before = c.tables.invariant.made (clean_before _ _ _ c.one.ensures.frame.survives clean) in
       passed_on c.from_residual.result _ _ c.from_residual.ensures.1
-      (next_fails c.args.tables.now c.tables.table-index c.tables-test.true _ _ (state g.S.Store c.one.new.tx.conn.now) c.requires.distinct before c.tables.invariant.survives.counts _ (c.in_err-one.ensures.cause clean));
+      (next_fails c.args.tables.now c.tables.table-index c.tables-test.true _ _ (state g.S.Store c.one.new.tx.conn.now)
+      c.requires.distinct before c.tables.invariant.survives.counts _ (c.in_err-one.ensures.cause clean));
 }
 
 pub returns : goal.returns
 returns g c = record {
-  frame = record { same_reference = c.tables.invariant.same_reference; kept = c.tables.invariant.kept; survives = c.tables.invariant.survives };
-  done = λ clean. all_in_turn c.args.tables.now c.tables.table-index (state g.S.Store c.args.tx.now.conn.now) (state g.S.Store c.tables.tx.conn.now) (omega (arith, c.tables-test.false)) c.requires.some (c.tables.invariant.made clean);
+  frame =
+      record {
+        same_reference = c.tables.invariant.same_reference;
+        kept = c.tables.invariant.kept;
+        survives = c.tables.invariant.survives;
+      };
+  done =
+      λ clean. all_in_turn c.args.tables.now c.tables.table-index (state g.S.Store c.args.tx.now.conn.now)
+      (state g.S.Store c.tables.tx.conn.now) (omega (arith, c.tables-test.false)) c.requires.some
+      (c.tables.invariant.made clean);
   cause = λ clean. tt;
 }

@@ -8,8 +8,10 @@ returns g c = record {
   frame = c.create.ensures.frame;
   done = λ clean.
       let under = c.requires (clean_before _ _ _ c.create.ensures.frame.survives clean) in
-      on_ok c.create.result _ _ (λ ran. one_made c.args.table _ _ ran.0 under (rw c.text.ensures at ran.1)) (c.create.ensures.done clean);
+      on_ok c.create.result _ _ (λ ran. one_made c.args.table _ _ ran.0 under (rw c.text.ensures at ran.1))
+      (c.create.ensures.done clean);
   cause = λ clean.
       let under = c.requires (clean_before _ _ _ c.create.ensures.frame.survives clean) in
-      err_with c.create.result _ _ (λ f h. one_fails c.args.table _ _ under f (rw c.text.ensures at h)) (c.create.ensures.cause clean);
+      err_with c.create.result _ _ (λ f h. one_fails c.args.table _ _ under f (rw c.text.ensures at h))
+      (c.create.ensures.cause clean);
 }

@@ -9,7 +9,9 @@ use Rattle.tables_make.proofs.FurtherMade.{making_further, makes_both}
 use Rattle.tables_make.proofs.further.make_both.Goals as goal
 
 pub all-requires-clause-making : goal.all-requires-clause-making
-all-requires-clause-making g c clean = making_further (piece ∷ temp_root ∷ []) (state g.S.Store c.args.tx.now.conn.now) (c.requires.under_way clean) (λ up. let h = c.requires.tables clean up in ((h.1, (h.2, tt)), h.3))
+all-requires-clause-making g c clean =
+    making_further (piece ∷ temp_root ∷ []) (state g.S.Store c.args.tx.now.conn.now) (c.requires.under_way clean)
+    (λ up. let h = c.requires.tables clean up in ((h.1, (h.2, tt)), h.3))
 
 pub all-requires-clause-distinct : goal.all-requires-clause-distinct
 unfolding digits everything
@@ -20,6 +22,7 @@ returns g c = record {
   frame = c.all.ensures.frame;
   done = λ clean.
       let early = clean_before _ _ _ c.all.ensures.frame.survives clean in
-      on_ok c.all.result _ _ (λ made. makes_both _ _ (c.requires.under_way early) (c.requires.tables early made.was_open) made) (c.all.ensures.done clean);
+      on_ok c.all.result _ _ (λ made. makes_both _ _ (c.requires.under_way early)
+      (c.requires.tables early made.was_open) made) (c.all.ensures.done clean);
   cause = c.all.ensures.cause;
 }

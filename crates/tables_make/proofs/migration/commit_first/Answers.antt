@@ -13,11 +13,15 @@ use Rattle.tables_make.proofs.migration.commit_first.Goals as goal
 pub write_first-requires : goal.write_first-requires
 write_first-requires g c = record {
   under_way = c.begin-tx.ensures.under_way;
-  tables = begun_has g.S.Store c.args.conn.now c.begin-tx.result.conn.now (HasEarlier V1) c.begin-tx.ensures.begun c.requires.tables;
+  tables =
+      begun_has g.S.Store c.args.conn.now c.begin-tx.result.conn.now (HasEarlier V1) c.begin-tx.ensures.begun
+      c.requires.tables;
 }
 
 pub commit-requires : goal.commit-requires
-commit-requires g c clean = grows_under _ _ (state g.S.Store c.begin-tx.result.conn.now) (state g.S.Store c.write_first.new.tx.conn.now) (c.in_ok-write_first.ensures.done clean)
+commit-requires g c clean =
+    grows_under _ _ (state g.S.Store c.begin-tx.result.conn.now) (state g.S.Store c.write_first.new.tx.conn.now)
+    (c.in_ok-write_first.ensures.done clean)
 
 pub returns : goal.returns
 returns g c =
@@ -25,8 +29,11 @@ returns g c =
     let rows : Contents → Rows = λ x. RewrittenRows x (map string_bytes c.args.bases.now) in
     let same : c.commit.new.tx.0 ≡ c.conn-2-1.given.0 = search rules in
     subst (λ h. IsMigration g.S.Store c.args.conn.now h V1 f rows c.commit.result) same
-    (written_migrates g.S.Store c.args.conn.now c.commit.new.tx.0 V1 f rows c.commit.result c.begin-tx.result.conn.now (state g.S.Store c.write_first.new.tx.conn.now) c.begin-tx.ensures.begun c.requires c.write_first.ensures.frame.survives both_named
-    c.in_ok-write_first.ensures.done c.commit.ensures.ended c.commit.ensures.done c.commit.ensures.cause c.commit.ensures.failed c.commit.ensures.durable c.commit.ensures.leaves)
+    (written_migrates g.S.Store c.args.conn.now c.commit.new.tx.0 V1 f rows c.commit.result c.begin-tx.result.conn.now
+    (state g.S.Store c.write_first.new.tx.conn.now) c.begin-tx.ensures.begun c.requires
+    c.write_first.ensures.frame.survives both_named
+    c.in_ok-write_first.ensures.done c.commit.ensures.ended c.commit.ensures.done c.commit.ensures.cause
+    c.commit.ensures.failed c.commit.ensures.durable c.commit.ensures.leaves)
 
 -- what was written is undone, and that forgets no fault
 pub returns-in_err-write_first : goal.returns-in_err-write_first
@@ -35,5 +42,8 @@ returns-in_err-write_first g c =
     let rows : Contents → Rows = λ x. RewrittenRows x (map string_bytes c.args.bases.now) in
     let same : c.drop-tx.new.self.0 ≡ c.conn-1.given.0 = search rules in
     subst (λ h. IsMigration g.S.Store c.args.conn.now h V1 f rows c.from_residual.result) same
-    (undone_migrates g.S.Store c.args.conn.now c.drop-tx.new.self.0 V1 f rows c.from_residual.result c.begin-tx.result.conn.now (state g.S.Store c.write_first.new.tx.conn.now) c.begin-tx.ensures.begun c.requires c.write_first.ensures.frame.survives
-    _ c.from_residual.ensures.1 c.write_first.ensures.frame.kept c.in_err-write_first.ensures.cause c.drop-tx.ensures.ended c.drop-tx.ensures.undone c.drop-tx.ensures.survives)
+    (undone_migrates g.S.Store c.args.conn.now c.drop-tx.new.self.0 V1 f rows c.from_residual.result
+    c.begin-tx.result.conn.now (state g.S.Store c.write_first.new.tx.conn.now) c.begin-tx.ensures.begun c.requires
+    c.write_first.ensures.frame.survives
+    _ c.from_residual.ensures.1 c.write_first.ensures.frame.kept c.in_err-write_first.ensures.cause
+    c.drop-tx.ensures.ended c.drop-tx.ensures.undone c.drop-tx.ensures.survives)

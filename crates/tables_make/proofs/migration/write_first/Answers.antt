@@ -33,25 +33,32 @@ rewrite-requires g c =
 
 pub returns : goal.returns
 returns g c = record {
-  frame = write_after g.S.Store c.args.tx.now.conn c.make_both.new.tx.conn c.rewrite.new.tx.conn _ c.rewrite.result c.make_both.ensures.frame c.rewrite.ensures.frame c.rewrite.ensures.done;
+  frame =
+      write_after g.S.Store c.args.tx.now.conn c.make_both.new.tx.conn c.rewrite.new.tx.conn _ c.rewrite.result
+      c.make_both.ensures.frame c.rewrite.ensures.frame c.rewrite.ensures.done;
   done = λ clean.
       let a = state g.S.Store c.args.tx.now.conn.now in
       let b = state g.S.Store c.make_both.new.tx.conn.now in
       let d = state g.S.Store c.rewrite.new.tx.conn.now in
       let made = c.in_ok-make_both.ensures.done (clean_before b d _ c.rewrite.ensures.frame.survives clean) in
-      on_done c.rewrite.result _ _ (λ changed. grows _ a b d _ made changed made.exist.0 made.exist.1.0) (c.rewrite.ensures.done clean);
+      on_done c.rewrite.result _ _ (λ changed. grows _ a b d _ made changed made.exist.0 made.exist.1.0)
+      (c.rewrite.ensures.done clean);
   cause = λ clean.
       let a = state g.S.Store c.args.tx.now.conn.now in
       let b = state g.S.Store c.make_both.new.tx.conn.now in
       let d = state g.S.Store c.rewrite.new.tx.conn.now in
       let made = c.in_ok-make_both.ensures.done (clean_before b d _ c.rewrite.ensures.frame.survives clean) in
       let bases = map string_bytes c.args.bases.now in
-      as_reason _ _ (λ f h. subst (λ (x : Contents). FailsToPutBy (RewrittenRows x bases) V1 a d f) made.contents (rows_fail V1 both_named a b d made c.make_both.ensures.frame.survives (RewrittenRows (contents_of b.now) bases) f h)) c.rewrite.result (c.rewrite.ensures.cause clean);
+      as_reason _ _ (λ f h. subst (λ (x : Contents). FailsToPutBy (RewrittenRows x bases) V1 a d f) made.contents
+      (rows_fail V1 both_named a b d made c.make_both.ensures.frame.survives
+      (RewrittenRows (contents_of b.now) bases) f h)) c.rewrite.result (c.rewrite.ensures.cause clean);
 }
 
 pub returns-in_err-make_both : goal.returns-in_err-make_both
 returns-in_err-make_both g c = record {
   frame = c.make_both.ensures.frame;
   done = λ clean. none_done c.from_residual.result _ _ c.from_residual.ensures.1;
-  cause = λ clean. passed_on c.from_residual.result _ _ c.from_residual.ensures.1 (inl (c.in_err-make_both.ensures.cause clean));
+  cause =
+      λ clean. passed_on c.from_residual.result _ _ c.from_residual.ensures.1
+      (inl (c.in_err-make_both.ensures.cause clean));
 }

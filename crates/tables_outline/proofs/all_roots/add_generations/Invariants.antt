@@ -8,4 +8,7 @@ use Rattle.tables_outline.proofs.all_roots.add_generations.Given as goal
 
 -- the roots of what is left
 abbrev pub invariant-loop-number : goal.invariant-loop-number
-invariant-loop-number l = Fills root_cmp (root_set l.initial.roots.keys) (map (λ e. generation_root (pair_bytes l.owned) (e.0, e.1)) l.initial.number-iterator) (root_set l.roots.keys) (map (λ e. generation_root (pair_bytes l.owned) (e.0, e.1)) l.number-iterator)
+invariant-loop-number l =
+    Fills root_cmp (root_set l.initial.roots.keys)
+    (map (λ e. generation_root (pair_bytes l.owned) (e.0, e.1)) l.initial.number-iterator) (root_set l.roots.keys)
+    (map (λ e. generation_root (pair_bytes l.owned) (e.0, e.1)) l.number-iterator)

@@ -7,4 +7,7 @@ use Rattle.tables_outline.proofs.all_roots.add_permanent.Given as goal
 
 -- the roots of what is left
 abbrev pub invariant-loop-name : goal.invariant-loop-name
-invariant-loop-name l = Fills root_cmp (root_set l.initial.roots.keys) (map (λ e. permanent_root (string_bytes e.0, e.1)) l.initial.name-iterator) (root_set l.roots.keys) (map (λ e. permanent_root (string_bytes e.0, e.1)) l.name-iterator)
+invariant-loop-name l =
+    Fills root_cmp (root_set l.initial.roots.keys)
+    (map (λ e. permanent_root (string_bytes e.0, e.1)) l.initial.name-iterator) (root_set l.roots.keys)
+    (map (λ e. permanent_root (string_bytes e.0, e.1)) l.name-iterator)

@@ -9,4 +9,7 @@ use Rattle.tables_outline.proofs.all_roots.add_profiles.Given as goal
 
 -- the roots of what is left
 abbrev pub invariant-loop-owned : goal.invariant-loop-owned
-invariant-loop-owned l = Fills root_cmp (root_set l.initial.roots.keys) (flat_map (λ e. generation_roots (pair_bytes e.0, profile_view e.1)) l.initial.owned-iterator) (root_set l.roots.keys) (flat_map (λ e. generation_roots (pair_bytes e.0, profile_view e.1)) l.owned-iterator)
+invariant-loop-owned l =
+    Fills root_cmp (root_set l.initial.roots.keys)
+    (flat_map (λ e. generation_roots (pair_bytes e.0, profile_view e.1)) l.initial.owned-iterator)
+    (root_set l.roots.keys) (flat_map (λ e. generation_roots (pair_bytes e.0, profile_view e.1)) l.owned-iterator)

@@ -8,4 +8,6 @@ use Rattle.tables_outline.proofs.all_roots.add_runtime.Given as goal
 
 -- the roots of what is left
 abbrev pub invariant-loop-pair : goal.invariant-loop-pair
-invariant-loop-pair l = Fills root_cmp (root_set l.initial.roots.keys) (map (λ e. runtime_root (labelled_bytes e)) l.initial.pair-iterator) (root_set l.roots.keys) (map (λ e. runtime_root (labelled_bytes e)) l.pair-iterator)
+invariant-loop-pair l =
+    Fills root_cmp (root_set l.initial.roots.keys) (map (λ e. runtime_root (labelled_bytes e)) l.initial.pair-iterator)
+    (root_set l.roots.keys) (map (λ e. runtime_root (labelled_bytes e)) l.pair-iterator)

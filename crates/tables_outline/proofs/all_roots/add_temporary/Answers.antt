@@ -11,7 +11,9 @@ loop-kept-init c = λ q. refl
 
 pub loop-kept-preserved : goal.loop-kept-preserved
 loop-kept-preserved c =
-    one_more (λ e. temporary_root (temporary_bytes e)) (root_set c.args.roots.now.keys) (map (λ e. temporary_root (temporary_bytes e)) c.into_iter-kept-iterator.result) (root_set c.loop-kept.roots.keys) (root_set c.add.new.roots.keys)
+    one_more (λ e. temporary_root (temporary_bytes e)) (root_set c.args.roots.now.keys)
+    (map (λ e. temporary_root (temporary_bytes e)) c.into_iter-kept-iterator.result)
+    (root_set c.loop-kept.roots.keys) (root_set c.add.new.roots.keys)
     c.loop-kept.kept-iterator c.next.new.self c.in-Some.kept.now
     (record { kind = roots.temporary; target = c.in-Some.kept.now.2; label = string_bytes c.in_ok-label.label })
     (λ i. record { kind = roots.temporary; target = c.in-Some.kept.now.2; label = c.in_ok-label.ensures i })
@@ -19,8 +21,11 @@ loop-kept-preserved c =
 
 pub returns : goal.returns
 returns c =
-    no_more (map (λ e. temporary_root (temporary_bytes e))) refl (root_set c.args.roots.now.keys) (map (λ e. temporary_root (temporary_bytes e)) c.into_iter-kept-iterator.result) _ (root_set c.loop-kept.roots.keys) c.loop-kept.kept-iterator c.in-None.ensures.steps.0
-    (ap (map (λ e. temporary_root (temporary_bytes e))) (c.into_iter-kept-iterator.ensures.into_iter_gives ∙ c.iter-kept-items.ensures.rest)
+    no_more (map (λ e. temporary_root (temporary_bytes e))) refl (root_set c.args.roots.now.keys)
+    (map (λ e. temporary_root (temporary_bytes e)) c.into_iter-kept-iterator.result) _
+    (root_set c.loop-kept.roots.keys) c.loop-kept.kept-iterator c.in-None.ensures.steps.0
+    (ap (map (λ e. temporary_root (temporary_bytes e)))
+    (c.into_iter-kept-iterator.ensures.into_iter_gives ∙ c.iter-kept-items.ensures.rest)
     ∙ sym (map-map (temporary_bytes) (temporary_root) c.temporary_roots.result.now.keys)
     ∙ ap (map (temporary_root)) (c.temporary_roots.ensures))
     c.loop-kept.invariant

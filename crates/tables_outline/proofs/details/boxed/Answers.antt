@@ -1,4 +1,5 @@
-use Rattle.std.proofs.Common.{◌≡◌, ℕ, List, [], map, Bool, true, not, eqb, length, Option, Some, None, is_some, refl, sym, ap, ◌∙◌, string_bytes}
+use Rattle.std.proofs.Common.{◌≡◌, ℕ, List, [], map, Bool, true, not, eqb, length, Option, Some, None, is_some, refl}
+use Rattle.std.proofs.Common.{sym, ap, ◌∙◌, string_bytes}
 use Rattle.std.proofs.lemmas.Bool.{eqb-true, false≢true}
 use Rattle.std.proofs.lemmas.List.{nil_from_length}
 use Rattle.tables_outline.proofs.details.boxed.Goals as goal
@@ -18,6 +19,10 @@ returns-then-is_empty-2 c =
     λ i. record {
       deriver = none_is d.deriver c.is_none.result c.is_none.ensures c.if-is_none.true i;
       ca = none_is d.ca c.is_none-then-is_none.result c.is_none-then-is_none.ensures c.if-is_none-2.true i;
-      names = map string_bytes (nothing_is d.names.items d.names.len c.is_empty.result c.is_empty.ensures c.if-is_empty.true d.names.ok.0 i);
-      outputs = nothing_is d.outputs.items d.outputs.len c.is_empty-then-is_empty.result c.is_empty-then-is_empty.ensures c.if-is_empty-2.true d.outputs.ok.0 i;
+      names =
+          map string_bytes (nothing_is d.names.items d.names.len c.is_empty.result c.is_empty.ensures c.if-is_empty.true
+          d.names.ok.0 i);
+      outputs =
+          nothing_is d.outputs.items d.outputs.len c.is_empty-then-is_empty.result c.is_empty-then-is_empty.ensures
+          c.if-is_empty-2.true d.outputs.ok.0 i;
     }

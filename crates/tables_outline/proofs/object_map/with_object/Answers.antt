@@ -4,7 +4,7 @@ use Rattle.std.specs.FinMap as finite
 use Rattle.std.proofs.lemmas.Result.{IfOk-weaker}
 use Rattle.paths.specs.Root.{bytes_cmp}
 use Rattle.live.specs.Graph.{Links}
-use Rattle.tables_links.specs.Links.{AreLinksOf, IsAdded, LinksValue}
+use Rattle.tables_outline.specs.Links.{AreLinksOf, IsAdded, LinksValue}
 use Rattle.tables_outline.specs.Outline.{Outlined}
 use Rattle.tables_outline.specs.Turned.{links_of, objects_in}
 use Rattle.tables_outline.proofs.Orders.{bytes_total, bytes_antisymmetric}
@@ -18,10 +18,17 @@ returns c are =
     let path = c.args.path.now in
     let x = c.args.object.now in
     let all = links_of (finite.insert m path x) in
-    let absent : finite.contains_key m path ≡ false = has_seen bytes_cmp (λ (p : List ℕ). p) (λ (o : Outlined). o) bytes_total bytes_antisymmetric c.args.map.now.entries path ∙ sym c.contains_key.ensures ∙ c.if-contains_key.false in
+    let absent : finite.contains_key m path ≡ false =
+    has_seen bytes_cmp (λ (p : List ℕ). p) (λ (o : Outlined). o) bytes_total bytes_antisymmetric
+    c.args.map.now.entries path ∙ sym c.contains_key.ensures ∙ c.if-contains_key.false in
     let old = some_turned (AreLinksOf (links_of m)) c.args.links c.in_ok-links.links c.in_ok-links.was are in
     subst (λ (o : Option LinksValue). IfSome o (AreLinksOf all)) (sym c.ok.ensures.value)
     (ok_turned (AreLinksOf all) c.add.result (IfOk-weaker c.add.result _ _
     (λ l e. turned_inserted m path x c.in_ok-links.links l absent old
-    (subst (λ (ls : Links). IsAdded c.in_ok-links.links l path ls) (λ i. record { references = c.references.ensures i; outputs = c.outputs.ensures i; deriver = c.deriver.ensures i }) e))
+    (subst (λ (ls : Links). IsAdded c.in_ok-links.links l path ls)
+    (λ i. record {
+      references = c.references.ensures i;
+      outputs = c.outputs.ensures i;
+      deriver = c.deriver.ensures i;
+    }) e))
     c.add.ensures))

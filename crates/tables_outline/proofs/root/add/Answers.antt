@@ -10,7 +10,11 @@ use Rattle.tables_outline.proofs.root.add.Goals as goal
 
 pub returns : goal.returns
 returns c =
-    let added : roots.Root = record { kind = kind_view c.args.kind; target = c.in_ok-target.target; label = string_bytes c.args.label } in
+    let added : roots.Root =
+    record { kind = kind_view c.args.kind; target = c.in_ok-target.target; label = string_bytes c.args.label } in
     let gained : Gains root_cmp (root_set c.args.roots.now.keys) (added ∷ []) (root_set c.insert.new.self.keys) =
-    gains_key root_cmp root_view root_total _ c.args.roots.now.keys c.insert.new.self.keys _ c.in_ok-insert.ensures.keys (λ a b. search rules) in
-    subst (λ (t : List _). Gains root_cmp (root_set c.args.roots.now.keys) (record { kind = kind_view c.args.kind; target = t; label = string_bytes c.args.label } ∷ []) (root_set c.insert.new.self.keys)) c.in_ok-target.ensures.cases gained
+    gains_key root_cmp root_view root_total _ c.args.roots.now.keys c.insert.new.self.keys _ c.in_ok-insert.ensures.keys
+    (λ a b. search rules) in
+    subst (λ (t : List _). Gains root_cmp (root_set c.args.roots.now.keys)
+    (record { kind = kind_view c.args.kind; target = t; label = string_bytes c.args.label } ∷ [])
+    (root_set c.insert.new.self.keys)) c.in_ok-target.ensures.cases gained

@@ -22,7 +22,9 @@ tables-preserved g c =
       idle = c.one.ensures.frame.idle;
       tested = λ clean.
           let before = c.tables.invariant.tested (clean_before _ _ _ c.one.ensures.frame.survives clean) in
-          next_tested HasOwnRowids HasReadableTexts tables _ at _ _ c.tables.readable (get_or tables at Meta) (one_left tables at Meta c.tables-test.true) before c.in_ok-readable.field-0 (c.in_ok-readable.ensures.reported clean);
+          next_tested HasOwnRowids HasReadableTexts tables _ at _ _ c.tables.readable (get_or tables at Meta)
+          (one_left tables at Meta c.tables-test.true) before c.in_ok-readable.field-0
+          (c.in_ok-readable.ensures.reported clean);
       survives = survives_both _ _ _ c.tables.invariant.survives c.one.ensures.frame.survives;
     }
 
@@ -33,15 +35,20 @@ one-requires g c =
     record {
       frame = record {
         idle = c.tables.invariant.idle;
-        settled = λ clean. settled_then a b (c.requires.frame.frame.settled (clean_before a b _ c.tables.invariant.survives clean)) (c.tables.invariant.tested clean).kept;
+        settled =
+            λ clean. settled_then a b (c.requires.frame.frame.settled
+            (clean_before a b _ c.tables.invariant.survives clean)) (c.tables.invariant.tested clean).kept;
       };
       sound = λ clean up.
           let kept = (c.tables.invariant.tested clean).kept in
-          subst IsDatabase (sym (kept.now up)) (c.requires.frame.sound (clean_before a b _ c.tables.invariant.survives clean) (kept.was_open up));
+          subst IsDatabase (sym (kept.now up))
+          (c.requires.frame.sound (clean_before a b _ c.tables.invariant.survives clean) (kept.was_open up));
       exists = λ clean up.
           let kept = (c.tables.invariant.tested clean).kept in
           all-get_or (λ t. IsIntact c.tables.conn.schema (form t)) c.args.tables.now c.tables.table-index Meta
-          (subst (λ (d : Database). AllByRecursion (λ t. IsIntact d.schema (form t)) c.args.tables.now) (sym (kept.now up)) (c.requires.frame.exists (clean_before a b _ c.tables.invariant.survives clean) (kept.was_open up)))
+          (subst (λ (d : Database). AllByRecursion (λ t. IsIntact d.schema (form t)) c.args.tables.now)
+          (sym (kept.now up)) (c.requires.frame.exists (clean_before a b _ c.tables.invariant.survives clean)
+          (kept.was_open up)))
           c.tables-test.true;
     }
 
@@ -55,14 +62,18 @@ returns-in_err-readable g c =
     record {
       frame = record {
         idle = c.one.ensures.frame.idle;
-        same = λ clean. shown_then a b d (c.tables.invariant.tested (clean_before b d _ c.one.ensures.frame.survives clean)).kept (c.one.ensures.frame.same clean);
+        same =
+            λ clean. shown_then a b d (c.tables.invariant.tested
+            (clean_before b d _ c.one.ensures.frame.survives clean)).kept (c.one.ensures.frame.same clean);
         survives = survives_both a b d c.tables.invariant.survives c.one.ensures.frame.survives;
       };
       reported = λ _. not_found c.from_residual.result _ _ c.from_residual.ensures.1;
       cause = λ clean.
           let before = c.tables.invariant.tested (clean_before _ _ _ c.one.ensures.frame.survives clean) in
           passed_on c.from_residual.result _ _ c.from_residual.ensures.1
-          (next_fails HasOwnRowids HasReadableTexts tables _ at _ _ c.tables.readable (get_or tables at Meta) (one_left tables at Meta c.tables-test.true) before c.tables.invariant.survives c.one.ensures.frame.survives clean c.in_err-readable.field-0.0
+          (next_fails HasOwnRowids HasReadableTexts tables _ at _ _ c.tables.readable (get_or tables at Meta)
+          (one_left tables at Meta c.tables-test.true) before c.tables.invariant.survives
+          c.one.ensures.frame.survives clean c.in_err-readable.field-0.0
           (c.in_err-readable.ensures.cause clean));
     }
 
@@ -73,6 +84,8 @@ returns g c = record {
     same = λ clean. (c.tables.invariant.tested clean).kept;
     survives = c.tables.invariant.survives;
   };
-  reported = λ clean. all_tested HasOwnRowids HasReadableTexts c.args.tables.now _ c.tables.table-index _ c.tables.readable c.requires.some c.tables-test.false (c.tables.invariant.tested clean);
+  reported =
+      λ clean. all_tested HasOwnRowids HasReadableTexts c.args.tables.now _ c.tables.table-index _ c.tables.readable
+      c.requires.some c.tables-test.false (c.tables.invariant.tested clean);
   cause = λ _. tt;
 }

@@ -22,6 +22,7 @@ returns g c = record {
       (c.check.ensures.shown clean);
   cause = λ clean.
       err_with c.check.result _ _
-      (λ f h. (test_of c.args.table).failed _ _ (c.requires.exists (clean_before _ _ _ c.check.ensures.frame.survives clean)) f (rw c.rows.ensures at h))
+      (λ f h. (test_of c.args.table).failed _ _
+      (c.requires.exists (clean_before _ _ _ c.check.ensures.frame.survives clean)) f (rw c.rows.ensures at h))
       (c.check.ensures.cause clean);
 }

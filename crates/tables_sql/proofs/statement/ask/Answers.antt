@@ -11,10 +11,16 @@ returns-in-Err-clause-frame g c = record {
 }
 
 pub returns-in-Err-clause-same : goal.returns-in-Err-clause-same
-returns-in-Err-clause-same g c clean = on_ok c.unless_stopped.result _ _ (λ stopped. ask_stopped _ _ _ stopped (c.in-Err.ensures.err clean)) c.unless_stopped.ensures.stopped
+returns-in-Err-clause-same g c clean =
+    on_ok c.unless_stopped.result _ _ (λ stopped. ask_stopped _ _ _ stopped (c.in-Err.ensures.err clean))
+    c.unless_stopped.ensures.stopped
 
 pub returns-in-Err-clause-cause : goal.returns-in-Err-clause-cause
-returns-in-Err-clause-cause g c clean = err_with c.unless_stopped.result _ _ (λ f is. ask_failed _ _ _ f is (c.in-Err.ensures.err clean)) c.unless_stopped.ensures.failed
+returns-in-Err-clause-cause g c clean =
+    err_with c.unless_stopped.result _ _ (λ f is. ask_failed _ _ _ f is (c.in-Err.ensures.err clean))
+    c.unless_stopped.ensures.failed
 
 pub returns-clause-same : goal.returns-clause-same
-returns-clause-same g c clean = ask_same (state g.S.Store c.args.tx.now.conn.now) (state g.S.Store c.query_all.new.self.conn.now) _ (c.in_default.ensures.ok clean)
+returns-clause-same g c clean =
+    ask_same (state g.S.Store c.args.tx.now.conn.now) (state g.S.Store c.query_all.new.self.conn.now) _
+    (c.in_default.ensures.ok clean)

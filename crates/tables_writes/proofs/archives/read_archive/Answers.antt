@@ -17,16 +17,21 @@ use Rattle.tables_writes.proofs.archives.read_archive.Goals as goal
 pub find-requires-clause-exists : goal.find-requires-clause-exists
 find-requires-clause-exists g c clean is_open =
     let shown = c.get.ensures.frame.same clean in
-    let early : HasCleanDisk (state g.S.Store c.args.conn.now) = omega (arith, c.get.ensures.frame.survives.clean, clean) in
-    subst (λ (d : Database). HasFurther d piece) (sym (shown.now is_open)) (c.requires.tables early (shown.was_open is_open)).0
+    let early : HasCleanDisk (state g.S.Store c.args.conn.now) =
+    omega (arith, c.get.ensures.frame.survives.clean, clean) in
+    subst (λ (d : Database). HasFurther d piece) (sym (shown.now is_open))
+    (c.requires.tables early (shown.was_open is_open)).0
 
 pub returns-in_default : goal.returns-in_default
 returns-in_default g c = record {
   frame = c.get.ensures.frame;
   reads = λ clean.
       let present = contents_of (state g.S.Store c.args.conn.now).now in
-      let read = c.in_ok-found.ensures.reads clean in
-      (read.0, none_read present c.args.base.now (subst (IsStored present.objects c.args.base.now) c.in_default.is read.1));
+      let read = c.in_ok-found.ensures.reads clean in (
+        read.0,
+        none_read present c.args.base.now
+            (subst (IsStored present.objects c.args.base.now) c.in_default.is read.1),
+      );
   cause = λ clean. tt;
 }
 
@@ -42,9 +47,12 @@ returns g c = record {
       let first = c.in_ok-found.ensures.reads early in
       let next = c.in_ok-further.ensures.found.reads clean in
       let stored = subst (IsStored (contents_of s0.now).objects base) c.in-Some.is first.1 in
-      let listed = next.1 ∙ ap (λ (d : Database). finite.entries (finite.retain_keys (contents_of d).pieces (λ k. eq_by_cmp bytes_cmp k.0 base))) first.0.0.now_is in (
+      let listed =
+      next.1 ∙ ap (λ (d : Database). finite.entries
+      (finite.retain_keys (contents_of d).pieces (λ k. eq_by_cmp bytes_cmp k.0 base))) first.0.0.now_is in (
         unchanged_then s0 s1 s2 first.0 next.0,
-        all_read (contents_of s0.now) base c.in-Some.object c.in_ok-further.further.items c.in_ok-nar-2.nar stored.1 listed c.in_ok-nar-2.ensures,
+        all_read (contents_of s0.now) base c.in-Some.object c.in_ok-further.further.items c.in_ok-nar-2.nar stored.1
+            listed c.in_ok-nar-2.ensures,
       );
   cause = λ clean. tt;
 }
@@ -63,7 +71,8 @@ returns-then-size-le-PIECE_SIZE g c = record {
       let object = (stored_of c.in-Some.object).1 in
       let held = (c.requires.tables early first.0.0.was_open).1 in (
         first.0,
-        row_read present base c.in-Some.object c.args.size c.new.result.items c.in_ok-nar.nar stored.1 (held.cut object stored.1) (held.sized object stored.1) (omega arith)
+        row_read present base c.in-Some.object c.args.size c.new.result.items c.in_ok-nar.nar stored.1
+            (held.cut object stored.1) (held.sized object stored.1) (omega arith)
             c.new.ensures.items c.in_ok-nar.ensures,
       );
   cause = λ clean. tt;
@@ -73,20 +82,27 @@ returns-then-size-le-PIECE_SIZE g c = record {
 
 pub returns-in_err-found : goal.returns-in_err-found
 returns-in_err-found g c =
-    finds_failed _ _ c.from_residual.result _ _ c.from_residual.ensures.1 (one_failed _ _ c.from_residual.result _ c.from_residual.ensures.1 c.get.ensures.frame c.in_err-found.ensures.cause)
+    finds_failed _ _ c.from_residual.result _ _ c.from_residual.ensures.1
+    (one_failed _ _ c.from_residual.result _ c.from_residual.ensures.1 c.get.ensures.frame
+    c.in_err-found.ensures.cause)
 
 pub returns-in_err-nar : goal.returns-in_err-nar
 returns-in_err-nar g c =
     let r = c.from_residual-in_err-nar.result in
-    finds_failed _ _ r _ _ c.from_residual-in_err-nar.ensures.1 (memory_failed _ _ r c.from_residual-in_err-nar.ensures.1 c.get.ensures.frame)
+    finds_failed _ _ r _ _ c.from_residual-in_err-nar.ensures.1
+    (memory_failed _ _ r c.from_residual-in_err-nar.ensures.1 c.get.ensures.frame)
 
 pub returns-in_err-further : goal.returns-in_err-further
 returns-in_err-further g c =
     let r = c.from_residual-in_err-further.result in
     finds_failed _ _ r _ _ c.from_residual-in_err-further.ensures.1
-    (reads_then _ _ _ r c.get.ensures.frame (λ clean. (c.in_ok-found.ensures.reads clean).0) (one_failed _ _ r _ c.from_residual-in_err-further.ensures.1 c.find.ensures.found.frame c.in_err-further.ensures.found.cause))
+    (reads_then _ _ _ r c.get.ensures.frame (λ clean. (c.in_ok-found.ensures.reads clean).0)
+    (one_failed _ _ r _ c.from_residual-in_err-further.ensures.1 c.find.ensures.found.frame
+    c.in_err-further.ensures.found.cause))
 
 pub returns-in_err-nar-2 : goal.returns-in_err-nar-2
 returns-in_err-nar-2 g c =
     let r = c.from_residual-in_err-nar-2.result in
-    finds_failed _ _ r _ _ c.from_residual-in_err-nar-2.ensures.1 (memory_failed _ _ r c.from_residual-in_err-nar-2.ensures.1 (left_then _ _ _ c.get.ensures.frame c.find.ensures.found.frame))
+    finds_failed _ _ r _ _ c.from_residual-in_err-nar-2.ensures.1
+    (memory_failed _ _ r c.from_residual-in_err-nar-2.ensures.1
+    (left_then _ _ _ c.get.ensures.frame c.find.ensures.found.frame))

@@ -17,13 +17,18 @@ use Rattle.tables_writes.proofs.Transactions.{others_kept, written}
 use Rattle.tables_writes.proofs.change.commit.Goals as goal
 
 pub write-requires-clause-whole : goal.write-requires-clause-whole
-write-requires-clause-whole g c = begun_has g.S.Store c.args.conn.now c.begin-tx.result.conn.now IsWhole c.begin-tx.ensures.begun c.requires.whole
+write-requires-clause-whole g c =
+    begun_has g.S.Store c.args.conn.now c.begin-tx.result.conn.now IsWhole c.begin-tx.ensures.begun c.requires.whole
 
 pub write-requires-clause-fits : goal.write-requires-clause-fits
-write-requires-clause-fits g c = begun_has g.S.Store c.args.conn.now c.begin-tx.result.conn.now (λ (x : Database). g.C.Change.fits c.args.change.now (contents_of x)) c.begin-tx.ensures.begun c.requires.fits
+write-requires-clause-fits g c =
+    begun_has g.S.Store c.args.conn.now c.begin-tx.result.conn.now
+    (λ (x : Database). g.C.Change.fits c.args.change.now (contents_of x)) c.begin-tx.ensures.begun c.requires.fits
 
 pub commit-requires : goal.commit-requires
-commit-requires g c clean = under_after (state g.S.Store c.begin-tx.result.conn.now) (state g.S.Store c.write.new.tx.conn.now) _ (c.in_ok-write.ensures.done clean)
+commit-requires g c clean =
+    under_after (state g.S.Store c.begin-tx.result.conn.now) (state g.S.Store c.write.new.tx.conn.now) _
+    (c.in_ok-write.ensures.done clean)
 
 pub returns-clause-frame : goal.returns-clause-frame
 returns-clause-frame g c =
@@ -36,15 +41,25 @@ returns-clause-frame g c =
     let same : c.commit.new.tx.0 ≡ c.conn-2-1.given.0 = search rules in
     let is = c.begin-tx.ensures.begun in
     let done = c.in_ok-write.ensures.done in
-    let all = survives_all g.S.Store before start wrote new f is c.begin-tx.ensures.under_way done c.write.ensures.frame.survives c.commit.ensures.survives in
-    let whole : HasCleanDisk new → IsCommitted wrote new → IsWritten old new f = λ clean k. written g.S.Store before start wrote new f _ is done c.write.ensures.frame.survives c.commit.ensures.survives c.requires.whole clean k in
+    let all =
+    survives_all g.S.Store before start wrote new f is c.begin-tx.ensures.under_way done
+    c.write.ensures.frame.survives c.commit.ensures.survives in
+    let whole : HasCleanDisk new → IsCommitted wrote new → IsWritten old new f =
+    λ clean k. written g.S.Store before start wrote new f _ is done c.write.ensures.frame.survives
+    c.commit.ensures.survives c.requires.whole clean k in
     subst (λ h. CommitsRows g.S.Store before h c.commit.result f) same (record {
       idle = c.commit.ensures.ended;
       done = λ clean. on_ok c.commit.result _ _ (whole clean) (c.commit.ensures.done clean);
-      others = λ clean. on_ok c.commit.result _ _ (λ k. others_kept old new f _ all c.requires.ready clean (whole clean k)) (c.commit.ensures.done clean);
-      failed = λ clean. undone g.S.Store before start wrote new _ _ c.commit.result is done c.write.ensures.frame.survives c.commit.ensures.survives c.requires.ready clean (c.commit.ensures.failed clean);
+      others =
+          λ clean. on_ok c.commit.result _ _ (λ k. others_kept old new f _ all c.requires.ready clean (whole clean k))
+          (c.commit.ensures.done clean);
+      failed =
+          λ clean. undone g.S.Store before start wrote new _ _ c.commit.result is done c.write.ensures.frame.survives
+          c.commit.ensures.survives c.requires.ready clean (c.commit.ensures.failed clean);
       durable = always_done c.commit.result _ c.commit.ensures.durable;
-      was_open = λ clean. on_ok c.commit.result _ _ (λ k. ((whole clean k).was_open, (whole clean k).is_open)) (c.commit.ensures.done clean);
+      was_open =
+          λ clean. on_ok c.commit.result _ _ (λ k. ((whole clean k).was_open, (whole clean k).is_open))
+          (c.commit.ensures.done clean);
       survives = all;
     })
 
@@ -60,7 +75,8 @@ returns-clause-cause g c =
     (λ clean.
     let late : HasCleanDisk wrote = omega (arith, c.commit.ensures.survives.clean, clean) in
     as_reason _ _ (λ e h. begun_reason g.S.Store before start rows new c.begin-tx.ensures.begun e
-    (commit_reason rows (state g.S.Store start) wrote new _ (c.in_ok-write.ensures.done late) c.write.ensures.frame.survives e h)) c.commit.result (c.commit.ensures.cause clean))
+    (commit_reason rows (state g.S.Store start) wrote new _ (c.in_ok-write.ensures.done late)
+    c.write.ensures.frame.survives e h)) c.commit.result (c.commit.ensures.cause clean))
 
 pub returns-in_err-write-clause-cause : goal.returns-in_err-write-clause-cause
 returns-in_err-write-clause-cause g c =
@@ -75,4 +91,5 @@ returns-in_err-write-clause-cause g c =
     let late : HasCleanDisk wrote = omega (arith, c.drop-tx.ensures.survives.clean, clean) in
     passed_on c.from_residual.result _ _ c.from_residual.ensures.1
     (begun_reason g.S.Store before start rows new c.begin-tx.ensures.begun _
-    (later_reason rows (state g.S.Store start) wrote new _ c.drop-tx.ensures.survives _ (c.in_err-write.ensures.cause late))))
+    (later_reason rows (state g.S.Store start) wrote new _ c.drop-tx.ensures.survives _
+    (c.in_err-write.ensures.cause late))))

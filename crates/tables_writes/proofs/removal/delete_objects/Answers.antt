@@ -24,7 +24,9 @@ paths-init g c =
     let first = state g.S.Store c.args.tx.now.conn.now in
     record {
       same_reference = refl;
-      goes = λ clean. goes_first without_objects c.args.paths.now first (c.requires.under_way clean) (c.requires.is_open clean);
+      goes =
+          λ clean. goes_first without_objects c.args.paths.now first (c.requires.under_way clean)
+          (c.requires.is_open clean);
       covers = c.requires.fits;
       numbers = λ clean. numbers_on_none first.now;
       survives = survives_none first;
@@ -41,14 +43,22 @@ paths-preserved g c =
     let left = drop c.paths.path-index all in
     let rest = drop (c.paths.path-index + 1) all in
     let split : left ≡ item ∷ rest = left_at all c.paths.path-index item c.paths-test.true c.path-item.is in
-    let same : without_objects left was ≡ without_objects rest (without_object item was) = ap (λ (xs : List Path). without_objects xs was) split ∙ sym (without_next item rest was) in
+    let same : without_objects left was ≡ without_objects rest (without_object item was) =
+    ap (λ (xs : List Path). without_objects xs was) split ∙ sym (without_next item rest was) in
     record {
       same_reference = c.in_ok-delete_object.ensures.frame.same_reference ∙ c.paths.invariant.same_reference;
-      goes = λ clean. goes_next without_objects all first now next left rest _ (c.paths.invariant.goes (clean_before now next _ c.delete_object.ensures.frame.survives clean)) (c.in_ok-delete_object.ensures.done clean) same;
-      covers = λ clean. subst (Covers c.args.outline.now) (sym (c.in_ok-delete_object.ensures.done clean).contents) (covers_less c.args.outline.now item was (c.paths.invariant.covers (clean_before now next _ c.delete_object.ensures.frame.survives clean)));
+      goes =
+          λ clean. goes_next without_objects all first now next left rest _
+          (c.paths.invariant.goes (clean_before now next _ c.delete_object.ensures.frame.survives clean))
+          (c.in_ok-delete_object.ensures.done clean) same;
+      covers =
+          λ clean. subst (Covers c.args.outline.now) (sym (c.in_ok-delete_object.ensures.done clean).contents)
+          (covers_less c.args.outline.now item was
+          (c.paths.invariant.covers (clean_before now next _ c.delete_object.ensures.frame.survives clean)));
       numbers = λ clean.
           let early = clean_before now next _ c.delete_object.ensures.frame.survives clean in
-          numbers_on_then 0 0 first.now now.now next.now (c.paths.invariant.goes early).changes.schema (c.paths.invariant.numbers early) (c.in_ok-delete_object.ensures.numbers clean);
+          numbers_on_then 0 0 first.now now.now next.now (c.paths.invariant.goes early).changes.schema
+          (c.paths.invariant.numbers early) (c.in_ok-delete_object.ensures.numbers clean);
       survives = survives_both first now next c.paths.invariant.survives c.delete_object.ensures.frame.survives;
     }
 
@@ -58,12 +68,22 @@ delete_object-requires g c =
     let now = state g.S.Store c.paths.tx.conn.now in
     record {
       under_way = λ clean. under_after first now _ (c.paths.invariant.goes clean).changes;
-      tables = λ clean is_open. (pieces_exist first now _ (λ clean. (c.paths.invariant.goes clean).changes) c.paths.invariant.survives (λ clean is_open. c.requires.exists clean) clean, c.paths.invariant.covers clean);
+      tables =
+          λ clean is_open. (
+            pieces_exist first now _ (λ clean. (c.paths.invariant.goes clean).changes)
+                c.paths.invariant.survives (λ clean is_open. c.requires.exists clean) clean,
+            c.paths.invariant.covers clean,
+          );
     }
 
 pub returns : goal.returns
 returns g c = record {
-  frame = record { same_reference = c.paths.invariant.same_reference; failed = λ clean. tt; survives = c.paths.invariant.survives };
+  frame =
+      record {
+        same_reference = c.paths.invariant.same_reference;
+        failed = λ clean. tt;
+        survives = c.paths.invariant.survives;
+      };
   done = λ clean.
       let first = state g.S.Store c.args.tx.now.conn.now in
       let now = state g.S.Store c.paths.tx.conn.now in
@@ -71,7 +91,8 @@ returns g c = record {
       let end : c.paths.path-index ≡ length all = omega arith in
       let none = ap (λ n. drop n all) end ∙ none_left all in
       goes_done without_objects all first now (drop c.paths.path-index all)
-      (ap (λ (xs : List Path). without_objects xs (contents_of now.now)) none ∙ without_none (contents_of now.now)) (c.paths.invariant.goes clean);
+      (ap (λ (xs : List Path). without_objects xs (contents_of now.now)) none ∙ without_none (contents_of now.now))
+      (c.paths.invariant.goes clean);
   numbers = c.paths.invariant.numbers;
   cause = λ clean. tt;
 }
@@ -79,8 +100,10 @@ returns g c = record {
 pub returns-in_err-delete_object : goal.returns-in_err-delete_object
 returns-in_err-delete_object g c = record {
   frame =
-      done_fails g.S.Store c.args.tx.now.conn c.paths.tx.conn c.delete_object.new.tx.conn _ c.paths.invariant.same_reference (λ clean. (c.paths.invariant.goes clean).changes) c.paths.invariant.survives
-      c.from_residual.result c.delete_object.ensures.frame.same_reference c.in_err-delete_object.ensures.frame.failed c.delete_object.ensures.frame.survives;
+      done_fails g.S.Store c.args.tx.now.conn c.paths.tx.conn c.delete_object.new.tx.conn _
+      c.paths.invariant.same_reference (λ clean. (c.paths.invariant.goes clean).changes) c.paths.invariant.survives
+      c.from_residual.result c.delete_object.ensures.frame.same_reference c.in_err-delete_object.ensures.frame.failed
+      c.delete_object.ensures.frame.survives;
   done = λ clean. none_done c.from_residual.result _ _ c.from_residual.ensures.1;
   numbers = λ clean. none_done c.from_residual.result _ _ c.from_residual.ensures.1;
   cause = λ clean.
@@ -89,5 +112,7 @@ returns-in_err-delete_object g c = record {
       let next = state g.S.Store c.delete_object.new.tx.conn.now in
       let early = clean_before now next _ c.delete_object.ensures.frame.survives clean in
       passed_on c.from_residual.result _ _ c.from_residual.ensures.1
-      (next_reason NoRow NoRow first now next _ (c.paths.invariant.goes early).changes c.paths.invariant.survives (none_put NoRow first.now now.now (c.paths.invariant.numbers early)) _ (c.in_err-delete_object.ensures.cause clean));
+      (next_reason NoRow NoRow first now next _ (c.paths.invariant.goes early).changes c.paths.invariant.survives
+      (none_put NoRow first.now now.now (c.paths.invariant.numbers early)) _
+      (c.in_err-delete_object.ensures.cause clean));
 }

@@ -1,34 +1,47 @@
-use Rattle.std.proofs.Common.{None, arith, ap}
-use Rattle.tool_pure.proofs.Results.{unread, within}
+use Rattle.std.proofs.Common.{Some, arith, ap, refl}
+use Rattle.tool_pure.proofs.Results.{within}
 use Rattle.report.specs.Outputs.{Console, Printed, change_of}
 use Rattle.tool_words.specs.Asked.{object_view}
 use Rattle.clap.specs.Walk.{texts}
 use Rattle.tool_pure.specs.Object.{text_path_answer}
 use Rattle.tool.proofs.Called.{found_under}
 use Rattle.tool.proofs.Answered.{text_stopped}
+use Rattle.tool.specs.Streams.{wrote}
+use Rattle.tool.proofs.Reading.{unread_within}
 use Rattle.tool.proofs.answers.text_path_under.Goals as goal
 
 pub returns-in-Err : goal.returns-in-Err
 returns-in-Err g c = record {
-  answer =
-      let input = change_of g.R.Read.remaining c.args.input.now c.args.input.now in
-      let p : Printed = record { writer = change_of g.E.Write.contents c.args.errors.now c.say.new.writer; status = c.say.result } in
-      text_stopped c.args.config.now input (g.W.Write.contents c.args.output.now) p c.in-Err.stop c.in-Err.ensures.err c.say.ensures (object_view c.args.object.now);
-  reads = λ _. unread None 16777224 (g.R.Read.remaining c.args.input.now);
+  given = record {
+    answer =
+        let known = g.R.Read.remaining c.args.console.now.input.now in
+        let p : Printed =
+        record {
+          writer = change_of g.E.Write.contents c.args.console.now.errors.now c.say.new.writer;
+          status = c.say.result;
+        } in
+        text_stopped c.args.config.now known (g.W.Write.contents c.args.console.now.output.now) p c.in-Err.stop
+        c.in-Err.ensures.err c.say.ensures (object_view c.args.object.now);
+    reads = unread_within (Some 16777105) (g.R.Read.remaining c.args.console.now.input.now);
+  };
+  same = (refl, refl, refl);
 }
 
 pub returns-in-Ok : goal.returns-in-Ok
 returns-in-Ok g c = record {
-  answer =
-      let console : Console = record {
-        input = change_of g.R.Read.remaining c.args.input.now c.text_path.new.input;
-        written = record {
-          output = change_of g.W.Write.contents c.args.output.now c.text_path.new.output;
-          errors = change_of g.E.Write.contents c.args.errors.now c.text_path.new.errors;
-          status = c.text_path.result;
-        };
-      } in
-      found_under 16777105 text_path_answer c.args.config.now console c.in-Ok.config (object_view c.args.object.now) c.store_dir-dir.result.now
-      (texts c.as_slice-references.result.now) c.in-Ok.ensures.ok c.store_dir-dir.ensures (ap texts c.as_slice-references.ensures.value) c.text_path.ensures.answer;
-  reads = λ _. within _ _ _ _ _ (omega arith) c.text_path.ensures.reads;
+  given = record {
+    answer =
+        let console : Console = record {
+          input = change_of g.R.Read.remaining c.args.console.now.input.now c.text_path.new.input;
+          written =
+              wrote g.W.Write.contents g.E.Write.contents c.args.console.now.output.now c.text_path.new.output
+              c.args.console.now.errors.now c.text_path.new.errors c.text_path.result;
+        } in
+        found_under 16777105 text_path_answer c.args.config.now console c.in-Ok.config (object_view c.args.object.now)
+        c.store_dir-dir.result.now
+        (texts c.as_slice-references.result.now) c.in-Ok.ensures.ok c.store_dir-dir.ensures
+        (ap texts c.as_slice-references.ensures.value) c.text_path.ensures;
+    reads = within _ _ _ _ _ (omega arith) c.text_path.ensures.reads;
+  };
+  same = (refl, refl, refl);
 }

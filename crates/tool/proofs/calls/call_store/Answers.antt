@@ -2,7 +2,7 @@ use Rattle.std.proofs.Common.{◌≡◌, List, ℕ, ap, subst, ◌∙◌}
 use Rattle.policy.specs.Settings.{Settings}
 use Rattle.store_types.specs.View.{reply_view}
 use Rattle.report.specs.Outputs.{change_of}
-use Rattle.tool_pure.specs.Printing.{IsPrinted}
+use Rattle.tool_pure.specs.PrintedReply.{IsPrinted}
 use Rattle.tool.proofs.calls.call_store.Goals as goal
 
 pub returns : goal.returns
@@ -11,6 +11,19 @@ returns g c =
     let dir : c.store_dir.result.now ≡ c.args.store.now.settings.store_dir =
     c.store_dir.ensures ∙ ap (λ (s : Settings). s.store_dir) (c.config.ensures ∙ kept.settings) in (
       reply_view c.call-reply.result,
-      record { settings = kept.settings; step = kept.step; cause = kept.cause; others = kept.others; still = kept.still; stays_durable = kept.stays_durable; survives = kept.survives },
-      subst (λ (d : List ℕ). IsPrinted d (reply_view c.call-reply.result) (record { output = change_of g.W.Write.contents c.args.output.now c.print_reply.new.output; errors = change_of g.E.Write.contents c.args.errors.now c.print_reply.new.errors; status = c.print_reply.result })) dir c.print_reply.ensures,
+      record {
+        settings = kept.settings;
+        step = kept.step;
+        cause = kept.cause;
+        others = kept.others;
+        still = kept.still;
+        stays_durable = kept.stays_durable;
+        survives = kept.survives;
+      },
+      subst (λ (d : List ℕ). IsPrinted d (reply_view c.call-reply.result)
+          (record {
+            output = change_of g.W.Write.contents c.args.output.now c.print_reply.new.output;
+            errors = change_of g.E.Write.contents c.args.errors.now c.print_reply.new.errors;
+            status = c.print_reply.result;
+          })) dir c.print_reply.ensures,
     )

@@ -18,10 +18,13 @@ returns c =
     let ignores = c.args.deletion.now.ignore_liveness in
     let found = c.in_ok-named.ensures.ok in
     let paths : list_all (is_path_text dir) (texts items) ≡ true =
-    list_all-map (is_path_text dir) (λ t. t.now) items ∙ ap (list_all (λ t. is_path_text dir t.now)) (sym c.as_slice.ensures.value) ∙ found.1 in
+    list_all-map (is_path_text dir) (λ t. t.now) items
+    ∙ ap (list_all (λ t. is_path_text dir t.now)) (sym c.as_slice.ensures.value) ∙ found.1 in
     let bases : c.in_ok-named.named.items ≡ map (base_of dir) (texts items) =
-    found.0 ∙ ap (map (λ t. base_of dir t.now)) c.as_slice.ensures.value ∙ sym (map-map (base_of dir) (λ t. t.now) items) in
-    paths_asked dir (texts items) (λ named. delete named ignores) c.in_ok-named.named.items (Delete c.in_ok-named.named ignores) refl bases paths
+    found.0 ∙ ap (map (λ t. base_of dir t.now)) c.as_slice.ensures.value
+    ∙ sym (map-map (base_of dir) (λ t. t.now) items) in
+    paths_asked dir (texts items) (λ named. delete named ignores) c.in_ok-named.named.items
+    (Delete c.in_ok-named.named ignores) refl bases paths
 
 pub returns-in_err-named : goal.returns-in_err-named
 returns-in_err-named c =
@@ -31,5 +34,9 @@ returns-in_err-named c =
     rw (p.1, p.2) (paths_refused dir (texts items) (λ named. delete named c.args.deletion.now.ignore_liveness) _
     (elim c.in_err-named.ensures.err [
       | inl memory ↦ inl memory
-      | inr bad ↦ inr (bad.0, list_all-map (is_path_text dir) (λ t. t.now) items ∙ ap (list_all (λ t. is_path_text dir t.now)) (sym c.as_slice.ensures.value) ∙ bad.1)
+      | inr bad ↦ inr (
+        bad.0,
+        list_all-map (is_path_text dir) (λ t. t.now) items
+            ∙ ap (list_all (λ t. is_path_text dir t.now)) (sym c.as_slice.ensures.value) ∙ bad.1,
+      )
     ]))

@@ -9,4 +9,5 @@ returns g c =
       errors = change_of g.E.Write.contents c.args.errors.now c.explain_by.new.errors;
       status = c.explain_by.result;
     } in
-    explained c.args.fault.now c.use_stderr.result _ w c.use_stderr.ensures c.explain_by.ensures.fault c.explain_by.ensures.help c.explain_by.ensures.memory
+    explained c.args.fault.now c.use_stderr.result _ w c.use_stderr.ensures c.explain_by.ensures.fault
+    c.explain_by.ensures.help c.explain_by.ensures.memory

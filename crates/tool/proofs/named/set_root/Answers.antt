@@ -7,4 +7,5 @@ returns c =
     let ask = set_root c.args.root.now.kind c.args.caller.now c.args.root.now.name.now in
     let path = c.in_ok-path in
     asked_as (on_path c.args.dir.now c.args.root.now.path.now ask) (ask path.path) c.in_ok-root_at.field-0
-    (path_is c.args.dir.now c.args.root.now.path.now ask path.path path.ensures.ok.0 path.ensures.ok.1) c.in_ok-root_at.ensures
+    (path_is c.args.dir.now c.args.root.now.path.now ask path.path path.ensures.ok.0 path.ensures.ok.1)
+    c.in_ok-root_at.ensures

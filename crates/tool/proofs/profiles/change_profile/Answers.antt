@@ -10,9 +10,11 @@ returns-in_ok-set-in-Set c =
     let dir = c.args.dir.now in
     let owner = owner_of c.args.caller.now (optional_text c.args.profile.now.owner) in
     let name = c.args.profile.now.name.now in
-    asked_as (change_profile dir owner name (on_profile_view c.args.profile.now.action)) (request.set_profile owner name c.in_ok-path-in-Set.path) c.in_ok-set-in-Set.field-0
+    asked_as (change_profile dir owner name (on_profile_view c.args.profile.now.action))
+    (request.set_profile owner name c.in_ok-path-in-Set.path) c.in_ok-set-in-Set.field-0
     (ap (λ a. change_profile dir owner name (on_profile_view a)) c.in-Set.is
-    ∙ path_is dir c.in-Set.text.now (request.set_profile owner name) c.in_ok-path-in-Set.path c.in_ok-path-in-Set.ensures.ok.0 c.in_ok-path-in-Set.ensures.ok.1)
+    ∙ path_is dir c.in-Set.text.now (request.set_profile owner name) c.in_ok-path-in-Set.path
+    c.in_ok-path-in-Set.ensures.ok.0 c.in_ok-path-in-Set.ensures.ok.1)
     c.in_ok-set-in-Set.ensures
 
 pub returns-in_ok-rollback-in-Rollback : goal.returns-in_ok-rollback-in-Rollback
@@ -20,7 +22,8 @@ returns-in_ok-rollback-in-Rollback c =
     let dir = c.args.dir.now in
     let owner = owner_of c.args.caller.now (optional_text c.args.profile.now.owner) in
     let name = c.args.profile.now.name.now in
-    asked_as (change_profile dir owner name (on_profile_view c.args.profile.now.action)) (request.rollback owner name) c.in_ok-rollback-in-Rollback.field-0
+    asked_as (change_profile dir owner name (on_profile_view c.args.profile.now.action)) (request.rollback owner name)
+    c.in_ok-rollback-in-Rollback.field-0
     (ap (λ a. change_profile dir owner name (on_profile_view a)) c.in-Rollback.is) c.in_ok-rollback-in-Rollback.ensures
 
 pub returns-in_ok-switch-in-Switch : goal.returns-in_ok-switch-in-Switch
@@ -28,7 +31,8 @@ returns-in_ok-switch-in-Switch c =
     let dir = c.args.dir.now in
     let owner = owner_of c.args.caller.now (optional_text c.args.profile.now.owner) in
     let name = c.args.profile.now.name.now in
-    asked_as (change_profile dir owner name (on_profile_view c.args.profile.now.action)) (request.switch owner name c.in-Switch.number) c.in_ok-switch-in-Switch.field-0
+    asked_as (change_profile dir owner name (on_profile_view c.args.profile.now.action))
+    (request.switch owner name c.in-Switch.number) c.in_ok-switch-in-Switch.field-0
     (ap (λ a. change_profile dir owner name (on_profile_view a)) c.in-Switch.is) c.in_ok-switch-in-Switch.ensures
 
 pub returns-in_ok-delete-in-Delete : goal.returns-in_ok-delete-in-Delete
@@ -36,5 +40,6 @@ returns-in_ok-delete-in-Delete c =
     let dir = c.args.dir.now in
     let owner = owner_of c.args.caller.now (optional_text c.args.profile.now.owner) in
     let name = c.args.profile.now.name.now in
-    asked_as (change_profile dir owner name (on_profile_view c.args.profile.now.action)) (request.delete_generation owner name c.in-Delete.number) c.in_ok-delete-in-Delete.field-0
+    asked_as (change_profile dir owner name (on_profile_view c.args.profile.now.action))
+    (request.delete_generation owner name c.in-Delete.number) c.in_ok-delete-in-Delete.field-0
     (ap (λ a. change_profile dir owner name (on_profile_view a)) c.in-Delete.is) c.in_ok-delete-in-Delete.ensures

@@ -5,4 +5,6 @@ use Rattle.tool.proofs.Requested.{path_asked}
 use Rattle.tool.proofs.requests.info.Goals as goal
 
 pub returns : goal.returns
-returns c = path_asked c.args.dir.now c.args.text.now request.info c.in_ok-path.path (Info c.in_ok-path.path) refl c.in_ok-path.ensures.ok.0 c.in_ok-path.ensures.ok.1
+returns c =
+    path_asked c.args.dir.now c.args.text.now request.info c.in_ok-path.path (Info c.in_ok-path.path) refl
+    c.in_ok-path.ensures.ok.0 c.in_ok-path.ensures.ok.1

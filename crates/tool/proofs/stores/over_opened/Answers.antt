@@ -1,36 +1,43 @@
-use Rattle.std.proofs.Common.{None, subst, sym}
+use Rattle.std.proofs.Common.{subst, sym, refl}
+use Rattle.std.proofs.KnownBytes.{Keeps-refl}
 use Rattle.report.specs.Outputs.{Console, change_of}
-use Rattle.tool_pure.proofs.Results.{unread}
 use Rattle.tool.specs.Files.{AnswersCause, DoesOpening}
+use Rattle.tool.specs.Streams.{happened, wrote}
+use Rattle.tool.specs.Works.{most_for}
+use Rattle.tool.proofs.Reading.{unread_within}
 use Rattle.tool.proofs.stores.over_opened.Goals as goal
 
 pub returns-in-Ok : goal.returns-in-Ok
 returns-in-Ok g c = record {
-  answer = λ d is.
-      let console : Console = record {
-        input = change_of g.R.Read.remaining c.args.input.now c.work_over.new.input;
-        written = record {
-          output = change_of g.W.Write.contents c.args.output.now c.work_over.new.output;
-          errors = change_of g.E.Write.contents c.args.errors.now c.work_over.new.errors;
-          status = c.work_over.result;
-        };
-      } in
-      subst (λ opened. DoesOpening g.S.Store opened c.args.config d console) (sym c.in-Ok.is) (c.work_over.ensures.over d is);
-  reads = c.work_over.ensures.reads;
+  given = record {
+    answer = λ d is.
+        let console =
+        happened g.R.Read.remaining g.W.Write.contents g.E.Write.contents c.args.console.now c.work_with.new.console
+        c.work_with.result in
+        subst (λ opened. DoesOpening g.S.Store opened c.args.config d console) (sym c.in-Ok.is)
+        (c.work_with.ensures.given.answer d is);
+    reads = c.work_with.ensures.given.reads;
+  };
+  same = c.work_with.ensures.same;
 }
 
 pub returns-in-Err : goal.returns-in-Err
 returns-in-Err g c = record {
-  answer = λ d is.
-      let console : Console = record {
-        input = change_of g.R.Read.remaining c.args.input.now c.args.input.now;
-        written = record {
-          output = change_of g.W.Write.contents c.args.output.now c.refuse_file.new.output;
-          errors = change_of g.E.Write.contents c.args.errors.now c.refuse_file.new.errors;
-          status = c.refuse_file.result;
-        };
-      } in
-      subst (λ opened. DoesOpening g.S.Store opened c.args.config d console) (sym c.in-Err.is)
-      (subst (λ cause. AnswersCause c.args.config.store_dir cause console.written) c.cause.ensures c.refuse_file.ensures);
-  reads = λ _. unread None 16777224 (g.R.Read.remaining c.args.input.now);
+  given = record {
+    answer = λ d is.
+        let w =
+        wrote g.W.Write.contents g.E.Write.contents c.args.console.now.output.now c.refuse_file.new.output
+        c.args.console.now.errors.now c.refuse_file.new.errors c.refuse_file.result in
+        let console : Console =
+        record {
+          input = change_of g.R.Read.remaining c.args.console.now.input.now c.args.console.now.input.now;
+          written = w;
+        } in
+        subst (λ opened. DoesOpening g.S.Store opened c.args.config d console) (sym c.in-Err.is) (
+          subst (λ cause. AnswersCause c.args.config.store_dir cause w) c.cause.ensures c.refuse_file.ensures,
+          Keeps-refl (g.R.Read.remaining c.args.console.now.input.now),
+        );
+    reads = unread_within (most_for c.args.work.now) (g.R.Read.remaining c.args.console.now.input.now);
+  };
+  same = (refl, refl, refl);
 }

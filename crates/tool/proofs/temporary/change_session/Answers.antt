@@ -10,9 +10,11 @@ returns-in_ok-add-in-Add c =
     let dir = c.args.dir.now in
     let owner = owner_of c.args.caller.now (optional_text c.args.session.now.owner) in
     let n = c.args.session.now.session in
-    asked_as (change_session dir owner n (on_session_view c.args.session.now.action)) (request.add_temp owner n c.in_ok-path-in-Add.path) c.in_ok-add-in-Add.field-0
+    asked_as (change_session dir owner n (on_session_view c.args.session.now.action))
+    (request.add_temp owner n c.in_ok-path-in-Add.path) c.in_ok-add-in-Add.field-0
     (ap (λ a. change_session dir owner n (on_session_view a)) c.in-Add.is
-    ∙ path_is dir c.in-Add.text.now (request.add_temp owner n) c.in_ok-path-in-Add.path c.in_ok-path-in-Add.ensures.ok.0 c.in_ok-path-in-Add.ensures.ok.1)
+    ∙ path_is dir c.in-Add.text.now (request.add_temp owner n) c.in_ok-path-in-Add.path c.in_ok-path-in-Add.ensures.ok.0
+    c.in_ok-path-in-Add.ensures.ok.1)
     c.in_ok-add-in-Add.ensures
 
 pub returns-in_ok-end-in-End : goal.returns-in_ok-end-in-End
@@ -20,5 +22,6 @@ returns-in_ok-end-in-End c =
     let dir = c.args.dir.now in
     let owner = owner_of c.args.caller.now (optional_text c.args.session.now.owner) in
     let n = c.args.session.now.session in
-    asked_as (change_session dir owner n (on_session_view c.args.session.now.action)) (request.end_session owner n) c.in_ok-end-in-End.field-0
+    asked_as (change_session dir owner n (on_session_view c.args.session.now.action)) (request.end_session owner n)
+    c.in_ok-end-in-End.field-0
     (ap (λ a. change_session dir owner n (on_session_view a)) c.in-End.is) c.in_ok-end-in-End.ensures

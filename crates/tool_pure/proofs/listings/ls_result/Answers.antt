@@ -15,7 +15,8 @@ returns g c = record {
       let found = by_line fails c.listing.result _ c.listing.ensures.ok c.listing.ensures.err in
       of_prefix fails None ls_answer (g.R.Read.remaining c.args.input.now) (result_text c.listing.result) 16777224 bytes
       refl c.in_ok-nar.ensures.ok (λ all e is. is ∙ ap ls_answer e ∙ ls_prefix all)
-      (subst (λ a. IsFailure fails (result_text c.listing.result) ⊎ (result_text c.listing.result ≡ ls_answer a)) c.as_slice.ensures.value found);
+      (subst (λ a. IsFailure fails (result_text c.listing.result) ⊎ (result_text c.listing.result ≡ ls_answer a))
+      c.as_slice.ensures.value found);
   reads = c.in_ok-nar.ensures.read.reads;
 }
 
@@ -23,7 +24,8 @@ pub returns-in_err-nar : goal.returns-in_err-nar
 returns-in_err-nar g c = record {
   answer =
       let p = err_from_is_err_and c.from_residual.result c.from_residual.ensures.1 in
-      rw (p.1, p.2) (inl (lost true 16777224 (change_of g.R.Read.remaining c.args.input.now c.read_input.new.input) _ refl c.in_err-nar.ensures.read.err
+      rw (p.1, p.2) (inl (lost true 16777224 (change_of g.R.Read.remaining c.args.input.now c.read_input.new.input) _
+      refl c.in_err-nar.ensures.read.err
       (λ is. c.in_err-nar.ensures.read.input (ap (λ e. Err e) is))));
   reads = c.in_err-nar.ensures.read.reads;
 }

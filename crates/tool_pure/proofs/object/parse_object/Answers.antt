@@ -17,9 +17,13 @@ pub returns-in_err-references-clause-err : goal.returns-in_err-references-clause
 returns-in_err-references-clause-err g c =
     let dir = c.args.dir.now in
     let texts = map g.S.AsStr.text c.args.references.now in
-    let p = err_from_is_err_and c.from_residual-in_err-references.result c.from_residual-in_err-references.ensures.1 in rw (p.1, p.2) (elim c.in_err-references.ensures.err [
+    let p =
+    err_from_is_err_and c.from_residual-in_err-references.result c.from_residual-in_err-references.ensures.1 in
+    rw (p.1, p.2) (elim c.in_err-references.ensures.err [
       | inl memory ↦ inl memory
-      | inr bad ↦ inr (ap (option_map Refused) (bad_path dir c.args.name.now texts c.in_ok-name.ensures.ok.1 (list_all-map (is_path_text dir) g.S.AsStr.text c.args.references.now ∙ bad.1))
+      | inr bad ↦ inr (ap (option_map Refused)
+          (bad_path dir c.args.name.now texts c.in_ok-name.ensures.ok.1
+          (list_all-map (is_path_text dir) g.S.AsStr.text c.args.references.now ∙ bad.1))
           ∙ ap Some (sym bad.0))
     ])
 

@@ -10,5 +10,6 @@ returns-in_err-object-clause-reads g c = unread _ _ _
 pub returns-in_err-bytes-clause-err : goal.returns-in_err-bytes-clause-err
 returns-in_err-bytes-clause-err g c =
     let p = err_from_is_err_and c.from_residual-in_err-bytes.result c.from_residual-in_err-bytes.ensures.1 in
-    rw (p.1, p.2) (deleted_at _ c.args.most (change_of g.R.Read.remaining c.args.input.now c.read_input.new.input) _ c.in_ok-object.ensures.ok.0
+    rw (p.1, p.2) (deleted_at _ c.args.most (change_of g.R.Read.remaining c.args.input.now c.read_input.new.input) _
+    c.in_ok-object.ensures.ok.0
     c.in_err-bytes.ensures.read.err (λ is. c.in_err-bytes.ensures.read.input (ap (λ e. Err e) is)))

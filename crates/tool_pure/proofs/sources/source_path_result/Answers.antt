@@ -12,7 +12,10 @@ use Rattle.tool_pure.proofs.sources.source_path_result.Goals as goal
 pub returns-in_err-object : goal.returns-in_err-object
 returns-in_err-object g c = record {
   answer =
-      let p = err_from_is_err_and c.from_residual.result c.from_residual.ensures.1 in rw (p.1, p.2) (stopped_at _ _ _ (change_of g.R.Read.remaining c.args.input.now c.read_object.new.input) _ c.in_err-object.ensures.err);
+      let p =
+      err_from_is_err_and c.from_residual.result c.from_residual.ensures.1 in
+      rw (p.1, p.2) (stopped_at _ _ _ (change_of g.R.Read.remaining c.args.input.now c.read_object.new.input) _
+      c.in_err-object.ensures.err);
   reads = c.in_err-object.ensures.reads;
 }
 
@@ -25,13 +28,22 @@ returns g c = record {
       let bytes = c.in_ok-object.nar.items in
       let object = c.in_ok-object.object in
       let lent = c.as_slice.result.now in
-      let same : source_path_answer dir object.name object.references.items lent ≡ source_path_answer dir name bases bytes =
-      ap₂ (λ n bs. source_path_answer dir n bs lent) c.in_ok-object.ensures.object.1 c.in_ok-object.ensures.object.2 ∙ ap (source_path_answer dir name bases) c.as_slice.ensures.value in
+      let same : source_path_answer dir object.name object.references.items lent
+      ≡ source_path_answer dir name bases bytes =
+      ap₂ (λ n bs. source_path_answer dir n bs lent) c.in_ok-object.ensures.object.1 c.in_ok-object.ensures.object.2
+      ∙ ap (source_path_answer dir name bases) c.as_slice.ensures.value in
       let fault = object_fault dir name (map g.S.AsStr.text c.args.references.now) in
-      let fails = InputFails (is_none fault) 16777224 (change_of g.R.Read.remaining c.args.input.now c.read_object.new.input) in
+      let fails =
+      InputFails (is_none fault) 16777224 (change_of g.R.Read.remaining c.args.input.now c.read_object.new.input) in
       let found = by_line fails c.source_line.result _ c.source_line.ensures.ok c.source_line.ensures.err in
-      of_prefix fails fault (source_path_answer dir name bases) (g.R.Read.remaining c.args.input.now) (result_text c.source_line.result) 16777224 bytes
-      c.in_ok-object.ensures.object.0 c.in_ok-object.ensures.bytes (λ all e is. source_prefix dir name bases all bytes e (result_text c.source_line.result) (with_text c.source_line.result _ (subst (λ l. IfOk c.source_line.result (λ line. length l ≤ 16777216)) c.as_slice.ensures.value c.source_line.ensures.fits)) is)
-      (subst (λ a. IsFailure fails (result_text c.source_line.result) ⊎ (result_text c.source_line.result ≡ a)) same found);
+      of_prefix fails fault (source_path_answer dir name bases) (g.R.Read.remaining c.args.input.now)
+      (result_text c.source_line.result) 16777224 bytes
+      c.in_ok-object.ensures.object.0 c.in_ok-object.ensures.bytes
+      (λ all e is. source_prefix dir name bases all bytes e (result_text c.source_line.result)
+      (with_text c.source_line.result _
+      (subst (λ l. IfOk c.source_line.result (λ line. length l ≤ 16777216)) c.as_slice.ensures.value
+      c.source_line.ensures.fits)) is)
+      (subst (λ a. IsFailure fails (result_text c.source_line.result) ⊎ (result_text c.source_line.result ≡ a)) same
+      found);
   reads = c.in_ok-object.ensures.reads;
 }

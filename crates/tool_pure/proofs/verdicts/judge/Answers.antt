@@ -22,5 +22,6 @@ returns-clause-ok c =
     let class_is = c.class-class.ensures in
     let denial_is = c.decide-denial.ensures ∙ ap (λ k. first_broken k c.in_ok-caller.caller plain) class_is in
     ap (λ r. verdict_by r user group) c.in_ok-config.ensures.ok
-    ∙ ap (λ o. option_map_or (λ caller. Ok (verdict_on settings caller)) o (Err (Refused BadCaller))) c.in_ok-caller.ensures.ok
+    ∙ ap (λ o. option_map_or (λ caller. Ok (verdict_on settings caller)) o (Err (Refused BadCaller)))
+    c.in_ok-caller.ensures.ok
     ∙ sym (ap Ok (ap₂ verdict_with class_is denial_is))

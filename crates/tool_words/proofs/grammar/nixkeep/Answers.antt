@@ -14,10 +14,13 @@ top a = a.top
 
 pub verbs-preserved : goal.verbs-preserved
 verbs-preserved c =
-    c.in_ok-command-2.ensures.shape c.in_ok-subcommand.ensures.local ∙ ap₂ with_subcommand c.verbs.invariant (ap top c.in_ok-subcommand.ensures.app)
-    ∙ sym (fold_more (λ (app : App) (verb : Verb). adding app (app_for verb)) options_app verbs c.verbs.verb-index Who c.verbs-test.true)
+    c.in_ok-command-2.ensures.shape c.in_ok-subcommand.ensures.local
+    ∙ ap₂ with_subcommand c.verbs.invariant (ap top c.in_ok-subcommand.ensures.app)
+    ∙ sym (fold_more (λ (app : App) (verb : Verb). adding app (app_for verb)) options_app verbs c.verbs.verb-index Who
+    c.verbs-test.true)
 
 pub returns : goal.returns
 unfolding nixkeep_app
 returns c =
-    c.verbs.invariant ∙ ap (fold (λ (app : App) (verb : Verb). adding app (app_for verb)) options_app) (take_all c.verbs.verb-index verbs c.verbs-test.false)
+    c.verbs.invariant ∙ ap (fold (λ (app : App) (verb : Verb). adding app (app_for verb)) options_app)
+    (take_all c.verbs.verb-index verbs c.verbs-test.false)

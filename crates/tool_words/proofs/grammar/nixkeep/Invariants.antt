@@ -6,4 +6,5 @@ use Rattle.tool_words.proofs.grammar.nixkeep.Given as goal
 
 -- the first subcommands are added
 abbrev pub invariant-verbs : goal.invariant-verbs
-invariant-verbs l = app_of l.command ≡ fold (λ app verb. adding app (app_for verb)) options_app (take l.verb-index verbs)
+invariant-verbs l =
+    app_of l.command ≡ fold (λ app verb. adding app (app_for verb)) options_app (take l.verb-index verbs)

@@ -23,13 +23,15 @@ simple_if_free : (a : App) → is_simple_and_free a ≡ true → is_simple a ≡
 simple_if_free a free = (and_parts (is_simple a) _ free).0
 
 -- words without a fault whose line misses something
-missing : (words : List Text) (line : Result Line UsageFault) (e : CommandError) → faults_of words ≡ [] → line ≡ line_of words → Misses line e → IsUsageFault words e
+missing : (words : List Text) (line : Result Line UsageFault) (e : CommandError) → faults_of words ≡ []
+    → line ≡ line_of words → Misses line e → IsUsageFault words e
 missing words line (Usage fault) none is h = absurd h
 missing words line (Misuse fault) none is h = (none, sym is ∙ h)
 missing words line Memory none is h = tt
 
 -- words with a fault
-refused : (words : List Text) (kinds : Kinds) (e : CommandError) → kinds ≡ faults_of words → IsRefusal kinds e → IsUsageFault words e
+refused : (words : List Text) (kinds : Kinds) (e : CommandError) → kinds ≡ faults_of words → IsRefusal kinds e
+    → IsUsageFault words e
 refused words kinds (Usage fault) is h = rw (← is) h
 refused words kinds (Misuse fault) is h = absurd h
 refused words kinds Memory is h = tt
@@ -41,8 +43,11 @@ returns-clause-ok g c =
     let free = ap is_simple_and_free c.in_ok-nixkeep.ensures ∙ app_is_free in
     let none = sym (ap (λ a. fault_of a words) c.in_ok-nixkeep.ensures) ∙ c.in_ok-matches.ensures.kinds free in
     let stated = c.in_ok-matches.ensures.matches (simple_if_free (app_of c.in_ok-nixkeep.nixkeep) free) in
-    let line = ap₂ line_from (stated.0 ∙ ap (λ a. matches_of a words) c.in_ok-nixkeep.ensures) (stated.1 ∙ ap (λ a. subcommand_of a words) c.in_ok-nixkeep.ensures) in
-    IfOk-weaker c.read.result _ _ (λ found stands. record { no_fault = none; is_line = sym line ∙ stands }) c.read.ensures.ok
+    let line =
+    ap₂ line_from (stated.0 ∙ ap (λ a. matches_of a words) c.in_ok-nixkeep.ensures)
+    (stated.1 ∙ ap (λ a. subcommand_of a words) c.in_ok-nixkeep.ensures) in
+    IfOk-weaker c.read.result _ _ (λ found stands. record { no_fault = none; is_line = sym line ∙ stands })
+    c.read.ensures.ok
 
 pub returns-clause-err : goal.returns-clause-err
 unfolding line_of faults_of
@@ -51,7 +56,9 @@ returns-clause-err g c =
     let free = ap is_simple_and_free c.in_ok-nixkeep.ensures ∙ app_is_free in
     let none = sym (ap (λ a. fault_of a words) c.in_ok-nixkeep.ensures) ∙ c.in_ok-matches.ensures.kinds free in
     let stated = c.in_ok-matches.ensures.matches (simple_if_free (app_of c.in_ok-nixkeep.nixkeep) free) in
-    let line = ap₂ line_from (stated.0 ∙ ap (λ a. matches_of a words) c.in_ok-nixkeep.ensures) (stated.1 ∙ ap (λ a. subcommand_of a words) c.in_ok-nixkeep.ensures) in
+    let line =
+    ap₂ line_from (stated.0 ∙ ap (λ a. matches_of a words) c.in_ok-nixkeep.ensures)
+    (stated.1 ∙ ap (λ a. subcommand_of a words) c.in_ok-nixkeep.ensures) in
     IfErr-weaker c.read.result _ _ (λ e misses. missing words _ e none line misses) c.read.ensures.err
 
 pub returns-in_err-matches-clause-err : goal.returns-in_err-matches-clause-err

@@ -9,7 +9,8 @@ returns c =
     let first = c.plain.ensures.app in
     let second = c.in_ok-arg.ensures.shape c.option.ensures.local ∙ ap₂ with_rule first c.option.ensures.rule in
     let third = c.in_ok-arg-2.ensures.shape c.required.ensures.local ∙ ap₂ with_rule second c.required.ensures.rule in
-    let fourth = c.in_ok-arg-3.ensures.shape c.required-2.ensures.local ∙ ap₂ with_rule third c.required-2.ensures.rule in
+    let fourth =
+    c.in_ok-arg-3.ensures.shape c.required-2.ensures.local ∙ ap₂ with_rule third c.required-2.ensures.rule in
     let first_local = c.plain.ensures.local in
     let second_local = c.in_ok-arg.ensures.globals ∙ ap₂ (λ a b. a || b) first_local c.option.ensures.local in
     let third_local = c.in_ok-arg-2.ensures.globals ∙ ap₂ (λ a b. a || b) second_local c.required.ensures.local in

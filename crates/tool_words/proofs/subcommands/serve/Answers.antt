@@ -7,7 +7,8 @@ use Rattle.tool_words.proofs.subcommands.serve.Goals as goal
 pub returns : goal.returns
 returns c =
     let first = c.plain.ensures.app in
-    let second = c.in_ok-arg.ensures.shape c.port_option.ensures.local ∙ ap₂ with_rule first c.port_option.ensures.rule in
+    let second =
+    c.in_ok-arg.ensures.shape c.port_option.ensures.local ∙ ap₂ with_rule first c.port_option.ensures.rule in
     let first_local = c.plain.ensures.local in
     let second_local = c.in_ok-arg.ensures.globals ∙ ap₂ (λ a b. a || b) first_local c.port_option.ensures.local in
     IfOk-weaker c.arg-2.result _ _ (λ r added. record {

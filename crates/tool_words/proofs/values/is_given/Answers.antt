@@ -9,11 +9,13 @@ use Rattle.tool_words.proofs.values.is_given.Goals as goal
 pub returns-in-Some : goal.returns-in-Some
 returns-in-Some c =
     let found = found_of c.args.matches.now in
-    let some : Some c.in-Some.text.now ≡ first_of c.args.id.now (rows_of found) = c.in-Some.ensures ∙ first_value-rows found c.args.id.now in
+    let some : Some c.in-Some.text.now ≡ first_of c.args.id.now (rows_of found) =
+    c.in-Some.ensures ∙ first_value-rows found c.args.id.now in
     c.eq.ensures ∙ ap (λ o. option_map_or (λ t. bytes_eq t (codes "true")) o false) some
 
 pub returns-in-None : goal.returns-in-None
 returns-in-None c =
     let found = found_of c.args.matches.now in
-    let none : None ≡ first_of c.args.id.now (rows_of found) = c.in-None.ensures ∙ first_value-rows found c.args.id.now in
+    let none : None ≡ first_of c.args.id.now (rows_of found) =
+    c.in-None.ensures ∙ first_value-rows found c.args.id.now in
     ap (λ o. option_map_or (λ t. bytes_eq t (codes "true")) o false) none

@@ -10,5 +10,7 @@ use Rattle.tool_words.proofs.values.port.Goals as goal
 pub returns : goal.returns
 returns c =
     let found = found_of c.args.matches.now in
-    number_read {gives = λ text r. ParsesUnsigned 16 10 text r × ExplainsUnsignedError 10 text r × HasUnsignedDigitsIfOk text r} 16 (one_text found (codes "port")) c.get_one.result c.get_one.ensures.value (λ text r read. read.0) c.get_one.ensures.none
+    number_read {gives = λ text r. ParsesUnsigned 16 10 text r × ExplainsUnsignedError 10 text r
+    × HasUnsignedDigitsIfOk text r} 16 (one_text found (codes "port")) c.get_one.result c.get_one.ensures.value
+    (λ text r read. read.0) c.get_one.ensures.none
     ∙ ap (option_and_then (number_below 16)) (one_text-rows found (codes "port"))

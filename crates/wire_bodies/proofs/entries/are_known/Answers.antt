@@ -11,12 +11,15 @@ pub lines-preserved : goal.lines-preserved
 lines-preserved c =
     let keys = texts c.args.keys.now in
     let e : Entry = (c.in-Some.name.now, c.in-Some.field-0-1.now) in
-    one_passed (λ es. are_known keys es ≡ true) (λ es. are_known keys es ≡ true) c.args.entries.now c.lines.left c.take_entry.new.self e c.lines.invariant c.in-Some.ensures
-    (λ done are. all_yes (λ (d : Entry). list_any (bytes_eq d.0) keys) done e are (sym c.is_among.ensures ∙ c.if-not-is_among.false))
+    one_passed (λ es. are_known keys es ≡ true) (λ es. are_known keys es ≡ true) c.args.entries.now c.lines.left
+    c.take_entry.new.self e c.lines.invariant c.in-Some.ensures
+    (λ done are. all_yes (λ (d : Entry). list_any (bytes_eq d.0) keys) done e are
+    (sym c.is_among.ensures ∙ c.if-not-is_among.false))
 
 pub returns-then-not-is_among : goal.returns-then-not-is_among
 returns-then-not-is_among c =
     let keys = texts c.args.keys.now in
     let e : Entry = (c.in-Some.name.now, c.in-Some.field-0-1.now) in
-    sym (not_all (λ es. are_known keys es ≡ true) (λ (d : Entry). list_any (bytes_eq d.0) keys) c.args.entries.now c.lines.left c.take_entry.new.self e c.lines.invariant c.in-Some.ensures
+    sym (not_all (λ es. are_known keys es ≡ true) (λ (d : Entry). list_any (bytes_eq d.0) keys) c.args.entries.now
+    c.lines.left c.take_entry.new.self e c.lines.invariant c.in-Some.ensures
     (sym c.is_among.ensures ∙ c.if-not-is_among.true))

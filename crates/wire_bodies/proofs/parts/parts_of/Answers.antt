@@ -12,7 +12,8 @@ returns-in_default-entry_of c =
     let read = c.lines.invariant in
     let some = not_empty (length line) c.is_empty.result c.is_empty.ensures c.if-is_empty.false in
     let none = rw c.in_default-entry_of.is at c.entry_of.ensures in
-    no_entry c.args.text.now read.0 c.lines.rest.now line c.in-Some.after.now read.1 c.in-Some.ensures.0 c.in-Some.ensures.1 some none
+    no_entry c.args.text.now read.0 c.lines.rest.now line c.in-Some.after.now read.1 c.in-Some.ensures.0
+    c.in-Some.ensures.1 some none
 
 pub lines-preserved : goal.lines-preserved
 lines-preserved c =
@@ -20,8 +21,11 @@ lines-preserved c =
     let entry = c.in-Some-entry_of.field-0 in
     let read = c.lines.invariant in
     let some = not_empty (length line) c.is_empty.result c.is_empty.ensures c.if-is_empty.false in
-    let is = c.in-Some-entry_of.ensures in
-    (_, one_line c.args.text.now read.0 c.lines.rest.now line c.in-Some.after.now entry.0.now entry.1.now read.1 c.in-Some.ensures.0 c.in-Some.ensures.1 some is.0 is.1 is.2)
+    let is = c.in-Some-entry_of.ensures in (
+      _,
+      one_line c.args.text.now read.0 c.lines.rest.now line c.in-Some.after.now entry.0.now entry.1.now read.1
+          c.in-Some.ensures.0 c.in-Some.ensures.1 some is.0 is.1 is.2,
+    )
 
 pub returns-in_default : goal.returns-in_default
 returns-in_default c =
@@ -39,4 +43,5 @@ returns-then-is_empty c =
     let read = c.lines.invariant in
     let line = c.in-Some.line.now in
     let prefix = c.split_at.ensures.front ∙ prefix_is c.args.text.now read.0 c.lines.rest.now read.1 in
-    read_whole c.args.text.now read.0 c.lines.rest.now line c.in-Some.after.now c.split_at.result.0.now read.1 c.in-Some.ensures.0 (nothing_in line c.is_empty.result c.is_empty.ensures c.if-is_empty.true) prefix
+    read_whole c.args.text.now read.0 c.lines.rest.now line c.in-Some.after.now c.split_at.result.0.now read.1
+    c.in-Some.ensures.0 (nothing_in line c.is_empty.result c.is_empty.ensures c.if-is_empty.true) prefix

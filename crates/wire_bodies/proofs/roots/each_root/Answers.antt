@@ -14,15 +14,21 @@ lines-preserved-in_ok-push c =
     let key = c.args.key.now in
     let read = root_text c.args.dir.now in
     let e : Entry = (c.in-Some.name.now, c.in-Some.value.now) in
-    one_passed (λ es. each read (values key es) ≡ Some (labelled c.lines.roots.items)) (λ es. each read (values key es) ≡ Some (labelled c.push.new.self.items)) c.args.entries.now c.lines.left c.take_entry.new.self e c.lines.invariant c.in-Some.ensures
-    (λ done are. ap (each read) (values_yes key done e (sym c.eq.ensures ∙ c.if-eq.true)) ∙ each_more read _ _ _ _ are c.in_ok-root_of.ensures ∙ ap (λ t. Some t) (sym (ap labelled c.in_ok-push.ensures.items ∙ labelled-more _ _)))
+    one_passed (λ es. each read (values key es) ≡ Some (labelled c.lines.roots.items))
+    (λ es. each read (values key es) ≡ Some (labelled c.push.new.self.items)) c.args.entries.now c.lines.left
+    c.take_entry.new.self e c.lines.invariant c.in-Some.ensures
+    (λ done are. ap (each read) (values_yes key done e (sym c.eq.ensures ∙ c.if-eq.true))
+    ∙ each_more read _ _ _ _ are c.in_ok-root_of.ensures
+    ∙ ap (λ t. Some t) (sym (ap labelled c.in_ok-push.ensures.items ∙ labelled-more _ _)))
 
 pub lines-preserved : goal.lines-preserved
 lines-preserved c =
     let key = c.args.key.now in
     let read = root_text c.args.dir.now in
     let e : Entry = (c.in-Some.name.now, c.in-Some.value.now) in
-    one_passed (λ es. each read (values key es) ≡ Some (labelled c.lines.roots.items)) (λ es. each read (values key es) ≡ Some (labelled c.lines.roots.items)) c.args.entries.now c.lines.left c.take_entry.new.self e c.lines.invariant c.in-Some.ensures
+    one_passed (λ es. each read (values key es) ≡ Some (labelled c.lines.roots.items))
+    (λ es. each read (values key es) ≡ Some (labelled c.lines.roots.items)) c.args.entries.now c.lines.left
+    c.take_entry.new.self e c.lines.invariant c.in-Some.ensures
     (λ done are. ap (each read) (values_no key done e (sym c.eq.ensures ∙ c.if-eq.false)) ∙ are)
 
 pub returns-in_err-root_of : goal.returns-in_err-root_of
@@ -30,6 +36,8 @@ returns-in_err-root_of c =
     let key = c.args.key.now in
     let read = root_text c.args.dir.now in
     let e : Entry = (c.in-Some.name.now, c.in-Some.value.now) in
-    answers_nothing _ (each read (values key c.args.entries.now)) c.in_err-root_of.field-0.0 c.from_residual.result c.from_residual.ensures.1 (λ bad.
-    each_bad read (λ es. each read (values key es) ≡ Some (labelled c.lines.roots.items)) c.args.entries.now c.lines.left c.take_entry.new.self e c.lines.invariant c.in-Some.ensures key (sym c.eq.ensures ∙ c.if-eq.true)
+    answers_nothing _ (each read (values key c.args.entries.now)) c.in_err-root_of.field-0.0 c.from_residual.result
+    c.from_residual.ensures.1 (λ bad.
+    each_bad read (λ es. each read (values key es) ≡ Some (labelled c.lines.roots.items)) c.args.entries.now
+    c.lines.left c.take_entry.new.self e c.lines.invariant c.in-Some.ensures key (sym c.eq.ensures ∙ c.if-eq.true)
     (rw bad at c.in_err-root_of.ensures))

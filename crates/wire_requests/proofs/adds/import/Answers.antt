@@ -7,7 +7,8 @@ use Rattle.wire_requests.proofs.adds.import.Goals as goal
 
 pub returns-in_err-read_import : goal.returns-in_err-read_import
 returns-in_err-read_import c = λ target all is.
-    makes_nothing c.args.dir.now Import target all c.read_import.result c.in_err-read_import.field-0.0 c.from_residual.result c.from_residual.ensures.1 c.in_err-read_import.was refl
+    makes_nothing c.args.dir.now Import target all c.read_import.result c.in_err-read_import.field-0.0
+    c.from_residual.result c.from_residual.ensures.1 c.in_err-read_import.was refl
     (λ reported q asks. (c.read_import.ensures.made all is).bad reported asks.0 asks.1 asks.2)
 
 pub returns : goal.returns

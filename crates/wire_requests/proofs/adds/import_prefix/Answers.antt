@@ -9,10 +9,15 @@ pub returns-clause-ok : goal.returns-clause-ok
 returns-clause-ok c = λ all lines.
     let head = c.in_ok-head.head in
     let after = c.in_ok-head.field-0-1.now in
-    import_all c.args.dir.now all head after (subst (λ prefix. IsImportBody c.args.dir.now prefix head after) (sym lines) c.in_ok-head.ensures.ok)
+    import_all c.args.dir.now all head after
+    (subst (λ prefix. IsImportBody c.args.dir.now prefix head after) (sym lines) c.in_ok-head.ensures.ok)
 
 pub returns-in_err-head-clause-bad : goal.returns-in_err-head-clause-bad
 returns-in_err-head-clause-bad c = λ same all lines head nar is.
-    let reported = same_fault c.import_body.result c.from_residual.result c.in_err-head.field-0.0 BadBodyHead c.from_residual.ensures.1 c.in_err-head.was same in
-    let prefix = subst (λ prefix. IsImportBody c.args.dir.now prefix head []) lines (import_prefix c.args.dir.now all head nar is) in
+    let reported =
+    same_fault c.import_body.result c.from_residual.result c.in_err-head.field-0.0 BadBodyHead
+    c.from_residual.ensures.1 c.in_err-head.was same in
+    let prefix =
+    subst (λ prefix. IsImportBody c.args.dir.now prefix head []) lines
+    (import_prefix c.args.dir.now all head nar is) in
     c.import_body.ensures.bad reported head [] prefix

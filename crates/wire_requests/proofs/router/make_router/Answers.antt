@@ -17,4 +17,6 @@ pub router_of-requires : goal.router_of-requires
 router_of-requires c = ap (λ rows. can_add_all [] rows) c.rows.ensures ∙ can_all
 
 pub returns : goal.returns
-returns c = subst (λ rows. IfOk c.router_of.result (λ router. AreRows router rows)) (ap (map row_of) c.rows.ensures ∙ same) c.router_of.ensures
+returns c =
+    subst (λ rows. IfOk c.router_of.result (λ router. AreRows router rows)) (ap (map row_of) c.rows.ensures ∙ same)
+    c.router_of.ensures

@@ -1,7 +1,8 @@
 use Rattle.std.proofs.Common.{refl, take, ◌∙◌}
 use Rattle.wire_server.proofs.Named.{one_more, no_more, any_step, same_texts, stays, turns}
 use Rattle.wire_server.proofs.fields.has_value.Goals as goal
-use Rattle.wire_server.proofs.fields.has_value.Goals.{then-eq_ignore_ascii_case+then-found, then-eq_ignore_ascii_case+else-found, else-eq_ignore_ascii_case}
+use Rattle.wire_server.proofs.fields.has_value.Goals.{then-eq_ignore_ascii_case+then-found}
+use Rattle.wire_server.proofs.fields.has_value.Goals.{then-eq_ignore_ascii_case+else-found, else-eq_ignore_ascii_case}
 
 pub loop-field-preserved : goal.loop-field-preserved
 loop-field-preserved c =
@@ -12,13 +13,20 @@ loop-field-preserved c =
     elim c.if-eq_ignore_ascii_case.branch [
       | then-eq_ignore_ascii_case+then-found w ↦
           any_step c.loop-field.found _ c.args.value.now _ _ _
-          (one_more buf name items i _ c.loop-field-test.true _ c.of.ensures _ c.eq_ignore_ascii_case.ensures.test w.if-eq_ignore_ascii_case.true _ refl)
+          (one_more buf name items i _ c.loop-field-test.true _ c.of.ensures _ c.eq_ignore_ascii_case.ensures.test
+          w.if-eq_ignore_ascii_case.true _ refl)
           c.loop-field.invariant (stays _ _ _ w.found-is w.if-found.true)
       | then-eq_ignore_ascii_case+else-found w ↦
           any_step c.loop-field.found _ c.args.value.now _ _ w.of-else-found.result.now
-          (one_more buf name items i _ c.loop-field-test.true _ c.of.ensures _ c.eq_ignore_ascii_case.ensures.test w.if-eq_ignore_ascii_case.true _ w.of-else-found.ensures)
+          (one_more buf name items i _ c.loop-field-test.true _ c.of.ensures _ c.eq_ignore_ascii_case.ensures.test
+          w.if-eq_ignore_ascii_case.true _ w.of-else-found.ensures)
           c.loop-field.invariant
-          (turns _ _ _ (w.found-is ∙ same_texts w.of-else-found.result.now c.args.value.now _ w.eq_ignore_ascii_case-found.ensures.test) w.if-found.false)
+          (turns _ _ _ (w.found-is ∙ same_texts w.of-else-found.result.now c.args.value.now _
+          w.eq_ignore_ascii_case-found.ensures.test) w.if-found.false)
       | else-eq_ignore_ascii_case w ↦
-          rw (no_more buf name items i _ c.loop-field-test.true _ c.of.ensures _ c.eq_ignore_ascii_case.ensures.test w.if-eq_ignore_ascii_case.false, w.found-is) c.loop-field.invariant
+          rw (
+            no_more buf name items i _ c.loop-field-test.true _ c.of.ensures _ c.eq_ignore_ascii_case.ensures.test
+                w.if-eq_ignore_ascii_case.false,
+            w.found-is,
+          ) c.loop-field.invariant
     ]

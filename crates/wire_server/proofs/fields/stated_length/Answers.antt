@@ -10,7 +10,8 @@ use Rattle.wire_server.proofs.fields.stated_length.Goals as goal
 digit_plain : (b : ℕ) → 48 ≤ b → b ≤ 57 → digit_value b ≡ b - 48
 digit_plain b low high = grind (arith, nat_tests)
 
-both : (p : ℕ → Bool) (text : List ℕ) (i : ℕ) → i < length text → list_all p (take i text) ≡ true → p (get_or text i 0) ≡ true
+both : (p : ℕ → Bool) (text : List ℕ) (i : ℕ) → i < length text → list_all p (take i text) ≡ true
+    → p (get_or text i 0) ≡ true
     → list_all p (take (i + 1) text) ≡ true
 both p text i h all one = list_all_more p text i 0 h ∙ cc
 

@@ -6,4 +6,6 @@ use Rattle.wire_server.proofs.fields.stated_length.Given as goal
 
 -- the number that the digits so far write, unless it is too large
 abbrev pub invariant-loop-byte : goal.invariant-loop-byte
-invariant-loop-byte l = (list_all is_ascii_digit (take l.byte-index l.text) ≡ true) × (l.length ≡ min (digits_value 10 (take l.byte-index l.text)) 20971521)
+invariant-loop-byte l =
+    (list_all is_ascii_digit (take l.byte-index l.text) ≡ true)
+    × (l.length ≡ min (digits_value 10 (take l.byte-index l.text)) 20971521)

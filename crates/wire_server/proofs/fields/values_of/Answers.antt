@@ -12,8 +12,16 @@ loop-field-preserved c =
     let i = c.loop-field.field-index in
     elim c.if-eq_ignore_ascii_case.branch [
       | then-eq_ignore_ascii_case w ↦
-          rw (one_more buf name items i _ c.loop-field-test.true _ c.of.ensures _ c.eq_ignore_ascii_case.ensures.test w.if-eq_ignore_ascii_case.true _ w.of-then-eq_ignore_ascii_case.ensures, w.found-is)
+          rw (
+            one_more buf name items i _ c.loop-field-test.true _ c.of.ensures _ c.eq_ignore_ascii_case.ensures.test
+                w.if-eq_ignore_ascii_case.true _ w.of-then-eq_ignore_ascii_case.ensures,
+            w.found-is,
+          )
           (w.with_another-found.ensures _ c.loop-field.invariant)
       | else-eq_ignore_ascii_case w ↦
-          rw (no_more buf name items i _ c.loop-field-test.true _ c.of.ensures _ c.eq_ignore_ascii_case.ensures.test w.if-eq_ignore_ascii_case.false, w.found-is) c.loop-field.invariant
+          rw (
+            no_more buf name items i _ c.loop-field-test.true _ c.of.ensures _ c.eq_ignore_ascii_case.ensures.test
+                w.if-eq_ignore_ascii_case.false,
+            w.found-is,
+          ) c.loop-field.invariant
     ]

@@ -10,15 +10,20 @@ begun_of : (buf : List ℕ) (seen : ℕ) (before begun : Bool) → WasSeen buf s
 begun_of buf seen before begun was is =
     let rest = drop seen buf in
     let all = take_all (length buf - seen) rest (omega (arith, length-drop seen buf)) in
-    is ∙ ap (λ t. before || has_begun_in t) all ∙ ap (λ b. b || has_begun_in rest) was.begun ∙ sym (has_begun_in-parts seen buf)
+    is ∙ ap (λ t. before || has_begun_in t) all ∙ ap (λ b. b || has_begun_in rest) was.begun
+    ∙ sym (has_begun_in-parts seen buf)
 
 pub returns-then-begun-clause-begun : goal.returns-then-begun-clause-begun
-returns-then-begun-clause-begun c = begun_of c.args.buf.now c.args.seen c.args.before c.has_begun-begun.result c.requires c.has_begun-begun.ensures
+returns-then-begun-clause-begun c =
+    begun_of c.args.buf.now c.args.seen c.args.before c.has_begun-begun.result c.requires c.has_begun-begun.ensures
 
 pub returns-else-begun-clause-begun : goal.returns-else-begun-clause-begun
-returns-else-begun-clause-begun c = begun_of c.args.buf.now c.args.seen c.args.before c.has_begun-begun.result c.requires c.has_begun-begun.ensures
+returns-else-begun-clause-begun c =
+    begun_of c.args.buf.now c.args.seen c.args.before c.has_begun-begun.result c.requires c.has_begun-begun.ensures
 
 pub returns-else-begun-clause-found : goal.returns-else-begun-clause-found
 returns-else-begun-clause-found c =
-    let is = begun_of c.args.buf.now c.args.seen c.args.before c.has_begun-begun.result c.requires c.has_begun-begun.ensures in
+    let is =
+    begun_of c.args.buf.now c.args.seen c.args.before c.has_begun-begun.result c.requires
+    c.has_begun-begun.ensures in
     c.without_head.ensures (none_in_line_ends c.args.buf.now (sym is ∙ c.if-begun.false))

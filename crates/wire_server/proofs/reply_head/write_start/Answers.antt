@@ -12,5 +12,6 @@ pub returns : goal.returns
 unfolding leading_lines
 returns c =
     subst (λ t. OnOk c.write.result (string_bytes c.write.new.self ≡ string_bytes c.args.out.now ++ t))
-    (sym (regroup (codes "HTTP/1.1 ") (status_text c.args.status) (codes "\r\n") (codes "content-type") (codes ": ") c.args.kind.now (codes "\r\n")))
+    (sym (regroup (codes "HTTP/1.1 ") (status_text c.args.status) (codes "\r\n") (codes "content-type") (codes ": ")
+    c.args.kind.now (codes "\r\n")))
     c.write.ensures.bytes

@@ -9,7 +9,8 @@ use Rattle.store_adds.proofs.Addresses.{verifies-set}
 use Rattle.store_adds.proofs.delivered.Delivered.is_verified.Goals as goal
 
 -- the test of an address that there is
-with_address : (dir : List ℕ) (i : Imported) (ca : ContentAddress) (b : Bool) → i.ca ≡ Some ca → verifies ca dir i.path i.refs i.nar ≡ b
+with_address : (dir : List ℕ) (i : Imported) (ca : ContentAddress) (b : Bool) → i.ca ≡ Some ca
+    → verifies ca dir i.path i.refs i.nar ≡ b
     → unless (is_verified dir i.path (added_import dir i).object i.ca) CaMismatch ≡ unless b CaMismatch
 with_address dir i ca b is fits =
     ap (λ a. unless (is_verified dir i.path (added_import dir i).object a) CaMismatch) is
@@ -17,8 +18,10 @@ with_address dir i ca b is fits =
 
 pub returns-then-not-branch : goal.returns-then-not-branch
 returns-then-not-branch c =
-    with_address c.args.dir.now (delivered_view c.args.self.now) c.in-Some.ca _ c.in-Some.is (sym (c.in_ok-fits.ensures c.requires) ∙ c.if-not-branch.true)
+    with_address c.args.dir.now (delivered_view c.args.self.now) c.in-Some.ca _ c.in-Some.is
+    (sym (c.in_ok-fits.ensures c.requires) ∙ c.if-not-branch.true)
 
 pub returns : goal.returns
 returns c =
-    with_address c.args.dir.now (delivered_view c.args.self.now) c.in-Some.ca _ c.in-Some.is (sym (c.in_ok-fits.ensures c.requires) ∙ c.if-not-branch.false)
+    with_address c.args.dir.now (delivered_view c.args.self.now) c.in-Some.ca _ c.in-Some.is
+    (sym (c.in_ok-fits.ensures c.requires) ∙ c.if-not-branch.false)

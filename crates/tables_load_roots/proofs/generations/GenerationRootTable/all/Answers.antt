@@ -9,6 +9,7 @@ returns g c = record {
   frame = c.find.ensures.found.frame;
   reads = λ clean.
       reads_so c.find.result _ _ _ (c.find.ensures.found.reads clean)
-      (λ all listed o filled. load_generations all.items o (contents_of (state g.S.Store c.args.conn.now).now) listed filled);
+      (λ all listed o filled. load_generations all.items o (contents_of (state g.S.Store c.args.conn.now).now) listed
+      filled);
   cause = c.find.ensures.found.cause;
 }

@@ -15,7 +15,8 @@ returns g c = record {
   reads = λ clean.
       let stored = (contents_of (state g.S.Store c.args.conn.now).now).profiles in
       reads_so c.find.result _ _ _ (c.find.ensures.found.reads clean) (λ all listed.
-      load_entries current_of (λ (objects : Objects) e. is_profile e) bare_of (λ (o : OutlineValue). o.profiles) (λ m (o : OutlineValue). record o { profiles = m })
+      load_entries current_of (λ (objects : Objects) e. is_profile e) bare_of (λ (o : OutlineValue). o.profiles)
+      (λ m (o : OutlineValue). record o { profiles = m })
       (record { objects = λ m o. refl; read_back = λ m o. refl; last = λ m n o. refl; same = λ o. refl })
       _ (finite.entries stored) (bare_again stored) all.items listed);
   cause = c.find.ensures.found.cause;

@@ -15,7 +15,8 @@ returns g c = record {
   reads = λ clean.
       let stored = (contents_of (state g.S.Store c.args.conn.now).now).runtime in
       reads_so c.find.result _ _ _ (c.find.ensures.found.reads clean) (λ all listed.
-      load_entries runtime_of is_runtime_root (λ e. e) (λ (o : OutlineValue). o.runtime) (λ m (o : OutlineValue). record o { runtime = m })
+      load_entries runtime_of is_runtime_root (λ e. e) (λ (o : OutlineValue). o.runtime)
+      (λ m (o : OutlineValue). record o { runtime = m })
       (record { objects = λ m o. refl; read_back = λ m o. refl; last = λ m n o. refl; same = λ o. refl })
       _ (finite.entries stored) (entries_again pair_total pair_antisymmetric stored) all.items listed);
   cause = c.find.ensures.found.cause;

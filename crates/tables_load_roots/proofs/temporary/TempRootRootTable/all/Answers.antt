@@ -15,7 +15,8 @@ returns g c = record {
   reads = λ clean.
       let stored = (contents_of (state g.S.Store c.args.conn.now).now).temp_roots in
       reads_so c.find.result _ _ _ (c.find.ensures.found.reads clean) (λ all listed.
-      load_entries temp_root_of is_temporary_root member (λ (o : OutlineValue). o.temporary) (λ m (o : OutlineValue). record o { temporary = m })
+      load_entries temp_root_of is_temporary_root member (λ (o : OutlineValue). o.temporary)
+      (λ m (o : OutlineValue). record o { temporary = m })
       (record { objects = λ m o. refl; read_back = λ m o. refl; last = λ m n o. refl; same = λ o. refl })
       _ (finite.entries stored) (temporary_again stored) all.items listed);
   cause = c.find.ensures.found.cause;

@@ -9,5 +9,6 @@ use Rattle.tables_outline.proofs.object_map.Objects.all.Goals as goal
 pub returns : goal.returns
 returns c =
     sym (seen_same c.self.inside.map.entries)
-    ∙ sym (listed bytes_cmp (λ (p : List ℕ). p) (λ (o : Outlined). o) bytes_total bytes_antisymmetric c.self.inside.map.entries c.len-count.ensures.ordered)
+    ∙ sym (listed bytes_cmp (λ (p : List ℕ). p) (λ (o : Outlined). o) bytes_total bytes_antisymmetric
+    c.self.inside.map.entries c.len-count.ensures.ordered)
     ∙ ap (λ (m : finite.FinMap bytes_cmp Outlined). finite.entries m) c.self.view_is

@@ -10,5 +10,6 @@ use Rattle.tables_outline.proofs.object_map.Objects.get.Goals as goal
 pub returns : goal.returns
 returns c =
     seen_copied (λ (o : Outlined). o) c.get.result ∙ ap (option_map (λ (o : Outlined). o)) c.get.ensures.value
-    ∙ sym (get_seen bytes_cmp (λ (p : List ℕ). p) (λ (o : Outlined). o) bytes_total bytes_antisymmetric c.self.inside.map.entries c.args.path.now)
+    ∙ sym (get_seen bytes_cmp (λ (p : List ℕ). p) (λ (o : Outlined). o) bytes_total bytes_antisymmetric
+    c.self.inside.map.entries c.args.path.now)
     ∙ ap (λ (m : finite.FinMap bytes_cmp Outlined). finite.get m c.args.path.now) c.self.view_is

@@ -17,10 +17,15 @@ returns c =
     let all = put_all items finite.empty in
     let ran = c.in_ok-made.ensures.ran in
     let road = YieldsList-from_vec items c.into_iter.ensures.rest (c.into_iter.ensures.len ∙ c.args.objects.ok.0) in
-    let made = subst (λ xs. IsFromIterResult bytes_cmp xs c.in_ok-made.made) (sym (map-id ran.0) ∙ items_from_drains ran.0 ran.1 road) ran.2 in
+    let made =
+    subst (λ xs. IsFromIterResult bytes_cmp xs c.in_ok-made.made)
+    (sym (map-id ran.0) ∙ items_from_drains ran.0 ran.1 road) ran.2 in
     record {
       done =
-          seen_as bytes_cmp (λ (p : List ℕ). p) (λ (o : Outlined). o) bytes_total bytes_antisymmetric c.in_ok-made.made.entries all (λ q.
-          option_same _ ∙ made.0 q ∙ sym (get-all bytes_total bytes_antisymmetric items finite.empty (λ _. None) q (finite.get-empty bytes_cmp q)));
+          seen_as bytes_cmp (λ (p : List ℕ). p) (λ (o : Outlined). o) bytes_total bytes_antisymmetric
+          c.in_ok-made.made.entries all (λ q.
+          option_same _ ∙ made.0 q ∙ sym
+          (get-all bytes_total bytes_antisymmetric items finite.empty (λ _. None) q
+          (finite.get-empty bytes_cmp q)));
       failed = tt;
     }

@@ -16,6 +16,17 @@ returns c =
     let put : Profile = record { generations = c.new-generations.result; current = c.args.current } in
     ap (λ m. record (outline_view c.self.inside) { profiles = m })
     (ap (seen_map pair_cmp pair_bytes profile_view) c.in_ok-insert.ensures.entries
-    ∙ inserted pair_cmp pair_bytes profile_view pair_total pair_antisymmetric c.self.inside.profiles.entries c.args.owned put)
-    ∙ ap (λ (o : OutlineValue). record o { profiles = finite.insert o.profiles (pair_bytes c.args.owned) (profile_view put) }) c.self.view_is
-    ∙ ap (λ es. record c.args.self.now { profiles = finite.insert c.args.self.now.profiles (pair_bytes c.args.owned) (let p : world.Profile = record { generations = seen_map nat_cmp (λ (n : ℕ). n) (λ (t : List ℕ). t) es; current = c.args.current } in p) }) c.new-generations.ensures.empty
+    ∙ inserted pair_cmp pair_bytes profile_view pair_total pair_antisymmetric c.self.inside.profiles.entries
+    c.args.owned put)
+    ∙ ap (λ (o : OutlineValue). record o {
+      profiles =
+          finite.insert o.profiles (pair_bytes c.args.owned) (profile_view put);
+    }) c.self.view_is
+    ∙ ap (λ es. record c.args.self.now {
+      profiles =
+          finite.insert c.args.self.now.profiles (pair_bytes c.args.owned)
+          (let p : world.Profile = record {
+            generations = seen_map nat_cmp (λ (n : ℕ). n) (λ (t : List ℕ). t) es;
+            current = c.args.current;
+          } in p);
+    }) c.new-generations.ensures.empty

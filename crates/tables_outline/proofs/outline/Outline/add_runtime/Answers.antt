@@ -12,5 +12,9 @@ pub returns : goal.returns
 returns c =
     ap (λ m. record (outline_view c.self.inside) { runtime = m })
     (ap (seen_set pair_cmp labelled_bytes) c.in_ok-insert.ensures.keys
-    ∙ key_inserted pair_cmp labelled_bytes pair_total pair_antisymmetric c.self.inside.runtime.keys (c.args.label, c.args.target))
-    ∙ ap (λ (o : OutlineValue). record o { runtime = finite.insert o.runtime (labelled_bytes (c.args.label, c.args.target)) tt }) c.self.view_is
+    ∙ key_inserted pair_cmp labelled_bytes pair_total pair_antisymmetric c.self.inside.runtime.keys
+    (c.args.label, c.args.target))
+    ∙ ap (λ (o : OutlineValue). record o {
+      runtime =
+          finite.insert o.runtime (labelled_bytes (c.args.label, c.args.target)) tt;
+    }) c.self.view_is

@@ -14,6 +14,8 @@ pub returns : goal.returns
 returns c =
     ap (λ m. record (outline_view c.self.inside) { permanent = m })
     (ap (seen_map bytes_cmp string_bytes (λ (t : List ℕ). t)) c.remove.ensures.entries
-    ∙ removed bytes_cmp string_bytes (λ (t : List ℕ). t) bytes_total bytes_antisymmetric c.self.inside.permanent.entries c.args.name.now
-    (ap (lookup (λ k. eq_by_cmp bytes_cmp c.args.name.now (string_bytes k))) (sym c.remove.ensures.entries) ∙ c.remove.ensures.updates.1))
+    ∙ removed bytes_cmp string_bytes (λ (t : List ℕ). t) bytes_total bytes_antisymmetric c.self.inside.permanent.entries
+    c.args.name.now
+    (ap (lookup (λ k. eq_by_cmp bytes_cmp c.args.name.now (string_bytes k))) (sym c.remove.ensures.entries)
+    ∙ c.remove.ensures.updates.1))
     ∙ ap (λ (o : OutlineValue). record o { permanent = finite.remove o.permanent c.args.name.now }) c.self.view_is

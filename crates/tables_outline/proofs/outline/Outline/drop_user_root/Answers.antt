@@ -14,6 +14,9 @@ pub returns : goal.returns
 returns c =
     ap (λ m. record (outline_view c.self.inside) { user_roots = m })
     (ap (seen_map pair_cmp pair_bytes (λ (t : List ℕ). t)) c.remove.ensures.entries
-    ∙ removed pair_cmp pair_bytes (λ (t : List ℕ). t) pair_total pair_antisymmetric c.self.inside.user_roots.entries (pair_bytes c.args.owned.now)
-    (ap (lookup (λ k. eq_by_cmp pair_cmp (pair_bytes c.args.owned.now) (pair_bytes k))) (sym c.remove.ensures.entries) ∙ c.remove.ensures.updates.1))
-    ∙ ap (λ (o : OutlineValue). record o { user_roots = finite.remove o.user_roots (pair_bytes c.args.owned.now) }) c.self.view_is
+    ∙ removed pair_cmp pair_bytes (λ (t : List ℕ). t) pair_total pair_antisymmetric c.self.inside.user_roots.entries
+    (pair_bytes c.args.owned.now)
+    (ap (lookup (λ k. eq_by_cmp pair_cmp (pair_bytes c.args.owned.now) (pair_bytes k))) (sym c.remove.ensures.entries)
+    ∙ c.remove.ensures.updates.1))
+    ∙ ap (λ (o : OutlineValue). record o { user_roots = finite.remove o.user_roots (pair_bytes c.args.owned.now) })
+    c.self.view_is

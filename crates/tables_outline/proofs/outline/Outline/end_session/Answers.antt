@@ -16,6 +16,10 @@ returns-clause-done c =
     let owner = c.args.owner.now in
     let session = c.args.session in
     ap (λ m. record (outline_view c.self.inside) { temporary = m })
-    (ap (seen_set temporary_cmp temporary_bytes) (filter_same _ (λ (k : SessionEntry). not (is_of_session owner session (temporary_bytes k))) _ (λ x b f' k. search rules) _ _ c.retain.ensures.filtered)
-    ∙ keys_retained temporary_cmp temporary_bytes temporary_total temporary_antisymmetric (λ (t : Temporary). not (is_of_session owner session t)) c.self.inside.temporary.keys)
-    ∙ ap (λ (o : OutlineValue). record o { temporary = entries_without_session owner session o.temporary }) c.self.view_is
+    (ap (seen_set temporary_cmp temporary_bytes)
+    (filter_same _ (λ (k : SessionEntry). not (is_of_session owner session (temporary_bytes k))) _
+    (λ x b f' k. search rules) _ _ c.retain.ensures.filtered)
+    ∙ keys_retained temporary_cmp temporary_bytes temporary_total temporary_antisymmetric
+    (λ (t : Temporary). not (is_of_session owner session t)) c.self.inside.temporary.keys)
+    ∙ ap (λ (o : OutlineValue). record o { temporary = entries_without_session owner session o.temporary })
+    c.self.view_is

@@ -6,4 +6,6 @@ use Rattle.model.specs.Profiles.{has_generation, profile_or_new}
 use Rattle.tables_outline.proofs.outline.Outline.has_generation.Goals as goal
 
 pub returns-in-None : goal.returns-in-None
-returns-in-None c = sym (ap is_some (finite.get-empty {X = Path} nat_cmp c.args.number)) ∙ ap (λ o. has_generation (profile_or_new o) c.args.number) c.in-None.ensures
+returns-in-None c =
+    sym (ap is_some (finite.get-empty {X = Path} nat_cmp c.args.number))
+    ∙ ap (λ o. has_generation (profile_or_new o) c.args.number) c.in-None.ensures

@@ -8,4 +8,7 @@ use Rattle.tables_outline.proofs.Trees.{has_seen}
 use Rattle.tables_outline.proofs.outline.Outline.has_user_root.Goals as goal
 
 pub returns : goal.returns
-returns c = c.contains_key.ensures ∙ sym (has_seen pair_cmp pair_bytes (λ (t : List ℕ). t) pair_total pair_antisymmetric c.self.inside.user_roots.entries (pair_bytes c.args.owned.now)) ∙ ap (λ (o : OutlineValue). finite.contains_key o.user_roots (pair_bytes c.args.owned.now)) c.self.view_is
+returns c =
+    c.contains_key.ensures ∙ sym (has_seen pair_cmp pair_bytes (λ (t : List ℕ). t) pair_total pair_antisymmetric
+    c.self.inside.user_roots.entries (pair_bytes c.args.owned.now))
+    ∙ ap (λ (o : OutlineValue). finite.contains_key o.user_roots (pair_bytes c.args.owned.now)) c.self.view_is

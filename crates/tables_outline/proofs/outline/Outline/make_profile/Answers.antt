@@ -16,14 +16,21 @@ returns c =
     let q = pair_bytes c.args.owned in
     let o = outline_view c.self.inside in
     let made : profile_view (record { generations = c.new-generations.result; current = 0 }) ≡ new_profile =
-    λ i. record { generations = seen_map nat_cmp (λ n. n) (λ (t : List ℕ). t) (c.new-generations.ensures.empty i); current = 0 } in
+    λ i. record {
+      generations = seen_map nat_cmp (λ n. n) (λ (t : List ℕ). t) (c.new-generations.ensures.empty i);
+      current = 0;
+    } in
     record {
       done =
           ap (λ m. record o { profiles = m })
           (ap (seen_map pair_cmp pair_bytes profile_view) c.in_ok-insert.ensures.entries
-          ∙ inserted pair_cmp pair_bytes profile_view pair_total pair_antisymmetric c.self.inside.profiles.entries c.args.owned c.put.new.self
+          ∙ inserted pair_cmp pair_bytes profile_view pair_total pair_antisymmetric c.self.inside.profiles.entries
+          c.args.owned c.put.new.self
           ∙ ap (finite.insert o.profiles q)
-          (c.in_ok-put.ensures.done ∙ ap (λ (p : Profile). put_at p c.args.number c.args.target) (made ∙ new_if_missing (finite.get o.profiles q) (ap (λ (x : OutlineValue). is_some (finite.get x.profiles q)) c.self.view_is ∙ c.requires))))
-          ∙ ap (λ (x : OutlineValue). with_profile x q (put_at (profile_of x q) c.args.number c.args.target)) c.self.view_is;
+          (c.in_ok-put.ensures.done ∙ ap (λ (p : Profile). put_at p c.args.number c.args.target)
+          (made ∙ new_if_missing (finite.get o.profiles q)
+          (ap (λ (x : OutlineValue). is_some (finite.get x.profiles q)) c.self.view_is ∙ c.requires))))
+          ∙ ap (λ (x : OutlineValue). with_profile x q (put_at (profile_of x q) c.args.number c.args.target))
+          c.self.view_is;
       failed = tt;
     }

@@ -8,8 +8,11 @@ use Rattle.tables_outline.specs.View.{profile_view}
 use Rattle.tables_outline.specs.Outline.{outlined, Outlined, OutlineValue}
 use Rattle.tables_outline.proofs.outline.Outline.new.Goals as goal
 
-none_outlined : ◌≡◌ {A = finite.FinMap bytes_cmp Outlined} (finite.from_entries (map (λ e. (e.0, outlined e.1)) (finite.entries (finite.empty {X = Object} {R = bytes_cmp})))) finite.empty
-none_outlined = ap (λ es. finite.from_entries {R = bytes_cmp} (map (λ e. (e.0, outlined e.1)) es)) (no_entries Object bytes_cmp)
+none_outlined : ◌≡◌ {A = finite.FinMap bytes_cmp Outlined}
+    (finite.from_entries (map (λ e. (e.0, outlined e.1)) (finite.entries (finite.empty {X = Object} {R = bytes_cmp}))))
+    finite.empty
+none_outlined =
+    ap (λ es. finite.from_entries {R = bytes_cmp} (map (λ e. (e.0, outlined e.1)) es)) (no_entries Object bytes_cmp)
 
 pub returns : goal.returns
 returns c =
@@ -21,4 +24,11 @@ returns c =
       runtime = seen_set pair_cmp labelled_bytes (c.new-runtime.ensures.empty i);
       temporary = seen_set temporary_cmp temporary_bytes (c.new-temporary.ensures.empty i);
     } in
-    made ∙ ap (λ m. record { objects = m; permanent = finite.empty; user_roots = finite.empty; profiles = finite.empty; runtime = finite.empty; temporary = finite.empty }) (sym none_outlined)
+    made ∙ ap (λ m. record {
+      objects = m;
+      permanent = finite.empty;
+      user_roots = finite.empty;
+      profiles = finite.empty;
+      runtime = finite.empty;
+      temporary = finite.empty;
+    }) (sym none_outlined)

@@ -8,5 +8,6 @@ use Rattle.tables_outline.proofs.outline.Outline.permanent_roots.Goals as goal
 
 pub returns : goal.returns
 returns c =
-    sym (listed bytes_cmp string_bytes (λ (t : List ℕ). t) bytes_total bytes_antisymmetric c.self.inside.permanent.entries c.len-count.ensures.ordered)
+    sym (listed bytes_cmp string_bytes (λ (t : List ℕ). t) bytes_total bytes_antisymmetric
+    c.self.inside.permanent.entries c.len-count.ensures.ordered)
     ∙ ap (λ (o : OutlineValue). finite.entries o.permanent) c.self.view_is

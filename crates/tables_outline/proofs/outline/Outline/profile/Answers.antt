@@ -12,5 +12,6 @@ use Rattle.tables_outline.proofs.outline.Outline.profile.Goals as goal
 pub returns : goal.returns
 returns c =
     seen_copied profile_view c.get.result ∙ ap (option_map profile_view) c.get.ensures.value
-    ∙ sym (get_seen pair_cmp pair_bytes profile_view pair_total pair_antisymmetric c.self.inside.profiles.entries (pair_bytes c.args.owned.now))
+    ∙ sym (get_seen pair_cmp pair_bytes profile_view pair_total pair_antisymmetric c.self.inside.profiles.entries
+    (pair_bytes c.args.owned.now))
     ∙ ap (λ (o : OutlineValue). finite.get o.profiles (pair_bytes c.args.owned.now)) c.self.view_is

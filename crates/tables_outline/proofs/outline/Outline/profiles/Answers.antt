@@ -10,5 +10,6 @@ use Rattle.tables_outline.proofs.outline.Outline.profiles.Goals as goal
 
 pub returns : goal.returns
 returns c =
-    sym (listed pair_cmp pair_bytes profile_view pair_total pair_antisymmetric c.self.inside.profiles.entries c.len-count.ensures.ordered)
+    sym (listed pair_cmp pair_bytes profile_view pair_total pair_antisymmetric c.self.inside.profiles.entries
+    c.len-count.ensures.ordered)
     ∙ ap (λ (o : OutlineValue). finite.entries o.profiles) c.self.view_is

@@ -18,9 +18,12 @@ returns c =
     record {
       done =
           ap (λ m. record (outline_view c.self.inside) { profiles = m })
-          (profile_written es _ q c.in-Some.profile.now c.put.new.self _ c.in-Some.ensures.value (c.get_mut.follows.holds c.put.new.self).0
-          (c.in_ok-put.ensures.done ∙ ap (λ (p : Profile). put_at p c.args.number c.args.target) (profile_is es q c.in-Some.profile.now c.in-Some.ensures.value)))
-          ∙ ap (λ (o : OutlineValue). with_profile o q (put_at (profile_of o q) c.args.number c.args.target)) c.self.view_is;
+          (profile_written es _ q c.in-Some.profile.now c.put.new.self _ c.in-Some.ensures.value
+          (c.get_mut.follows.holds c.put.new.self).0
+          (c.in_ok-put.ensures.done ∙ ap (λ (p : Profile). put_at p c.args.number c.args.target)
+          (profile_is es q c.in-Some.profile.now c.in-Some.ensures.value)))
+          ∙ ap (λ (o : OutlineValue). with_profile o q (put_at (profile_of o q) c.args.number c.args.target))
+          c.self.view_is;
       failed = tt;
     }
 
@@ -34,10 +37,16 @@ returns-in_err-put c =
       failed =
           on_err c.from_residual.result
           (ap (λ m. record o { profiles = m })
-          (profile_written es _ q c.in-Some.profile.now c.put.new.self (profile_view c.in-Some.profile.now) c.in-Some.ensures.value (c.get_mut.follows.holds c.put.new.self).0 c.in_err-put.ensures.failed
-          ∙ insert_same pair_total pair_antisymmetric o.profiles q (profile_view c.in-Some.profile.now) (profile_found es q c.in-Some.profile.now c.in-Some.ensures.value))
+          (profile_written es _ q c.in-Some.profile.now c.put.new.self (profile_view c.in-Some.profile.now)
+          c.in-Some.ensures.value (c.get_mut.follows.holds c.put.new.self).0 c.in_err-put.ensures.failed
+          ∙ insert_same pair_total pair_antisymmetric o.profiles q (profile_view c.in-Some.profile.now)
+          (profile_found es q c.in-Some.profile.now c.in-Some.ensures.value))
           ∙ c.self.view_is);
     }
 
 pub returns-in_default : goal.returns-in_default
-returns-in_default c = absurd (profile_missing c.self.inside.profiles.entries (pair_bytes c.args.owned.now) (ap option_copied_mut (sym c.in_default.is) ∙ c.get_mut.ensures.value) (ap (λ (o : OutlineValue). is_some (finite.get o.profiles (pair_bytes c.args.owned.now))) c.self.view_is ∙ c.requires))
+returns-in_default c =
+    absurd (profile_missing c.self.inside.profiles.entries (pair_bytes c.args.owned.now)
+    (ap option_copied_mut (sym c.in_default.is) ∙ c.get_mut.ensures.value)
+    (ap (λ (o : OutlineValue). is_some (finite.get o.profiles (pair_bytes c.args.owned.now))) c.self.view_is
+    ∙ c.requires))

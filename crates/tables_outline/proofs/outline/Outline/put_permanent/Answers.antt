@@ -16,12 +16,18 @@ returns c = record {
   done =
       ap (λ m. record (outline_view c.self.inside) { permanent = m })
       (ap (seen_map bytes_cmp string_bytes (λ (t : List ℕ). t)) c.in_ok-had.ensures.entries
-      ∙ inserted bytes_cmp string_bytes (λ (t : List ℕ). t) bytes_total bytes_antisymmetric c.self.inside.permanent.entries c.args.name c.args.target)
-      ∙ ap (λ (o : OutlineValue). record o { permanent = finite.insert o.permanent (string_bytes c.args.name) c.args.target }) c.self.view_is;
+      ∙ inserted bytes_cmp string_bytes (λ (t : List ℕ). t) bytes_total bytes_antisymmetric
+      c.self.inside.permanent.entries c.args.name c.args.target)
+      ∙ ap (λ (o : OutlineValue). record o {
+        permanent =
+            finite.insert o.permanent (string_bytes c.args.name) c.args.target;
+      }) c.self.view_is;
   had =
       c.in_ok-had.ensures.old
-      ∙ sym (option_same (lookup (λ k. eq_by_cmp bytes_cmp (string_bytes c.args.name) (string_bytes k)) c.self.inside.permanent.entries))
-      ∙ sym (get_seen bytes_cmp string_bytes (λ (t : List ℕ). t) bytes_total bytes_antisymmetric c.self.inside.permanent.entries (string_bytes c.args.name))
+      ∙ sym (option_same (lookup (λ k. eq_by_cmp bytes_cmp (string_bytes c.args.name) (string_bytes k))
+      c.self.inside.permanent.entries))
+      ∙ sym (get_seen bytes_cmp string_bytes (λ (t : List ℕ). t) bytes_total bytes_antisymmetric
+      c.self.inside.permanent.entries (string_bytes c.args.name))
       ∙ ap (λ (o : OutlineValue). finite.get o.permanent (string_bytes c.args.name)) c.self.view_is;
   failed = tt;
 }

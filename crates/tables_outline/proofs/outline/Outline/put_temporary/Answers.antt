@@ -15,8 +15,10 @@ pub returns : goal.returns
 returns c = record {
   done =
       ap (λ m. record (outline_view c.self.inside) { temporary = m })
-      (ap (seen_set temporary_cmp temporary_bytes) c.in_ok-is_new.ensures.keys ∙ put_kept c.self.inside.temporary.keys c.args.kept)
-      ∙ ap (λ (o : OutlineValue). record o { temporary = finite.insert o.temporary (temporary_bytes c.args.kept) tt }) c.self.view_is;
+      (ap (seen_set temporary_cmp temporary_bytes) c.in_ok-is_new.ensures.keys
+      ∙ put_kept c.self.inside.temporary.keys c.args.kept)
+      ∙ ap (λ (o : OutlineValue). record o { temporary = finite.insert o.temporary (temporary_bytes c.args.kept) tt })
+      c.self.view_is;
   had =
       ap not c.in_ok-is_new.ensures.added ∙ again _ ∙ has_kept c.self.inside.temporary.keys c.args.kept
       ∙ ap (λ (o : OutlineValue). finite.contains_key o.temporary (temporary_bytes c.args.kept)) c.self.view_is;

@@ -16,12 +16,18 @@ returns c = record {
   done =
       ap (λ m. record (outline_view c.self.inside) { user_roots = m })
       (ap (seen_map pair_cmp pair_bytes (λ (t : List ℕ). t)) c.in_ok-had.ensures.entries
-      ∙ inserted pair_cmp pair_bytes (λ (t : List ℕ). t) pair_total pair_antisymmetric c.self.inside.user_roots.entries c.args.owned c.args.target)
-      ∙ ap (λ (o : OutlineValue). record o { user_roots = finite.insert o.user_roots (pair_bytes c.args.owned) c.args.target }) c.self.view_is;
+      ∙ inserted pair_cmp pair_bytes (λ (t : List ℕ). t) pair_total pair_antisymmetric c.self.inside.user_roots.entries
+      c.args.owned c.args.target)
+      ∙ ap (λ (o : OutlineValue). record o {
+        user_roots =
+            finite.insert o.user_roots (pair_bytes c.args.owned) c.args.target;
+      }) c.self.view_is;
   had =
       c.in_ok-had.ensures.old
-      ∙ sym (option_same (lookup (λ k. eq_by_cmp pair_cmp (pair_bytes c.args.owned) (pair_bytes k)) c.self.inside.user_roots.entries))
-      ∙ sym (get_seen pair_cmp pair_bytes (λ (t : List ℕ). t) pair_total pair_antisymmetric c.self.inside.user_roots.entries (pair_bytes c.args.owned))
+      ∙ sym (option_same (lookup (λ k. eq_by_cmp pair_cmp (pair_bytes c.args.owned) (pair_bytes k))
+      c.self.inside.user_roots.entries))
+      ∙ sym (get_seen pair_cmp pair_bytes (λ (t : List ℕ). t) pair_total pair_antisymmetric
+      c.self.inside.user_roots.entries (pair_bytes c.args.owned))
       ∙ ap (λ (o : OutlineValue). finite.get o.user_roots (pair_bytes c.args.owned)) c.self.view_is;
   failed = tt;
 }

@@ -9,5 +9,6 @@ use Rattle.tables_outline.proofs.outline.Outline.runtime_roots.Goals as goal
 
 pub returns : goal.returns
 returns c =
-    sym (set_keys pair_cmp labelled_bytes pair_total pair_antisymmetric c.self.inside.runtime.keys c.len-count.ensures.ordered)
+    sym (set_keys pair_cmp labelled_bytes pair_total pair_antisymmetric c.self.inside.runtime.keys
+    c.len-count.ensures.ordered)
     ∙ ap (λ (o : OutlineValue). finite.keys o.runtime) c.self.view_is

@@ -19,7 +19,10 @@ returns c =
     let session = c.args.session in
     let own = λ (k : SessionEntry). is_of_session owner session (temporary_bytes k) in
     let counted : c.count.result ≡ length (filter own keys) =
-    count_from_yields_List c.filter.result c.count.result c.count.ensures.ran (YieldsList-from_filter _ own (YieldsList-from_rest keys cc) c.filter.ensures.closure (λ x r q k. search (rules, tests))) in
+    count_from_yields_List c.filter.result c.count.result c.count.ensures.ran
+    (YieldsList-from_filter _ own (YieldsList-from_rest keys cc) c.filter.ensures.closure
+    (λ x r q k. search (rules, tests))) in
     counted
-    ∙ sym (keys_counted temporary_cmp temporary_bytes temporary_total temporary_antisymmetric (is_of_session owner session) keys (temporary_sorted keys c.len-count.ensures.ordered))
+    ∙ sym (keys_counted temporary_cmp temporary_bytes temporary_total temporary_antisymmetric
+    (is_of_session owner session) keys (temporary_sorted keys c.len-count.ensures.ordered))
     ∙ ap (λ (o : OutlineValue). finite.len (entries_of_session owner session o.temporary)) c.self.view_is

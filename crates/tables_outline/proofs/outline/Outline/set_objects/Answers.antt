@@ -10,6 +10,9 @@ use Rattle.tables_outline.proofs.outline.Outline.set_objects.Goals as goal
 
 pub returns : goal.returns
 returns c =
-    let with : finite.FinMap bytes_cmp Outlined → OutlineValue = λ m. record (outline_view c.self.inside) { objects = m } in
-    subst (λ (o : OutlineValue). ChangesTo o (with c.set.new.self) c.set.result (record o { objects = put_all c.args.objects.items finite.empty })) c.self.view_is
-    (changed with c.self.inside.objects c.set.new.self (put_all c.args.objects.items finite.empty) c.set.result c.set.ensures)
+    let with : finite.FinMap bytes_cmp Outlined → OutlineValue =
+    λ m. record (outline_view c.self.inside) { objects = m } in
+    subst (λ (o : OutlineValue). ChangesTo o (with c.set.new.self) c.set.result
+    (record o { objects = put_all c.args.objects.items finite.empty })) c.self.view_is
+    (changed with c.self.inside.objects c.set.new.self (put_all c.args.objects.items finite.empty) c.set.result
+    c.set.ensures)

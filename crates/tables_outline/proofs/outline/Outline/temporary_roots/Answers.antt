@@ -9,5 +9,6 @@ use Rattle.tables_outline.proofs.outline.Outline.temporary_roots.Goals as goal
 
 pub returns : goal.returns
 returns c =
-    sym (set_keys temporary_cmp temporary_bytes temporary_total temporary_antisymmetric c.self.inside.temporary.keys (temporary_sorted c.self.inside.temporary.keys c.len-count.ensures.ordered))
+    sym (set_keys temporary_cmp temporary_bytes temporary_total temporary_antisymmetric c.self.inside.temporary.keys
+    (temporary_sorted c.self.inside.temporary.keys c.len-count.ensures.ordered))
     ∙ ap (λ (o : OutlineValue). finite.keys o.temporary) c.self.view_is

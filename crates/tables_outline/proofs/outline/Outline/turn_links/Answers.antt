@@ -6,4 +6,6 @@ use Rattle.tables_outline.specs.Outline.{OutlineValue, Outlined}
 use Rattle.tables_outline.proofs.outline.Outline.turn_links.Goals as goal
 
 pub returns : goal.returns
-returns c = ap (λ (m : finite.FinMap bytes_cmp Outlined). record (outline_view c.self.inside) { objects = m }) c.turn.ensures ∙ c.self.view_is
+returns c =
+    ap (λ (m : finite.FinMap bytes_cmp Outlined). record (outline_view c.self.inside) { objects = m }) c.turn.ensures
+    ∙ c.self.view_is

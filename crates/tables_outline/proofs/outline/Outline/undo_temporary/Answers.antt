@@ -17,6 +17,9 @@ returns-then-not-had c =
     let kept : SessionEntry = c.args.kept.now in
     ap (λ m. record (outline_view c.self.inside) { temporary = m })
     (ap (seen_set temporary_cmp temporary_bytes) c.remove.ensures.keys
-    ∙ drop_kept keys kept (ap (list_any (λ k. is_eq (tuple_cmp kept k))) (sym c.remove.ensures.keys) ∙ c.remove.ensures.updates.1))
-    ∙ ap (λ (o : OutlineValue). record o { temporary = finite.remove o.temporary (temporary_bytes kept) }) c.self.view_is
-    ∙ ap (λ h. record c.args.self.now { temporary = unkept c.args.self.now.temporary (temporary_bytes kept) h }) (sym c.if-not-had.true)
+    ∙ drop_kept keys kept (ap (list_any (λ k. is_eq (tuple_cmp kept k))) (sym c.remove.ensures.keys)
+    ∙ c.remove.ensures.updates.1))
+    ∙ ap (λ (o : OutlineValue). record o { temporary = finite.remove o.temporary (temporary_bytes kept) })
+    c.self.view_is
+    ∙ ap (λ h. record c.args.self.now { temporary = unkept c.args.self.now.temporary (temporary_bytes kept) h })
+    (sym c.if-not-had.true)

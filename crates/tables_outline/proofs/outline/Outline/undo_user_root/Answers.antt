@@ -18,11 +18,13 @@ returns-in-Some-get_mut c =
     let es = c.self.inside.user_roots.entries in
     let name = (pair_bytes c.args.owned.now) in
     let present : is_some (lookup (λ k. eq_by_cmp pair_cmp name (pair_bytes k)) es) ≡ true =
-    sym (has_seen pair_cmp pair_bytes (λ (t : List ℕ). t) pair_total pair_antisymmetric c.self.inside.user_roots.entries name) ∙ ap (λ (o : OutlineValue). finite.contains_key o.user_roots name) c.self.view_is ∙ c.requires in
+    sym (has_seen pair_cmp pair_bytes (λ (t : List ℕ). t) pair_total pair_antisymmetric c.self.inside.user_roots.entries
+    name) ∙ ap (λ (o : OutlineValue). finite.contains_key o.user_roots name) c.self.view_is ∙ c.requires in
     ap (λ m. record (outline_view c.self.inside) { user_roots = m })
     (ap (seen_map pair_cmp pair_bytes (λ (t : List ℕ). t)) (c.get_mut.follows.holds c.in-Some.target).0
     ∙ written pair_cmp pair_bytes (λ (t : List ℕ). t) pair_total pair_antisymmetric es name c.in-Some.target present)
-    ∙ ap (λ (o : OutlineValue). record o { user_roots = finite.insert o.user_roots name c.in-Some.target }) c.self.view_is
+    ∙ ap (λ (o : OutlineValue). record o { user_roots = finite.insert o.user_roots name c.in-Some.target })
+    c.self.view_is
     ∙ ap (λ h. record c.args.self.now { user_roots = unput c.args.self.now.user_roots name h }) (sym c.in-Some.is)
 
 pub returns-in_default : goal.returns-in_default
@@ -30,10 +32,12 @@ returns-in_default c =
     let es = c.self.inside.user_roots.entries in
     let name = (pair_bytes c.args.owned.now) in
     let present : is_some (lookup (λ k. eq_by_cmp pair_cmp name (pair_bytes k)) es) ≡ true =
-    sym (has_seen pair_cmp pair_bytes (λ (t : List ℕ). t) pair_total pair_antisymmetric c.self.inside.user_roots.entries name) ∙ ap (λ (o : OutlineValue). finite.contains_key o.user_roots name) c.self.view_is ∙ c.requires in
+    sym (has_seen pair_cmp pair_bytes (λ (t : List ℕ). t) pair_total pair_antisymmetric c.self.inside.user_roots.entries
+    name) ∙ ap (λ (o : OutlineValue). finite.contains_key o.user_roots name) c.self.view_is ∙ c.requires in
     absurd (false≢true (ap is_some (ap option_copied_mut (sym c.in_default.is) ∙ c.get_mut.ensures.value) ∙ present))
 
 pub returns-in-None : goal.returns-in-None
 returns-in-None c =
     c.drop_user_root.ensures
-    ∙ ap (λ h. record c.args.self.now { user_roots = unput c.args.self.now.user_roots (pair_bytes c.args.owned.now) h }) (sym c.in-None.is)
+    ∙ ap (λ h. record c.args.self.now { user_roots = unput c.args.self.now.user_roots (pair_bytes c.args.owned.now) h })
+    (sym c.in-None.is)

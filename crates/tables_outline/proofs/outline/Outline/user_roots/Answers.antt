@@ -9,5 +9,6 @@ use Rattle.tables_outline.proofs.outline.Outline.user_roots.Goals as goal
 
 pub returns : goal.returns
 returns c =
-    sym (listed pair_cmp pair_bytes (λ (t : List ℕ). t) pair_total pair_antisymmetric c.self.inside.user_roots.entries c.len-count.ensures.ordered)
+    sym (listed pair_cmp pair_bytes (λ (t : List ℕ). t) pair_total pair_antisymmetric c.self.inside.user_roots.entries
+    c.len-count.ensures.ordered)
     ∙ ap (λ (o : OutlineValue). finite.entries o.user_roots) c.self.view_is

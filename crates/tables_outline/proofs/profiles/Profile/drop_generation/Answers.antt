@@ -12,5 +12,6 @@ pub returns : goal.returns
 returns c =
     ap (λ m. record (profile_view c.args.self.now) { generations = m })
     (ap (seen_map nat_cmp (λ n. n) (λ (t : List ℕ). t)) c.remove.ensures.entries
-    ∙ removed nat_cmp (λ n. n) (λ (t : List ℕ). t) nat_cmp_total finite.nat_cmp-IsAntisymmetric c.args.self.now.generations.entries c.args.number
+    ∙ removed nat_cmp (λ n. n) (λ (t : List ℕ). t) nat_cmp_total finite.nat_cmp-IsAntisymmetric
+    c.args.self.now.generations.entries c.args.number
     (ap (lookup (λ k. eq_by_cmp nat_cmp c.args.number k)) (sym c.remove.ensures.entries) ∙ c.remove.ensures.updates.1))

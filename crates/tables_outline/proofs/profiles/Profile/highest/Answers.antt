@@ -12,5 +12,8 @@ pub returns : goal.returns
 returns c =
     let ran = c.last.ensures.ran in
     let es = c.args.self.now.generations.entries in
-    let items : map (λ (x : ℕ). x) ran.0 ≡ keys_of es = items_from_drains ran.0 (ran.1.1.0, ran.1.1.1, λ _. (ran.1.0, ran.1.1.2)) (YieldsList-from_copied (YieldsList-from_rest (keys_of es) cc)) in
-    c.unwrap_or.ensures ∙ ap (λ o. unwrap_or o 0) (ran.2 ∙ ap (last_or None) (sym (map-id ran.0) ∙ items ∙ sym (numbers_seen es c.keys.ensures.ordered)))
+    let items : map (λ (x : ℕ). x) ran.0 ≡ keys_of es =
+    items_from_drains ran.0 (ran.1.1.0, ran.1.1.1, λ _. (ran.1.0, ran.1.1.2))
+    (YieldsList-from_copied (YieldsList-from_rest (keys_of es) cc)) in
+    c.unwrap_or.ensures ∙ ap (λ o. unwrap_or o 0)
+    (ran.2 ∙ ap (last_or None) (sym (map-id ran.0) ∙ items ∙ sym (numbers_seen es c.keys.ensures.ordered)))

@@ -13,5 +13,8 @@ returns c =
     let es = c.args.self.now.generations.entries in
     let below = λ (n : ℕ). nat_lt n c.args.self.now.current in
     let items : map (λ (x : ℕ). x) ran.0 ≡ filter below (keys_of es) =
-    items_from_drains ran.0 (ran.1.1.0, ran.1.1.1, λ _. (ran.1.0, ran.1.1.2)) (YieldsList-from_filter _ below (YieldsList-from_copied (YieldsList-from_rest (keys_of es) cc)) c.filter.ensures.closure (λ x r q k. search (rules, tests))) in
-    ran.2 ∙ ap (last_or None) (sym (map-id ran.0) ∙ items ∙ ap (filter below) (sym (numbers_seen es c.keys.ensures.ordered)))
+    items_from_drains ran.0 (ran.1.1.0, ran.1.1.1, λ _. (ran.1.0, ran.1.1.2))
+    (YieldsList-from_filter _ below (YieldsList-from_copied (YieldsList-from_rest (keys_of es) cc))
+    c.filter.ensures.closure (λ x r q k. search (rules, tests))) in
+    ran.2 ∙ ap (last_or None) (sym (map-id ran.0) ∙ items
+    ∙ ap (filter below) (sym (numbers_seen es c.keys.ensures.ordered)))

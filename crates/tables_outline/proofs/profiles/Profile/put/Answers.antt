@@ -11,6 +11,7 @@ returns c = record {
   done =
       ap (λ m. record { generations = m; current = c.args.number })
       (ap (seen_map nat_cmp (λ n. n) (λ (t : List ℕ). t)) c.in_ok-insert.ensures.entries
-      ∙ inserted nat_cmp (λ n. n) (λ (t : List ℕ). t) nat_cmp_total finite.nat_cmp-IsAntisymmetric c.args.self.now.generations.entries c.args.number c.args.target);
+      ∙ inserted nat_cmp (λ n. n) (λ (t : List ℕ). t) nat_cmp_total finite.nat_cmp-IsAntisymmetric
+      c.args.self.now.generations.entries c.args.number c.args.target);
   failed = tt;
 }

@@ -15,10 +15,14 @@ returns c =
     let es = c.args.self.now.generations.entries in
     ap (λ m. record { generations = m; current = c.args.number })
     (ap (seen_map nat_cmp (λ n. n) (λ (t : List ℕ). t)) (c.get_mut.follows.holds c.args.target).0
-    ∙ written nat_cmp (λ n. n) (λ (t : List ℕ). t) nat_cmp_total finite.nat_cmp-IsAntisymmetric es c.args.number c.args.target (sym (ap is_some c.in-Some.ensures.value)))
+    ∙ written nat_cmp (λ n. n) (λ (t : List ℕ). t) nat_cmp_total finite.nat_cmp-IsAntisymmetric es c.args.number
+    c.args.target (sym (ap is_some c.in-Some.ensures.value)))
 
 pub returns-in_default : goal.returns-in_default
 returns-in_default c =
     let es = c.args.self.now.generations.entries in
-    let none : None ≡ lookup (λ (k : ℕ). eq_by_cmp nat_cmp c.args.number k) es = ap option_copied_mut (sym c.in_default.is) ∙ c.get_mut.ensures.value in
-    absurd (false≢true (ap is_some none ∙ sym (has_seen nat_cmp (λ n. n) (λ (t : List ℕ). t) nat_cmp_total finite.nat_cmp-IsAntisymmetric es c.args.number) ∙ c.requires))
+    let none : None ≡ lookup (λ (k : ℕ). eq_by_cmp nat_cmp c.args.number k) es =
+    ap option_copied_mut (sym c.in_default.is) ∙ c.get_mut.ensures.value in
+    absurd (false≢true (ap is_some none
+    ∙ sym (has_seen nat_cmp (λ n. n) (λ (t : List ℕ). t) nat_cmp_total finite.nat_cmp-IsAntisymmetric es
+    c.args.number) ∙ c.requires))

@@ -11,4 +11,6 @@ returns-in-Some c =
     ∙ ap (λ (o : Outlined). o.deriver) c.self.view_is
 
 pub returns-in-None : goal.returns-in-None
-returns-in-None c = ap (λ (d : Option (Box Details Global)). (details_of d).deriver) (sym c.in-None.is) ∙ ap (λ (o : Outlined). o.deriver) c.self.view_is
+returns-in-None c =
+    ap (λ (d : Option (Box Details Global)). (details_of d).deriver) (sym c.in-None.is)
+    ∙ ap (λ (o : Outlined). o.deriver) c.self.view_is

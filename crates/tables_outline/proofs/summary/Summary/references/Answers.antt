@@ -5,4 +5,6 @@ use Rattle.tables_outline.proofs.Ordered.{keys_rise}
 use Rattle.tables_outline.proofs.summary.Summary.references.Goals as goal
 
 pub returns : goal.returns
-returns c = c.as_slice.ensures.value ∙ sym (keys_rise c.self.inside.references.items c.self.invariant.references) ∙ ap (λ (o : Outlined). finite.keys o.references) c.self.view_is
+returns c =
+    c.as_slice.ensures.value ∙ sym (keys_rise c.self.inside.references.items c.self.invariant.references)
+    ∙ ap (λ (o : Outlined). finite.keys o.references) c.self.view_is

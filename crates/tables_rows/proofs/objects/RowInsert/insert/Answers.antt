@@ -7,8 +7,52 @@ use Rattle.tables_rows.proofs.objects.RowInsert.insert.Goals as goal
 pub returns : goal.returns
 returns g c = record {
   frame = c.add.ensures.frame;
-  done = λ clean. puts (addition c.args.self.now.base.now c.args.self.now.nar.now c.args.self.now.hash.now c.args.self.now.deriver.now c.args.self.now.ca.now) c.add.ensures.frame.survives c.requires.under (λ early up. tt) clean c.add.result (readable c.args.self.now.base.now c.args.self.now.nar.now c.args.self.now.hash.now c.args.self.now.deriver.now c.args.self.now.ca.now (subst IsUtf8 c.as_bytes-base.ensures.value c.as_bytes-base.ensures.utf8)) (rw (c.params-to_sql.ensures, c.params-to_sql-2.ensures, c.params-to_sql-3.ensures, c.params-to_sql-4.ensures, c.params-to_sql-5.ensures) at (c.add.ensures.ran clean));
-  new = λ clean. puts_new (addition c.args.self.now.base.now c.args.self.now.nar.now c.args.self.now.hash.now c.args.self.now.deriver.now c.args.self.now.ca.now) c.add.ensures.frame.survives c.requires.under (λ early up. tt) clean c.add.result (readable c.args.self.now.base.now c.args.self.now.nar.now c.args.self.now.hash.now c.args.self.now.deriver.now c.args.self.now.ca.now (subst IsUtf8 c.as_bytes-base.ensures.value c.as_bytes-base.ensures.utf8)) (rw (c.params-to_sql.ensures, c.params-to_sql-2.ensures, c.params-to_sql-3.ensures, c.params-to_sql-4.ensures, c.params-to_sql-5.ensures) at (c.add.ensures.ran clean));
-  numbers = λ clean. puts_number (addition c.args.self.now.base.now c.args.self.now.nar.now c.args.self.now.hash.now c.args.self.now.deriver.now c.args.self.now.ca.now) c.add.ensures.frame.survives c.requires.under (λ early up. tt) clean c.add.result (rw (c.params-to_sql.ensures, c.params-to_sql-2.ensures, c.params-to_sql-3.ensures, c.params-to_sql-4.ensures, c.params-to_sql-5.ensures) at (c.add.ensures.ran clean));
-  cause = λ clean. fails_to_put (addition c.args.self.now.base.now c.args.self.now.nar.now c.args.self.now.hash.now c.args.self.now.deriver.now c.args.self.now.ca.now) c.add.ensures.frame.survives c.requires.under (λ early up. tt) clean c.add.result (rw (c.params-to_sql.ensures, c.params-to_sql-2.ensures, c.params-to_sql-3.ensures, c.params-to_sql-4.ensures, c.params-to_sql-5.ensures) at (c.add.ensures.cause clean));
+  done =
+      λ clean. puts (addition c.args.self.now.base.now c.args.self.now.nar.now c.args.self.now.hash.now
+      c.args.self.now.deriver.now c.args.self.now.ca.now) c.add.ensures.frame.survives c.requires.under
+      (λ early up. tt) clean c.add.result
+      (readable c.args.self.now.base.now c.args.self.now.nar.now c.args.self.now.hash.now c.args.self.now.deriver.now
+      c.args.self.now.ca.now (subst IsUtf8 c.as_bytes-base.ensures.value c.as_bytes-base.ensures.utf8))
+      (rw (
+        c.params-to_sql.ensures,
+        c.params-to_sql-2.ensures,
+        c.params-to_sql-3.ensures,
+        c.params-to_sql-4.ensures,
+        c.params-to_sql-5.ensures,
+      ) at (c.add.ensures.ran clean));
+  new =
+      λ clean. puts_new (addition c.args.self.now.base.now c.args.self.now.nar.now c.args.self.now.hash.now
+      c.args.self.now.deriver.now c.args.self.now.ca.now) c.add.ensures.frame.survives c.requires.under
+      (λ early up. tt) clean c.add.result
+      (readable c.args.self.now.base.now c.args.self.now.nar.now c.args.self.now.hash.now c.args.self.now.deriver.now
+      c.args.self.now.ca.now (subst IsUtf8 c.as_bytes-base.ensures.value c.as_bytes-base.ensures.utf8))
+      (rw (
+        c.params-to_sql.ensures,
+        c.params-to_sql-2.ensures,
+        c.params-to_sql-3.ensures,
+        c.params-to_sql-4.ensures,
+        c.params-to_sql-5.ensures,
+      ) at (c.add.ensures.ran clean));
+  numbers =
+      λ clean. puts_number (addition c.args.self.now.base.now c.args.self.now.nar.now c.args.self.now.hash.now
+      c.args.self.now.deriver.now c.args.self.now.ca.now) c.add.ensures.frame.survives c.requires.under
+      (λ early up. tt) clean c.add.result
+      (rw (
+        c.params-to_sql.ensures,
+        c.params-to_sql-2.ensures,
+        c.params-to_sql-3.ensures,
+        c.params-to_sql-4.ensures,
+        c.params-to_sql-5.ensures,
+      ) at (c.add.ensures.ran clean));
+  cause =
+      λ clean. fails_to_put (addition c.args.self.now.base.now c.args.self.now.nar.now c.args.self.now.hash.now
+      c.args.self.now.deriver.now c.args.self.now.ca.now) c.add.ensures.frame.survives c.requires.under
+      (λ early up. tt) clean c.add.result
+      (rw (
+        c.params-to_sql.ensures,
+        c.params-to_sql-2.ensures,
+        c.params-to_sql-3.ensures,
+        c.params-to_sql-4.ensures,
+        c.params-to_sql-5.ensures,
+      ) at (c.add.ensures.cause clean));
 }

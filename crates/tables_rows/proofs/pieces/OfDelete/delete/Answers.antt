@@ -5,7 +5,13 @@ use Rattle.tables_rows.proofs.pieces.OfDelete.delete.Goals as goal
 pub returns : goal.returns
 returns g c = record {
   frame = c.remove.ensures.frame;
-  done = λ clean. takes (removal c.args.self.now.base.now) c.remove.ensures.frame.survives c.requires.under c.requires.exists clean c.remove.result (rw c.params-to_sql.ensures at (c.remove.ensures.ran clean));
-  numbers = λ clean. takes_number (removal c.args.self.now.base.now) c.remove.ensures.frame.survives c.requires.under c.requires.exists clean c.remove.result (rw c.params-to_sql.ensures at (c.remove.ensures.ran clean));
-  cause = λ clean. fails_to_take (removal c.args.self.now.base.now) c.remove.ensures.frame.survives c.requires.under c.requires.exists clean c.remove.result (rw c.params-to_sql.ensures at (c.remove.ensures.cause clean));
+  done =
+      λ clean. takes (removal c.args.self.now.base.now) c.remove.ensures.frame.survives c.requires.under
+      c.requires.exists clean c.remove.result (rw c.params-to_sql.ensures at (c.remove.ensures.ran clean));
+  numbers =
+      λ clean. takes_number (removal c.args.self.now.base.now) c.remove.ensures.frame.survives c.requires.under
+      c.requires.exists clean c.remove.result (rw c.params-to_sql.ensures at (c.remove.ensures.ran clean));
+  cause =
+      λ clean. fails_to_take (removal c.args.self.now.base.now) c.remove.ensures.frame.survives c.requires.under
+      c.requires.exists clean c.remove.result (rw c.params-to_sql.ensures at (c.remove.ensures.cause clean));
 }

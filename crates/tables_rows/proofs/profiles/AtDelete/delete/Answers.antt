@@ -5,7 +5,16 @@ use Rattle.tables_rows.proofs.profiles.AtDelete.delete.Goals as goal
 pub returns : goal.returns
 returns g c = record {
   frame = c.remove.ensures.frame;
-  done = λ clean. takes (removal c.args.self.now.owner.now c.args.self.now.name.now) c.remove.ensures.frame.survives c.requires.under (λ early up. tt) clean c.remove.result (rw (c.params-to_sql.ensures, c.params-to_sql-2.ensures) at (c.remove.ensures.ran clean));
-  numbers = λ clean. takes_number (removal c.args.self.now.owner.now c.args.self.now.name.now) c.remove.ensures.frame.survives c.requires.under (λ early up. tt) clean c.remove.result (rw (c.params-to_sql.ensures, c.params-to_sql-2.ensures) at (c.remove.ensures.ran clean));
-  cause = λ clean. fails_to_take (removal c.args.self.now.owner.now c.args.self.now.name.now) c.remove.ensures.frame.survives c.requires.under (λ early up. tt) clean c.remove.result (rw (c.params-to_sql.ensures, c.params-to_sql-2.ensures) at (c.remove.ensures.cause clean));
+  done =
+      λ clean. takes (removal c.args.self.now.owner.now c.args.self.now.name.now) c.remove.ensures.frame.survives
+      c.requires.under (λ early up. tt) clean c.remove.result
+      (rw (c.params-to_sql.ensures, c.params-to_sql-2.ensures) at (c.remove.ensures.ran clean));
+  numbers =
+      λ clean. takes_number (removal c.args.self.now.owner.now c.args.self.now.name.now) c.remove.ensures.frame.survives
+      c.requires.under (λ early up. tt) clean c.remove.result
+      (rw (c.params-to_sql.ensures, c.params-to_sql-2.ensures) at (c.remove.ensures.ran clean));
+  cause =
+      λ clean. fails_to_take (removal c.args.self.now.owner.now c.args.self.now.name.now)
+      c.remove.ensures.frame.survives c.requires.under (λ early up. tt) clean c.remove.result
+      (rw (c.params-to_sql.ensures, c.params-to_sql-2.ensures) at (c.remove.ensures.cause clean));
 }

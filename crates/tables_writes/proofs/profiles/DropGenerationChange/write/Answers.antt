@@ -4,4 +4,5 @@ use Rattle.tables_writes.proofs.profiles.DropGenerationChange.write.Goals as goa
 
 pub returns-clause-cause : goal.returns-clause-cause
 returns-clause-cause g c clean =
-    as_reason _ _ (removal_reason _ (state g.S.Store c.args.tx.now.conn.now) (state g.S.Store c.delete.new.tx.conn.now)) c.delete.result (c.delete.ensures.cause clean)
+    as_reason _ _ (removal_reason _ (state g.S.Store c.args.tx.now.conn.now) (state g.S.Store c.delete.new.tx.conn.now))
+    c.delete.result (c.delete.ensures.cause clean)

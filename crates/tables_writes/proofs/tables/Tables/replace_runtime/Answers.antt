@@ -11,18 +11,30 @@ use Rattle.tables_writes.proofs.tables.Tables.replace_runtime.Goals as goal
 
 pub invariant_of-self : goal.invariant_of-self
 invariant_of-self g c =
-    write_agrees g.S.Store (roots_write (λ (m : finite.FinMap bytes_cmp Path). m) (λ (m : finite.FinMap pair_cmp Path). m) (λ (m : Set pair_cmp). seen_set pair_cmp labelled_bytes c.args.roots.keys) g.S.Store _ c.args.self.now c.self.view_is c.self.invariant c.requires.sound) c.commit.new.conn c.replace_runtime.new.self _ (c.in-Ok.ensures.frame)
+    write_agrees g.S.Store (roots_write (λ (m : finite.FinMap bytes_cmp Path). m)
+    (λ (m : finite.FinMap pair_cmp Path). m)
+    (λ (m : Set pair_cmp). seen_set pair_cmp labelled_bytes c.args.roots.keys) g.S.Store _ c.args.self.now
+    c.self.view_is c.self.invariant c.requires.sound) c.commit.new.conn c.replace_runtime.new.self _
+    (c.in-Ok.ensures.frame)
     (c.replace_runtime.ensures)
 
 pub invariant_of-self-in-Err : goal.invariant_of-self-in-Err
 invariant_of-self-in-Err g c =
-    failure_agrees g.S.Store (roots_write (λ (m : finite.FinMap bytes_cmp Path). m) (λ (m : finite.FinMap pair_cmp Path). m) (λ (m : Set pair_cmp). seen_set pair_cmp labelled_bytes c.args.roots.keys) g.S.Store _ c.args.self.now c.self.view_is c.self.invariant c.requires.sound) c.commit.new.conn c.self.inside.outline _ (c.in-Err.ensures.frame)
+    failure_agrees g.S.Store (roots_write (λ (m : finite.FinMap bytes_cmp Path). m)
+    (λ (m : finite.FinMap pair_cmp Path). m)
+    (λ (m : Set pair_cmp). seen_set pair_cmp labelled_bytes c.args.roots.keys) g.S.Store _ c.args.self.now
+    c.self.view_is c.self.invariant c.requires.sound) c.commit.new.conn c.self.inside.outline _
+    (c.in-Err.ensures.frame)
     (refl)
 
 pub returns-in-Ok : goal.returns-in-Ok
 returns-in-Ok g c = record {
   frame =
-      write_commits g.S.Store (roots_write (λ (m : finite.FinMap bytes_cmp Path). m) (λ (m : finite.FinMap pair_cmp Path). m) (λ (m : Set pair_cmp). seen_set pair_cmp labelled_bytes c.args.roots.keys) g.S.Store _ c.args.self.now c.self.view_is c.self.invariant c.requires.sound) c.commit.new.conn c.replace_runtime.new.self _ (c.in-Ok.ensures.frame)
+      write_commits g.S.Store (roots_write (λ (m : finite.FinMap bytes_cmp Path). m)
+      (λ (m : finite.FinMap pair_cmp Path). m)
+      (λ (m : Set pair_cmp). seen_set pair_cmp labelled_bytes c.args.roots.keys) g.S.Store _ c.args.self.now
+      c.self.view_is c.self.invariant c.requires.sound) c.commit.new.conn c.replace_runtime.new.self _
+      (c.in-Ok.ensures.frame)
       (c.replace_runtime.ensures) _;
   cause = λ clean. tt;
 }
@@ -30,8 +42,13 @@ returns-in-Ok g c = record {
 pub returns-in-Err : goal.returns-in-Err
 returns-in-Err g c = record {
   frame =
-      write_fails g.S.Store (roots_write (λ (m : finite.FinMap bytes_cmp Path). m) (λ (m : finite.FinMap pair_cmp Path). m) (λ (m : Set pair_cmp). seen_set pair_cmp labelled_bytes c.args.roots.keys) g.S.Store _ c.args.self.now c.self.view_is c.self.invariant c.requires.sound) c.commit.new.conn c.self.inside.outline _ (c.in-Err.ensures.frame)
+      write_fails g.S.Store (roots_write (λ (m : finite.FinMap bytes_cmp Path). m)
+      (λ (m : finite.FinMap pair_cmp Path). m)
+      (λ (m : Set pair_cmp). seen_set pair_cmp labelled_bytes c.args.roots.keys) g.S.Store _ c.args.self.now
+      c.self.view_is c.self.invariant c.requires.sound) c.commit.new.conn c.self.inside.outline _
+      (c.in-Err.ensures.frame)
       (refl) _;
   cause =
-      failure_seen g.S.Store c.commit.new.conn (RowsOf RuntimeRow (map labelled_bytes c.args.roots.keys)) c.in-Err.failure c.self.view_is c.in-Err.ensures.cause;
+      failure_seen g.S.Store c.commit.new.conn (RowsOf RuntimeRow (map labelled_bytes c.args.roots.keys))
+      c.in-Err.failure c.self.view_is c.in-Err.ensures.cause;
 }

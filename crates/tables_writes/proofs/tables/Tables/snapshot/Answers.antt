@@ -9,8 +9,10 @@ use Rattle.tables_writes.proofs.tables.Tables.snapshot.Goals as goal
 
 pub returns-clause-objects : goal.returns-clause-objects
 returns-clause-objects g c w t =
-    c.objects-objects.ensures ∙ ap (λ (k : TablesValue _). finite.entries k.outline.objects) c.self.view_is ∙ ap (λ (o : OutlineValue). finite.entries o.objects) (sym t.outline) ∙ entries_outlined w
+    c.objects-objects.ensures ∙ ap (λ (k : TablesValue _). finite.entries k.outline.objects) c.self.view_is
+    ∙ ap (λ (o : OutlineValue). finite.entries o.objects) (sym t.outline) ∙ entries_outlined w
 
 pub returns-clause-roots : goal.returns-clause-roots
 returns-clause-roots g c w t =
-    c.in_ok-roots.ensures ∙ ap (λ (k : TablesValue _). roots_of (rooted k.outline)) c.self.view_is ∙ roots_outlined w c.args.self.now.outline t.outline
+    c.in_ok-roots.ensures ∙ ap (λ (k : TablesValue _). roots_of (rooted k.outline)) c.self.view_is
+    ∙ roots_outlined w c.args.self.now.outline t.outline

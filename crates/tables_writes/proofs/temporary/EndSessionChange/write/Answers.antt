@@ -7,4 +7,5 @@ delete-requires-clause-exists g c clean is_open = (c.requires.whole clean is_ope
 
 pub returns-clause-cause : goal.returns-clause-cause
 returns-clause-cause g c clean =
-    as_reason _ _ (removal_reason _ (state g.S.Store c.args.tx.now.conn.now) (state g.S.Store c.delete.new.tx.conn.now)) c.delete.result (c.delete.ensures.cause clean)
+    as_reason _ _ (removal_reason _ (state g.S.Store c.args.tx.now.conn.now) (state g.S.Store c.delete.new.tx.conn.now))
+    c.delete.result (c.delete.ensures.cause clean)

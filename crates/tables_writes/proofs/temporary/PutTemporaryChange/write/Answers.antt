@@ -21,30 +21,43 @@ delete-requires-clause-exists g c clean is_open = (c.requires.whole clean is_ope
 
 pub insert-requires-clause-exists : goal.insert-requires-clause-exists
 insert-requires-clause-exists g c clean is_open =
-    temp_roots_exist (state g.S.Store c.args.tx.now.conn.now) (state g.S.Store c.delete.new.tx.conn.now) _ c.in_ok-delete.ensures.done c.delete.ensures.frame.survives (λ early up. (c.requires.whole early up).temp_roots) clean
+    temp_roots_exist (state g.S.Store c.args.tx.now.conn.now) (state g.S.Store c.delete.new.tx.conn.now) _
+    c.in_ok-delete.ensures.done c.delete.ensures.frame.survives (λ early up. (c.requires.whole early up).temp_roots)
+    clean
 
 pub insert-requires-clause-under : goal.insert-requires-clause-under
-insert-requires-clause-under g c clean = under_after (state g.S.Store c.args.tx.now.conn.now) (state g.S.Store c.delete.new.tx.conn.now) _ (c.in_ok-delete.ensures.done clean)
+insert-requires-clause-under g c clean =
+    under_after (state g.S.Store c.args.tx.now.conn.now) (state g.S.Store c.delete.new.tx.conn.now) _
+    (c.in_ok-delete.ensures.done clean)
 
 pub returns-clause-frame : goal.returns-clause-frame
 returns-clause-frame g c =
     record {
       same_reference = c.insert.ensures.frame.same_reference ∙ c.delete.ensures.frame.same_reference;
-      failed = failed_next (state g.S.Store c.args.tx.now.conn.now) (state g.S.Store c.delete.new.tx.conn.now) (state g.S.Store c.insert.new.tx.conn.now) _ (λ x. x) c.in_ok-delete.ensures.done c.insert.ensures.frame.survives c.insert.result c.insert.ensures.frame.failed;
-      survives = survives_both (state g.S.Store c.args.tx.now.conn.now) (state g.S.Store c.delete.new.tx.conn.now) (state g.S.Store c.insert.new.tx.conn.now) c.delete.ensures.frame.survives c.insert.ensures.frame.survives;
+      failed =
+          failed_next (state g.S.Store c.args.tx.now.conn.now) (state g.S.Store c.delete.new.tx.conn.now)
+          (state g.S.Store c.insert.new.tx.conn.now) _ (λ x. x) c.in_ok-delete.ensures.done
+          c.insert.ensures.frame.survives c.insert.result c.insert.ensures.frame.failed;
+      survives =
+          survives_both (state g.S.Store c.args.tx.now.conn.now) (state g.S.Store c.delete.new.tx.conn.now)
+          (state g.S.Store c.insert.new.tx.conn.now) c.delete.ensures.frame.survives c.insert.ensures.frame.survives;
     }
 
 pub returns-clause-done : goal.returns-clause-done
 returns-clause-done g c =
     let it = c.args.self.now in
     let key : SessionPath = (it.owner.now, pos it.session, it.target.now) in
-    done_both (state g.S.Store c.args.tx.now.conn.now) (state g.S.Store c.delete.new.tx.conn.now) (state g.S.Store c.insert.new.tx.conn.now) _ _ c.in_ok-delete.ensures.done c.insert.ensures.frame.survives
+    done_both (state g.S.Store c.args.tx.now.conn.now) (state g.S.Store c.delete.new.tx.conn.now)
+    (state g.S.Store c.insert.new.tx.conn.now) _ _ c.in_ok-delete.ensures.done c.insert.ensures.frame.survives
     c.insert.result _ (λ (x : Contents). ap (λ m. record x { temp_roots = m })
-    (ap (λ m. finite.insert m key tt) (without_one x.temp_roots key.0 key.1 key.2) ∙ put_over session_path_total session_path_antisymmetric x.temp_roots key tt)) c.insert.ensures.done
+    (ap (λ m. finite.insert m key tt) (without_one x.temp_roots key.0 key.1 key.2)
+    ∙ put_over session_path_total session_path_antisymmetric x.temp_roots key tt)) c.insert.ensures.done
 
 pub returns-in_err-delete-clause-cause : goal.returns-in_err-delete-clause-cause
 returns-in_err-delete-clause-cause g c clean =
-    passed_on c.from_residual.result _ _ c.from_residual.ensures.1 (removal_reason _ (state g.S.Store c.args.tx.now.conn.now) (state g.S.Store c.delete.new.tx.conn.now) _ (c.in_err-delete.ensures.cause clean))
+    passed_on c.from_residual.result _ _ c.from_residual.ensures.1
+    (removal_reason _ (state g.S.Store c.args.tx.now.conn.now) (state g.S.Store c.delete.new.tx.conn.now) _
+    (c.in_err-delete.ensures.cause clean))
 
 pub returns-clause-cause : goal.returns-clause-cause
 returns-clause-cause g c clean =
@@ -56,5 +69,10 @@ returns-clause-cause g c clean =
     let early : HasCleanDisk b = omega (arith, c.insert.ensures.frame.survives.clean, clean) in
     let done = c.in_ok-delete.ensures.done early in
     let row = TemporaryRow (keeps it.owner.now it.session it.target.now) in
-    as_reason _ _ (λ e h. next_reason row row a b n _ done c.delete.ensures.frame.survives (none_put row a.now b.now (c.in_ok-delete.ensures.numbers early)) e
-    (put_reason row b n _ _ _ (all_among row) (is_none _ (ap (λ (x : Contents). finite.get x.temp_roots key) done.contents ∙ ap (λ m. finite.get m key) (without_one _ key.0 key.1 key.2) ∙ get-removed session_path_total session_path_antisymmetric _ key)) e h)) c.insert.result (c.insert.ensures.cause clean)
+    as_reason _ _ (λ e h. next_reason row row a b n _ done c.delete.ensures.frame.survives
+    (none_put row a.now b.now (c.in_ok-delete.ensures.numbers early)) e
+    (put_reason row b n _ _ _ (all_among row)
+    (is_none _ (ap (λ (x : Contents). finite.get x.temp_roots key) done.contents
+    ∙ ap (λ m. finite.get m key) (without_one _ key.0 key.1 key.2)
+    ∙ get-removed session_path_total session_path_antisymmetric _ key)) e h)) c.insert.result
+    (c.insert.ensures.cause clean)

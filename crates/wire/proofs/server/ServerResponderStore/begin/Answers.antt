@@ -4,11 +4,11 @@ use Rattle.wire.specs.Courses.{refuses, admits, admission_of}
 use Rattle.wire.proofs.Asked.{refused_by_head}
 use Rattle.wire.proofs.server.ServerResponderStore.begin.Goals as goal
 
-pub returns-in-Admitted : goal.returns-in-Admitted
-returns-in-Admitted g c = λ h is.
-    let endpoint = c.in-Admitted.endpoint in
-    let head = rw c.in-Admitted.is at c.in_ok-endpoint.ensures.decides in
-    let has = rw c.in-Admitted.is at c.in_ok-endpoint.ensures.parameters in
+pub returns-in-Accepted : goal.returns-in-Accepted
+returns-in-Accepted g c = λ h is.
+    let endpoint = c.in-Accepted.endpoint in
+    let head = rw c.in-Accepted.is at c.in_ok-endpoint.ensures.decides in
+    let has = rw c.in-Accepted.is at c.in_ok-endpoint.ensures.parameters in
     let it = subst (λ s. admits endpoint.caller endpoint.kind ≡ admission_of s h) c.config.ensures (head h is) in
     ((sym it, has h is), c.new-body.ensures.empty)
 

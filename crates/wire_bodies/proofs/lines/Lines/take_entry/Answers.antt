@@ -13,18 +13,21 @@ pub returns-in_default-entry_of : goal.returns-in_default-entry_of
 returns-in_default-entry_of c =
     let text = c.self.inside.text.now in
     let none = rw c.in_default-entry_of.is at c.entry_of.ensures in
-    absurd (is_entry text c.in-Some.line.now c.in-Some.after.now c.in-Some.ensures.0 c.in-Some.ensures.1 (entries_in text) c.self.invariant none)
+    absurd (is_entry text c.in-Some.line.now c.in-Some.after.now c.in-Some.ensures.0 c.in-Some.ensures.1
+    (entries_in text) c.self.invariant none)
 
 pub invariant_of-self : goal.invariant_of-self
 invariant_of-self c =
     let text = c.self.inside.text.now in
     let entry = c.in-Some-entry_of.entry in
     let is = c.in-Some-entry_of.ensures in
-    (passed text c.in-Some.line.now c.in-Some.after.now c.in-Some.ensures.0 c.in-Some.ensures.1 entry.0.now entry.1.now is.0 is.1 (entries_in text) c.self.invariant).1
+    (passed text c.in-Some.line.now c.in-Some.after.now c.in-Some.ensures.0 c.in-Some.ensures.1 entry.0.now entry.1.now
+    is.0 is.1 (entries_in text) c.self.invariant).1
 
 pub returns : goal.returns
 returns c =
     let text = c.self.inside.text.now in
     let entry = c.in-Some-entry_of.entry in
     let is = c.in-Some-entry_of.ensures in
-    sym c.self.view_is ∙ (passed text c.in-Some.line.now c.in-Some.after.now c.in-Some.ensures.0 c.in-Some.ensures.1 entry.0.now entry.1.now is.0 is.1 (entries_in text) c.self.invariant).0
+    sym c.self.view_is ∙ (passed text c.in-Some.line.now c.in-Some.after.now c.in-Some.ensures.0 c.in-Some.ensures.1
+    entry.0.now entry.1.now is.0 is.1 (entries_in text) c.self.invariant).0

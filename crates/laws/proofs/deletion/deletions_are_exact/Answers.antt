@@ -1,5 +1,0 @@
-use Rattle.laws.proofs.Deleted.{deletes}
-use Rattle.laws.proofs.deletion.deletions_are_exact.Goals as goal
-
-pub returns : goal.returns
-returns c = deletes

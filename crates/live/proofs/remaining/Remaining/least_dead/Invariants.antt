@@ -1,6 +1,0 @@
-use Rattle.std.proofs.Common.{ℕ, ◌<◌, IsTrue}
-use Rattle.live.specs.Remaining.{is_in}
-use Rattle.live.proofs.remaining.Remaining.least_dead.Given as goal
-
-abbrev pub invariant-loop-place : goal.invariant-loop-place
-invariant-loop-place l = (t : ℕ) → t < l.place → IsTrue (is_in l.self.dead t) → IsTrue (is_in l.self.left t) → ⊥

@@ -1,5 +1,0 @@
-use Rattle.live.specs.Listed.{NoneBetween}
-use Rattle.live.proofs.waiting.first_waiting.Given as goal
-
-abbrev pub invariant-loop-place : goal.invariant-loop-place
-invariant-loop-place l = NoneBetween l.waiting l.start l.place

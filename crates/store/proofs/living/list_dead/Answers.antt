@@ -1,6 +1,0 @@
-use Rattle.std.proofs.Common.{refl, ap}
-use Rattle.model.specs.Reply.{paths}
-use Rattle.store.proofs.living.list_dead.Goals as goal
-
-pub returns : goal.returns
-returns c caller w is = (refl, ap paths (c.in_ok-paths.ensures w is), refl)

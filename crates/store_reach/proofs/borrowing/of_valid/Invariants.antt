@@ -1,9 +1,0 @@
-use Rattle.std.proofs.Common.{◌≡◌, take}
-use Rattle.std.specs.Prelude.{filter}
-use Rattle.live.specs.Arguments.{roots_view}
-use Rattle.store_reach.proofs.Valid.{aims_well}
-use Rattle.store_reach.proofs.borrowing.of_valid.Given as goal
-
--- those of the first
-abbrev pub invariant-loop-root : goal.invariant-loop-root
-invariant-loop-root l = roots_view l.valid.items ≡ filter (aims_well l.outline) (roots_view (take l.root-index l.roots))

@@ -1,7 +1,0 @@
-use Rattle.std.proofs.Common.{◌≡◌, map, take}
-use Rattle.store_reach.specs.Sizes.{size_in}
-use Rattle.store_reach.proofs.collecting.sizes.Given as goal
-
--- those of the first
-abbrev pub invariant-loop-row : goal.invariant-loop-row
-invariant-loop-row l = l.sizes.items ≡ map (λ r. size_in l.outline r.path.now) (take l.row-index l.rows)

@@ -1,4 +1,0 @@
-pub mod Lists
-pub mod Names
-pub mod Links
-pub mod View

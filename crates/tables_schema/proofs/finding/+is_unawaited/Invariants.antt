@@ -1,5 +1,0 @@
-use Rattle.std.proofs.Common.{length}
-use Rattle.tables_schema.proofs.finding.+is_unawaited.Given as goal
-
-abbrev pub decreases-is_unawaited : goal.decreases-is_unawaited
-decreases-is_unawaited l = length l.tables.now

@@ -1,5 +1,0 @@
-use Rattle.std.proofs.Common.{length}
-use Rattle.tables_schema.proofs.finding.+none_awaits.Given as goal
-
-abbrev pub decreases-none_awaits : goal.decreases-none_awaits
-decreases-none_awaits l = length l.references.now

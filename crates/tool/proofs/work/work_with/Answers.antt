@@ -1,0 +1,20 @@
+use Rattle.std.proofs.Common.{subst}
+use Rattle.tool.specs.Streams.{happened}
+use Rattle.tool.specs.Works.{DoesAt}
+use Rattle.tool.proofs.work.work_with.Goals as goal
+
+pub returns : goal.returns
+returns g c = record {
+  given = record {
+    answer = λ d is.
+        let console =
+        happened g.R.Read.remaining g.W.Write.contents g.E.Write.contents c.args.console.now
+        c.work_over-worked.new.console c.work_over-worked.result.status in (
+          c.work_over-worked.new.store,
+          subst (λ old. DoesAt g.S.Store d console old c.work_over-worked.new.store) c.store_for-store.ensures
+              (c.work_over-worked.ensures.given.answer d is),
+        );
+    reads = c.work_over-worked.ensures.given.reads;
+  };
+  same = c.work_over-worked.ensures.same;
+}

@@ -1,4 +1,0 @@
-use Rattle.wire_server.proofs.draining.read_out.Given as goal
-
-abbrev pub decreases-reads : goal.decreases-reads
-decreases-reads g l = l.left

@@ -1,0 +1,19 @@
+-- The bytes that were seen have no head, it is known whether they are line ends alone, and what is held is what was
+-- there and what was taken.
+use Rattle.std.proofs.Common.{◌≡◌, ◌<◌, ◌≤◌, ◌-◌, length, take}
+use Rattle.httparse.specs.Grammar.{HasNoRequest}
+use Rattle.wire_server.specs.Heads.{has_begun_in}
+use Rattle.wire_server.proofs.Reading.{Took}
+use Rattle.wire_server.proofs.message.receive_start.Given as goal
+
+abbrev pub invariant-head : goal.invariant-head
+invariant-head g l = record {
+  took : Took (g.R.Read.remaining l.fn.input) (g.R.Read.remaining l.input) l.fn.buffer.items l.buffer.items;
+  none : HasNoRequest (take l.seen l.buffer.items);
+  begun : l.begun ≡ has_begun_in (take l.seen l.buffer.items);
+  within : l.seen ≤ length l.buffer.items;
+  some : 0 < length l.buffer.items;
+}
+
+abbrev pub decreases-head : goal.decreases-head
+decreases-head g l = 16384 - length l.buffer.items

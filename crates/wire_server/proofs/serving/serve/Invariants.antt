@@ -1,9 +1,0 @@
-use Rattle.std.proofs.Common.{◌-◌}
-use Rattle.wire_server.proofs.Reported.{Reported}
-use Rattle.wire_server.proofs.serving.serve.Given as goal
-
-abbrev pub invariant-messages : goal.invariant-messages
-invariant-messages g l = Reported g.A.Responder.answers (g.R.Read.remaining l.fn.input) (g.R.Read.remaining l.input) (g.W.Write.contents l.fn.output) (g.W.Write.contents l.output) l.buffer.items l.fn.state l.state l.count
-
-abbrev pub decreases-messages : goal.decreases-messages
-decreases-messages g l = 340282366920938463463374607431768211455 - l.count
