@@ -1,9 +1,11 @@
 # bash completion for nixkeep-remote
 
 # Prints the words that may stand for a store path: paths of the server, where one is named and answers soon. `compgen -W` runs
-# what a word contains, such as `$(..)`, so only lines pass that have the characters of store paths and no others.
+# what a word contains, such as `$(..)`, so only lines pass that have the characters of store paths and no others. It takes long for very
+# many, so these are the paths that have what was typed, and the first 20,000 of a server that lists without an end.
 _nixkeep_remote_paths() {
-  timeout 2 nixkeep-remote "${options[@]}" list 2>/dev/null </dev/null | LC_ALL=C grep -aEx '(/[0-9A-Za-z+._?=-]+)+'
+  timeout 2 nixkeep-remote "${options[@]}" list 2>/dev/null </dev/null |
+    LC_ALL=C grep -aEx '(/[0-9A-Za-z+._?=-]+)+' | LC_ALL=C grep -aF -- "$current" | head -n 20000
 }
 
 # Sets `command` to the subcommand, `values` to the values after it, and `options` to the options before it.

@@ -6,6 +6,7 @@ import shutil
 import subprocess
 import time
 from pathlib import Path
+from typing import Any
 
 import parts
 from parts import check, same
@@ -25,7 +26,7 @@ echo "$rules"
 fail2ban-client -c conf -s "$PWD/socket" stop >/dev/null"""
 
 
-def found(file, count):
+def counted(file: str, count: int) -> None:
     """fail2ban finds exactly the logins that failed."""
     if parts.skipped("fail2ban's filter", "fail2ban-regex"):
         return
@@ -35,12 +36,12 @@ def found(file, count):
     check(f"fail2ban counts the {count} logins that failed", total and int(total[1]) == count, ran.stdout + ran.stderr)
 
 
-def banned(site, line):
+def banned(site: Any, line: str) -> None:
     """Addresses that guess passwords get no connection, and others do. `line` is one of nginx's log, of a login that
     failed."""
     if parts.skipped("fail2ban's bans", "fail2ban-server", "nft", "python3-systemd"):
         return
-    if not os.path.isdir(DEBIANS) or subprocess.run([*ALONE, "true"], capture_output=True).returncode:
+    if not Path(DEBIANS).is_dir() or subprocess.run([*ALONE, "true"], capture_output=True).returncode:
         return parts.skip("fail2ban's bans: there is no fail2ban of Debian's, or no network namespace")
     os.makedirs(folder := f"{site.folder}/banned")
     shutil.copytree(DEBIANS, f"{folder}/conf")
@@ -55,7 +56,7 @@ def banned(site, line):
     text = "".join(re.sub(r'"client":"[^"]*"', f'"client":"{it}"', line) * count for it, count in came)
     Path(f"{folder}/lines").write_text(text)
     ran = subprocess.run([*ALONE, "sh", "-c", LINES], cwd=folder, capture_output=True, text=True)
-    log = Path(f"{folder}/said").read_text() if os.path.exists(f"{folder}/said") else ""
+    log = Path(f"{folder}/said").read_text() if Path(f"{folder}/said").exists() else ""
     refused = re.findall(r"tcp dport 443 ip6? saddr @(\S+) reject", ran.stdout)
     check("two addresses that guess passwords get no connection", len(refused) == 2 and
           all(it in ran.stdout for it, count in came if count == 10), ran.stdout + ran.stderr + log)

@@ -1,7 +1,6 @@
 """What `try` tests of a store's entry: TLS, health without a login, figures for who may have them, the record of
 changes."""
 import base64
-import os
 import re
 import shlex
 import socket
@@ -9,12 +8,14 @@ import ssl
 import subprocess
 import time
 from concurrent.futures import ThreadPoolExecutor
+from pathlib import Path
+from typing import Any
 
 import parts
 from parts import body, check, nar, paths, same
 
 
-def tls(site):
+def tls(site: Any) -> None:
     """TLS of today's versions, and no session that is resumed: its certificate may have been revoked meanwhile."""
     place, folder = f"127.0.0.1:{site.port}", f"{site.etc}/tls"
     request = b"GET /nix-cache-info HTTP/1.1\r\nhost: red.localhost\r\nconnection: close\r\n\r\n"
@@ -27,14 +28,14 @@ def tls(site):
     for version in ("tls1_2", "tls1_3"):
         kept = f"{site.folder}/{version}"
         same(f"{version} with a certificate", b"HTTP/1.1 200" in asked(version, *certified, "-sess_out", kept), True)
-        resumed = os.path.exists(kept) and asked(version, "-sess_in", kept)
+        resumed = Path(kept).exists() and asked(version, "-sess_in", kept)
         is_new = not resumed or b"HTTP/1.1 401" in resumed and b"Reused" not in resumed
         check("its session isn't resumed", is_new, resumed)
     for version in ("tls1", "tls1_1"):
         same(f"{version} is refused", b"HTTP/1.1" in asked(version, "-cipher", "ALL:@SECLEVEL=0"), False)
 
 
-def watched(site):
+def watched(site: Any) -> None:
     """Health without a login, and nothing else there; figures for the user `prometheus` alone, who has a password."""
     nobody, monitor, ann = site.user(None), site.user("prometheus"), site.user("ann")
     well = b'{"store": "answers", "blobs": "answers"}\n'
@@ -65,7 +66,7 @@ def watched(site):
     same("has a short record, with what is a path alone", changed["paths"], [path[11:]])
 
 
-def slow_imports(site):
+def slow_imports(site: Any) -> None:
     """Imports whose bodies don't come hold up nobody else."""
     trusted, ann = ssl.create_default_context(cafile=f"{site.etc}/tls/ca.pem"), site.user("ann")
     login = base64.b64encode(b"bob:bob-secret").decode()
@@ -89,7 +90,7 @@ def slow_imports(site):
     check("and most of these still wait", waiting >= 7, waiting)
 
 
-def slow_uploads(site):
+def slow_uploads(site: Any) -> None:
     """While eight large uploads of a user come slowly for longer than a minute, one of another user is done, and one
     more of the first user waits."""
     trusted, build = ssl.create_default_context(cafile=f"{site.etc}/tls/ca.pem"), site.user("build")
@@ -118,7 +119,7 @@ def slow_uploads(site):
         it.close()
 
 
-def subjects(site):
+def subjects(site: Any) -> None:
     """Certificates whose subjects have something else than one name and one team, and those of another CA."""
     folder = f"{site.etc}/tls"
     openssl = lambda words: subprocess.run(["openssl", *shlex.split(words)], cwd=folder, check=True,
@@ -136,7 +137,7 @@ def subjects(site):
     same("names of other domains", [asked(it) for it in ("red.evil", "red.localhost.evil", "xred.localhost")], [0] * 3)
 
 
-def half_asked(site):
+def half_asked(site: Any) -> None:
     """Who sends no request, or half of one, loses the connection after ten seconds, also within TLS."""
     trusted = ssl.create_default_context(cafile=f"{site.etc}/tls/ca.pem")
 
@@ -155,7 +156,7 @@ def half_asked(site):
         same("half a request is waited for ten seconds", [*pool.map(lambda it: closed(*it), asked)], [b""] * 4)
 
 
-def forms_of_large(site):
+def forms_of_large(site: Any) -> None:
     """A large archive: nginx keeps its record for old and new Nix apart, and odd ranges are answered whole."""
     ann, build = site.user("ann"), site.user("build")
     archive = nar.regular_file(bytes(17_000_000))
@@ -174,4 +175,5 @@ def forms_of_large(site):
          [(206, 2), (206, 3), (206, len(archive) - 17_000_000)])
     odd = "9" * 5000 + "-", "0-" + "9" * 5000, "-" + "9" * 5000, "5-3", "0-1,3-4"
     same("a range that is none has the whole", [size(it) for it in odd], [(200, len(archive))] * 5)
-    same("and none is a fault", [it for it in site.servers["red"].lines() if "Traceback" in it], [])
+    lines = site.servers["red"].lines()
+    same("and none is a fault", [lines[at : at + 40] for at, it in enumerate(lines) if "Traceback" in it], [])

@@ -15,12 +15,14 @@ import subprocess
 import sys
 import tempfile
 import time
+from collections.abc import Callable, Collection, Iterable
 from pathlib import Path
+from typing import Any, NoReturn, Self
 
-HERE = os.path.dirname(os.path.realpath(__file__))
-ROOT = os.path.dirname(os.path.dirname(HERE))
+HERE = str(Path(__file__).resolve().parent)
+ROOT = str(Path(HERE).parents[1])
 # The programs of this checkout; or, if this folder is the package's among its documents, the installed ones.
-IS_CHECKOUT = os.path.isdir(f"{ROOT}/tools")
+IS_CHECKOUT = Path(f"{ROOT}/tools").is_dir()
 TOOLS = f"{ROOT}/tools" if IS_CHECKOUT else "/usr/lib/nixkeep"
 PROGRAM = f"{ROOT}/bin/nixkeep" if IS_CHECKOUT else "/usr/bin/nixkeep"
 sys.path.insert(0, TOOLS)
@@ -36,54 +38,55 @@ counts = {"passed": 0, "failed": 0, "skipped": 0}
 signal.signal(signal.SIGTERM, lambda *_: sys.exit(1))
 
 
-def check(what, is_so, seen=""):
+def check(what: str, is_so: Any, seen: str = "") -> Any:
     """Counts a check, and prints it with what was seen where it failed."""
     counts["passed" if is_so else "failed"] += 1
     print(f"{'ok' if is_so else 'FAILED'}: {what}{'' if is_so else f': {str(seen)[:2000]}'}", flush=True)
     return is_so
 
 
-def same(what, came, wanted):
+def same(what: str, came: Any, wanted: Any) -> bool:
     return check(what, came == wanted, f"{came!r:.900} where {wanted!r:.900} is meant")
 
 
-def end():
+def end() -> NoReturn:
     """Ends a script."""
     skips = f", {counts['skipped']} skipped" if counts["skipped"] else ""
     print(f"{counts['passed']} passed, {counts['failed']} failed{skips}")
     sys.exit(1 if counts["failed"] else 0)
 
 
-def script(doc, what, run, *tools, more=lambda asked: None):
+def script(doc: str, what: str, run: Callable[[argparse.Namespace], object], *needed: str,
+           more: Callable[[argparse.ArgumentParser], object] = lambda asked: None) -> None:
     """Runs a script with its words, and a folder among them, and ends it; all of it is skipped without these tools."""
     asked = argparse.ArgumentParser(description=doc, formatter_class=argparse.RawDescriptionHelpFormatter)
     asked.add_argument("--program", default=PROGRAM, metavar="FILE")
     more(asked)
     words = asked.parse_args()
-    words.program = os.path.abspath(words.program)
+    words.program = str(Path(words.program).absolute())
     if subprocess.run([words.program, "--help"], stdout=subprocess.DEVNULL).returncode:
         sys.exit(f"{words.program} can't be run")
     with tempfile.TemporaryDirectory() as words.folder:
-        if not skipped(what, *tools):
+        if not skipped(what, *needed):
             run(words)
     end()
 
 
-def skip(why):
+def skip(why: str) -> None:
     """Counts what is skipped, and says why."""
     counts["skipped"] += 1
     print(f"skipped: {why}", flush=True)
 
 
-def skipped(what, *tools):
+def skipped(what: str, *needed: str) -> bool:
     """Whether some of these aren't installed: then this is skipped. A module of Debian's Python is `python3-NAME`."""
-    lacking = [it for it in tools if not found(it)]
+    lacking = [it for it in needed if not place_of(it)]
     if lacking:
         skip(f"{what}: install the Debian packages: {' '.join(dict.fromkeys(PACKAGES.get(it, it) for it in lacking))}")
     return bool(lacking)
 
 
-def found(tool):
+def place_of(tool: str) -> str | bool | None:
     if tool.startswith("python3-"):
         # (to load one may take half a second)
         asked = "import importlib.util, sys; sys.exit(not importlib.util.find_spec(sys.argv[1]))"
@@ -91,12 +94,12 @@ def found(tool):
     return shutil.which(tool) or shutil.which(tool, path="/usr/sbin")
 
 
-def free_port():
+def free_port() -> int:
     with socket.create_server(("127.0.0.1", 0)) as listener:
         return listener.getsockname()[1]
 
 
-def until(what, is_so, seconds=300):
+def until(what: str, is_so: Callable, seconds: float = 300) -> None:
     """Waits until something is so."""
     ends = time.monotonic() + seconds
     while not is_so():
@@ -105,7 +108,7 @@ def until(what, is_so, seconds=300):
         time.sleep(0.05)
 
 
-def is_open(place):
+def is_open(place: int | str) -> bool:
     """Whether somebody listens on a port or a Unix socket."""
     kind, address = (socket.AF_UNIX, place) if isinstance(place, str) else (socket.AF_INET, ("127.0.0.1", place))
     with socket.socket(kind) as connected:
@@ -115,10 +118,10 @@ def is_open(place):
 class Part:
     """A program that runs until the `with` statement ends; it is ready once somebody listens at its place."""
 
-    def __init__(self, name, words, place, log):
+    def __init__(self, name: str, words: list, place: int | str, log: str):
         self.name, self.words, self.place, self.log, self.running = name, [str(it) for it in words], place, log, None
 
-    def start(self):
+    def start(self) -> Self:
         with open(self.log, "ab") as log:
             self.running = subprocess.Popen(self.words, stdin=subprocess.DEVNULL, stdout=log, stderr=log)
         until(f"{self.name} listens", lambda: is_open(self.place) or self.running.poll() is not None)
@@ -126,18 +129,18 @@ class Part:
             sys.exit(f"{self.name} ended with {self.running.returncode}: {Path(self.log).read_text()[-2000:]}")
         return self
 
-    def end(self, by=signal.SIGTERM):
+    def end(self, by: int = signal.SIGTERM) -> None:
         if self.running:
             with contextlib.suppress(ProcessLookupError):
                 self.running.send_signal(by)
             self.running.wait()
             self.running = None
 
-    def lines(self):
+    def lines(self) -> list[str]:
         """The lines of its log, without the records of who changed what."""
         return [it for it in Path(self.log).read_text().splitlines() if not it.startswith("{")]
 
-    def records(self):
+    def records(self) -> list[dict]:
         """The records of who changed what in its log."""
         return [json.loads(it) for it in Path(self.log).read_text().splitlines() if it.startswith("{")]
 
@@ -147,14 +150,14 @@ class Part:
         self.end()
 
 
-def server(program, folder, config, database, port=None):
+def server(program: str, folder: str, config: str, database: str, port: int | None = None) -> Part:
     """The store's server, on a port of its own."""
     port = port or free_port()
     words = [program, "--config", config, "--db", database, "serve", "--port", port, "--connections", "1000000"]
     return Part("nixkeep serve", words, port, f"{folder}/server.log")
 
 
-def cache(folder, port, place=None, *more):
+def cache(folder: str, port: int, place: int | str | None = None, *more: str) -> Part:
     """nixkeep-cache before the server on that port; a proxy says who asks where nothing else is said."""
     place = place or free_port()
     listen = place if isinstance(place, str) else f"127.0.0.1:{place}"
@@ -173,7 +176,7 @@ class Unit(Part):
     """A store as the package's units run it: nixkeep-cache at a socket that outlives it, with the server as its child.
     It is ready once it says so."""
 
-    def __init__(self, program, folder, config, database, place, *more):
+    def __init__(self, program: str, folder: str, config: str, database: str, place: int | str, *more: str):
         words = [f"{TOOLS}/nixkeep-cache", "--nixkeep", program, "--config", config, "--db", database]
         words += ["--waiting", f"{folder}/waiting", "--patience", "300", *(more or ["--proxied"])]
         super().__init__("nixkeep-cache", words, place, f"{folder}/cache.log")
@@ -181,7 +184,7 @@ class Unit(Part):
         self.listener.bind(place)
         self.listener.listen(4096)
 
-    def start(self):
+    def start(self) -> Self:
         with contextlib.suppress(FileNotFoundError):
             os.unlink(self.ready)
         number = self.listener.fileno()
@@ -198,22 +201,22 @@ class Unit(Part):
 
     __enter__ = start
 
-    def server(self):
+    def server(self) -> int:
         """The process number of the server, which is the only child, or None while it starts."""
         with open(f"/proc/{self.running.pid}/task/{self.running.pid}/children") as file:
             return next((int(it) for it in file.read().split()), None)
 
-    def kill_server(self):
+    def kill_server(self) -> None:
         """Kills the server as a machine does that is out of memory."""
         until("a server runs", lambda: self.server())
         os.kill(self.server(), signal.SIGKILL)
 
 
-def some_path(rng, name):
+def some_path(rng: random.Random, name: str) -> str:
     return f"/nix/store/{paths.base32(rng.randbytes(20))}-{name}"
 
 
-def put_store(file, count, rng, roots, label="/proc/1/exe"):
+def put_store(file: str, count: int, rng: random.Random, roots: int, label: str = "/proc/1/exe") -> list[str]:
     """A file with `count` texts that refer to one another, and for each of three users `roots` roots and twelve
     generations."""
     with contextlib.closing(sqlite3.connect(file)) as conn, conn:
@@ -230,7 +233,7 @@ def put_store(file, count, rng, roots, label="/proc/1/exe"):
     return made
 
 
-def put_tables(conn, schema):
+def put_tables(conn: sqlite3.Connection, schema: int) -> None:
     """The tables of a schema, without any object."""
     for table in [it for it in store_file.FORMS if it not in store_file.LACKS[schema]]:
         columns, key = store_file.FORMS[table]
@@ -240,7 +243,7 @@ def put_tables(conn, schema):
     conn.executemany("INSERT INTO meta VALUES (?, ?)", [("schema", str(schema)), ("store-dir", "/nix/store")])
 
 
-def put_text(conn, name, contents, references=()):
+def put_text(conn: sqlite3.Connection, name: str, contents: bytes, references: Collection[str] = ()) -> str:
     """The rows of a text. Returns its path."""
     digest = paths.sha256([contents])
     path, archive = paths.path_of("text", digest, name, references), nar.regular_file(contents)
@@ -263,7 +266,7 @@ def put_objects(conn, count, rng):
 class Nix:
     """Nix over a store of its own in a folder, with the usual directory in its paths."""
 
-    def __init__(self, folder, settings=""):
+    def __init__(self, folder: str, settings: str = ""):
         self.root = f"{folder}/root"
         os.makedirs(f"{folder}/conf")
         Path(f"{folder}/conf/nix.conf").write_text("build-users-group =\nsubstituters =\nrequire-sigs = false\n"
@@ -273,27 +276,27 @@ class Nix:
         more = {"NIX_REMOTE": f"local?root={self.root}", "NIX_CONFIG": "connect-timeout = 60\ndownload-attempts = 5\n"}
         self.env = {**os.environ, **{name: f"{folder}/{part}" for name, part in places.items()}, **more}
 
-    def run(self, *words, given=b""):
+    def run(self, *words: str, given: bytes = b"") -> subprocess.CompletedProcess:
         return subprocess.run(words, env=self.env, input=given, capture_output=True)
 
     def __call__(self, *words, given=b""):
         ran = self.run(*words, given=given)
         return ran.stdout.decode() if ran.returncode == 0 else sys.exit(f"{' '.join(words)}: {ran.stderr.decode()}")
 
-    def archive(self, path):
+    def archive(self, path: str) -> bytes:
         return self.run("nix-store", "--dump", self.root + path).stdout
 
-    def references(self, path):
+    def references(self, path: str) -> list[str]:
         return sorted(self("nix-store", "--query", "--references", path).split())
 
-    def texts(self, count, word="text"):
+    def texts(self, count: int, word: str = "text") -> list[str]:
         """Texts, each of which refers to the one before; each has a content address."""
         chain = "".join(f'; t{at} = builtins.toFile "{word}{at}" "{at} ${{t{at - 1}}}\\n"' for at in range(1, count))
         names = " ".join(f"t{at}" for at in range(count))
         given = f'let t0 = builtins.toFile "{word}0" "first\\n"{chain}; in [ {names} ]'
         return json.loads(self(*"nix-instantiate --eval --strict --json --read-write-mode -E".split(), given))
 
-    def outputs(self, references, sizes, rng):
+    def outputs(self, references: list[str], sizes: Iterable[int], rng: random.Random) -> list[str]:
         """Objects without content addresses, as builds make them: each refers to itself, to the one before and to the
         given paths."""
         made, lines = [], []
@@ -308,14 +311,14 @@ class Nix:
         self("nix-store", "--load-db", given="".join(f"{it}\n" for it in lines).encode())
         return made
 
-    def closure(self, count, seed=1, word="text"):
+    def closure(self, count: int, seed: int = 1, word: str = "text") -> list[str]:
         """Paths, half of them texts and half of them outputs; the last refers to all others by and by."""
         rng, texts = random.Random(f"closure {seed}"), self.texts(count // 2, word)
         sizes = [rng.choice([0, 1, 100, 70_000]) for _ in range(count - len(texts))]
         return texts + self.outputs(texts[-1:], sizes, rng)
 
 
-def curl(*words, given=None):
+def curl(*words: str, given: bytes | None = None) -> tuple[int, bytes]:
     """The status and the text of a reply; the status is 0 where none came."""
     told = ["-s", "--max-time", "330", "-w", "\n%{http_code}", "-H", "expect:"]
     ran = subprocess.run(["curl", *told, *words], input=given, capture_output=True)
@@ -323,6 +326,6 @@ def curl(*words, given=None):
     return int(status or 0), text
 
 
-def body(*lines, payload=b""):
+def body(*lines: tuple[str, str], payload: bytes = b"") -> bytes:
     """A body of the store's requests: lines, an empty one, and what follows."""
     return "".join(f"{key}: {value}\n" for key, value in lines).encode() + b"\n" + payload

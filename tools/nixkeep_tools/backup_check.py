@@ -1,8 +1,10 @@
 """What is tested before a server is stopped, for a copy or an upgrade: that it runs, and could start again."""
+import argparse
 import json
 import os
 import sqlite3
 import subprocess
+from pathlib import Path
 
 from . import backup_file, store_file
 from .failures import Stop, reason
@@ -53,7 +55,7 @@ def refuse_newer(path):
                    "stopped")
 
 
-def check(words):
+def check(words: argparse.Namespace) -> None:
     """Asks the server for its report, and notes it with the version of the store. Raises Stop if the server may not
     start again: then it has to go on as it is."""
     if words.unit and not is_active(words.unit):
@@ -67,7 +69,7 @@ def check(words):
     if words.unit:
         refuse_large(text, words.unit)
     if words.note:
-        write_note(words.note, {"version": before, "report": text}, os.path.dirname(os.path.abspath(words.db)))
+        write_note(words.note, {"version": before, "report": text}, Path(words.db).parent)
 
 
 def is_active(unit):
@@ -78,23 +80,22 @@ def is_active(unit):
         raise Stop(f"failed: unit: systemctl: {reason(error)}") from None
 
 
-def write_note(path, found, folder):
+def write_note(path, note, folder):
     """Writes the note anew, for the account that has the folder of the store; a link at its place isn't followed."""
     fresh = f"{path}.new"
     try:
         seen = os.stat(folder)
-        if os.path.lexists(fresh):
-            os.unlink(fresh)
+        Path(fresh).unlink(missing_ok=True)
         with open(backup_file.fresh(fresh), "w", encoding="utf-8") as file:
             if os.geteuid() == 0:
                 os.fchown(file.fileno(), seen.st_uid, seen.st_gid)
-            json.dump(found, file)
+            json.dump(note, file)
         os.rename(fresh, path)
     except OSError as error:
         raise Stop(f"failed: note: {path}: {reason(error)}") from None
 
 
-def wanted(path, database):
+def wanted(path: str | None, database: str) -> str | None:
     """The report that a copy has to have by a note, or None if the store was changed since, or there is no note."""
     if not path:
         return None

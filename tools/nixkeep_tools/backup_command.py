@@ -110,15 +110,15 @@ def source_of(words):
     if not url:
         raise Stop("failed: server: none is named; --server URL or NIXKEEP_SERVER says which")
     place = Place(url)
-    found = credentials.found(place, words.credentials or os.environ.get("NIXKEEP_CREDENTIALS_FILE"))
+    login = credentials.of_place(place, words.credentials or os.environ.get("NIXKEEP_CREDENTIALS_FILE"))
     table, fields = backup_file.settings(words.config), {}
-    if words.caller or not found:
+    if words.caller or not login:
         user, colon, group = (words.caller or "").partition(":")
         user, group = (user, group if colon else None) if user else backup_file.caller(table)
         if not all(map(paths.is_plain_name, filter(None, (user, group)))):
             raise Stop("refused: 20 bad-caller", 3)
         fields = {"store-user": user, **({"store-group": group} if group else {})}
-    server = Server(place, fields, found, words.ca or os.environ.get("NIXKEEP_CA"))
+    server = Server(place, fields, login, words.ca or os.environ.get("NIXKEEP_CA"))
     return objects.Store(server, "root", table.get("store-dir", paths.STORE)), table
 
 
@@ -135,6 +135,7 @@ def of_server(words, path):
 def add_copy_by(words, make):
     """Adds a copy to the folder, writes the state, and returns the line that is printed."""
     began, counted = time.time(), []
+    # (Path.is_dir raises an error in a folder that the caller may not look at)
     if words.state and os.path.isdir(words.state):
         raise Stop(f"failed: state: {words.state}: it is a folder")
     limit(words.seconds)
@@ -182,7 +183,7 @@ def run(words):
     return add_copy_by(words, of_file if words.action == "copy" else of_server)
 
 
-def main(words):
+def main(words: list[str]) -> int:
     streams.keep_closed()
     os.umask(0o077)
     try:

@@ -11,13 +11,16 @@ import json
 import os
 import re
 import tempfile
+from collections.abc import Iterable
 
 from . import backup_file, closures, nar, objects, paths, pointers
-from .failures import Stop
+from .failures import DENIED, Stop
 from .progress import Progress
 
 PASSES = 10
 NOT_VALID = 23
+# A root that nobody can have: only a trusted caller is refused for its name, and nothing changes.
+NOBODYS = "/root/permanent/-"
 PLAIN = r"[A-Za-z0-9_.][A-Za-z0-9_.-]*"
 # The kinds of roots in the order of listings, with the labels of each.
 LABELS = {
@@ -42,26 +45,28 @@ def listed(store):
 
 
 def read_roots(text):
-    """The roots of a listing: a kind, the parts of the label, and the base name of the target."""
-    found, at = [], 0
-    for line in text.splitlines():
-        label, _, target = line.rpartition(" ")
-        if label == "{censored}":
-            raise Stop("failed: caller: the labels of some roots are censored: a copy needs a trusted caller")
-        # (the order of kinds says what a label is that has the form of two)
-        order = [it for it in ("permanent", "user", "profile", "temporary", "runtime") if KINDS.index(it) >= at]
-        kind = next((it for it in order if LABELS[it].fullmatch(label)), None)
-        if not kind:
-            raise ValueError(f"{label[:100]!r} is no root's label")
-        at = KINDS.index(kind)
-        found.append((kind, LABELS[kind].fullmatch(label).groups(), target.rpartition("/")[2]))
-    return found
+    """The roots of a listing: a kind, the parts of the label, and the base name of the target. Kinds come in their
+    order, and in each the roots by target and label. That says what a label is that has the form of two, since a
+    runtime root's may be any text. (Where both are in order, a store with either has this listing.)"""
+    lines = [(target, label) for label, _, target in (it.rpartition(" ") for it in text.splitlines())]
+    sessions, kinds = len(lines), []
+    is_session = lambda at: LABELS["temporary"].fullmatch(lines[at][1]) and lines[at:at + 2] == sorted(lines[at:at + 2])
+    while sessions and is_session(sessions - 1):
+        sessions -= 1
+    for at, (line, before) in enumerate(zip(lines, [("", ""), *lines])):
+        left = KINDS[KINDS.index(kinds[-1]) if kinds else 0:-1] if at < sessions else KINDS[-1:]
+        fits = [it for it in left if LABELS[it].fullmatch(line[1]) and (line > before or kinds[-1] != it)]
+        if not fits:
+            raise ValueError(f"{line[1][:100]!r} is no root's label")
+        kinds.append(fits[0])
+    return [(kind, LABELS[kind].fullmatch(label).groups(), target.rpartition("/")[2])
+            for kind, (target, label) in zip(kinds, lines)]
 
 
 class Fetch:
     """A copy from one store, whose caller is trusted, into another one, in which everybody is."""
 
-    def __init__(self, source, target):
+    def __init__(self, source: objects.Store, target: objects.Store):
         self.source, self.target = source, target
         # The pointers that the source shows as large archives, by the base names of their paths.
         self.pointers = {}
@@ -70,9 +75,22 @@ class Fetch:
         self.target.server.fields = {"store-user": user}
         return self.target.ask(method, target, body)[1].decode()
 
+    def demand_labels(self, text):
+        """Raises Stop if labels of this listing of roots are censored, as for a caller who isn't trusted. A trusted
+        user may give a root that label, too."""
+        if not any(line.startswith("{censored} ") for line in text.splitlines()):
+            return
+        try:
+            self.source.ask("DELETE", NOBODYS, allowed=(objects.BAD_NAME,))
+        except Stop as stop:
+            if stop.status != DENIED:
+                raise
+            line = "failed: caller: the labels of some roots are censored: a copy needs a trusted caller"
+            raise Stop(line) from None
+
     # ---- objects
 
-    def texts(self, bases):
+    def texts(self, bases: Iterable[str]) -> dict[str, tuple[bytes, pointers.Pointer | None]]:
         """The texts of the records of these paths in the source and their pointers or None, by path; without those that
         are gone meanwhile."""
         found = {}
@@ -82,21 +100,21 @@ class Fetch:
                 found[base] = text, self.pointers.get(base)
         return found
 
-    def record(self, base, text, pointer):
+    def record(self, base: str, text: bytes, pointer: pointers.Pointer | None) -> objects.Record:
         """The Record that an object has in the copy."""
-        found = self.source.record_in(text, base)
+        record = self.source.record_in(text, base)
         if not pointer:
-            return found
-        return found._replace(nar_hash=paths.sha256([pointers.archive(pointer)]), nar_size=pointers.SIZE)
+            return record
+        return record._replace(nar_hash=paths.sha256([pointers.archive(pointer)]), nar_size=pointers.SIZE)
 
-    def archive(self, record):
+    def archive(self, record: objects.Record) -> bytes | None:
         """The archive that an object has in the copy, or None if it is gone or has become a large one meanwhile."""
         if record.base in self.pointers:
             return pointers.archive(self.pointers[record.base])
         if record.nar_size > nar.LIMIT:
             return None
-        number, found = self.source.ask("GET", f"/nar/{record.base}", allowed=(NOT_VALID,))
-        return found if number is None else None
+        number, archive = self.source.ask("GET", f"/nar/{record.base}", allowed=(NOT_VALID,))
+        return archive if number is None else None
 
     def copy_objects(self, bases, have):
         """Makes the objects of the target those of the source. `have` has what `texts` returned of those of the target,
@@ -130,7 +148,7 @@ class Fetch:
         self.as_user("root", "POST", "/import", objects.lines(*pairs) + archive)
         return True
 
-    def delete(self, bases, have):
+    def delete(self, bases: list[str], have: dict) -> None:
         """Deletes objects of the target, which has no root yet, and all that refer to them."""
         if bases:
             text = self.as_user("root", "POST", "/delete", objects.lines(*[("path", it) for it in bases]))
@@ -139,7 +157,7 @@ class Fetch:
 
     # ---- roots
 
-    def set_roots(self, roots):
+    def set_roots(self, roots: list[tuple]) -> None:
         """Sets roots as a listing has them. Profiles need generations in between, which are deleted again."""
         profiles, runtime = collections.defaultdict(dict), []
         for kind, label, base in roots:
@@ -180,7 +198,7 @@ class Fetch:
 
     # ---- all
 
-    def run(self):
+    def run(self) -> Done:
         """Copies all, and returns what was Done. Raises Stop if the store changes in each pass."""
         have = {}
         for number in range(1, PASSES + 1):
@@ -192,13 +210,14 @@ class Fetch:
                 break
         else:
             raise Stop(f"failed: changing: the store changed in each of {PASSES} passes")
+        self.demand_labels(before.roots)
         roots = read_roots(before.roots)
         self.set_roots(roots)
         self.compare(before)
         count, size = map(int, backup_file.TOTAL.search(before.report).groups())
         return Done(count, size, len(roots), number, before.report)
 
-    def compare(self, wanted):
+    def compare(self, wanted: Listed) -> None:
         """The copy answers as the server did."""
         self.target.server.fields = {"store-user": "root"}
         for what, came, meant in zip(Listed._fields, listed(self.target), wanted):
@@ -206,12 +225,12 @@ class Fetch:
                 raise Stop(f"failed: test: the copy lists other {what} than the server")
 
 
-def fetch(source, program, found, to):
-    """Makes a copy in a new file. `found` is the table of the store's configuration. Returns what was Done."""
+def fetch(source: objects.Store, program: str, table: dict, to: str) -> Done:
+    """Makes a copy in a new file. `table` is that of the store's configuration. Returns what was Done."""
     backup_file.create(to)
     with tempfile.TemporaryDirectory() as folder:
         config = f"{folder}/store.toml"
-        kept = {key: found[key] for key in ("store-dir", "keep-outputs", "keep-derivations") if key in found}
+        kept = {key: table[key] for key in ("store-dir", "keep-outputs", "keep-derivations") if key in table}
         with open(config, "w", encoding="utf-8") as file:
             # (a text and a truth value are the same in JSON)
             file.writelines(f"{key} = {json.dumps(it)}\n" for key, it in {"trusted-users": ["*"], **kept}.items())

@@ -1,4 +1,5 @@
 """A copy of a store's file, and the tests that each copy has to pass."""
+import argparse
 import contextlib
 import os
 import re
@@ -6,12 +7,14 @@ import sqlite3
 import subprocess
 import sys
 import tomllib
+from collections.abc import Iterable
+from pathlib import Path
 
 from . import backup_folder, objects, paths, store_file
 from .count_of import count_of
 from .failures import REFUSED, Stop, reason
 
-HERE = os.path.dirname(os.path.dirname(os.path.realpath(__file__)))
+HERE = Path(__file__).resolve().parents[1]
 PAGES = 1_000
 TOTAL = re.compile(r"^total +(\d+) +(\d+)$", re.M)
 
@@ -19,7 +22,7 @@ TOTAL = re.compile(r"^total +(\d+) +(\d+)$", re.M)
 # ---- the configuration
 
 
-def settings(path):
+def settings(path: str | None) -> dict:
     """The table of a configuration file, or an empty one without a file."""
     if not path:
         return {}
@@ -32,10 +35,10 @@ def settings(path):
         raise Stop(f"refused: 19 bad-config: {path}: {error}", REFUSED) from None
 
 
-def caller(found, keys=("trusted-users", "allowed-users")):
+def caller(table: dict, keys: Iterable[str] = ("trusted-users", "allowed-users")) -> tuple[str, str | None]:
     """A user and a group, or None, that a configuration lets connect: the first one that it names."""
     defaults = {"trusted-users": ["root"], "allowed-users": ["*"]}
-    for entry in (it for key in keys for it in found.get(key, defaults[key])):
+    for entry in (it for key in keys for it in table.get(key, defaults[key])):
         name = entry.removeprefix("@")
         if entry == "*":
             return "root", None
@@ -44,7 +47,7 @@ def caller(found, keys=("trusted-users", "allowed-users")):
     raise Stop("failed: caller: the configuration names nobody who may connect")
 
 
-def words_of(program, config, *more):
+def words_of(program: str, config: str | None, *more: str) -> list[str]:
     """A command line of the program for that caller."""
     user, group = caller(settings(config))
     options = [*(["--config", config] if config else []), "--user", user, *(["--group", group] if group else [])]
@@ -54,12 +57,12 @@ def words_of(program, config, *more):
 # ---- a file
 
 
-def fresh(path, flags=os.O_WRONLY | os.O_CREAT | os.O_EXCL):
+def fresh(path: str, flags: int = os.O_WRONLY | os.O_CREAT | os.O_EXCL) -> int:
     """The number of a new file that only its owner may read; none may be there."""
     return os.open(path, flags | os.O_NOFOLLOW, 0o600)
 
 
-def create(path):
+def create(path: str) -> None:
     """Makes an empty file that only its owner may read; none may be there."""
     os.close(fresh(path))
 
@@ -69,7 +72,7 @@ def open_copy(path):
     return sqlite3.connect(f"file:{store_file.quoted(path)}?mode=rw", uri=True, isolation_level=None)
 
 
-def copy(path, to):
+def copy(path: str, to: str) -> None:
     """Copies a store file with the changes in its log into one new file. It never writes or makes the store's own."""
     try:
         create(to)
@@ -84,19 +87,20 @@ def copy(path, to):
         raise Stop(f"failed: copy: {path}: {reason(error)}") from None
 
 
-def fold(path):
+def fold(path: str) -> None:
     """Brings a log into its file, so that the copy is one file."""
-    if os.path.exists(f"{path}-wal"):
+    log = Path(f"{path}-wal")
+    if log.exists():
         with contextlib.closing(open_copy(path)) as conn:
             conn.execute("PRAGMA wal_checkpoint(TRUNCATE)")
-    if os.path.exists(f"{path}-wal") and not os.path.getsize(f"{path}-wal"):
-        os.unlink(f"{path}-wal")
+    if log.exists() and not log.stat().st_size:
+        log.unlink()
 
 
 # ---- tests
 
 
-def ran(words, what):
+def ran(words: list[str], what: str) -> str:
     """The standard output of a command that has to end with status 0."""
     try:
         done = subprocess.run(words, stdin=subprocess.DEVNULL, capture_output=True, text=True, errors="replace")
@@ -108,7 +112,7 @@ def ran(words, what):
     return done.stdout
 
 
-def rows(path):
+def rows(path: str) -> tuple[int, int]:
     """The number of objects in a file and the bytes of their archives, as its rows have them."""
     try:
         with store_file.open_store(path) as conn:
@@ -120,7 +124,7 @@ def rows(path):
     return len(found), sum(it.size for it in found.values())
 
 
-def explain(path, config):
+def explain(path: str, config: str | None) -> None:
     """Tests all of a file by nixkeep-explain, which changes nothing."""
     ran([sys.executable, "-B", f"{HERE}/nixkeep-explain", *(["--config", config] if config else []), path], "test")
 
@@ -132,7 +136,7 @@ def reported(path, config, program):
     return text
 
 
-def test(path, config, program, wanted=None):
+def test(path: str, config: str | None, program: str, wanted: str | None = None) -> tuple[int, int]:
     """Tests a copy, and returns its number of objects and their bytes. `wanted` is the report that it has to have."""
     counted = rows(path)
     explain(path, config)
@@ -148,19 +152,20 @@ def test(path, config, program, wanted=None):
 # ---- an earlier schema
 
 
-def schema_of(path, despite_lock=False):
+def schema_of(path: str, despite_lock: bool = False) -> int | None:
     """The number of a file's schema, or None if there is no file, or no store in it."""
+    # (Path.exists raises an error in a folder that the caller may not look at)
     if not os.path.exists(path) or not os.path.getsize(path):
         return None
     with store_file.open_store(path, despite_lock) as conn:
         if "meta" not in store_file.tables_of(conn):
             return None
-        found = conn.execute("SELECT val FROM meta WHERE word = 'schema'").fetchone()
-    text = str(found[0]) if found else ""
+        row = conn.execute("SELECT val FROM meta WHERE word = 'schema'").fetchone()
+    text = str(row[0]) if row else ""
     return int(text) if store_file.is_schema(text) else None
 
 
-def before_migration(words):
+def before_migration(words: argparse.Namespace) -> str | None:
     """Copies a file of an earlier schema next to itself, in the place of an earlier copy of that schema.
 
     Returns the line that is printed, or None if nothing is done.
@@ -189,5 +194,5 @@ def before_migration(words):
     return f"{kept}: {count_of(counted[0], 'object')}, {counted[1]} bytes, of schema {number}, before it is migrated"
 
 
-def program_of(words):
-    return words.program or objects.program_beside(os.path.dirname(os.path.abspath(sys.argv[0])))
+def program_of(words: argparse.Namespace) -> str:
+    return words.program or objects.program_beside(Path(sys.argv[0]).absolute().parent)

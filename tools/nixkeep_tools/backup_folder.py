@@ -7,6 +7,7 @@ import os
 import re
 import stat
 import time
+from collections.abc import Callable, Iterable
 
 from .failures import Stop, reason
 
@@ -19,7 +20,7 @@ ALL_NEW = [NEW, *(f"{NEW}-{it}" for it in ("wal", "shm", "journal"))]
 COPIES, DAYS, WEEKS = 7, 7, 13
 
 
-def time_of(name):
+def time_of(name: str) -> datetime.datetime | None:
     """The time in the name of a copy, or None for any other name."""
     try:
         return datetime.datetime.strptime(name, FORM) if NAME.fullmatch(name) else None
@@ -35,7 +36,7 @@ def newest_of_each(names, period, most):
     return [*found.values()][:most]
 
 
-def kept(names):
+def kept(names: Iterable[str]) -> set[str]:
     """The names of the copies that are kept, as a set. It depends on copies alone, so time by itself deletes none."""
     found = sorted(filter(time_of, names), reverse=True)
     days = newest_of_each(found, lambda it: it.date(), DAYS)
@@ -43,7 +44,7 @@ def kept(names):
     return {*found[:COPIES], *days, *weeks}
 
 
-def sync(path):
+def sync(path: str) -> None:
     """Waits until a file or the names in a folder are on the disk."""
     opened = os.open(path, os.O_RDONLY)
     try:
@@ -82,6 +83,7 @@ def delete_new(folder):
 
 def give_name(folder):
     """Gives the copy its name, which no other has, and returns that."""
+    # (lexists: a link that leads nowhere has its name, too, and Path.exists follows it)
     while os.path.lexists(f"{folder}/{(name := time.strftime(FORM, time.gmtime()))}"):
         time.sleep(0.1)
     sync(f"{folder}/{NEW}")
@@ -90,7 +92,7 @@ def give_name(folder):
     return name
 
 
-def add(folder, make):
+def add(folder: str, make: Callable[[str], object]) -> tuple[str, list[str]]:
     """Makes a copy by `make(path)`, which also tests it, and returns its name, and the names of those deleted."""
     with locked(folder):
         delete_new(folder)
@@ -99,9 +101,10 @@ def add(folder, make):
             name = give_name(folder)
         finally:
             delete_new(folder)
-        names = os.listdir(folder)
-        # (a clock that is wrong may have given it the oldest name)
-        deleted = sorted({it for it in names if time_of(it)} - kept(names) - {name})
+        names = {it for it in os.listdir(folder) if time_of(it)}
+        # (later ones are of a clock that was wrong, then or now: each group has places of its own)
+        later = {it for it in names if it > name}
+        deleted = sorted(names - kept(names - later) - kept(later))
         for it in deleted:
             os.unlink(f"{folder}/{it}")
         return name, deleted
@@ -110,14 +113,14 @@ def add(folder, make):
 # ---- the state
 
 
-def read_state(path):
+def read_state(path: str) -> dict:
     with contextlib.suppress(OSError, ValueError), open(path, encoding="utf-8") as file:
         found = json.load(file)
         return found if isinstance(found, dict) else {}
     return {}
 
 
-def write_state(path, **more):
+def write_state(path: str, **more: str | float) -> None:
     """Puts what a run did into the file that others watch, whole or not at all; what it doesn't name stays."""
     text = json.dumps({**read_state(path), **more}, indent=2)
     fresh = f"{path}.new"

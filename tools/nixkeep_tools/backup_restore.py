@@ -1,4 +1,5 @@
 """A store put back from a copy: its units are stopped, the timer of copies first, and started again at the end."""
+import argparse
 import contextlib
 import os
 import shutil
@@ -11,6 +12,9 @@ from .failures import Stop, reason
 # What is stopped, in this order: nothing may start the server meanwhile, or copy what isn't whole.
 TIMER, COPY, SOCKET, SERVER = UNITS = [
     "nixkeep-backup@{}.timer", "nixkeep-backup@{}.service", "nixkeep@{}.socket", "nixkeep@{}.service"]
+
+# What the names of folders begin with that have the files of before. While one is there, nixkeep-cache sweeps nothing.
+ASIDE = "aside-"
 
 
 def state_of(unit):
@@ -56,10 +60,10 @@ def move_aside(folder, aside):
             os.unlink(f"{folder}/{it}")
 
 
-def put(copy, folder):
+def put(copy: str, folder: str) -> str:
     """Puts a copy in the place of a store, whose files are moved into a new folder. Returns that folder's name."""
     seen = os.stat(folder)
-    fresh, aside = f"{folder}/store.new", f"{folder}/aside-{time.strftime('%Y-%m-%dT%H-%M-%SZ', time.gmtime())}"
+    fresh, aside = f"{folder}/store.new", f"{folder}/{ASIDE}{time.strftime('%Y-%m-%dT%H-%M-%SZ', time.gmtime())}"
     with contextlib.suppress(FileNotFoundError):
         os.unlink(fresh)
     try:
@@ -79,8 +83,9 @@ def put(copy, folder):
     return aside
 
 
-def restore(words):
+def restore(words: argparse.Namespace) -> str:
     """Puts a store back from a copy, which is tested before anything is stopped. Returns the line that is printed."""
+    # (os.path: of what the caller may not look at, or a link that leads to itself, Path raises other errors)
     folder = os.path.realpath(words.folder or f"/var/lib/nixkeep/{words.name}")
     config = words.config or f"/etc/nixkeep/{words.name}.toml"
     if not os.path.isdir(folder):

@@ -2,11 +2,13 @@
 import contextlib
 import hashlib
 import lzma
+from collections.abc import Iterable, Iterator
 from concurrent.futures import ThreadPoolExecutor
 
-from . import paths
-from .blob_packing import Digest, Read, of_zstd
+from . import blobs, paths
+from .blob_packing import HEAD, Digest, Read, of_zstd, unpacked, window_of
 from .cache_records import Bad, zstandard
+from .pointers import Pointer
 
 PIECE = 1 << 20
 # The ways in which an archive is sent: as its file in the blobs, or unpacked.
@@ -21,11 +23,11 @@ class Damaged(Exception):
     """A blob that isn't the one that its pointer names."""
 
 
-def size_of(pointer, form):
+def size_of(pointer: Pointer, form: str) -> int:
     return pointer.file_size if form == "zstd" else pointer.nar_size
 
 
-def hash_of(pointer, form):
+def hash_of(pointer: Pointer, form: str) -> bytes:
     return pointer.file_hash if form == "zstd" else pointer.nar_hash
 
 
@@ -39,7 +41,18 @@ def opened(place, name, pointer):
     return place.open(name)
 
 
-def pieces(place, name, pointer, form, start=0, end=None):
+def memory(place: blobs.Place, name: str) -> int:
+    """The bytes of memory in which a blob is unpacked, or 0 for one that can't be."""
+    try:
+        with contextlib.closing(place.open(name)) as stream:
+            return window_of(stream.read(HEAD))
+    except (OSError, blobs.Failed, zstandard.ZstdError):
+        # (whoever reads it gets the reason)
+        return 0
+
+
+def pieces(place: blobs.Place, name: str, pointer: Pointer, form: str, start: int = 0,
+           end: int | None = None) -> Iterator[bytes]:
     """Yields the bytes of an archive from `start` to `end`, or to its end, and b"" for each piece that is read before
     `start`. Damaged is raised ahead of the last piece where the size or the digest of all of it differs. Raises Gone,
     or Damaged, before the first."""
@@ -51,8 +64,7 @@ def pieces(place, name, pointer, form, start=0, end=None):
     try:
         given = stream
         if form == "none":
-            made = zstandard.ZstdDecompressor(max_window_size=1 << 31)
-            given = made.stream_reader(stream, PIECE, read_across_frames=True, closefd=False)
+            given = unpacked(stream)
         if is_part:
             yield from part(given, name, pointer, start, end)
         else:
@@ -89,7 +101,7 @@ def part(given, name, pointer, start, end):
         yield found
 
 
-def as_xz(given):
+def as_xz(given: Iterable[bytes]) -> Iterator[bytes]:
     """Yields an archive compressed by xz, and b"" where a piece of it adds nothing yet."""
     made = lzma.LZMACompressor(preset=0)
     for data in given:
@@ -97,7 +109,7 @@ def as_xz(given):
     yield made.flush()
 
 
-def measured(place, name):
+def measured(place: blobs.Place, name: str) -> tuple[bytes, int, bytes, int]:
     """The SHA-256 and the size of the archive in a blob, and of its file. Raises Damaged for one that isn't whole, or
     has another archive than its name says."""
     try:
@@ -105,9 +117,9 @@ def measured(place, name):
             nar, file = Digest(pool), Digest(pool)
             for data in of_zstd(Read(stream, file)):
                 nar.add(data)
-            found = nar.end(), nar.size, file.end(), file.size
+            figures = nar.end(), nar.size, file.end(), file.size
     except Bad as bad:
         raise Damaged(f"blob-damaged {name} in the blobs: {bad}") from None
-    if paths.base32(found[0]) != name:
+    if paths.base32(figures[0]) != name:
         raise Damaged(f"blob-damaged {name} in the blobs: its archive has another SHA-256")
-    return found
+    return figures

@@ -1,21 +1,13 @@
 """The blobs of a store: archives of any size, each a file compressed by zstd, named by the SHA-256 of the archive.
 
-Blobs are in a folder or in a bucket. Both have these calls, which may take long, so they are made in threads:
-
-  part()           the name of a new file, in which a blob is made
-  put(part, name)  makes that file the blob, unless it is there, and returns whether it did
-  size(name)       the bytes of a blob, or None
-  open(name, at)   a stream of the bytes of a blob from `at` on: read(count) and close()
-  list()           each Blob
-  delete(name)     deletes a blob
-  begin()          deletes what an earlier process left, and keeps other processes away
-  answer()         does nothing, if blobs can be made and read now
-
-A name is the SHA-256 in base 32. What a failing disk or bucket raises is an OSError or Failed.
+Blobs are in a folder or in a bucket, each of which is a Place. A name is the SHA-256 in base 32. What a failing disk
+or bucket raises is an OSError or Failed.
 """
 import collections
 import os
 import re
+from collections.abc import Iterator
+from typing import Protocol
 
 NAME = re.compile(r"[0123456789abcdfghijklmnpqrsvwxyz]{52}")
 SUFFIX = ".nar.zst"
@@ -27,13 +19,56 @@ class Failed(Exception):
     """A bucket that fails or refuses, or blobs that can't be used."""
 
 
+class Source(Protocol):
+    """What has bytes to read."""
+
+    def read(self, count: int, /) -> bytes:
+        """At most this many bytes, and none at the end."""
+
+
+class Stream(Source, Protocol):
+    """The bytes of a blob."""
+
+    def close(self) -> None: ...
+
+
+class Place(Protocol):
+    """A folder or a bucket with blobs. The calls may take long, so they are made in threads."""
+
+    where: str
+
+    def part(self) -> str:
+        """The name of a new file, in which a blob is made."""
+
+    def put(self, part: str, name: str) -> bool:
+        """Makes that file the blob, unless it is there, and returns whether it did."""
+
+    def size(self, name: str) -> int | None:
+        """The bytes of a blob, or None."""
+
+    def open(self, name: str, at: int = 0) -> Stream:
+        """The bytes of a blob from `at` on."""
+
+    def list(self) -> Iterator[Blob]:
+        """Each blob."""
+
+    def delete(self, name: str) -> None:
+        """Deletes a blob."""
+
+    def begin(self) -> None:
+        """Deletes what an earlier process left, and keeps other processes away."""
+
+    def answer(self) -> None:
+        """Does nothing, if blobs can be made and read now."""
+
+
 class Parts:
     """A folder in which blobs are made, one file each. Each process has files of its own names."""
 
-    def __init__(self, folder):
+    def __init__(self, folder: str):
         self.folder, self.count = folder, 0
 
-    def begin(self):
+    def begin(self) -> None:
         os.makedirs(self.folder, mode=0o700, exist_ok=True)
         # (a link here would have the files of another folder deleted)
         folder = os.open(self.folder, os.O_RDONLY | os.O_DIRECTORY | os.O_NOFOLLOW)
@@ -43,23 +78,23 @@ class Parts:
         finally:
             os.close(folder)
 
-    def part(self):
+    def part(self) -> str:
         self.count += 1
         return f"{self.folder}/{self.count}.part"
 
 
-def named(key):
+def named(key: str) -> str | None:
     """The name of the blob in a file or under a key, or None for another one."""
     name = key.rpartition("/")[2].removesuffix(SUFFIX)
     is_blob = key.endswith(SUFFIX) and NAME.fullmatch(name) and key.endswith(f"{name[:2]}/{name}{SUFFIX}")
     return name if is_blob else None
 
 
-def key_of(name):
+def key_of(name: str) -> str:
     return f"{name[:2]}/{name}{SUFFIX}"
 
 
-def place_of(where, parts, endpoint=None):
+def place_of(where: str, parts: str, endpoint: str | None = None) -> Place:
     """The blobs in a folder, or in a bucket by s3://BUCKET[/PREFIX]. `parts` is a folder where blobs for a bucket are
     made. Raises Failed."""
     if not where.startswith("s3://"):

@@ -1,10 +1,12 @@
 """Blobs in a bucket of S3, on Debian's python3-boto3, which finds credentials where AWS's own tools do."""
 import contextlib
+from collections.abc import Iterator
 
 import boto3
 import botocore.config
 import botocore.exceptions
 import botocore.parsers
+import botocore.response
 from boto3.s3.transfer import TransferConfig
 
 from . import blobs
@@ -30,10 +32,10 @@ def answered(about):
 class Opened:
     """The bytes of an object, which `size` says how many there are."""
 
-    def __init__(self, where, body):
+    def __init__(self, where: str, body: botocore.response.StreamingBody):
         self.where, self.body = where, body
 
-    def read(self, count):
+    def read(self, count: int) -> bytes:
         try:
             with answered(self.where):
                 return self.body.read(count)
@@ -41,12 +43,12 @@ class Opened:
             # (what botocore doesn't wrap is urllib3's)
             raise blobs.Failed(f"{self.where}: {error}") from error
 
-    def close(self):
+    def close(self) -> None:
         self.body.close()
 
 
 class Bucket:
-    def __init__(self, bucket, prefix, parts, endpoint=None):
+    def __init__(self, bucket: str, prefix: str, parts: str, endpoint: str | None = None):
         self.bucket, self.prefix, self.where = bucket, f"{prefix.strip('/')}/".lstrip("/"), f"s3://{bucket}/{prefix}"
         self.parts = blobs.Parts(parts)
         self.part = self.parts.part
@@ -56,18 +58,18 @@ class Bucket:
             self.client = boto3.client("s3", endpoint_url=endpoint, config=config)
         self.transfer = TransferConfig(multipart_threshold=PART, multipart_chunksize=PART, max_concurrency=2)
 
-    def key(self, name):
+    def key(self, name: str) -> dict[str, str]:
         return {"Bucket": self.bucket, "Key": f"{self.prefix}{blobs.key_of(name)}"}
 
-    def begin(self):
+    def begin(self) -> None:
         self.parts.begin()
         self.answer()
 
-    def answer(self):
+    def answer(self) -> None:
         with answered(self.where):
             self.client.head_bucket(Bucket=self.bucket)
 
-    def put(self, part, name):
+    def put(self, part: str, name: str) -> bool:
         """A bucket shows an object once it is whole."""
         if self.size(name) is not None:
             return False
@@ -75,7 +77,7 @@ class Bucket:
             self.client.upload_file(part, *self.key(name).values(), Config=self.transfer)
         return True
 
-    def size(self, name):
+    def size(self, name: str) -> int | None:
         try:
             with answered(self.where):
                 return self.client.head_object(**self.key(name))["ContentLength"]
@@ -86,7 +88,7 @@ class Bucket:
                 return None
             raise
 
-    def open(self, name, at=0):
+    def open(self, name: str, at: int = 0) -> Opened:
         more = {"Range": f"bytes={at}-"} if at else {}
         with answered(self.where):
             found = self.client.get_object(**self.key(name), **more)
@@ -95,13 +97,13 @@ class Bucket:
             raise blobs.Failed(f"{self.where}: it has sent another part than from byte {at} on")
         return Opened(self.where, found["Body"])
 
-    def list(self):
+    def list(self) -> Iterator[blobs.Blob]:
         with answered(self.where):
             for page in self.client.get_paginator("list_objects_v2").paginate(Bucket=self.bucket, Prefix=self.prefix):
                 for it in page.get("Contents", []):
                     if name := blobs.named(it["Key"].removeprefix(self.prefix)):
                         yield blobs.Blob(name, it["Size"], it["LastModified"].timestamp())
 
-    def delete(self, name):
+    def delete(self, name: str) -> None:
         with answered(self.where):
             self.client.delete_object(**self.key(name))

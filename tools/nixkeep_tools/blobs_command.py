@@ -1,6 +1,7 @@
 """The command lines `nixkeep-cache sweep` and `nixkeep-cache verify`."""
 import argparse
 import sys
+from typing import NoReturn
 
 from . import backup_file, blob_reading, blobs, paths, pointers, streams
 from .count_of import count_of
@@ -36,7 +37,7 @@ def server_of(said):
     return Server(Place(said.server), {"store-user": user, **({"store-group": group} if group else {})})
 
 
-def asked(server, *request):
+def answer_of(server, *request):
     reply = server.ask(*request)
     if reply.status != DONE:
         raise Stop(reply.text().rstrip("\n"), reply.status)
@@ -46,14 +47,14 @@ def asked(server, *request):
 def sweep(said):
     """Asks for a sweep. It fails if a blob couldn't be deleted."""
     lines = [f"grace: {said.grace}"] * (said.grace is not None) + ["dry-run: true"] * said.dry_run
-    text = asked(server_of(said), "POST", "/sweep", "".join(f"{it}\n" for it in [*lines, ""]).encode()).text()
+    text = answer_of(server_of(said), "POST", "/sweep", "".join(f"{it}\n" for it in [*lines, ""]).encode()).text()
     streams.write(streams.shown([text.encode()]))
     return FAILED if any(it.startswith("failed ") for it in text.splitlines()) else DONE
 
 
 def listed(server):
     """The full paths and the Packed of all pointers."""
-    for line in asked(server, "GET", "/pointers").text().splitlines():
+    for line in answer_of(server, "GET", "/pointers").text().splitlines():
         path, *figures = pointers.read_line(line)
         yield path, tuple(figures)
 
@@ -63,14 +64,14 @@ def fault(place, name, wanted):
     try:
         if place.size(name) is None:
             return "missing" if wanted else None
-        found = blob_reading.measured(place, name)
+        figures = blob_reading.measured(place, name)
     except FileNotFoundError:
         return "missing" if wanted else None
     except blob_reading.Damaged as damaged:
         return str(damaged).replace("blob-damaged", "damaged", 1)
     except OSError as error:
         return f"damaged {name} in the blobs: {error.strerror or error}:"
-    return "damaged: its file isn't the one that was put there" if any(it != found for _, it in wanted) else None
+    return "damaged: its file isn't the one that was put there" if any(it != figures for _, it in wanted) else None
 
 
 def verify(said):
@@ -81,8 +82,8 @@ def verify(said):
     everything = sorted({*there, *by_name})
     progress = Progress("verified", sum(there.values()), len(everything))
     for name in everything:
-        if found := fault(place, name, by_name.get(name, [])):
-            faults[name] = found
+        if wrong := fault(place, name, by_name.get(name, [])):
+            faults[name] = wrong
         progress.add(there.get(name, 0), 1)
     progress.end()
     again = names_of(server) if faults else {}
@@ -103,7 +104,7 @@ def names_of(server):
     return found
 
 
-def main(words):
+def main(words: list[str]) -> NoReturn:
     said = parser().parse_args(words)
     try:
         status = sweep(said) if said.action == "sweep" else verify(said)

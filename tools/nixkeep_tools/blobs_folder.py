@@ -2,6 +2,9 @@
 import contextlib
 import fcntl
 import os
+from collections.abc import Iterator
+from pathlib import Path
+from typing import BinaryIO
 
 from . import blobs
 
@@ -26,15 +29,15 @@ def reading(name, flags):
 
 
 class Folder:
-    def __init__(self, folder):
+    def __init__(self, folder: str):
         self.where, self.folder, self.lock = folder, folder.rstrip("/") or "/", None
         self.parts = blobs.Parts(f"{self.folder}/incoming")
         self.part = self.parts.part
 
-    def file(self, name):
+    def file(self, name: str) -> str:
         return f"{self.folder}/{blobs.key_of(name)}"
 
-    def begin(self):
+    def begin(self) -> None:
         os.makedirs(self.folder, mode=0o700, exist_ok=True)
         self.lock = open(f"{self.folder}/lock", "ab", opener=locking)
         try:
@@ -43,7 +46,7 @@ class Folder:
             raise blobs.Failed(f"{self.folder}: another nixkeep-cache has these blobs") from None
         self.parts.begin()
 
-    def answer(self):
+    def answer(self) -> None:
         file = f"{self.parts.folder}/answer"
         with contextlib.suppress(FileNotFoundError):
             os.unlink(file)
@@ -52,14 +55,14 @@ class Folder:
             # (a full disk makes a file, and no byte of it)
             made.write(b"x")
 
-    def put(self, part, name):
+    def put(self, part: str, name: str) -> bool:
         """The file is on the disk before it has the name of a blob, and the name is before this returns."""
         file = self.file(name)
-        folder = os.path.dirname(file)
+        folder = Path(file).parent
         with open(part, "rb") as made:
             os.fsync(made.fileno())
-        if not os.path.isdir(folder):
-            os.makedirs(folder, mode=0o700, exist_ok=True)
+        if not folder.is_dir():
+            folder.mkdir(mode=0o700, parents=True, exist_ok=True)
             synced(self.folder)
         try:
             # (a rename would replace what is there)
@@ -70,28 +73,28 @@ class Folder:
             synced(folder)
         return True
 
-    def size(self, name):
+    def size(self, name: str) -> int | None:
         with contextlib.suppress(FileNotFoundError):
             return os.stat(self.file(name)).st_size
 
-    def open(self, name, at=0):
+    def open(self, name: str, at: int = 0) -> BinaryIO:
         opened = open(self.file(name), "rb", buffering=0, opener=reading)
         if at:
             opened.seek(at)
         return opened
 
-    def list(self):
+    def list(self) -> Iterator[blobs.Blob]:
         for entry in sorted(os.scandir(self.folder), key=lambda it: it.name):
             if len(entry.name) == 2 and entry.is_dir():
                 yield from self.listed(entry)
 
-    def listed(self, folder):
+    def listed(self, folder: os.DirEntry[str]) -> Iterator[blobs.Blob]:
         for entry in sorted(os.scandir(folder), key=lambda it: it.name):
             if name := blobs.named(f"{folder.name}/{entry.name}"):
                 with contextlib.suppress(FileNotFoundError):
                     found = entry.stat(follow_symlinks=False)
                     yield blobs.Blob(name, found.st_size, found.st_mtime)
 
-    def delete(self, name):
+    def delete(self, name: str) -> None:
         with contextlib.suppress(FileNotFoundError):
             os.unlink(self.file(name))

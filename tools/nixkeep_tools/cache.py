@@ -16,7 +16,7 @@ from . import cache_metrics, cache_options, cache_origin, cache_signing, overvie
 from .cache_archives import Archives
 from .cache_ending import FINISH, Ending
 from .cache_blobs import Blobs
-from .cache_http import BODY, Answered, Sending, passed, reply, told
+from .cache_http import BODY, Answered, Sending, passed, reply, shown
 from .cache_large import Large
 from .cache_names import Names
 from .cache_overview import Overviews
@@ -71,7 +71,7 @@ def failures(idle):
             return reply(408, f"nothing came for {idle:.0f} seconds\n")
         except (Unreachable, cache_child.Refused, OSError, blobs.Failed, sqlite3.Error) as error:
             print(f"nixkeep-cache: {request.method} {request.raw_path[:300]!r}: {error}", file=sys.stderr, flush=True)
-            return reply(503 if isinstance(error, (OSError, blobs.Failed, sqlite3.Error)) else 502, f"{told(error)}\n")
+            return reply(503 if isinstance(error, (OSError, blobs.Failed, sqlite3.Error)) else 502, f"{shown(error)}\n")
 
     return answered
 
@@ -97,12 +97,12 @@ def admission(server, fixed, is_local, monitor):
             return await handler(request)
         if is_local and cache_origin.is_rebound(request) or cache_origin.is_of_other_site(request):
             return reply(403, "denied: other-site\n")
-        found = caller(request, fixed)
-        if not found:
+        who = caller(request, fixed)
+        if not who:
             return reply(400, "refused: 20 bad-caller\n")
-        request["caller"] = found
-        is_monitor = monitor == found.user and cache_metrics.is_asked(request)
-        denial = None if is_monitor else await server.denial(found)
+        request["caller"] = who
+        is_monitor = monitor == who.user and cache_metrics.is_asked(request)
+        denial = None if is_monitor else await server.denial(who)
         return reply(denial.status, denial.text) if denial else await handler(request)
 
     return admitted
@@ -134,15 +134,15 @@ def dispatched(parts):
 
     async def answer(request):
         for methods, form, handler in routes:
-            found = form.fullmatch(request.raw_path)
-            if found and (not methods or request.method in methods):
-                return await handler(request, *found.groups())
+            match = form.fullmatch(request.raw_path)
+            if match and (not methods or request.method in methods):
+                return await handler(request, *match.groups())
         raise AssertionError("the last route has all targets")
 
     return answer
 
 
-def large_of(said, server, folder, sending, shares, store):
+def large_of(said, server, folder, sending, shares, store, ends):
     """The part that has large archives, and the one that sweeps them. None without blobs."""
     if not said.blobs:
         return []
@@ -154,12 +154,13 @@ def large_of(said, server, folder, sending, shares, store):
             raise
         # (a bucket may come back, and what is small is served meanwhile)
         print(f"nixkeep-cache: {failed}", file=sys.stderr, flush=True)
-    kept = Blobs(place, said.blobs_level, sending)
+    kept = Blobs(place, said.blobs_level, sending, ends)
     large = Large(kept, Pointers(server), said.large_from, Stored(f"{folder}/arrived"), store)
-    return [large, Sweep(kept, large.pointers, shares, said.grace, said.idle, f"{folder}/swept.json")]
+    near = said.db and os.path.dirname(os.path.abspath(said.db))
+    return [large, Sweep(kept, large.pointers, shares, said.grace, said.idle, f"{folder}/swept.json", near)]
 
 
-def parts_of(said, server, waiting, settings, signing):
+def parts_of(said, server, waiting, settings, signing, ends):
     """The parts that answer, each with its routes, the sessions, and what is watched. The first route that fits has a
     request."""
     store, *keeps = settings
@@ -172,7 +173,7 @@ def parts_of(said, server, waiting, settings, signing):
     overviews = Overviews(server, store, keeps, sending, overview_source.name_of(said.config, said.db))
     watched = Watched(said, server, waiting, limit, store)
     followers = [names.deleted, overviews.records.forget, shares.deleted, signing.deleted]
-    own = large_of(said, server, waiting.folder, sending, shares, store)
+    own = large_of(said, server, waiting.folder, sending, shares, store, ends)
     large = own[0] if own else None
     uploads = Uploads(server, names, stored, waiting, sessions, signing, limit, shares, store, said.idle, large)
     passing = Passing(server, names, sessions, limit, shares, sending, followers, said.idle)
@@ -185,16 +186,16 @@ def parts_of(said, server, waiting, settings, signing):
 
 async def application(said, server, waiting, settings, signing, is_local):
     fixed = Caller(said.user, said.group) if said.user else None
-    parts, sessions, watched = parts_of(said, server, waiting, settings, signing)
     ending, admitted = Ending(), admission(server, fixed, is_local, said.monitor)
+    parts, sessions, watched = parts_of(said, server, waiting, settings, signing, ending.begun)
     most = resource.getrlimit(resource.RLIMIT_NOFILE)[0] // (1 if fixed else PART)
     middlewares = [ending.counted, watched.watching.observed, framed, failures(said.idle), admitted, fair(most)]
     # (a body is what came, as to the server: one that is unpacked ahead of its limits would fill the memory)
-    found = web.Application(client_max_size=BODY, middlewares=middlewares, handler_args={"auto_decompress": False})
-    found.router.add_route("*", "/{target:.*}", dispatched(parts))
-    found.cleanup_ctx.extend([begun(server), expiring(waiting, sessions, watched.day)])
-    found.on_shutdown.append(ending.begin)
-    return found
+    made = web.Application(client_max_size=BODY, middlewares=middlewares, handler_args={"auto_decompress": False})
+    made.router.add_route("*", "/{target:.*}", dispatched(parts))
+    made.cleanup_ctx.extend([begun(server), expiring(waiting, sessions, watched.day)])
+    made.on_shutdown.append(ending.begin)
+    return made
 
 
 def begun(server):
@@ -243,7 +244,7 @@ def expiring(waiting, sessions, day):
     return running
 
 
-def main(words=None):
+def main(words: list[str] | None = None) -> None:
     words = sys.argv[1:] if words is None else words
     if words[:1] in (["sweep"], ["verify"]):
         return blobs_command.main(words)

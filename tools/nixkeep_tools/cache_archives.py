@@ -1,13 +1,22 @@
 """What Nix fetches from nixkeep-cache: records, archives, and the files of its own uploads."""
 import asyncio
 import re
+from typing import TYPE_CHECKING
 
 from aiohttp import web
 
 from . import cache_encoding, cache_records, pointers
-from .cache_http import READ, Route, passed, reply
-from .cache_server import Request
+from .cache_http import READ, Route, Sending, passed, reply
+from .cache_names import Names
+from .cache_server import Request, Server
+from .cache_sessions import Sessions
+from .cache_signing import Signing
+from .cache_stored import Stored
 from .cache_turns import Turns
+from .cache_waiting import Waiting
+
+if TYPE_CHECKING:
+    from .cache_large import Large
 
 DIGITS = "[0-9abcdfghijklmnpqrsvwxyz]"
 INFO = re.compile(r"/nix-cache-info")
@@ -45,12 +54,13 @@ class Archives:
     """`stored` are the uploaded files whose archives are in the store, `waiting` those that wait for their records,
     `sessions` keep the paths for which an uploading client has asked, `signing` signs records."""
 
-    def __init__(self, server, names, stored, waiting, sessions, signing, sending, store, large=None):
+    def __init__(self, server: Server, names: Names, stored: Stored, waiting: Waiting, sessions: Sessions,
+                 signing: Signing, sending: Sending, store: str, large: "Large | None" = None):
         self.server, self.names, self.stored, self.waiting = server, names, stored, waiting
         self.sessions, self.signing, self.sending, self.store = sessions, signing, sending, store
         self.large, self.packing = large, Turns()
 
-    def routes(self):
+    def routes(self) -> list[Route]:
         handlers = [(INFO, self.info), (RECORD, self.record), (FILE, self.file), (ARCHIVE, self.archive)]
         return [Route(READ, form, handler) for form, handler in handlers]
 
@@ -59,7 +69,7 @@ class Archives:
         text += f"LargeFrom: {self.large.least}\n" if self.large else ""
         return reply(200, text, "text/x-nix-cache-info", MINUTE)
 
-    async def record(self, request, digits):
+    async def record(self, request: web.Request, digits: str) -> web.StreamResponse:
         """A record, whose archive is at an address with its hash."""
         caller = request["caller"]
         base, failed = await self.names.base(caller, digits)
@@ -81,7 +91,7 @@ class Archives:
         text = re.sub(rb"^URL: .*$", lambda _: url, answer.text, count=1, flags=re.M)
         return reply(200, self.signing.signed(text), "text/x-nix-narinfo", MINUTE)
 
-    async def archive(self, request, digest, base):
+    async def archive(self, request: web.Request, digest: str, base: str) -> web.StreamResponse:
         """An archive, if the object has this hash now. A cache that has it asks by `if-none-match`."""
         caller = request["caller"]
         kept = cache_encoding.tag_kept(request, digest)
@@ -93,7 +103,7 @@ class Archives:
             await self.sending.room(request, answer)
             return await self.sending.send(request, answer)
 
-    async def file(self, request, name):
+    async def file(self, request: web.Request, name: str) -> web.StreamResponse:
         """An uploaded file. By HEAD a client asks whether it has to send it. By GET one asks that has kept the record
         of its own upload, and gets the archive of the object that the file became, compressed in the same way."""
         if request.method == "HEAD":

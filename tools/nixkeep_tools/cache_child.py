@@ -5,6 +5,7 @@ import os
 import shutil
 import signal
 import sys
+from pathlib import Path
 
 from .cache_server import AHEAD, BROKEN, Caller, Request, message, read_reply
 
@@ -17,9 +18,9 @@ END = 10
 REFUSED = (2, 3)
 
 
-def program_near(file):
+def program_near(file: str) -> str:
     """The program `nixkeep`: next to a tool, or on the path. A checkout has its own, as installations have."""
-    here = os.path.dirname(os.path.realpath(file))
+    here = Path(file).resolve().parent
     near = [f"{here}/nixkeep", f"{here}/../../bin/nixkeep", f"{here}/../bin/nixkeep"]
     return next((it for it in near if os.access(it, os.X_OK)), shutil.which("nixkeep") or "nixkeep")
 
@@ -27,7 +28,7 @@ def program_near(file):
 class Refused(Exception):
     """The server ended before it ever answered, with the status of a refusal."""
 
-    def __init__(self, status):
+    def __init__(self, status: int):
         super().__init__(f"the server ended with status {status} before its first answer")
         self.status = status
 
@@ -37,13 +38,13 @@ class Child:
 
     idle = None
 
-    def __init__(self, program, file, config):
+    def __init__(self, program: str, file: str, config: str | None):
         self.words = [program, *(["--config", config] if config else []), "--db", file, "serve"]
         self.process, self.handle, self.running, self.why, self.refused = None, None, None, "it starts", 0
         # The process that answers, as soon as there is one.
         self.ready = None
 
-    async def open(self):
+    async def open(self) -> tuple[asyncio.StreamReader, asyncio.StreamWriter]:
         """The streams of a server that has opened its file. Raises Refused."""
         if not self.running:
             self.ready = asyncio.get_running_loop().create_future()
@@ -53,7 +54,7 @@ class Child:
             await asyncio.sleep(0.01)
         return process.stdout, process.stdin
 
-    async def run(self):
+    async def run(self) -> None:
         """Starts a server again and again."""
         now, delay, has_answered = asyncio.get_running_loop().time, 0, False
         while True:
@@ -69,7 +70,7 @@ class Child:
                   file=sys.stderr, flush=True)
             await asyncio.sleep(delay)
 
-    async def serve(self):
+    async def serve(self) -> tuple[int, bool]:
         """Starts a server, and waits for its end. Returns its status, and whether it has answered."""
         pipe, answers = asyncio.subprocess.PIPE, False
         try:
@@ -91,25 +92,25 @@ class Child:
             self.ready = asyncio.get_running_loop().create_future()
         return status, answers
 
-    def close(self, writer):
+    def close(self, writer: asyncio.StreamWriter) -> None:
         """Ends the server of a connection that was given up: what it still does would answer another request."""
         if self.process and self.process.stdin is writer:
             self.signal(signal.SIGTERM)
 
-    def memory(self):
+    def memory(self) -> int | None:
         """The bytes of memory that the server has, or None where it doesn't run."""
         with contextlib.suppress(OSError, AttributeError, ValueError):
             with open(f"/proc/{self.process.pid}/statm", encoding="ascii") as file:
                 return int(file.read().split()[1]) * os.sysconf("SC_PAGE_SIZE")
         return None
 
-    def signal(self, number):
+    def signal(self, number: int) -> None:
         # (asyncio's own way would reap a process that has ended, and asyncio wouldn't learn its status)
         if self.handle is not None:
             with contextlib.suppress(ProcessLookupError):
                 signal.pidfd_send_signal(self.handle, number)
 
-    async def end(self):
+    async def end(self) -> None:
         """Ends the server after its request: it sees the end of its input."""
         if not self.running:
             return

@@ -1,6 +1,15 @@
 """What nixkeep-cache counts of large archives, for /metrics."""
 import contextlib
 import time
+from collections.abc import Callable, Iterator
+from typing import TYPE_CHECKING
+
+if TYPE_CHECKING:
+    from .cache_blobs import Blobs
+    from .cache_sweep import Sweep
+
+# A source of figures: the name of each, what it is, and its value now, or None.
+Figures = Callable[[], list[tuple[str, str, float | None]]]
 
 
 class Count:
@@ -10,7 +19,7 @@ class Count:
         self.number, self.bytes, self.failed, self.seconds = 0, 0, 0, 0
 
     @contextlib.contextmanager
-    def timed(self):
+    def timed(self) -> Iterator[None]:
         began = time.monotonic()
         try:
             yield
@@ -18,7 +27,7 @@ class Count:
             self.seconds += time.monotonic() - began
 
 
-def of_blobs(blobs):
+def of_blobs(blobs: "Blobs") -> Figures:
     """A source of figures: the large archives that came and that were sent."""
 
     def figures():
@@ -39,7 +48,7 @@ def of_blobs(blobs):
     return figures
 
 
-def of_sweep(sweep):
+def of_sweep(sweep: "Sweep") -> Figures:
     """A source of figures: the sweeps, and what the last one has left."""
 
     def figures():

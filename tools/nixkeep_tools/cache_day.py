@@ -6,6 +6,7 @@ import os
 import time
 
 from .cache_http import READ
+from .cache_watching import Seen
 
 # The seconds of a part of the day, the parts of a day, and the users of a part that are counted by name.
 SPAN, PARTS, USERS = 1800, 48, 200
@@ -31,13 +32,13 @@ def is_part(it):
 class Day:
     """The parts of the last day, the oldest first. They are in a file, so that a restart loses a minute of them."""
 
-    def __init__(self, file):
+    def __init__(self, file: str):
         self.file, self.parts = file, []
         with contextlib.suppress(OSError, ValueError, AttributeError, TypeError):
             with open(file, encoding="ascii") as text:
                 self.parts = [it for it in json.load(text) if is_part(it)]
 
-    def now(self):
+    def now(self) -> dict:
         """The part of now. Those that are older than a day are dropped."""
         since = int(time.time()) // SPAN * SPAN
         if not self.parts or self.parts[-1]["since"] < since:
@@ -46,7 +47,7 @@ class Day:
             del self.parts[0]
         return self.parts[-1]
 
-    def observe(self, seen):
+    def observe(self, seen: Seen) -> None:
         if seen.route in UNCOUNTED:
             return
         part, caller, is_read = self.now(), seen.request.get("caller"), seen.request.method in READ
@@ -61,7 +62,7 @@ class Day:
                 sums[key] += value
         part["slowest"] = max(part["slowest"], seen.seconds)
 
-    def save(self):
+    def save(self) -> None:
         """Writes the file, whole or not at all. What can't be written is lost at a restart."""
         with contextlib.suppress(OSError):
             with open(f"{self.file}.new", "w", encoding="ascii",
@@ -69,14 +70,14 @@ class Day:
                 json.dump(self.parts, out)
             os.rename(f"{self.file}.new", self.file)
 
-    def spans(self):
+    def spans(self) -> list[dict]:
         """The parts of the whole day, also those without a request, the oldest first."""
         last = self.now()["since"]
         found = {it["since"]: it for it in self.parts}
         times = [last - SPAN * at for at in reversed(range(PARTS))]
         return [found.get(it) or empty(it) for it in times]
 
-    def together(self, key):
+    def together(self, key: str) -> list[tuple[str, dict]]:
         """The sums of the day by route or by user, those with most requests first."""
         found = collections.defaultdict(lambda: dict.fromkeys(SUMS, 0))
         for part in self.parts:
@@ -85,7 +86,7 @@ class Day:
                     found[name][word] += sums[word]
         return sorted(found.items(), key=lambda it: (-it[1]["requests"], it[0]))
 
-    def sums(self):
+    def sums(self) -> dict:
         parts = self.spans()
         found = {word: sum(it["sums"][word] for it in parts) for word in SUMS}
         return found | {"slowest": max(it["slowest"] for it in parts)}

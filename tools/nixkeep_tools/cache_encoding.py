@@ -31,7 +31,7 @@ def tag_of(digest):
     return f"{digest}-zstd"
 
 
-def tag_kept(request, digest):
+def tag_kept(request: web.Request, digest: str) -> str | None:
     """The tag by which a client has the archive already, or None."""
     tags = [digest, *([tag_of(digest)] if accepts(request) else [])]
     return next((it.value for it in request.if_none_match or () if it.value in tags), None)
@@ -41,7 +41,7 @@ def packed(data):
     return zstandard.ZstdCompressor(level=LEVEL).compress(data)
 
 
-async def encoded(request, answer, digest):
+async def encoded(request: web.Request, answer: web.Response, digest: str) -> web.Response:
     """The reply with an archive, compressed where the client reads that and it saves something. HEAD has the head of
     the archive as it is, whose length is known without it."""
     if request.method != "GET" or answer.status != 200 or len(answer.body) < LEAST or not accepts(request):

@@ -5,6 +5,8 @@ import itertools
 
 from aiohttp import web
 
+from .cache_http import Handler
+
 # The seconds in which requests that have come are answered, which an exchange with the server may take, and those in
 # which a client that has just connected sends its request.
 FINISH, LINGER = 300, 0.2
@@ -22,30 +24,30 @@ class Ending:
     """Counts the requests that are being answered. Once the end has begun each reply closes its connection."""
 
     def __init__(self):
-        self.running, self.has_begun, self.is_idle = {}, False, asyncio.Event()
+        self.running, self.begun, self.is_idle = {}, asyncio.Event(), asyncio.Event()
         self.is_idle.set()
 
     @web.middleware
-    async def counted(self, request, handler):
+    async def counted(self, request: web.Request, handler: Handler) -> web.StreamResponse:
         self.running[id(request)] = request
         self.is_idle.clear()
         try:
             answer = await handler(request)
         finally:
             self.left(id(request))
-        if self.has_begun:
+        if self.begun.is_set():
             answer.force_close()
         return answer
 
-    def left(self, key):
+    def left(self, key: int) -> None:
         """Says that a request is waited for no more."""
         self.running.pop(key, None)
         if not self.running:
             self.is_idle.set()
 
-    async def begin(self, _):
+    async def begin(self, _: web.Application) -> None:
         """Waits for what is on its way. aiohttp would cut off a body that hasn't come whole."""
-        self.has_begun = True
+        self.begun.set()
         await asyncio.sleep(LINGER)
         cutting = asyncio.ensure_future(self.cut_slow())
         with contextlib.suppress(TimeoutError):
@@ -53,7 +55,7 @@ class Ending:
                 await self.is_idle.wait()
         cutting.cancel()
 
-    async def cut_slow(self):
+    async def cut_slow(self) -> None:
         """Closes the connections of slow clients, since all others wait for the next start. The archives that a fast
         one takes may be of any size, so it loses its connection as well, but later: Nix asks for the rest then."""
         for look in itertools.count(1):

@@ -2,15 +2,19 @@
 import asyncio
 import collections
 import contextlib
+from collections.abc import AsyncIterator, Awaitable, Callable
 
 from aiohttp import web
 
 from . import nar
-from .cache_room import Room
+from .cache_room import Held, Room
+from .cache_server import Reply
 
 # A row of a part's table: the methods, the form of the target, and the handler, which gets the request and the groups
 # of the form. Targets are matched as they are, as the server does it: a name may have `?` and `=` in it.
 Route = collections.namedtuple("Route", "methods form handler")
+# What a middleware calls to have a request answered.
+Handler = Callable[[web.Request], Awaitable[web.StreamResponse]]
 READ = ("GET", "HEAD")
 # The limit of the server.
 BODY = 20_971_520
@@ -23,36 +27,38 @@ UNKNOWN = nar.LIMIT
 class Answered(Exception):
     """What isn't done, with the reply that says so."""
 
-    def __init__(self, reply):
+    def __init__(self, reply: web.Response):
         super().__init__(reply.text.strip())
         self.reply = reply
 
 
-def told(error):
+def shown(error: Exception | str) -> str:
     """What a client gets of an error: nothing of where this machine has its files."""
-    return (error.strerror or type(error).__name__) if isinstance(error, OSError) else error
+    return (error.strerror or type(error).__name__) if isinstance(error, OSError) else str(error)
 
 
-def reply(status, text, kind="text/plain", keep="no-store", **fields):
+def reply(status: int, text: str | bytes, kind: str = "text/plain", keep: str = "no-store",
+          **fields: str) -> web.Response:
     """A reply with a text whose end is known; `keep` says how long caches may have it."""
-    data = text.encode() if isinstance(text, str) else text
+    # (a target that is repeated may have bytes that are no text)
+    data = text.encode("utf-8", "backslashreplace") if isinstance(text, str) else text
     return web.Response(status=status, body=data, headers={"content-type": kind, "cache-control": keep, **fields})
 
 
-def passed(answer, kind=None, keep="no-store"):
+def passed(answer: Reply, kind: str | None = None, keep: str = "no-store") -> web.Response:
     """A reply of the server's. Only what was done may be kept."""
     if answer.status != 200:
         return reply(answer.status, answer.text)
     return reply(200, answer.text, kind or answer.kind, keep)
 
 
-def is_gone(request):
+def is_gone(request: web.Request) -> bool:
     """Whether the client of a request has closed its connection, which doesn't end the request."""
     return not request.transport or request.transport.is_closing()
 
 
 @contextlib.asynccontextmanager
-async def of_client(request, idle):
+async def of_client(request: web.Request, idle: float) -> AsyncIterator[None]:
     """While the client of a request is waited for, `idle` seconds at most. Raises TimeoutError."""
     request["waits"] = True
     try:
@@ -62,7 +68,7 @@ async def of_client(request, idle):
         request["waits"] = False
 
 
-async def pieces(request, idle):
+async def pieces(request: web.Request, idle: float) -> AsyncIterator[bytes]:
     """Yields the body piece by piece. Raises TimeoutError for a client that is silent for `idle` seconds."""
     while True:
         async with of_client(request, idle):
@@ -72,7 +78,7 @@ async def pieces(request, idle):
         yield piece
 
 
-async def body(request, most, idle, held=None):
+async def body(request: web.Request, most: int, idle: float, held: Held | None = None) -> bytes | None:
     """The body whole, or None if it is longer than `most` bytes. `held` is the room that it has, if it has any."""
     found = bytearray()
     if (request.content_length or 0) > most:
@@ -91,17 +97,17 @@ async def body(request, most, idle, held=None):
 class Sending(Room):
     """Replies on their way, of which at most `most` bytes are in memory. A client may be silent for `idle` seconds."""
 
-    def __init__(self, most, idle):
+    def __init__(self, most: int, idle: float):
         super().__init__(most)
         self.idle = idle
 
     @contextlib.asynccontextmanager
-    async def reserved(self, request, is_much=True):
+    async def reserved(self, request: web.Request, is_much: bool = True) -> AsyncIterator[None]:
         """Room for a reply that the server makes meanwhile, and that may be large. It is sent in this."""
         async with self.taken(request, UNKNOWN if is_much else 0, True) as request["room"]:
             yield
 
-    async def room(self, request, answer):
+    async def room(self, request: web.Request, answer: web.Response) -> None:
         """Waits until there is room for a reply, and takes it, for the `send` that follows."""
         size, held = len(answer.body) if len(answer.body) > LARGE else 0, request.get("room")
         if held:
@@ -109,7 +115,7 @@ class Sending(Room):
         elif size:
             request["room"] = await self.take(request, size)
 
-    async def send(self, request, answer):
+    async def send(self, request: web.Request, answer: web.Response) -> web.StreamResponse:
         """Sends a reply that has room. A large one goes in pieces, and its client may be silent for `idle` seconds at
         each."""
         held = request.get("room")
@@ -120,7 +126,7 @@ class Sending(Room):
             if held:
                 self.give(held)
 
-    async def stream(self, request, answer, held):
+    async def stream(self, request: web.Request, answer: web.Response, held: Held) -> web.StreamResponse:
         text, transport = memoryview(answer.body), request.transport
         sent = web.StreamResponse(status=answer.status, headers=answer.headers)
         sent.content_length = len(text)

@@ -1,15 +1,21 @@
 """Objects with large archives, as nixkeep-cache takes and serves them: a pointer in the store, and a blob."""
 import re
 import time
+from collections.abc import AsyncIterable, AsyncIterator
 
 from aiohttp import web
 
 from . import blob_reading, cache_changes, cache_records, paths, pointers
 from .blob_packing import Packed
 from .cache_archives import BYTES, DIGITS
-from .cache_blobs import missing
-from .cache_http import BODY, READ, Answered, Route, passed, pieces, reply
+from .cache_blobs import Blobs, missing
+from .cache_http import BODY, READ, Answered, Route, is_gone, passed, pieces, reply
+from .cache_pointers import Pointers
 from .cache_records import Bad
+from .cache_server import Caller, Reply
+from .cache_stored import Stored
+from .cache_turns import Turns
+from .cache_waiting import Waiting
 from .cache_who import class_of
 
 # Archives in blobs have addresses of their own, since a proxy needn't keep them.
@@ -42,8 +48,8 @@ def with_hash(head, archive):
 
 def said(head, key):
     """What a line of an import's head says, or ''."""
-    found = re.search(rf"^{key}: (.*)$", head.decode("latin-1"), re.M)
-    return found[1] if found else ""
+    match = re.search(rf"^{key}: (.*)$", head.decode("latin-1"), re.M)
+    return match[1] if match else ""
 
 
 def form_for(request):
@@ -55,11 +61,11 @@ class Large:
     """`least` is the largest archive that the store itself keeps. `arrived` has the uploaded files whose blobs wait for
     their records. `uploads` imports, and `passing` has the store's own requests."""
 
-    def __init__(self, blobs, found, least, arrived, store):
-        self.blobs, self.pointers, self.least, self.arrived, self.store = blobs, found, least, arrived, store
-        self.server, self.uploads, self.passing = found.server, None, None
+    def __init__(self, blobs: Blobs, lookup: Pointers, least: int, arrived: Stored, store: str):
+        self.blobs, self.pointers, self.least, self.arrived, self.store = blobs, lookup, least, arrived, store
+        self.server, self.uploads, self.passing, self.turns = lookup.server, None, None, Turns()
 
-    def routes(self):
+    def routes(self) -> list[Route]:
         return [
             Route(READ, ARCHIVE, self.archive),
             Route(READ, OWN, self.own),
@@ -74,7 +80,7 @@ class Large:
         if (await class_of(self.server, caller))[0] != "trusted":
             raise Answered(reply(403, "denied: trusted-import\n"))
 
-    async def is_arrived(self, name):
+    async def is_arrived(self, name: str) -> bool:
         """Whether an uploaded file is a blob."""
         word = self.arrived.base(name)
         if not word:
@@ -83,7 +89,7 @@ class Large:
         self.blobs.relied[digest] = time.time()
         return await self.blobs.size(digest) is not None
 
-    async def take(self, caller, name, given):
+    async def take(self, caller: Caller, name: str, given: AsyncIterable[bytes]) -> None:
         """Makes an archive that comes in pieces a blob, which waits for its record. Raises Bad."""
         digits = cache_records.file_named(name)
         await self.demand_trust(caller)
@@ -93,13 +99,13 @@ class Large:
                 raise Bad(f"nar/{name} has another SHA-256: {paths.nar_hash(made.sent)}")
             self.arrived.add(name, word_of(await self.kept(caller, part, made)))
 
-    async def kept(self, caller, part, made):
+    async def kept(self, caller: Caller, part: str, made: Packed) -> Packed:
         """Makes a file a blob, which counts for its user until an object names it or a sweep deletes it."""
         made = await self.blobs.keep(part, made)
         self.uploads.shares.add(caller.user, paths.base32(made.nar_hash), made.file_size)
         return made
 
-    async def is_large(self, caller, name, record, waiting):
+    async def is_large(self, caller: Caller, name: str, record: dict[str, str], waiting: Waiting) -> bool:
         """Whether the archive of a record is a blob. One that waits as a file becomes one, if it unpacks to more than
         the store itself keeps."""
         if await self.is_arrived(name):
@@ -112,7 +118,7 @@ class Large:
         await self.take(caller, name, again(waiting.read(name)))
         return True
 
-    async def recorded(self, caller, name, record, head):
+    async def recorded(self, caller: Caller, name: str, record: dict[str, str], head: bytes) -> web.Response:
         """The reply to the record of an archive that is a blob. Raises Bad."""
         made, base = read_word(self.arrived.base(name)), record["StorePath"].rpartition("/")[2]
         if record["NarHash"] != paths.nar_hash(made.nar_hash) or record.get("NarSize", str(made.nar_size)) != str(
@@ -120,7 +126,7 @@ class Large:
             raise Answered(reply(400, MISMATCH))
         return await self.imported(caller, base, head, made)
 
-    async def imported(self, caller, base, head, made):
+    async def imported(self, caller: Caller, base: str, head: bytes, made: Packed) -> web.Response:
         """The reply to an import of a pointer to a blob. The blob is there when the pointer comes, and no sweep deletes
         it meanwhile. Raises Bad."""
         pointer = pointers.Pointer(paths.full(base, self.store), *made[1:])
@@ -133,7 +139,7 @@ class Large:
             answer = await self.uploads.imported(caller, base, given, made.nar_size, name)
         return passed(answer) if answer.status != 200 else await self.checked(caller, base, pointer, answer)
 
-    async def checked(self, caller, base, pointer, answer):
+    async def checked(self, caller: Caller, base: str, pointer: pointers.Pointer, answer: Reply) -> web.Response:
         """The reply to an import that was done. An object that was there before stays as it is, also where it is a
         pointer to another file of the same archive."""
         _, there = await self.pointers.at(caller, base)
@@ -142,7 +148,7 @@ class Large:
                               "delete the path, and upload it again\n")
         return passed(answer)
 
-    async def import_(self, request):
+    async def import_(self, request: web.Request) -> web.StreamResponse:
         """The store's own import. A large archive becomes a blob."""
         if (request.content_length or 0) <= BODY:
             return await self.passing.request(request, self.import_whole)
@@ -162,7 +168,7 @@ class Large:
         self.refuse_pointer(said(head, "ca"), said(head, "path"), archive)
         return None
 
-    def refuse_pointer(self, address, path, archive):
+    def refuse_pointer(self, address: str | bool, path: str, archive: bytes) -> None:
         """Raises Answered for an archive that would be a pointer: what is read at a path is what was added there."""
         if not address and pointers.read(archive, paths.full(path.rpartition("/")[2], self.store)):
             raise Answered(reply(403, POINTER))
@@ -186,7 +192,7 @@ class Large:
 
     # ---- what is served
 
-    async def record(self, request, base, text):
+    async def record(self, request: web.Request, base: str, text: bytes) -> tuple[bytes | None, web.Response | None]:
         """The text of a record as clients get it, and None or the reply where its blob is gone. A record of a pointer
         has the hash and the size of the archive."""
         text, pointer = await self.pointers.of(request["caller"], base, text)
@@ -198,13 +204,13 @@ class Large:
             return None, reply(404, answer.body)
         return real(text, pointer, base, form_for(request)), None
 
-    async def archive(self, request, digest, form, base):
+    async def archive(self, request: web.Request, digest: str, form: str, base: str) -> web.StreamResponse:
         _, pointer = await self.pointers.at(request["caller"], base)
         if not pointer or paths.base32(pointer.nar_hash) != digest:
             return reply(404, "the path has other contents\n")
         return await self.blobs.send(request, pointer, form)
 
-    async def own(self, request, kind, base):
+    async def own(self, request: web.Request, kind: str, base: str) -> web.StreamResponse:
         """The store's own record and archive of a pointer are those of what it names."""
         answer = await self.passing.request(request)
         if kind == "nar" and len(getattr(answer, "body", None) or b"") != pointers.SIZE or answer.status != 200:
@@ -214,21 +220,26 @@ class Large:
             return answer
         return await self.blobs.send(request, pointer, "none") if kind == "nar" else reply(200, real(text, pointer))
 
-    async def uploaded(self, request, name, base):
+    async def uploaded(self, request: web.Request, name: str, base: str) -> web.StreamResponse | None:
         """The reply with the archive of a pointer as a client has uploaded it, or None for another object."""
         _, pointer = await self.pointers.at(request["caller"], base)
         if not pointer:
             return None
         if not name.endswith(".xz"):
             return await self.blobs.send(request, pointer, "zstd" if name.endswith(".zst") else "none")
-        given = blob_reading.pieces(self.blobs.place, paths.base32(pointer.nar_hash), pointer, "none")
+        blob = paths.base32(pointer.nar_hash)
+        given = blob_reading.pieces(self.blobs.place, blob, pointer, "none")
         answer = web.StreamResponse(headers={"content-type": BYTES})
-        return await self.blobs.streamed(request, blob_reading.as_xz(given), answer)
+        return await self.blobs.streamed(request, blob_reading.as_xz(given), answer, blob)
 
-    async def listing(self, request):
+    async def listing(self, request: web.Request) -> web.Response:
         """All pointers, a line each: the path, and the hashes and sizes of the archive and of its file."""
         caller = request["caller"]
-        found = await self.pointers.among(caller, await self.pointers.listed(caller))
+        # (one is made at a time, and users take turns: each has the names of all objects in memory)
+        async with self.turns.turn(caller.user):
+            if is_gone(request):
+                return reply(503, "the client has left\n")
+            found = await self.pointers.among(caller, await self.pointers.listed(caller))
         lines = [f"{it.path} {paths.nar_hash(it.nar_hash)} {it.nar_size} {paths.nar_hash(it.file_hash)} {it.file_size}"
                  for _, it in sorted(found.items())]
         return reply(200, "".join(f"{it}\n" for it in lines))
@@ -253,7 +264,7 @@ async def again(first, given=None):
             yield piece
 
 
-async def head_of(given):
+async def head_of(given: AsyncIterator[bytes]) -> tuple[bytes | None, bytes]:
     """The head of an import with its empty line, and what was read of the archive; None for a head that is too long."""
     found = bytearray()
     async for piece in given:

@@ -1,6 +1,7 @@
 """A limit for the file of a store: what a running server accepts, it has to open at its next start."""
 import sys
 import time
+from collections.abc import Callable
 
 from . import store_size
 
@@ -19,7 +20,7 @@ class Full(Exception):
     """An add that isn't accepted, with the text of the reply."""
 
 
-def usual():
+def usual() -> int | None:
     """The limit where none is asked for: a part of what this service's memory opens, or None without a limit of it."""
     limit = store_size.memory()
     return None if limit is None else int(ACCEPTED * store_size.opened_with(limit))
@@ -29,11 +30,11 @@ class Limit:
     """A limit of `most` bytes for a file. None is no limit. `had` returns the bytes of memory that its server has now,
     or None."""
 
-    def __init__(self, file, most, had=lambda: None):
+    def __init__(self, file: str | None, most: int | None, had: Callable[[], int | None] = lambda: None):
         self.file, self.most, self.used, self.coming, self.looked, self.warned = file, most, 0, 0, -LOOK, -AGAIN
         self.had, self.memory = had, store_size.memory()
 
-    def check(self, size, is_add=True):
+    def check(self, size: int, is_add: bool = True) -> None:
         """Counts `size` bytes that come. Raises Full where there is no room for them."""
         if self.memory is not None and (has := self.had() or 0) > HAD * self.memory:
             raise Full(f"failed: full the server has {has} of {self.memory} bytes of memory: drop roots, collect, and "
@@ -50,11 +51,11 @@ class Limit:
             raise Full(f"failed: full {self.used} of {self.most} bytes are used: drop roots, and collect\n")
         self.coming += size
 
-    def is_near(self):
+    def is_near(self) -> bool:
         """Whether the file is nearly as large as it may be."""
         return self.most is not None and self.used > WARNED * self.most
 
-    def figures(self):
+    def figures(self) -> tuple[int | None, int | None]:
         """The bytes of the file, and its limit; each None where it isn't known."""
         if not self.file:
             return None, None
@@ -62,7 +63,7 @@ class Limit:
             self.look()
         return self.used, self.most
 
-    def look(self):
+    def look(self) -> None:
         """Looks at the file, and warns where it is nearly as large as it may be."""
         self.looked, self.coming = time.monotonic(), 0
         try:

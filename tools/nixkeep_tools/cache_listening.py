@@ -9,7 +9,7 @@ DEFAULT = ("127.0.0.1", 8081)
 FIRST = 3
 
 
-def place(text):
+def place(text: str) -> tuple[str, int]:
     """HOST:PORT as a pair."""
     host, colon, port = text.rpartition(":")
     if not (host and port.isdigit()):
@@ -17,7 +17,7 @@ def place(text):
     return host, int(port)
 
 
-def listening(text):
+def listening(text: str) -> str | tuple[str, int]:
     return text if text.startswith("/") else place(text)
 
 
@@ -33,7 +33,7 @@ def passed():
     return found
 
 
-def where(asked):
+def where(asked: str | tuple[str, int] | None) -> dict:
     """What aiohttp is to listen on: the place that was asked for, else the sockets passed, else the usual port."""
     given = passed()
     if asked is None and given:
@@ -42,12 +42,12 @@ def where(asked):
     return {"path": asked} if isinstance(asked, str) else {"host": asked[0], "port": asked[1]}
 
 
-def removed(where):
+def removed(where: dict) -> None:
     """Deletes a Unix socket that was made here. One that was passed stays, with the clients that wait at it."""
     if "path" in where:
         with contextlib.suppress(FileNotFoundError):
             os.unlink(where["path"])
 
 
-def is_loopback(where):
+def is_loopback(where: dict) -> bool:
     return where.get("host") in ("127.0.0.1", "::1", "localhost")

@@ -3,8 +3,11 @@ can have a listing of gigabytes, which would fill the memory of all."""
 import asyncio
 import re
 
+from aiohttp import web
+
 from . import nar
-from .cache_http import Answered, is_gone, reply
+from .cache_http import READ, Answered, is_gone, passed, reply
+from .cache_server import Server
 from .cache_turns import Turns
 
 TARGET = re.compile(r"/ls/(.*)")
@@ -28,20 +31,21 @@ def is_long(archive):
 
 
 class Listings:
-    def __init__(self, server):
+    def __init__(self, server: Server):
         self.server, self.turns = server, Turns()
 
-    async def demand(self, request):
-        """Raises Answered for a listing that is too long. One archive is looked at at a time, and users take turns."""
-        found, caller = TARGET.fullmatch(request.raw_path), request["caller"]
-        if not found:
+    async def demand(self, request: web.Request) -> None:
+        """Raises Answered for a listing that is too long, and where there is no archive: one that its user adds right
+        after this look has any listing. One archive is looked at at a time, and users take turns."""
+        match, caller = TARGET.fullmatch(request.raw_path), request["caller"]
+        if not match or request.method not in READ:
             return
         async with self.turns.turn(caller.user):
             if is_gone(request):
                 raise Answered(reply(503, "the client has left\n"))
-            answer = await self.server.ask(caller, "GET", f"/nar/{found[1]}")
+            answer = await self.server.ask(caller, "GET", f"/nar/{match[1]}")
             if answer.status != 200:
-                # (the server says of a listing what is wrong)
-                return
+                # (the server says the same of a listing)
+                raise Answered(passed(answer))
             if await asyncio.get_running_loop().run_in_executor(None, is_long, answer.text):
                 raise Answered(reply(503, "failed: size the listing is longer than an archive may be\n"))

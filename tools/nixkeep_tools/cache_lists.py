@@ -3,6 +3,7 @@ import contextlib
 import os
 import sqlite3
 import sys
+from collections.abc import Iterable
 
 
 # The connections to lists, which are closed at the end.
@@ -13,7 +14,7 @@ def warn(text):
     print(f"nixkeep-cache: warning: {text}", file=sys.stderr, flush=True)
 
 
-def opened(file, table):
+def opened(file: str, table: str) -> sqlite3.Connection:
     """A connection to the list in a file, whose table is made where it isn't there. The store doesn't depend on a list:
     one that is damaged is set aside and begun anew, and one that can't be used is in memory until the next start."""
     create(file)
@@ -51,14 +52,14 @@ def connected(file, table):
         raise
 
 
-def close():
+def close() -> None:
     """Closes all lists, so that each is one file."""
     while OPENED:
         with contextlib.suppress(sqlite3.Error):
             OPENED.pop().close()
 
 
-def add(conn, statement, row):
+def add(conn: sqlite3.Connection, statement: str, row: tuple) -> bool:
     """Adds a row, and returns whether it is new. What can't be written is left out, and a line says so."""
     try:
         return conn.execute(statement, row).rowcount > 0
@@ -67,14 +68,16 @@ def add(conn, statement, row):
         return False
 
 
-def delete(conn, statement, rows):
-    """Deletes rows in one transaction. What can't be deleted stays, and a line says so: it is tried at the next
-    listing."""
+def delete(conn: sqlite3.Connection, statement: str, rows: Iterable[tuple]) -> bool:
+    """Deletes rows in one transaction, and returns whether it did. What can't be deleted stays, and a line says so: it
+    is tried at the next listing."""
     try:
         conn.execute("BEGIN")
         conn.executemany(statement, rows)
         conn.execute("COMMIT")
+        return True
     except sqlite3.Error as error:
         warn(f"rows of a list stay: {error}")
         if conn.in_transaction:
             conn.execute("ROLLBACK")
+        return False

@@ -1,11 +1,19 @@
 """Figures for Prometheus: /metrics."""
+import asyncio
 import os
 import re
 import time
 
+from aiohttp import web
+
 from . import backup_folder
+from .cache_counts import Figures
 from .cache_http import READ, Route, reply
-from .cache_watching import method_of
+from .cache_limit import Limit
+from .cache_server import Server
+from .cache_turns import Turns
+from .cache_waiting import Waiting
+from .cache_watching import Seen, Watching, method_of
 
 try:
     # (else each figure has another one, of the time of its first use)
@@ -20,8 +28,8 @@ TARGET = re.compile(r"/metrics")
 BOUNDS = (0.005, 0.02, 0.1, 0.5, 2, 10, 60, 300)
 
 
-def is_asked(request):
-    return request.method in READ and TARGET.fullmatch(request.raw_path)
+def is_asked(request: web.Request) -> bool:
+    return request.method in READ and TARGET.fullmatch(request.raw_path) is not None
 
 
 class Metrics:
@@ -29,7 +37,7 @@ class Metrics:
     where there is none. A name ends with `_total` where the value only rises. Other parts add theirs."""
 
     def __init__(self):
-        self.sources = []
+        self.sources, self.turns = [], Turns()
         if not prometheus_client:
             return
         self.registry = registry = prometheus_client.CollectorRegistry()
@@ -44,10 +52,10 @@ class Metrics:
         self.lookups = made(counter, "lookups", "Records that were asked for, by whether they were found.", ["found"])
         registry.register(self)
 
-    def routes(self):
+    def routes(self) -> list[Route]:
         return [Route(READ, TARGET, self.page)]
 
-    def observe(self, seen):
+    def observe(self, seen: Seen) -> None:
         if not prometheus_client:
             return
         labels = method_of(seen.request), seen.route
@@ -70,13 +78,16 @@ class Metrics:
     def describe(self):
         return []
 
-    async def page(self, _):
+    async def page(self, request: web.Request) -> web.Response:
         if not prometheus_client:
             return reply(404, "the metrics need the Debian package python3-prometheus-client\n")
-        return reply(200, prometheus_client.generate_latest(self.registry), prometheus_client.CONTENT_TYPE_LATEST)
+        # (one at a time, so that between two of them other requests go on)
+        async with self.turns.turn(request["caller"].user):
+            await asyncio.sleep(0)
+            return reply(200, prometheus_client.generate_latest(self.registry), prometheus_client.CONTENT_TYPE_LATEST)
 
 
-def of_backup(file):
+def of_backup(file: str | None) -> Figures:
     """A source: the times of the last copy that succeeded and the last that failed, by the state in a file."""
 
     def figures():
@@ -92,7 +103,7 @@ def of_backup(file):
     return figures
 
 
-def of_cache(server, watching, limit, waiting):
+def of_cache(server: Server, watching: Watching, limit: Limit, waiting: Waiting) -> Figures:
     """A source: what goes on now."""
 
     def figures():

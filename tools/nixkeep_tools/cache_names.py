@@ -1,5 +1,8 @@
 """The store's paths by their 32 digits, which is how clients of a binary cache ask for them."""
 import time
+from collections.abc import Callable, Iterable
+
+from .cache_server import Caller, Reply, Server
 
 
 class Names:
@@ -11,39 +14,39 @@ class Names:
     with the base names of each listing.
     """
 
-    def __init__(self, server, every, followers=()):
+    def __init__(self, server: Server, every: float, followers: Iterable[Callable[[list[str]], object]] = ()):
         self.server, self.every, self.followers = server, every, followers
-        self.found, self.twins, self.connection, self.listed = {}, set(), None, 0
+        self.bases, self.twins, self.connection, self.listed = {}, set(), None, 0
 
-    async def base(self, caller, digits):
+    async def base(self, caller: Caller, digits: str) -> tuple[str | None, Reply | None]:
         """The first base name with these digits or None, and the reply of a server that doesn't list its paths or
         None."""
-        is_old = digits not in self.found and time.monotonic() - self.listed > self.every
+        is_old = digits not in self.bases and time.monotonic() - self.listed > self.every
         if is_old or self.connection != self.server.connections:
             reply = await self.server.ask(caller, "GET", "/paths")
             if reply.status != 200:
                 return None, reply
-            self.found.clear()
+            self.bases.clear()
             self.twins.clear()
             self.added(reply.text)
             for it in self.followers:
                 it([line.rpartition("/")[2] for line in reply.text.decode().splitlines()])
             self.connection, self.listed = self.server.connections, time.monotonic()
-        return self.found.get(digits), None
+        return self.bases.get(digits), None
 
-    def added(self, text):
+    def added(self, text: bytes) -> None:
         """Follows a reply that names paths which are there, one a line."""
         for line in text.decode().splitlines():
             base = line.rpartition("/")[2]
-            other = self.found.setdefault(base[:32], base)
+            other = self.bases.setdefault(base[:32], base)
             if other != base:
-                self.found[base[:32]] = min(base, other)
+                self.bases[base[:32]] = min(base, other)
                 self.twins.add(base[:32])
 
-    def deleted(self, text):
+    def deleted(self, text: bytes) -> None:
         """Follows a reply that names the paths which have been deleted, one a line."""
         for line in text.decode().splitlines():
             digits = line.rpartition("/")[2][:32]
-            self.found.pop(digits, None)
+            self.bases.pop(digits, None)
             if digits in self.twins:
                 self.connection = None

@@ -71,7 +71,7 @@ def parser():
     return asked
 
 
-def read(words):
+def read(words: list[str]) -> argparse.Namespace:
     """The words of the command line, with what follows from them."""
     asked = parser()
     said = asked.parse_args(words)

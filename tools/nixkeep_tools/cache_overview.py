@@ -2,10 +2,15 @@
 import asyncio
 import re
 import urllib.parse
+from collections.abc import Callable, Sequence
 from concurrent.futures import ThreadPoolExecutor
+from typing import Any
+
+from aiohttp import web
 
 from . import overview, overview_source
-from .cache_http import READ, Answered, Route, passed, reply
+from .cache_http import READ, Answered, Route, Sending, passed, reply
+from .cache_server import Caller, Server
 from .cache_turns import Turns
 
 try:
@@ -26,16 +31,17 @@ class Overviews:
     """Figures are made once for all who ask meanwhile, and one at a time. A client waits for them for `longest`
     seconds. `name` is what people call the store."""
 
-    def __init__(self, server, store, keeps, sending, name, longest=60):
+    def __init__(self, server: Server, store: str, keeps: Sequence[bool], sending: Sending, name: str | None,
+                 longest: float = 60):
         self.store, self.keeps, self.sending, self.name, self.longest = store, keeps, sending, name, longest
         self.records, self.turn, self.made = overview_source.Records(server, keeps[0]), asyncio.Lock(), {}
         # (threads of its own, since archives need the others; and one page at a time, for which users take turns)
         self.threads, self.pages = ThreadPoolExecutor(THREADS, "overview"), Turns()
 
-    def routes(self):
+    def routes(self) -> list[Route]:
         return [Route(READ, PAGE, self.page)]
 
-    async def page(self, request, query):
+    async def page(self, request: web.Request, query: str | None) -> web.StreamResponse:
         """A page of who keeps how much, or of why one path is kept; as this caller sees the store's roots."""
         if not overview_page:
             return reply(404, "the overview needs the Debian package python3-jinja2\n")
@@ -53,7 +59,7 @@ class Overviews:
         await self.sending.room(request, answer)
         return await self.sending.send(request, answer)
 
-    def figures(self, caller):
+    def figures(self, caller: Caller) -> asyncio.Task:
         """The Overview of a caller, as a task: the one that is under way or fresh, else a new one."""
         now, kept = asyncio.get_running_loop().time(), self.made.get(caller)
         if kept and (not kept[0].done() or kept[1] > now):
@@ -66,7 +72,7 @@ class Overviews:
         made.add_done_callback(lambda it: self.finish(caller, it))
         return made
 
-    def finish(self, caller, made):
+    def finish(self, caller: Caller, made: asyncio.Task) -> None:
         """Figures are fresh from their end on. What failed is made again."""
         if self.made.get(caller, (None,))[0] is made:
             del self.made[caller]
@@ -79,7 +85,7 @@ class Overviews:
             self.make_room(len(store.objects), len(store.roots))
             return await self.apart(overview.Overview, store, *self.keeps, live)
 
-    def make_room(self, objects, roots):
+    def make_room(self, objects: int, roots: int) -> None:
         """Forgets the figures of others where those of one user take much. Raises Answered where they take too much."""
         if objects * roots > MOST:
             text = f"the overview of {objects} objects and {roots} roots takes too much memory: drop roots\n"
@@ -87,6 +93,6 @@ class Overviews:
         if objects * roots > MOST // USERS:
             self.made = {key: it for key, it in self.made.items() if not it[0].done()}
 
-    async def apart(self, work, *words):
+    async def apart(self, work: Callable, *words: Any) -> Any:
         """What takes long is done in a thread, so that other clients are served meanwhile."""
         return await asyncio.get_running_loop().run_in_executor(self.threads, work, *words)

@@ -1,12 +1,18 @@
 """The store's own requests, which nixkeep-cache passes to the server as they are."""
 import re
+from collections.abc import Awaitable, Callable
+
+from aiohttp import web
 
 from . import cache_changes
-from .cache_http import BODY, LARGE, Route, body, passed, reply
+from .cache_http import BODY, LARGE, Route, Sending, body, passed, reply
+from .cache_limit import Limit
 from .cache_listings import Listings
+from .cache_names import Names
 from .cache_room import Room
-from .cache_server import Request
-from .cache_sessions import target as session_of
+from .cache_server import Caller, Reply, Request, Server
+from .cache_sessions import Sessions, target as session_of
+from .cache_shares import Shares
 
 TARGET, METHOD, ANY = re.compile(r"/[!-~]*"), re.compile(r"[A-Z]{1,16}"), re.compile(r".*", re.S)
 ADDS = ("/text", "/source", "/import")
@@ -17,20 +23,23 @@ MUCH = re.compile(r"/(nar|ls)/.*|/(paths|live|dead|roots)")
 COMING = 8 * BODY
 # What makes the store larger in another way.
 GROWS = re.compile(r"/(root|profile|temp)/.*|/runtime")
+# What may answer a request by its caller and its body; None leaves it to the store.
+Look = Callable[[Caller, bytes], Awaitable[web.Response | None]]
 
 
 class Passing:
     """`followers` are called with the text of each deletion that passes."""
 
-    def __init__(self, server, names, sessions, limit, shares, sending, followers, idle):
+    def __init__(self, server: Server, names: Names, sessions: Sessions, limit: Limit, shares: Shares, sending: Sending,
+                 followers: list[Callable[[bytes], object]], idle: float):
         self.server, self.names, self.sessions, self.sending = server, names, sessions, sending
         self.limit, self.shares = limit, shares
         self.followers, self.idle, self.coming, self.listings = followers, idle, Room(COMING), Listings(server)
 
-    def routes(self):
+    def routes(self) -> list[Route]:
         return [Route(None, ANY, self.request)]
 
-    async def request(self, request, look=None):
+    async def request(self, request: web.Request, look: Look | None = None) -> web.StreamResponse:
         """Any other request is the store's own, and its reply too. `look` may answer by its body in the place of the
         store."""
         target, size = request.raw_path, request.content_length or 0
@@ -48,14 +57,14 @@ class Passing:
             made = Request(request["caller"], method, target, given)
             async with self.sending.reserved(request, bool(MUCH.fullmatch(target))):
                 await self.listings.demand(request)
-                answer = passed(await self.asked(made))
+                answer = passed(await self.answered(made))
                 cache_changes.note(request, given, answer.body)
                 if held:
                     self.coming.give(held)
                 await self.sending.room(request, answer)
                 return await self.sending.send(request, answer)
 
-    async def asked(self, request):
+    async def answered(self, request: Request) -> Reply:
         if request.method == "DELETE" and request.target == session_of(request.caller.user):
             self.sessions.forget(request.caller)
         if request.method != "POST":
@@ -71,7 +80,7 @@ class Passing:
                 it(answer.text)
         return answer
 
-    async def added(self, request):
+    async def added(self, request: Request) -> Reply:
         """The reply to an add."""
         user, size = request.caller.user, len(request.body)
         with self.shares.room(user, size):

@@ -3,7 +3,7 @@ import collections
 
 from . import pointers
 from .overview_source import Denied
-from .cache_server import Request
+from .cache_server import Caller, Request, Server
 
 # The pointers that are remembered at most.
 MOST = 100_000
@@ -17,15 +17,15 @@ def fields(text):
 class Pointers:
     """What was read once is remembered by the hash of its archive, which says all."""
 
-    def __init__(self, server):
+    def __init__(self, server: Server):
         self.server, self.known = server, collections.OrderedDict()
 
-    async def of(self, caller, base, text):
+    async def of(self, caller: Caller, base: str, text: bytes) -> tuple[bytes, pointers.Pointer | None]:
         """The record of an object, and its Pointer or None. `text` is the record as the server has just given it."""
-        found = fields(text)
-        if not pointers.may_be(int(found["NarSize"]), found.get("CA")):
+        values = fields(text)
+        if not pointers.may_be(int(values["NarSize"]), values.get("CA")):
             return text, None
-        key = found["StorePath"], found["NarHash"]
+        key = values["StorePath"], values["NarHash"]
         if key in self.known:
             return text, self.known[key]
         # (asked together, so that no other request comes between)
@@ -34,32 +34,31 @@ class Pointers:
         for it in (record, archive):
             if it.status != 200:
                 raise Denied(it)
-        found = fields(record.text)
-        made = pointers.read(archive.text, found["StorePath"]) if not found.get("CA") else None
-        self.known[found["StorePath"], found["NarHash"]] = made
+        values = fields(record.text)
+        made = pointers.read(archive.text, values["StorePath"]) if not values.get("CA") else None
+        self.known[values["StorePath"], values["NarHash"]] = made
         if len(self.known) > MOST:
             self.known.popitem(last=False)
         return record.text, made
 
-    async def at(self, caller, base):
+    async def at(self, caller: Caller, base: str) -> tuple[bytes, pointers.Pointer | None]:
         """The record of an object, and its Pointer or None. Raises Denied."""
         answer = await self.server.ask(caller, "GET", f"/info/{base}")
         if answer.status != 200:
             raise Denied(answer)
         return await self.of(caller, base, answer.text)
 
-    async def listed(self, caller):
+    async def listed(self, caller: Caller) -> list[str]:
         """The base names of all objects."""
         answer = await self.server.ask(caller, "GET", "/paths")
         if answer.status != 200:
             raise Denied(answer)
         return [line.rpartition("/")[2] for line in answer.text.decode().splitlines()]
 
-    async def among(self, caller, bases):
+    async def among(self, caller: Caller, bases: list[str]) -> dict[str, pointers.Pointer]:
         """The pointers among these objects by base names. Raises Denied."""
         found = {}
-        replies = await self.server.gets(caller, [f"/info/{it}" for it in bases])
-        for base, answer in zip(bases, replies):
+        async for base, answer in self.server.gets(caller, "/info/", bases):
             if answer.status == 404:
                 continue
             if answer.status != 200:

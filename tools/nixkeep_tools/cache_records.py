@@ -23,21 +23,21 @@ class Bad(Exception):
     """An upload that can't be accepted, with the text of the reply."""
 
 
-def file_named(name):
+def file_named(name: str) -> str:
     """The digits of a file's hash. Raises Bad for a name or a compression that isn't known."""
-    found = FILE.fullmatch(name)
-    if not found:
+    match = FILE.fullmatch(name)
+    if not match:
         raise Bad(
             f"nar/{name}: the name has to be the SHA-256 of its file in base 32, .nar, and a suffix of its compression"
         )
-    if (found[2] or "") not in SUFFIXES.values():
+    if (match[2] or "") not in SUFFIXES.values():
         raise Bad(f"nar/{name}: archives come as they are, as .xz or as .zst; ask for compression=none")
-    if found[2] == ".zst" and not zstandard:
+    if match[2] == ".zst" and not zstandard:
         raise Bad(f"nar/{name}: zstd needs the Debian package python3-zstandard here; ask for compression=none")
-    return found[1]
+    return match[1]
 
 
-def fields(text):
+def fields(text: bytes) -> dict[str, str]:
     """The fields of a record. Raises Bad."""
     try:
         lines = [line.partition(":") for line in text.decode("ascii").splitlines() if line]
@@ -50,7 +50,7 @@ def fields(text):
     return found
 
 
-def file_of(record):
+def file_of(record: dict[str, str]) -> str:
     """The name of the archive's file. Raises Bad."""
     folder, _, name = record["URL"].rpartition("/")
     compression = record.get("Compression", "bzip2")
@@ -72,7 +72,7 @@ def is_kept(address, base, references):
     return base not in references
 
 
-def import_head(record, digits, store):
+def import_head(record: dict[str, str], digits: str, store: str) -> bytes:
     """The lines of an import's body before the archive. Raises Bad."""
     try:
         base = paths.base_name(record["StorePath"], store)
@@ -90,7 +90,7 @@ def import_head(record, digits, store):
     return "".join(f"{key}: {value}\n" for key, value in lines).encode() + b"\n"
 
 
-def unpacked(name, data):
+def unpacked(name: str, data: bytes) -> bytes:
     """The archive in a file. Raises Bad if it can't be unpacked or is too long; at most a byte beyond the limit is
     unpacked."""
     try:
@@ -108,7 +108,7 @@ def unpacked(name, data):
     return data
 
 
-def packed(name, archive):
+def packed(name: str, archive: bytes) -> bytes:
     """The archive as a file of this name has it: compressed, by its suffix. Raises Bad for a compression that isn't
     there."""
     file_named(name)

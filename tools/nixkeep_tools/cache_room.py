@@ -2,6 +2,9 @@
 import asyncio
 import collections
 import contextlib
+from collections.abc import AsyncIterator
+
+from aiohttp import web
 
 # The seconds after which a client can lose its room to another user's, and those between two looks at that.
 GRACE, LOOK = 5, 1
@@ -11,16 +14,16 @@ class Held:
     """What one client has: `began` and `since` are when it got that, and when it last moved something. It `is_safe`
     while others than the client are at work for it."""
 
-    def __init__(self, request, size):
+    def __init__(self, request: web.Request, size: int):
         self.user, self.transport, self.size = getattr(request.get("caller"), "user", None), request.transport, size
         self.began = self.since = asyncio.get_running_loop().time()
         self.granted, self.is_lost, self.is_safe = asyncio.Event(), False, False
 
-    def moved(self):
+    def moved(self) -> None:
         """Says that the client has moved something, or that it is its turn to do so."""
         self.since, self.is_safe = asyncio.get_running_loop().time(), False
 
-    def abort(self):
+    def abort(self) -> None:
         self.is_lost = True
         if self.transport:
             self.transport.abort()
@@ -32,10 +35,10 @@ class Room:
     is more than what the waiting one would have. So neither clients that don't move, nor the many slow ones of a user,
     hold up other users."""
 
-    def __init__(self, most):
+    def __init__(self, most: int):
         self.most, self.bytes, self.waiting, self.held = most, 0, [], []
 
-    async def take(self, request, size):
+    async def take(self, request: web.Request, size: int) -> Held:
         """Waits until there is room for bytes, which are in memory until `give`. Returns the Held."""
         wanted = Held(request, size)
         self.waiting.append(wanted)
@@ -52,7 +55,7 @@ class Room:
         return wanted
 
     @contextlib.asynccontextmanager
-    async def taken(self, request, size, is_safe=False):
+    async def taken(self, request: web.Request, size: int, is_safe: bool = False) -> AsyncIterator[Held | None]:
         """Room for some bytes; for none there is none to wait for."""
         held = await self.take(request, size) if size else None
         if held:
@@ -63,7 +66,7 @@ class Room:
             if held:
                 self.give(held)
 
-    def give(self, held):
+    def give(self, held: Held) -> None:
         """Gives back what is held or waited for. It may have been given back before."""
         if held in self.held:
             self.held.remove(held)
@@ -72,21 +75,21 @@ class Room:
             self.waiting.remove(held)
         self.grant()
 
-    def resize(self, held, size):
+    def resize(self, held: Held, size: int) -> None:
         """Says how many bytes it is that are held. They may be more than there is room for."""
         if held in self.held:
             self.bytes += size - held.size
             held.size = size
             self.grant()
 
-    def used(self, held):
+    def used(self, held: list[Held]) -> collections.Counter:
         """The bytes of each user among these."""
         found = collections.Counter()
         for it in held:
             found[it.user] += it.size
         return found
 
-    def grant(self):
+    def grant(self) -> None:
         """Gives room to those that wait, as far as there is some."""
         used = self.used(self.held)
         while self.waiting:

@@ -9,8 +9,13 @@ import collections
 import contextlib
 import math
 import re
+from collections.abc import AsyncIterator, Callable, Iterable
+from typing import TYPE_CHECKING
 
 from .cache_turns import Turns
+
+if TYPE_CHECKING:
+    from .cache_child import Child
 
 # `user` and `group` are plain names; `group` may be None.
 Caller = collections.namedtuple("Caller", "user group")
@@ -31,7 +36,7 @@ class Unreachable(Exception):
     """The server couldn't be reached, or the connection ended before its reply."""
 
 
-def message(request):
+def message(request: Request) -> tuple[bytes, bytes]:
     """The head of a request, and its body."""
     caller, method, target, body = request
     fields = ["host: store", f"store-user: {caller.user}", f"content-length: {len(body)}"]
@@ -53,7 +58,7 @@ def sendable(messages):
     yield bytes(small)
 
 
-async def read_reply(reader):
+async def read_reply(reader: asyncio.StreamReader) -> tuple[Reply, bool]:
     """The next reply, and whether the server closes the connection after it."""
     head = (await reader.readuntil(b"\r\n\r\n")).decode("latin-1").split("\r\n")
     fields = dict(line.lower().split(": ", 1) for line in head[1:] if line)
@@ -66,10 +71,10 @@ class Port:
 
     idle, refused = 30, 0
 
-    def __init__(self, host, port):
+    def __init__(self, host: str, port: int):
         self.host, self.port, self.why = host, port, "no answer"
 
-    async def open(self):
+    async def open(self) -> tuple[asyncio.StreamReader, asyncio.StreamWriter]:
         """The streams of a new connection. A server that starts again is waited for."""
         while True:
             try:
@@ -78,10 +83,10 @@ class Port:
                 self.why = error
                 await asyncio.sleep(0.1)
 
-    def close(self, writer):
+    def close(self, writer: asyncio.StreamWriter) -> None:
         """Says that a connection was closed."""
 
-    async def end(self):
+    async def end(self) -> None:
         """Says that there will be no other connection."""
 
 
@@ -89,7 +94,7 @@ class Server:
     """The server at a place, which is a Port or a Child. All times are in seconds: `patience` is how long it may be
     away, and `longest` how long an answer may take."""
 
-    def __init__(self, place, patience, longest=300):
+    def __init__(self, place: "Port | Child", patience: float, longest: float = 300):
         self.place, self.patience, self.longest = place, patience, longest
         self.turns, self.reader, self.writer, self.closing = Turns(), None, None, None
         # When the last connection was closed.
@@ -97,14 +102,14 @@ class Server:
         # Each connection may reach another server, over another file: what was learnt by an earlier one is void.
         self.connections, self.denials = 0, {}
 
-    def is_open(self):
+    def is_open(self) -> bool:
         return bool(self.writer) and not self.reader.at_eof()
 
-    async def ask(self, caller, method, target, body=b""):
+    async def ask(self, caller: Caller, method: str, target: str, body: bytes = b"") -> Reply:
         """The reply to a request. Raises Unreachable."""
         return (await self.asks([Request(caller, method, target, body)]))[0]
 
-    async def asks(self, requests, first=lambda: ()):
+    async def asks(self, requests: list[Request], first: Callable[[], Iterable[Request]] = lambda: ()) -> list[Reply]:
         """The replies to requests that go out together, so that no other comes between, after those that `first` gives
         once their turn has come. Raises Unreachable. If the connection ends before the replies, they are sent once
         more, where that does no harm."""
@@ -132,14 +137,15 @@ class Server:
                     self.close()
                     raise
 
-    async def gets(self, caller, targets):
-        """The replies to many GETs. Other clients get their turns in between."""
-        found = []
-        for at in range(0, len(targets), TOGETHER):
-            found += await self.asks([Request(caller, "GET", it) for it in targets[at : at + TOGETHER]])
-        return found
+    async def gets(self, caller: Caller, route: str, bases: list[str]) -> AsyncIterator[tuple[str, Reply]]:
+        """Yields many base names, each with the reply to a GET by that route. Few replies are in memory, and other
+        clients get their turns in between."""
+        for at in range(0, len(bases), TOGETHER):
+            some = bases[at : at + TOGETHER]
+            for it in zip(some, await self.asks([Request(caller, "GET", f"{route}{base}") for base in some])):
+                yield it
 
-    async def sent(self, messages):
+    async def sent(self, messages: list[tuple[bytes, bytes]]) -> list[Reply]:
         for data in sendable(messages):
             self.writer.write(data)
             await self.writer.drain()
@@ -153,7 +159,7 @@ class Server:
             self.closing = asyncio.get_running_loop().call_later(self.place.idle, self.close)
         return found
 
-    async def connect(self, came):
+    async def connect(self, came: float) -> None:
         """Opens the connection where it isn't open, for a request that came then. The time that it waited for its turn,
         or for a reply that was lost, takes nothing of the patience."""
         if self.closing:
@@ -171,14 +177,14 @@ class Server:
             self.connections += 1
             self.denials.clear()
 
-    def close(self):
+    def close(self) -> None:
         if self.writer:
             self.writer.close()
             self.place.close(self.writer)
             self.lost = asyncio.get_running_loop().time()
         self.reader = self.writer = None
 
-    async def end(self):
+    async def end(self) -> None:
         """Ends the connection after the exchange that is under way, which may take as long as any. No other follows."""
         with contextlib.suppress(TimeoutError):
             async with asyncio.timeout(self.longest):
@@ -188,7 +194,7 @@ class Server:
         await self.place.end()
         self.close()
 
-    async def denial(self, caller):
+    async def denial(self, caller: Caller) -> Reply | None:
         """The reply that denies this caller to connect, or None. A server reads its configuration once, so one answer
         is good as long as the connection."""
         if caller not in self.denials or not self.writer or self.reader.at_eof():

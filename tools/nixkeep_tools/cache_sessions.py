@@ -3,8 +3,9 @@ import collections
 import contextlib
 import os
 import time
+from collections.abc import Iterable
 
-from .cache_server import TOGETHER, Caller, Request, Unreachable
+from .cache_server import TOGETHER, Caller, Reply, Request, Server, Unreachable
 
 # The number of the session of each user. It is the highest, since people begin with low ones.
 NUMBER = 4_194_304
@@ -12,7 +13,7 @@ NUMBER = 4_194_304
 MOST = 10_000
 
 
-def target(user):
+def target(user: str) -> str:
     return f"/temp/{user}/{NUMBER}"
 
 
@@ -24,55 +25,55 @@ class Sessions:
     are remembered, and the session keeps them from the next collection on.
     """
 
-    def __init__(self, server, folder, seconds):
+    def __init__(self, server: Server, folder: str, seconds: float):
         self.server, self.folder, self.seconds = server, folder, seconds
         # When each path was asked for, by callers.
-        self.told, self.uploading = collections.defaultdict(collections.OrderedDict), {}
+        self.asked_at, self.uploading = collections.defaultdict(collections.OrderedDict), {}
         os.makedirs(folder, mode=0o700, exist_ok=True)
 
     def is_fresh(self, since):
         # (a file of a clock that was ahead isn't fresh for years)
         return abs(time.time() - since) < self.seconds
 
-    def keeping(self, caller, base):
+    def keeping(self, caller: Caller, base: str) -> Request:
         """The request that keeps an uploaded path. It goes to the server right after the import."""
         self.touch(caller.user)
         return Request(caller, "POST", target(caller.user), f"path: {base}\n\n".encode())
 
-    def file(self, user):
+    def file(self, user: str) -> str:
         return f"{self.folder}/{user}.session"
 
-    def touch(self, user):
+    def touch(self, user: str) -> None:
         file = self.file(user)
         with open(file, "w", opener=lambda name, flags: os.open(name, flags, 0o600)):
             os.utime(file)
 
-    def asked(self, caller, base):
+    def asked(self, caller: Caller, base: str | None) -> None:
         """Remembers that a client asked for a path by HEAD: `base` is its name, or None if it isn't there."""
         if base is None:
             self.uploading[caller] = time.time()
             return
-        self.told[caller].pop(base, None)
-        self.told[caller][base] = time.time()
-        if sum(map(len, self.told.values())) > MOST:
-            max(self.told.values(), key=len).popitem(last=False)
+        self.asked_at[caller].pop(base, None)
+        self.asked_at[caller][base] = time.time()
+        if sum(map(len, self.asked_at.values())) > MOST:
+            max(self.asked_at.values(), key=len).popitem(last=False)
 
-    def forget(self, caller):
+    def forget(self, caller: Caller) -> None:
         """Says that a user has ended the session."""
-        for it in [it for it in self.told if it.user == caller.user]:
-            del self.told[it]
+        for it in [it for it in self.asked_at if it.user == caller.user]:
+            del self.asked_at[it]
 
     def remembered(self):
         """What a deletion has to leave and no session keeps yet, each with its caller."""
         self.uploading = {caller: since for caller, since in self.uploading.items() if self.is_fresh(since)}
-        return [(caller, base) for caller, found in self.told.items() if caller in self.uploading
+        return [(caller, base) for caller, found in self.asked_at.items() if caller in self.uploading
                 for base, since in found.items() if self.is_fresh(since)]
 
-    def kept(self, keys):
+    def kept(self, keys: Iterable[tuple[Caller, str]]) -> None:
         for caller, base in keys:
-            self.told[caller].pop(base, None)
+            self.asked_at[caller].pop(base, None)
 
-    async def before(self, deletion):
+    async def before(self, deletion: Request) -> Reply:
         """The reply to a deletion, before which sessions keep what is remembered. Others get their turns in between,
         but for the last of it, which goes to the server with the deletion."""
         for _ in range(MOST // TOGETHER):
@@ -91,7 +92,7 @@ class Sessions:
         self.kept(last)
         return answer
 
-    async def expire(self):
+    async def expire(self) -> None:
         """Ends the sessions of users from whom nothing has come for a while."""
         for user in [it.removesuffix(".session") for it in os.listdir(self.folder) if it.endswith(".session")]:
             if self.is_fresh(os.stat(self.file(user)).st_mtime):

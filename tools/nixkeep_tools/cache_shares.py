@@ -1,6 +1,7 @@
 """Shares of a store: how many bytes each user has added, of those that are still there."""
 import collections
 import contextlib
+from collections.abc import Collection, Iterable, Iterator
 
 from . import cache_lists, cache_records
 from .cache_limit import Full
@@ -10,7 +11,7 @@ class Shares:
     """A list of who added which object first, in a file of its own. It has blobs, too, by their names: those that no
     object names yet. `each` is the most bytes of one user, or None."""
 
-    def __init__(self, file, each):
+    def __init__(self, file: str, each: int | None):
         self.each, self.conn, self.used, self.coming = each, None, collections.Counter(), collections.Counter()
         if each is None:
             return
@@ -18,11 +19,11 @@ class Shares:
         self.conn = cache_lists.opened(file, "added (base TEXT PRIMARY KEY, user TEXT, bytes INTEGER) STRICT")
         self.count()
 
-    def count(self):
+    def count(self) -> None:
         self.used = collections.Counter(dict(self.conn.execute("SELECT user, sum(bytes) FROM added GROUP BY user")))
 
     @contextlib.contextmanager
-    def room(self, user, size, blob=None):
+    def room(self, user: str, size: int, blob: str | None = None) -> Iterator[None]:
         """Counts bytes as the user's while they come, in the place of those of a blob. Raises Full where there is no
         room for them."""
         if not (self.conn and size):
@@ -37,37 +38,42 @@ class Shares:
         finally:
             self.coming[user] -= size
 
-    def bytes_of(self, base, user):
+    def bytes_of(self, base: str | None, user: str) -> int:
         found = self.conn.execute("SELECT bytes FROM added WHERE base = ? AND user = ?", (base, user)).fetchone()
         return found[0] if found else 0
 
-    def added(self, user, text, size):
+    def added(self, user: str, text: bytes, size: int) -> None:
         """Follows the reply to an add: a path. One that was there before stays that of its user."""
         self.add(user, text.decode().strip().rpartition("/")[2], size)
 
-    def add(self, user, base, size):
+    def add(self, user: str, base: str, size: int) -> None:
         """Counts an object or a blob."""
         if self.conn and cache_lists.add(self.conn, "INSERT OR IGNORE INTO added VALUES (?, ?, ?)", (base, user, size)):
             self.used[user] += size
 
-    def deleted(self, text):
+    def deleted(self, text: bytes) -> None:
         """Follows a reply that names the paths which have been deleted, one a line."""
         self.drop([line.rpartition("/")[2] for line in text.decode().splitlines()])
 
-    def bases(self):
+    def bases(self) -> list[str]:
         return [it for (it,) in self.conn.execute("SELECT base FROM added")] if self.conn else []
 
-    def blobs(self):
+    def blobs(self) -> set[str]:
         """The names of the blobs that are counted."""
         return {it for it in self.bases() if cache_records.DIGEST.fullmatch(it)}
 
-    def listed(self, bases):
+    def listed(self, bases: Iterable[str]) -> None:
         """Follows a listing of all paths: what was deleted elsewhere counts no more."""
         there = set(bases)
         self.drop([it for it in self.bases() if it not in there and not cache_records.DIGEST.fullmatch(it)])
 
-    def drop(self, bases):
+    def drop(self, bases: Collection[str]) -> None:
         """Counts these no more. What can't be written is counted until the next listing or sweep."""
-        if self.conn and bases:
-            cache_lists.delete(self.conn, "DELETE FROM added WHERE base = ?", [(it,) for it in bases])
-            self.count()
+        if not (self.conn and bases):
+            return
+        bases, asked = {*bases}, "SELECT user, bytes FROM added WHERE base = ?"
+        # (a list may be long, and a deletion of one path takes one row of it)
+        gone = [row for it in bases for row in self.conn.execute(asked, (it,))]
+        if cache_lists.delete(self.conn, "DELETE FROM added WHERE base = ?", [(it,) for it in bases]):
+            for user, size in gone:
+                self.used[user] -= size

@@ -1,9 +1,12 @@
 """Signatures of records (narinfo), as Nix makes and tests them: ed25519 over a path, the hash and size of its archive,
 and its references."""
+import argparse
 import base64
 import binascii
 import os
 import re
+from collections.abc import Iterable
+from pathlib import Path
 
 from . import cache_lists, cache_records, paths
 
@@ -27,9 +30,9 @@ class BadKey(Exception):
 
 def read_form(text):
     """The name and the bytes of a key or a signature, or None."""
-    found = FORM.fullmatch(text)
+    match = FORM.fullmatch(text)
     try:
-        return found and (found[1], base64.b64decode(found[2], validate=True))
+        return match and (match[1], base64.b64decode(match[2], validate=True))
     except binascii.Error:
         return None
 
@@ -46,12 +49,12 @@ def needs_library():
 class Key:
     """A secret key, in the form that `nix-store --generate-binary-cache-key` writes."""
 
-    def __init__(self, text):
+    def __init__(self, text: str):
         needs_library()
-        found = read_form(text.strip())
-        if not found:
+        form = read_form(text.strip())
+        if not form:
             raise BadKey("it isn't a key that nix-store --generate-binary-cache-key makes: NAME:BASE64 is meant")
-        self.name, data = found
+        self.name, data = form
         if len(data) == PUBLIC:
             raise BadKey("it is a public key; the secret one is meant")
         if len(data) != SECRET:
@@ -60,10 +63,10 @@ class Key:
         if self.public() != data[PUBLIC:]:
             raise BadKey("it is damaged: its two halves are of different keys")
 
-    def public(self):
+    def public(self) -> bytes:
         return self.key.verify_key.encode()
 
-    def sign(self, message):
+    def sign(self, message: bytes) -> str:
         """The signature of a message, as a record has it."""
         return written(self.name, self.key.sign(message).signature)
 
@@ -91,10 +94,10 @@ def trusted_keys(text):
     return found
 
 
-def credential(name):
+def credential(name: str) -> str | None:
     """The file of a credential that systemd passes to this service, or None: systemd.exec(5)."""
-    file = f"{os.environ.get('CREDENTIALS_DIRECTORY', '')}/{name}"
-    return file if os.environ.get("CREDENTIALS_DIRECTORY") and os.path.exists(file) else None
+    folder = os.environ.get("CREDENTIALS_DIRECTORY")
+    return f"{folder}/{name}" if folder and Path(folder, name).exists() else None
 
 
 def trusted_text(said):
@@ -117,13 +120,13 @@ class Signing:
     """Signs records by `key`, or doesn't where that is None. Signatures of the `trusted` keys, which came with uploads,
     are kept in a list in `file`."""
 
-    def __init__(self, key, trusted, file, store):
+    def __init__(self, key: Key | None, trusted: dict, file: str, store: str):
         self.key, self.trusted, self.store, self.conn = key, trusted, store, None
         if trusted:
             table = "signature (base TEXT, digest BLOB, text TEXT, PRIMARY KEY (base, digest, text)) STRICT"
             self.conn = cache_lists.opened(file, table)
 
-    def signed(self, text):
+    def signed(self, text: bytes) -> bytes:
         """A record with its signatures."""
         if not (self.key or self.conn):
             return text
@@ -136,7 +139,7 @@ class Signing:
             kept += [it for (it,) in rows if it not in kept and it.partition(":")[0] in self.trusted]
         return text + "".join(f"Sig: {it}\n" for it in kept).encode()
 
-    def uploaded(self, text):
+    def uploaded(self, text: bytes) -> None:
         """Follows an upload: keeps the signatures of its record that are of trusted keys. Its archive has been tested
         against its hash by then."""
         if not self.conn:
@@ -151,30 +154,30 @@ class Signing:
                 if self.is_good(name, message, it):
                     cache_lists.add(self.conn, "INSERT OR IGNORE INTO signature VALUES (?, ?, ?)", (*row, it))
 
-    def is_good(self, name, message, text):
-        found = read_form(text)
+    def is_good(self, name: str, message: bytes, text: str) -> bool:
+        form = read_form(text)
         try:
-            return bool(found) and bool(self.trusted[name].verify(message, found[1]))
+            return bool(form) and bool(self.trusted[name].verify(message, form[1]))
         except (exceptions.BadSignatureError, ValueError):
             return False
 
-    def deleted(self, text):
+    def deleted(self, text: bytes) -> None:
         """Follows a reply that names the paths which have been deleted, one a line."""
         if self.conn:
             self.drop(line.rpartition("/")[2] for line in text.decode().splitlines())
 
-    def listed(self, bases):
+    def listed(self, bases: Iterable[str]) -> None:
         """Follows a listing of all paths: what was deleted elsewhere has no signature."""
         if self.conn:
             there = {*bases}
             self.drop([it for (it,) in self.conn.execute("SELECT DISTINCT base FROM signature") if it not in there])
 
-    def drop(self, bases):
+    def drop(self, bases: Iterable[str]) -> None:
         cache_lists.delete(self.conn, "DELETE FROM signature WHERE base = ?", [(it,) for it in bases])
 
 
 
-def made(said, store):
+def made(said: argparse.Namespace, store: str) -> Signing:
     """The Signing of the words of a command line. Raises BadKey, OSError, or sqlite3.Error."""
     file = f"{said.db}.signatures" if said.db else f"{said.waiting}/signatures"
     key = read_key(said.sign_with) if said.sign_with else None

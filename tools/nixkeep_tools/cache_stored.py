@@ -14,26 +14,26 @@ MOST = 100_000
 class Stored:
     """Links in a folder, each from the name of an uploaded file to the base name of its object."""
 
-    def __init__(self, folder):
-        self.folder, self.found = folder, {}
+    def __init__(self, folder: str):
+        self.folder, self.bases = folder, {}
         os.makedirs(folder, mode=0o700, exist_ok=True)
         names = [it for it in os.listdir(folder) if cache_records.FILE.fullmatch(it)]
         for name in sorted(names, key=lambda it: os.lstat(f"{folder}/{it}").st_mtime):
-            self.found[name] = os.readlink(f"{folder}/{name}")
+            self.bases[name] = os.readlink(f"{folder}/{name}")
 
-    def base(self, name):
+    def base(self, name: str) -> str | None:
         """The base name of the object that a file became, or None."""
-        return self.found.get(name)
+        return self.bases.get(name)
 
-    def forget(self, name):
-        if self.found.pop(name, None):
+    def forget(self, name: str) -> None:
+        if self.bases.pop(name, None):
             with contextlib.suppress(FileNotFoundError):
                 os.unlink(f"{self.folder}/{name}")
 
-    def add(self, name, base):
+    def add(self, name: str, base: str) -> None:
         """Says of a file that its archive is that of an object."""
         self.forget(name)
-        while len(self.found) >= MOST:
-            self.forget(next(iter(self.found)))
-        self.found[name] = base
+        while len(self.bases) >= MOST:
+            self.forget(next(iter(self.bases)))
+        self.bases[name] = base
         os.symlink(base, f"{self.folder}/{name}")

@@ -4,17 +4,24 @@ import json
 import os
 import re
 import time
+from collections.abc import AsyncIterator
 
 from aiohttp import web
 
 from . import paths
-from .blobs import Failed
-from .cache_blobs import abort, say
+from .backup_restore import ASIDE
+from .blobs import Blob, Failed
+from .cache_blobs import Blobs, abort, say
 from .cache_http import Route, body, is_gone, reply
+from .cache_pointers import Pointers
+from .cache_server import Caller
+from .cache_shares import Shares
 from .cache_turns import Turns
 from .count_of import count_of
 
 SWEEP = re.compile(r"/sweep")
+# The folders of files that were there before a restore: that of nixkeep-backup, and `aside` of a restore by hand.
+ASIDES = re.compile(rf"{ASIDE}.*|{ASIDE.rstrip('-')}")
 # The deletions that fail in one sweep, after which it ends: the others would fail, too.
 FAILURES = 20
 
@@ -22,32 +29,34 @@ FAILURES = 20
 class Sweep:
     """A blob is deleted if it is older than `grace` seconds, no upload has relied on it for as long, and no pointer
     names it. Pointers are listed after blobs, and asked for again before each deletion. Meanwhile no pointer to that
-    blob is imported. A file has when the last sweep ended, and what it has left."""
+    blob is imported. A file has when the last sweep ended, and what it has left. `folder` is that of the store's file,
+    or None: what a restore has moved aside there may name any blob."""
 
-    def __init__(self, blobs, pointers, shares, grace, idle, file):
-        self.blobs, self.pointers, self.shares, self.turns = blobs, pointers, shares, Turns()
+    def __init__(self, blobs: Blobs, pointers: Pointers, shares: Shares, grace: int, idle: float, file: str,
+                 folder: str | None = None):
+        self.blobs, self.pointers, self.shares, self.turns, self.folder = blobs, pointers, shares, Turns(), folder
         self.grace, self.idle = grace, idle
         # The number of blobs and of bytes that sweeps have deleted, and when the last one ended, with the number and
         # the bytes of the blobs that it has left.
         self.deleted, self.bytes, self.file = 0, 0, file
         self.last, self.left = read(file)
 
-    def routes(self):
+    def routes(self) -> list[Route]:
         return [Route(("POST",), SWEEP, self.request)]
 
-    async def request(self, request):
+    async def request(self, request: web.Request) -> web.StreamResponse:
         """A sweep for a longer grace than the usual one, or one that only says what it would delete. A line says each
         deletion, and the last line is a summary."""
         given = await body(request, 1000, self.idle)
-        found = re.fullmatch(rb"(grace: (\d{1,12})\n)?(dry-run: true\n)?\n?", given if given is not None else b"?")
-        if not found:
+        match = re.fullmatch(rb"(grace: (\d{1,12})\n)?(dry-run: true\n)?\n?", given if given is not None else b"?")
+        if not match:
             return reply(400, "refused: 41 bad-body\n")
-        grace, answer = max(self.grace, int(found[2] or 0)), web.StreamResponse(headers={"content-type": "text/plain"})
+        grace, answer = max(self.grace, int(match[2] or 0)), web.StreamResponse(headers={"content-type": "text/plain"})
         # (users take turns, and nothing is done for those who have left)
         async with self.turns.turn(request["caller"].user):
             if is_gone(request):
                 return answer
-            lines = self.lines(request["caller"], grace, bool(found[3]))
+            lines = self.lines(request["caller"], grace, bool(match[3]))
             first = await anext(lines)
             await answer.prepare(request)
             try:
@@ -61,14 +70,18 @@ class Sweep:
                 raise
         return answer
 
-    async def lines(self, caller, grace, is_dry):
+    async def lines(self, caller: Caller, grace: int, is_dry: bool) -> AsyncIterator[str]:
         """Sweeps, and yields a line for each deletion, for each one that fails, and a summary. Raises Denied."""
         before, count, size, failed = time.time() - grace, 0, 0, 0
         counted, gone = self.shares.blobs(), set()
-        found = await self.blobs.apart(lambda: [*self.blobs.place.list()])
+        there = await self.blobs.answered(lambda: [*self.blobs.place.list()])
         listed = await self.pointers.listed(caller)
         named = {paths.base32(it.nar_hash) for it in (await self.pointers.among(caller, listed)).values()}
-        left = [it for it in found if it.since < before and it.name not in named]
+        asides = self.asides()
+        left = [it for it in there if it.since < before and it.name not in named and not asides]
+        for it in asides:
+            failed += 1
+            yield f"failed {it}: a restore has left this folder, which may name any blob: delete it first"
         for blob in left:
             try:
                 if is_dry or await self.delete(caller, blob, before, {*listed}):
@@ -82,13 +95,19 @@ class Sweep:
                     break
         if not is_dry:
             # (what an object names counts as that object)
-            self.shares.drop([*(counted - ({it.name for it in found} - named - gone))])
+            self.shares.drop([*(counted - ({it.name for it in there} - named - gone))])
             self.blobs.forget(time.time() - self.grace)
         if not (is_dry or failed):
-            self.ended(len(found) - count, sum(it.size for it in found) - size)
-        yield f"swept {count_of(count, 'blob')} {count_of(size, 'byte')}, kept {len(found) - count}"
+            self.ended(len(there) - count, sum(it.size for it in there) - size)
+        yield f"swept {count_of(count, 'blob')} {count_of(size, 'byte')}, kept {len(there) - count}"
 
-    def ended(self, count, size):
+    def asides(self) -> list[str]:
+        """The folders into which restores have moved the files that were there before, as the way back."""
+        with contextlib.suppress(OSError):
+            return sorted(filter(ASIDES.fullmatch, os.listdir(self.folder))) if self.folder else []
+        return []
+
+    def ended(self, count: int, size: int) -> None:
         """Remembers a sweep that has left so much. What can't be written is lost at a restart."""
         self.last, self.left = time.time(), (count, size)
         with contextlib.suppress(OSError):
@@ -96,7 +115,7 @@ class Sweep:
                 json.dump([self.last, *self.left], out)
             os.rename(f"{self.file}.new", self.file)
 
-    async def delete(self, caller, blob, before, listed):
+    async def delete(self, caller: Caller, blob: Blob, before: float, listed: set[str]) -> bool:
         """Deletes a blob unless something names it or relies on it by now. Returns whether it did."""
         async with self.blobs.lock(blob.name):
             if self.blobs.relied.get(blob.name, 0) >= before or await self.is_named(caller, blob.name, listed):
@@ -107,11 +126,11 @@ class Sweep:
         say(f"swept {blob.name} {blob.size}")
         return True
 
-    async def is_named(self, caller, name, listed):
+    async def is_named(self, caller: Caller, name: str, listed: set[str]) -> bool:
         """Whether an object names a blob that wasn't there when objects were listed."""
         fresh = [it for it in await self.pointers.listed(caller) if it not in listed]
-        found = await self.pointers.among(caller, fresh)
-        return any(paths.base32(it.nar_hash) == name for it in found.values())
+        named = await self.pointers.among(caller, fresh)
+        return any(paths.base32(it.nar_hash) == name for it in named.values())
 
 
 def read(file):

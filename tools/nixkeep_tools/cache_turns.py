@@ -2,6 +2,7 @@
 import asyncio
 import collections
 import contextlib
+from collections.abc import AsyncIterator
 
 
 class Turns:
@@ -11,19 +12,19 @@ class Turns:
     def __init__(self):
         self.groups, self.is_taken = collections.OrderedDict(), False
 
-    def waiting(self):
+    def waiting(self) -> int:
         """The number of those that wait."""
         return sum(not it.done() for waiters in self.groups.values() for it in waiters)
 
     @contextlib.asynccontextmanager
-    async def turn(self, key):
+    async def turn(self, key: str) -> AsyncIterator[None]:
         await self.take(key)
         try:
             yield
         finally:
             self.end()
 
-    async def take(self, key):
+    async def take(self, key: str | None) -> None:
         if not self.is_taken:
             self.is_taken = True
             return
@@ -37,7 +38,7 @@ class Turns:
                 self.end()
             raise
 
-    def end(self):
+    def end(self) -> None:
         """Ends a turn: the first that waits in the next group has it. Those that gave up are left out."""
         while self.groups:
             key, waiters = self.groups.popitem(last=False)

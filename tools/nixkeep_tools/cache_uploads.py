@@ -1,13 +1,24 @@
 """What Nix sends to nixkeep-cache: archives, which wait on the disk, and the records that make objects of them."""
 import asyncio
 import re
+from collections.abc import Callable
+from typing import Any, NoReturn
+
+from aiohttp import web
 
 from . import cache_changes, cache_records, cache_waiting
 from .cache_archives import RECORD
 from .cache_http import LARGE, UNKNOWN, Route, body, passed, pieces, reply
+from .cache_large import Large
+from .cache_limit import Limit
+from .cache_names import Names
 from .cache_records import Bad
 from .cache_room import Room
-from .cache_server import Request
+from .cache_server import Caller, Reply, Request, Server
+from .cache_sessions import Sessions
+from .cache_shares import Shares
+from .cache_signing import Signing
+from .cache_stored import Stored
 from .cache_turns import Turns
 
 # The longest record: as many references as an object may have, each of a long name.
@@ -19,18 +30,19 @@ ARCHIVE, OTHER = re.compile(r"/nar/(.*)"), re.compile(r".*")
 
 
 class Uploads:
-    def __init__(self, server, names, stored, waiting, sessions, signing, limit, shares, store, idle, large=None):
+    def __init__(self, server: Server, names: Names, stored: Stored, waiting: cache_waiting.Waiting, sessions: Sessions,
+                 signing: Signing, limit: Limit, shares: Shares, store: str, idle: float, large: Large | None = None):
         self.server, self.names, self.stored, self.waiting = server, names, stored, waiting
         self.sessions, self.signing, self.limit, self.shares = sessions, signing, limit, shares
         self.store, self.idle = store, idle
         self.unpacking, self.large = Room(MANY * UNKNOWN), large
         self.records, self.reading = Room(RECORDS), Turns()
 
-    def routes(self):
+    def routes(self) -> list[Route]:
         handlers = [(ARCHIVE, self.archive), (RECORD, self.record), (OTHER, self.other)]
         return [Route(("PUT",), form, handler) for form, handler in handlers]
 
-    async def archive(self, request, name):
+    async def archive(self, request: web.Request, name: str) -> web.Response:
         """An archive waits for its record."""
         size = cache_waiting.LONGEST if request.content_length is None else request.content_length
         with self.shares.room(request["caller"].user, size):
@@ -41,7 +53,7 @@ class Uploads:
             await self.waiting.take(request["caller"].user, name, size, pieces(request, self.idle))
             return reply(201, "")
 
-    async def record(self, request, digits):
+    async def record(self, request: web.Request, digits: str) -> web.Response:
         """The archive that waits for this record is imported with what it says."""
         size = min(request.content_length or 0, INFO)
         async with self.records.taken(request, TIMES * size if size > LARGE else 0) as held:
@@ -50,7 +62,7 @@ class Uploads:
                 raise Bad(f"a record has at most {INFO} bytes")
             return await self.recorded(request, digits, text)
 
-    async def read(self, user, work, *words):
+    async def read(self, user: str, work: Callable, *words: Any) -> Any:
         """The result of work on a record. A long one is read in a thread, one at a time, and users take turns."""
         if max(map(len, words)) <= LARGE:
             return work(*words)
@@ -85,7 +97,8 @@ class Uploads:
         del data, archive
         return await self.imported(caller, base, given)
 
-    async def imported(self, caller, base, given, size=None, blob=None):
+    async def imported(self, caller: Caller, base: str, given: bytes, size: int | None = None,
+                       blob: str | None = None) -> Reply:
         """The reply to an import. The session of the user keeps the object before anybody else is served. `size` is
         that of its archive, where the archive is elsewhere, in a blob."""
         size = len(given) if size is None else size
@@ -99,5 +112,5 @@ class Uploads:
                 self.names.added(answer.text)
         return answer
 
-    async def other(self, request):
+    async def other(self, request: web.Request) -> NoReturn:
         raise Bad(f"PUT {request.raw_path[:300]}: only records and archives are kept")

@@ -4,6 +4,7 @@ import contextlib
 import hashlib
 import os
 import time
+from collections.abc import AsyncIterable
 
 from . import cache_records, nar, paths
 
@@ -24,7 +25,7 @@ class Waiting:
     """The files in a folder: at most `count`, `size` bytes in all, each for `seconds`. One user has at most half of the
     room that the files of others leave, so that neither one nor two take it from all others."""
 
-    def __init__(self, folder, count, size, seconds):
+    def __init__(self, folder: str, count: int, size: int, seconds: float):
         self.folder, self.count, self.size, self.seconds = folder, count, size, seconds
         self.files, self.coming = {}, 0
         os.makedirs(folder, mode=0o700, exist_ok=True)
@@ -38,28 +39,28 @@ class Waiting:
                 os.unlink(f"{folder}/{entry}")
         self.expire()
 
-    def expire(self):
+    def expire(self) -> None:
         """Deletes what has waited too long."""
         for name, file in [*self.files.items()]:
             # (a clock may have been ahead)
             if abs(time.time() - file.since) > self.seconds:
                 self.delete(name)
 
-    def file(self, name):
+    def file(self, name: str) -> str:
         """The file on the disk; one that still comes has a number."""
         return f"{self.folder}/{name}" if name.endswith(".part") else f"{self.folder}/{name}@{self.files[name].owner}"
 
-    def delete(self, name):
+    def delete(self, name: str) -> None:
         with contextlib.suppress(FileNotFoundError):
             os.unlink(self.file(name))
         del self.files[name]
 
-    def make_room(self, most, most_bytes, found):
+    def make_room(self, most: int, most_bytes: int, files: list[tuple[str, File]]) -> bool:
         """Deletes used files among these, the oldest first, until they are `most`, of `most_bytes` bytes. Returns
         whether they are no more then."""
-        count, size = len(found), sum(it.bytes for _, it in found)
+        count, size = len(files), sum(it.bytes for _, it in files)
         is_over = lambda: count > most or size > most_bytes
-        for name, file in sorted(found, key=lambda it: it[1].since):
+        for name, file in sorted(files, key=lambda it: it[1].since):
             if not is_over():
                 break
             if file.is_used:
@@ -67,7 +68,7 @@ class Waiting:
                 count, size = count - 1, size - file.bytes
         return not is_over()
 
-    def reserve(self, key, file):
+    def reserve(self, key: str, file: File) -> None:
         """Keeps room for a file that comes. Raises Full."""
         self.expire()
         self.files[key] = file
@@ -76,13 +77,13 @@ class Waiting:
             del self.files[key]
             raise Full
 
-    def share(self, owner):
+    def share(self, owner: str) -> tuple[int, int, list[tuple[str, File]]]:
         """How many files of how many bytes a user may have, and those that are the user's."""
         others = [it for it in self.files.values() if it.owner != owner and not it.is_used]
         count, size = self.count - len(others), self.size - sum(it.bytes for it in others)
         return count // 2, size // 2, [it for it in self.files.items() if it[1].owner == owner]
 
-    async def take(self, owner, name, length, pieces):
+    async def take(self, owner: str, name: str, length: int, pieces: AsyncIterable[bytes]) -> None:
         """Writes a file as it comes, and keeps it if it is the one that its name says. Raises Full, or Bad."""
         digits = cache_records.file_named(name)
         if length > LONGEST:
@@ -111,12 +112,12 @@ class Waiting:
             if key in self.files:
                 self.delete(key)
 
-    def demand(self, key, name):
+    def demand(self, key: str, name: str) -> None:
         """Raises Bad for a file that came for so long that its room was given to others."""
         if key not in self.files:
             raise cache_records.Bad(f"nar/{name} took longer than {self.seconds:.0f} seconds")
 
-    def read(self, name):
+    def read(self, name: str) -> bytes:
         """The bytes of a file that waits. Raises Bad."""
         if name not in self.files:
             raise cache_records.Bad(
@@ -125,7 +126,7 @@ class Waiting:
         with open(self.file(name), "rb") as file:
             return file.read()
 
-    def use(self, name):
+    def use(self, name: str) -> None:
         """Says of a file that it is in the store."""
         if name in self.files:
             self.files[name] = self.files[name]._replace(is_used=True)

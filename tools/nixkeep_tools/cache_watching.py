@@ -5,6 +5,7 @@ import time
 from aiohttp import web
 
 from .cache_archives import RECORD
+from .cache_http import Handler
 
 # A request that has been answered, with the time and the bytes that it took. `answer` is None where it was cut off.
 Seen = collections.namedtuple("Seen", "request answer route status received sent seconds")
@@ -25,7 +26,7 @@ def route_of(target):
     return first if first in KNOWN else "other"
 
 
-def method_of(request):
+def method_of(request: web.Request) -> str:
     return request.method if request.method in METHODS else "other"
 
 
@@ -36,7 +37,7 @@ class Watching:
         self.observers, self.running = [], 0
 
     @web.middleware
-    async def observed(self, request, handler):
+    async def observed(self, request: web.Request, handler: Handler) -> web.StreamResponse:
         began, status, sent, answer = time.monotonic(), LEFT, 0, None
         self.running += 1
         try:

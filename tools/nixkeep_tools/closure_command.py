@@ -2,6 +2,7 @@
 import argparse
 import os
 import sys
+from pathlib import Path
 
 from . import credentials, objects, paths, streams, version
 from .closures import Transfer, session_of, summary
@@ -38,7 +39,7 @@ WAYS = {
 }
 
 
-def parser():
+def parser() -> argparse.ArgumentParser:
     form = argparse.RawDescriptionHelpFormatter
     top = argparse.ArgumentParser(prog="nixkeep-closure", description=DESCRIPTION, epilog=EPILOG, allow_abbrev=False,
                                   formatter_class=form)
@@ -78,8 +79,9 @@ def top_path(text, folder):
     """The store path that a word names, also by a link to it: its directory and its base name."""
     if paths.is_base_name(text):
         return folder, text
-    found = text if _is_full(text) else os.path.realpath(text)
-    parts = found.split("/")
+    # (Path.resolve raises an error for a link that leads to itself)
+    path = text if _is_full(text) else os.path.realpath(text)
+    parts = path.split("/")
     for at, part in enumerate(parts):
         if paths.is_base_name(part) and paths.is_store_dir("/".join(parts[:at])):
             return "/".join(parts[:at]), part
@@ -103,17 +105,19 @@ def tops_of(words):
 class Stores:
     """The stores of a command line, which are closed together."""
 
-    def __init__(self, words, folder, session):
+    def __init__(self, words: argparse.Namespace, folder: str, session: int):
         self.words, self.folder, self.session, self.open = words, folder, session, []
+        # The first server. What another one may be is up to others, so it doesn't get the first one's password.
+        self.first_place = None
         self.user, colon, self.group = (words.caller or "").partition(":")
         if words.caller and not (paths.is_plain_name(self.user) and (not colon or paths.is_plain_name(self.group))):
             raise Stop("refused: 20 bad-caller", REFUSED)
 
-    def caller(self, default=None):
+    def caller(self, default: str | None = None) -> dict[str, str]:
         user = self.user or default
         return {**({"store-user": user} if user else {}), **({"store-group": self.group} if self.group else {})}
 
-    def kept(self, store):
+    def kept(self, store: objects.Store) -> objects.Store:
         if not paths.is_plain_name(store.me):
             raise Stop("refused: 20 bad-caller", REFUSED)
         store.session = self.session
@@ -122,19 +126,21 @@ class Stores:
 
     def of_file(self, file, config):
         me = self.user or self.words.me or credentials.user_of(None)
-        beside = os.path.dirname(os.path.abspath(sys.argv[0]))
-        child = objects.Child(self.words.program or objects.program_beside(beside), file, config)
+        near = Path(sys.argv[0]).absolute().parent
+        child = objects.Child(self.words.program or objects.program_beside(near), file, config)
         server = child.server(objects.FilePlace(file), self.caller(me))
         return self.kept(objects.Store(server, me, self.folder, child))
 
     def of_server(self, url):
         place, of = Place(url), lambda name, variable: getattr(self.words, name) or os.environ.get(variable)
-        found = credentials.found(place, of("credentials", "NIXKEEP_CREDENTIALS_FILE"))
-        me = self.user or of("me", "NIXKEEP_USER") or credentials.user_of(found)
-        server = Server(place, self.caller(), found, of("ca", "NIXKEEP_CA"))
+        self.first_place = self.first_place or place
+        is_first = place.is_same(self.first_place)
+        login = credentials.of_place(place, of("credentials", "NIXKEEP_CREDENTIALS_FILE"), is_first)
+        me = self.user or of("me", "NIXKEEP_USER") or credentials.user_of(login)
+        server = Server(place, self.caller(), login, of("ca", "NIXKEEP_CA"))
         return self.kept(objects.Store(server, me, self.folder))
 
-    def first(self):
+    def first(self) -> objects.Store:
         if self.words.db is not None:
             return self.of_file(self.words.db, self.words.config)
         url = self.words.server or os.environ.get("NIXKEEP_SERVER")
@@ -142,17 +148,17 @@ class Stores:
             raise Stop("failed: server: none is named; --server URL, --db FILE or NIXKEEP_SERVER says which")
         return self.of_server(url)
 
-    def second(self):
+    def second(self) -> objects.Store:
         """The other store of a copy."""
         to = self.words.to
         return self.of_server(to) if objects.is_url(to) else self.of_file(to, self.words.to_config)
 
-    def nix(self):
-        found = Nix(self.words.nix_store, self.folder)
-        self.open.append(found)
-        return found
+    def nix(self) -> Nix:
+        store = Nix(self.words.nix_store, self.folder)
+        self.open.append(store)
+        return store
 
-    def close(self):
+    def close(self) -> None:
         for it in self.open:
             it.close()
 
@@ -166,8 +172,8 @@ def ends(stores, action):
 
 def root_of(words):
     """The kind and the name of the root that the words ask for, or None."""
-    found = [(kind, getattr(words, kind, None)) for kind in ("root", "permanent", "profile")]
-    kind, name = next((it for it in found if it[1] is not None), (None, None))
+    named = [(kind, getattr(words, kind, None)) for kind in ("root", "permanent", "profile")]
+    kind, name = next((it for it in named if it[1] is not None), (None, None))
     if kind and words.action != "pull" and not paths.is_plain_name(name):
         raise Stop("refused: 34 bad-root-name", REFUSED)
     return kind and (kind, name)
@@ -180,21 +186,21 @@ def transfer(words, transferred):
     stores = Stores(words, folder, words.session or session_of(tops))
     try:
         source, target = ends(stores, words.action)
-        found = Transfer(source, target, tops, words.action)
-        transferred.append(found)
-        found.prepare()
+        made = Transfer(source, target, tops, words.action)
+        transferred.append(made)
+        made.prepare()
         if words.dry_run:
-            streams.write([found.plan().encode()])
-            found.finish(None)
+            streams.write([made.plan().encode()])
+            made.finish(None)
             return
-        done = found.send()
-        found.finish(root)
+        done = made.send()
+        made.finish(root)
         streams.write([summary(DONE[words.action], done).encode()])
     finally:
         stores.close()
 
 
-def main(words):
+def main(words: list[str]) -> int:
     streams.keep_closed()
     top, transferred = parser(), []
     asked = top.parse_args(words[1:])

@@ -6,11 +6,13 @@ store and Nix can each be both. Paths are base names.
 """
 import collections
 import hashlib
+from collections.abc import Iterable, Iterator
 
 from . import nar, objects, paths, pointers, streams
 from .count_of import count_of
 from .failures import DENIED, FAILED, REFUSED, Stop
 from .progress import Progress
+from .real_nix import Nix
 
 MOST_REFERENCES = 4_096
 SESSIONS = 4_194_304
@@ -21,13 +23,13 @@ class Refused(Stop):
     """A refusal of a transfer before it begins, with a line for each object that is to blame."""
 
 
-def session_of(tops):
+def session_of(tops: Iterable[str]) -> int:
     """The number of the session for a transfer of these paths, the same whenever it is repeated."""
     digest = hashlib.sha256("\n".join(sorted(tops)).encode()).digest()
     return 1 + int.from_bytes(digest[:8], "little") % SESSIONS
 
 
-def references_first(records):
+def references_first(records: dict[str, objects.Record]) -> list[str]:
     """The paths of the records, each after those that it refers to."""
     order, seen = [], set()
     for top in sorted(records):
@@ -43,7 +45,7 @@ def references_first(records):
     return order
 
 
-def reached(records, base):
+def reached(records: dict[str, objects.Record], base: str) -> set[str]:
     """The closure of a path, as a set."""
     found, left = set(), [base]
     while left:
@@ -54,18 +56,18 @@ def reached(records, base):
     return found
 
 
-def is_large(record):
+def is_large(record: objects.Record) -> bool:
     return record.nar_size > nar.LIMIT
 
 
 class Transfer:
     """A transfer of the closure of the paths `tops`. `what` is its name in the line of progress."""
 
-    def __init__(self, source, target, tops, what):
+    def __init__(self, source: objects.Store | Nix, target: objects.Store | Nix, tops: list[str], what: str):
         self.source, self.target, self.tops, self.what = source, target, tops, what
         self.records, self.missing, self.done, self.is_sending = {}, [], 0, False
 
-    def prepare(self):
+    def prepare(self) -> None:
         """Finds what is missing in the target. Raises Refused if not all of it can be sent."""
         try:
             self.find()
@@ -73,11 +75,11 @@ class Transfer:
             self.end_sessions()
             raise
 
-    def find(self):
+    def find(self) -> None:
         self.target.check_folder()
         self.source.check_folder()
-        found = self.source.closure(self.tops)
-        self.records = {base: objects.with_address(it, self.target.folder) for base, it in found.items()}
+        records = self.source.closure(self.tops)
+        self.records = {base: objects.with_address(it, self.target.folder) for base, it in records.items()}
         self.refuse_large()
         self.refuse_pointers()
         there = self.held(self.target.valid(self.records))
@@ -98,13 +100,13 @@ class Transfer:
         lines = []
         for it in self.records.values():
             if pointers.may_be(it.nar_size, it.ca):
-                found = pointers.read(self.archive(it), self.source.full(it.base))
-                lines += [f"failed: pointer {found.path}: its archive of {found.nar_size} bytes is in the blobs of "
-                          f"this store's nixkeep-cache: transfer it from there"] if found else []
+                pointer = pointers.read(self.archive(it), self.source.full(it.base))
+                lines += [f"failed: pointer {pointer.path}: its archive of {pointer.nar_size} bytes is in the blobs of "
+                          f"this store's nixkeep-cache: transfer it from there"] if pointer else []
         if lines:
             raise Refused("\n".join(lines), FAILED)
 
-    def held(self, there, is_careful=False):
+    def held(self, there: set[str], is_careful: bool = False) -> set[str]:
         """Keeps the paths that are there, and returns them, without those that a collection has deleted meanwhile.
 
         A path that is kept keeps what it refers to. `is_careful` keeps each path by itself all the same.
@@ -121,22 +123,22 @@ class Transfer:
         if not left or not isinstance(self.target, objects.Store) or self.target.is_trusted():
             return
         folder = self.target.folder
-        found = [it for it in left if is_large(it) or not objects.text_address(it, self.archive(it), folder)]
-        if found:
-            raise Refused("\n".join(f"denied: trusted-import {self.target.full(it.base)}" for it in found), DENIED)
+        unproved = [it for it in left if is_large(it) or not objects.text_address(it, self.archive(it), folder)]
+        if unproved:
+            raise Refused("\n".join(f"denied: trusted-import {self.target.full(it.base)}" for it in unproved), DENIED)
 
-    def archive(self, record):
+    def archive(self, record: objects.Record) -> bytes:
         """The archive of an object, tested by its record."""
-        found = self.source.archive(record)
-        if len(found) != record.nar_size or paths.sha256([found]) != record.nar_hash:
+        data = self.source.archive(record)
+        if len(data) != record.nar_size or paths.sha256([data]) != record.nar_hash:
             raise self.other_hash(record)
-        return found
+        return data
 
     def other_hash(self, record):
         return Stop(f"failed: archive: {self.source.full(record.base)} in {self.source} has another hash than its "
                     "record")
 
-    def pieces(self, record):
+    def pieces(self, record: objects.Record) -> Iterator[bytes]:
         """Yields a large archive. It is tested by its record ahead of its last piece."""
         digest, size, held = hashlib.sha256(), 0, b""
         for piece in self.source.pieces(record):
@@ -151,7 +153,7 @@ class Transfer:
             raise self.other_hash(record)
         yield held
 
-    def send(self):
+    def send(self) -> Done:
         """Sends what is missing, and returns what was done."""
         self.is_sending = True
         total = sum(self.records[it].nar_size for it in self.missing)
@@ -165,14 +167,14 @@ class Transfer:
             progress.end()
         return Done(self.done, total, there)
 
-    def put(self, record):
+    def put(self, record: objects.Record) -> None:
         for _ in range(3):
             if self.target.put(record, *self.given(record)):
                 return
             self.restore(record)
         raise Stop(f"refused: 24 missing-reference {self.target.full(record.base)}", REFUSED)
 
-    def given(self, record):
+    def given(self, record: objects.Record) -> tuple:
         """The archive of an object, as a target takes it."""
         return (b"", lambda: self.pieces(record)) if is_large(record) else (self.archive(record),)
 
@@ -188,7 +190,7 @@ class Transfer:
             if base in needed and base not in there:
                 self.target.put(self.records[base], *self.given(self.records[base]))
 
-    def finish(self, root):
+    def finish(self, root: tuple[str, str] | None) -> None:
         """Sets the root, a kind and a name, unless it is None, and ends the sessions."""
         if root:
             kind, name = root
@@ -199,11 +201,11 @@ class Transfer:
         self.target.end_session()
         self.source.end_session()
 
-    def plan(self):
+    def plan(self) -> str:
         """The bytes and the path of each object that is missing, a line each."""
         return "".join(f"{self.records[it].nar_size:>10} {self.target.full(it)}\n" for it in self.missing)
 
-    def stopped(self):
+    def stopped(self) -> str:
         """The line that is printed of a transfer that was broken off."""
         kept = [it for it in (self.source, self.target) if isinstance(it, objects.Store)]
         lines = [f"session {it.session} of {it.me} at {it} keeps what is there" for it in kept]
@@ -212,6 +214,6 @@ class Transfer:
         )
 
 
-def summary(what, done):
+def summary(what: str, done: Done) -> str:
     there = f"{done.there} {'was' if done.there == 1 else 'were'} there"
     return f"{what} {count_of(done.sent, 'object')}, {count_of(done.bytes, 'byte')}; {there}\n"

@@ -4,16 +4,23 @@ argparse has another grammar: it abbreviates options, lets them be repeated, and
 option is given once. Its value is the next word, or follows `=`. Options belong to the command before them. After `--`
 every word is a value. One thing of `nixkeep` is missing: no similar words are suggested for a faulty one.
 """
+from __future__ import annotations
+
+# (for hints alone: see `http_connection`)
+TYPE_CHECKING = False
+if TYPE_CHECKING:
+    from collections.abc import Iterable
+
 POSITIONAL = ("required", "optional", "any", "some")
 HELP = "Print this message or the help of the given subcommand(s)"
 MORE = "For more information, try '--help'."
 SHORT = {"help": "-h", "version": "-V"}
 
 
-class Told(Exception):
+class Printed(Exception):
     """A usage error or a request for help: the text that is printed, and the exit status."""
 
-    def __init__(self, text, status=2):
+    def __init__(self, text: str, status: int = 2):
         super().__init__(text)
         self.text, self.status = text, status
 
@@ -25,7 +32,7 @@ class Argument:
     word for the value in a usage line.
     """
 
-    def __init__(self, name, kind, value, about):
+    def __init__(self, name: str, kind: str, value: str | None, about: str):
         self.name, self.kind, self.value, self.about = name, kind, value, about
 
 
@@ -33,14 +40,15 @@ class Line:
     """A command line that was read: the values of the options before the subcommand, the name of that, and the values
     of its arguments by their names."""
 
-    def __init__(self, options, name, values):
+    def __init__(self, options: dict[str, str], name: str, values: dict):
         self.options, self.name, self.values = options, name, values
 
 
 class Command:
     """A command, its arguments, and its subcommands by name. `requests` are its options that ask for a text."""
 
-    def __init__(self, name, about, *arguments, commands=(), has_version=False):
+    def __init__(self, name: str, about: str, *arguments: Argument, commands: Iterable["Command"] = (),
+                 has_version: bool = False):
         self.name, self.about, self.arguments = name, about, arguments
         self.requests = ("help", "version") if has_version else ("help",)
         self.commands = {it.name: it for it in commands}
@@ -48,19 +56,19 @@ class Command:
         self.positional = [it for it in arguments if it.kind in POSITIONAL]
 
 
-def flag(name, text):
+def flag(name: str, text: str) -> Argument:
     return Argument(name, "flag", None, text)
 
 
-def option(name, value, text):
+def option(name: str, value: str, text: str) -> Argument:
     return Argument(name, "option", value, text)
 
 
-def required(name, text):
+def required(name: str, text: str) -> Argument:
     return Argument(name, "required", name.upper(), text)
 
 
-def optional(name, text):
+def optional(name: str, text: str) -> Argument:
     return Argument(name, "optional", name.upper(), text)
 
 
@@ -88,7 +96,7 @@ def usage(command, title, used=None):
 
 
 def fault(text, line=None, tip=None):
-    return Told("".join(f"{it}\n\n" for it in (f"error: {text}", tip and f"  tip: {tip}", line) if it) + f"{MORE}\n")
+    return Printed("".join(f"{it}\n\n" for it in (f"error: {text}", tip and f"  tip: {tip}", line) if it) + f"{MORE}\n")
 
 
 def columns(rows):
@@ -106,7 +114,7 @@ def help_text(command, title):
         parts.append(f"Arguments:\n{columns([(shown(it), it.about) for it in command.positional])}")
     requests = [(f"{SHORT[it]}, --{it}", f"Print {it}") for it in command.requests]
     parts.append(f"Options:\n{columns([*options, *requests])}")
-    return Told("\n".join(parts), 0)
+    return Printed("\n".join(parts), 0)
 
 
 def answer(command, title, request):
@@ -114,7 +122,7 @@ def answer(command, title, request):
     if request == "help":
         return help_text(command, title)
     from . import version
-    return Told(f"{version.line(command.name)}\n", 0)
+    return Printed(f"{version.line(command.name)}\n", 0)
 
 
 def help_of(top, title, words):
@@ -123,7 +131,7 @@ def help_of(top, title, words):
     for word in words:
         if word == "help" and command is top:
             arguments = "Arguments:\n  [COMMAND]...  Print help for the subcommand(s)"
-            return Told(f"{HELP}\n\nUsage: {title} help [COMMAND]...\n\n{arguments}\n", 0)
+            return Printed(f"{HELP}\n\nUsage: {title} help [COMMAND]...\n\n{arguments}\n", 0)
         if word not in command.commands:
             return fault(f"unrecognized subcommand '{word}'", usage(command, title))
         command, title = command.commands[word], f"{title} {word}"
@@ -150,11 +158,11 @@ class Reader:
     def lacks(self):
         return fault(f"a value is required for '{shown(self.waiting)}' but none was supplied")
 
-    def used(self):
+    def used(self) -> set[str] | None:
         """The names of the options so far, or None if there is no word so far."""
         return {*self.values} if self.values or self.given else None
 
-    def put(self, argument, value):
+    def put(self, argument: Argument, value: str | bool) -> None:
         if argument.name in self.values:
             line = usage(self.command, self.title)
             raise fault(f"the argument '{shown(argument)}' cannot be used multiple times", line)
@@ -164,7 +172,7 @@ class Reader:
         tip = f"to pass '{word}' as a value, use '-- {word}'" if self.command.positional else None
         return self.unexpected(word, used, tip)
 
-    def long(self, word):
+    def long(self, word: str) -> None:
         """Reads `--NAME`, `--NAME=VALUE`, or the first word of `--NAME VALUE`."""
         name, has_value, value = word[2:].partition("=")
         found, is_request = self.command.options.get(name), name in self.command.requests
@@ -192,7 +200,7 @@ class Reader:
             raise self.lacks()
         raise answer(self.command, self.title, asked[0])
 
-    def value(self, word):
+    def value(self, word: str) -> bool:
         """Reads a word without a hyphen, and returns whether it is the subcommand."""
         if self.waiting and not self.is_escaped:
             argument, self.waiting = self.waiting, None
@@ -218,7 +226,7 @@ class Reader:
             raise fault(f"unrecognized subcommand '{word}'", line)
         return True
 
-    def read(self):
+    def read(self) -> str | None:
         """Reads words up to the subcommand, and returns its name; None if there is no subcommand."""
         for word in self.words:
             if self.is_escaped or word == "-" or not word.startswith("-"):
@@ -234,7 +242,7 @@ class Reader:
             raise self.lacks()
         return None
 
-    def place(self):
+    def place(self) -> None:
         """Gives the values without an option to their arguments."""
         given, missing = [*self.given], []
         for it in self.command.positional:
@@ -251,13 +259,13 @@ class Reader:
             raise fault(f"the following required arguments were not provided:{names}", line)
 
 
-def read(top, title, words):
-    """The Line of the words. Raises Told. `title` is the name of the program in its texts."""
+def read(top: Command, title: str, words: list[str]) -> Line:
+    """The Line of the words. Raises Printed. `title` is the name of the program in its texts."""
     try:
         for word in words:
             word.encode()
     except UnicodeEncodeError:
-        raise Told("error: a word of the command line isn't UTF-8\n") from None
+        raise Printed("error: a word of the command line isn't UTF-8\n") from None
     reader = Reader(top, title, iter(words))
     name = reader.read()
     if name is None:
@@ -268,6 +276,6 @@ def read(top, title, words):
     return Line(reader.values, name, own.values)
 
 
-def misuse(command, title, text):
+def misuse(command: Command, title: str, text: str) -> Printed:
     """The usage error of words of a command that don't go together."""
     return fault(text, usage(command, title))

@@ -3,10 +3,12 @@
 A file and the variable NIXKEEP_CREDENTIALS hold one line: `USER:PASSWORD` for Basic authentication, or `Bearer TOKEN`.
 Credentials are sent over https, to this machine and over a Unix socket. They never cross a network in the clear.
 """
+# (os.path, here and in what else nixkeep-remote loads: pathlib takes longer to load than a request)
 import os
 import stat
 
 from .failures import Stop, reason
+from .http_place import Place
 
 VARIABLE, NETRC = "NIXKEEP_CREDENTIALS", "~/.netrc"
 
@@ -15,7 +17,7 @@ class Credentials:
     """Credentials for a proxy: the value of the header field `authorization`, the name of the user or None, and the
     file or the variable that they come from."""
 
-    def __init__(self, field, user, source):
+    def __init__(self, field: str, user: str | None, source: str):
         self.field, self.user, self.source = field, user, source
 
 
@@ -75,7 +77,7 @@ def login_name():
         return None
 
 
-def user_of(credentials):
+def user_of(credentials: Credentials | None) -> str:
     """The name of the user of some credentials, else the login name."""
     name = credentials and credentials.user or login_name()
     if not name:
@@ -83,9 +85,10 @@ def user_of(credentials):
     return name
 
 
-def found(place, path=None):
-    """The credentials for a place, or None. `path` names a file of credentials."""
-    variable = os.environ.get(VARIABLE)
+def of_place(place: Place, path: str | None = None, is_first: bool = True) -> Credentials | None:
+    """The credentials for a place, or None. `path` names a file of credentials. That file and the variable are for the
+    first place of a command: for another one ~/.netrc has them."""
+    path, variable = (path, os.environ.get(VARIABLE)) if is_first else (None, None)
     if not path and not variable:
         is_there = place.host and os.path.exists(os.path.expanduser(NETRC))
         return of_netrc(place.host) if is_there and place.is_private else None

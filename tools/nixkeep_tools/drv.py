@@ -75,7 +75,7 @@ def _output(name, path, store):
         raise paths.Malformed(17, "bad-derivation") from None
 
 
-def outputs(text, store=paths.STORE):
+def outputs(text: bytes, store: str = paths.STORE) -> list[tuple] | None:
     """The outputs of a derivation text that have a path, as pairs of name and base name in the text's order.
 
     Raises refusal 17, bad-derivation, for a text that is none, and 18, double-output, for two outputs of one name.

@@ -1,7 +1,8 @@
 """Explains why nixkeep refuses a store file: the table, the row and the rule of each fault."""
 import argparse
 import collections
-import os
+# (the caller may not be allowed to look at the file, and then Path raises an error)
+import os.path
 import sys
 import tomllib
 
@@ -34,15 +35,15 @@ class Stopped(Exception):
 
 def settings(path):
     """The Settings of a configuration file, or the defaults without one."""
-    found = {}
+    table = {}
     if path:
         try:
             with open(path, "rb") as file:
-                found = tomllib.load(file)
+                table = tomllib.load(file)
         except ValueError as error:
             raise Stopped(f"{path}: refused: {BAD_CONFIG} syntax: {error}", REFUSED) from None
-    outputs, derivers = found.get("keep-outputs", False), found.get("keep-derivations", True)
-    read = Settings(found.get("store-dir", paths.STORE), outputs, derivers)
+    outputs, derivers = table.get("keep-outputs", False), table.get("keep-derivations", True)
+    read = Settings(table.get("store-dir", paths.STORE), outputs, derivers)
     if not isinstance(read.store_dir, str) or not paths.is_store_dir(read.store_dir):
         raise Stopped(f"{path}: refused: {BAD_CONFIG} store-dir", REFUSED)
     for key, value in (("keep-outputs", outputs), ("keep-derivations", derivers)):
@@ -86,10 +87,10 @@ def nothing_to_rescue(file):
 def print_rescue(folder, file, examined):
     if not examined.names or not examined.objects.objects:
         raise nothing_to_rescue(file)
-    found = explain_rescue.rescue(folder, file, examined)
-    what = f"{count_of(found.objects, 'object')}, {count_of(found.roots, 'root')}"
+    rescued = explain_rescue.rescue(folder, file, examined)
+    what = f"{count_of(rescued.objects, 'object')}, {count_of(rescued.roots, 'root')}"
     say(f"{folder}: {what}; sh {folder}/restore NEW.db makes a store of them")
-    for what, why in found.left_out:
+    for what, why in rescued.left_out:
         say(f"  left out: {what}: {why}")
 
 
@@ -105,7 +106,7 @@ def print_usage(file, conn, examined, config):
 # ---- the command
 
 
-def parser():
+def parser() -> argparse.ArgumentParser:
     asked = argparse.ArgumentParser(prog="nixkeep-explain", description=__doc__, epilog=HELP, allow_abbrev=False,
                                     formatter_class=argparse.RawDescriptionHelpFormatter)
     version.add_to(asked)
@@ -164,7 +165,7 @@ def explain(words):
     return REFUSED if reasons else status
 
 
-def main(arguments):
+def main(arguments: list[str]) -> int:
     words = parser().parse_args(arguments)
     for it in (sys.stdout, sys.stderr):
         if hasattr(it, "reconfigure"):

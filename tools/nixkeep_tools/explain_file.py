@@ -1,6 +1,7 @@
 """What keeps nixkeep from opening a file, whatever its tables hold: its path, its access, its locks and its log."""
 import collections
 import contextlib
+# (os.path, not Path: the caller may not be allowed to look at a file, and a link may lead to itself)
 import os
 import stat
 
@@ -16,7 +17,7 @@ LONGEST = 300
 # ---- the path and the file
 
 
-def of_path(path):
+def of_path(path: str) -> list[Reason]:
     """The Reasons that the path gives by itself, and the file at it."""
     if path in ("", ":memory:") or path.startswith("file:"):
         return [Reason("nixkeep opens no such path: it names a file by its path alone", False)]
@@ -76,7 +77,7 @@ def of_journal(path):
     return [Reason(text, False)]
 
 
-def unreadable(path, error):
+def unreadable(path: str, error: Exception) -> str:
     """Why SQLite can't read a file: it is no database, or a damaged one."""
     with open(path, "rb") as file:
         is_database = file.read(len(HEAD)) == HEAD

@@ -1,6 +1,6 @@
 """What of a log SQLite, and so nixkeep, doesn't take: the frames after the last commit whose sums are right."""
 import collections
-import os
+from pathlib import Path
 
 from . import store_file
 from .count_of import count_of
@@ -46,10 +46,10 @@ def has_bad_head(path):
     return len(head) == HEAD and any(head) and not store_file.is_log_head(head)
 
 
-def line(path):
+def line(path: str) -> tuple[str | None, bool]:
     """The line on the log of a file, or None if all of it counts; and whether commits of it may be lost."""
     if has_bad_head(path):
-        size = os.path.getsize(store_file.log_of(path))
+        size = Path(store_file.log_of(path)).stat().st_size
         return f"its log: none of its {size} bytes count: its head is damaged", True
     found = ignored(path)
     if not found.frames:

@@ -1,12 +1,13 @@
 """What nixkeep asks of the whole file, the tables of other programs included: header, pages and foreign keys."""
 import contextlib
-import os
 import re
 import sqlite3
+from collections.abc import Iterator
+from pathlib import Path
 
 from . import store_file
 from .explain_rows import scanned
-from .explain_schema import DAMAGED, Fault, foreign_keys, has_hidden_index, lower, quoted, words_of
+from .explain_schema import DAMAGED, Entry, Fault, foreign_keys, has_hidden_index, lower, quoted, words_of
 from .store_file import FORMS
 
 THE_FILE = "the file"
@@ -36,7 +37,7 @@ def header_faults(path):
     if size not in (512 << at for at in range(8)):
         yield f"bytes 16 and 17 state pages of {size} bytes, which SQLite hasn't"
         return
-    pages = os.path.getsize(path) // size if pages is None else pages
+    pages = Path(path).stat().st_size // size if pages is None else pages
     yield from setting_faults(head)
     if number(head, 28) != pages:
         yield f"bytes 28 to 31 state {number(head, 28)} pages, and there are {pages}"
@@ -186,7 +187,7 @@ def has_reference(conn, table, columns):
     return conn.execute(f"SELECT EXISTS (SELECT 1 FROM {quoted(table)} WHERE {values})").fetchone()[0]
 
 
-def faults(conn, entries, path):
+def faults(conn: sqlite3.Connection, entries: list[Entry], path: str) -> Iterator[Fault]:
     """All Faults of the file as a whole."""
     yield from (Fault(THE_FILE, None, rule) for rule in header_faults(path))
     yield from page_faults(conn, entries)

@@ -7,6 +7,7 @@ import shlex
 from . import paths
 from .explain_rows import HASH
 from .explain_schema import shown
+from .explain_verdict import Examined
 from .store_file import FORMS
 
 # How many objects and roots were written, and pairs of a row that is left out and the reason.
@@ -94,11 +95,11 @@ def body_head(base, objects, store):
     return "".join(it + "\n" for it in lines).encode() + b"\n"
 
 
-def write_bodies(folder, bodies, objects, store):
-    os.mkdir(os.path.join(folder, "objects"))
-    width = len(str(len(bodies)))
-    for at, base in enumerate(bodies, 1):
-        with open(os.path.join(folder, "objects", f"{at:0{width}}-{base}"), "xb") as file:
+def write_imports(folder, imported, objects, store):
+    os.mkdir(f"{folder}/objects")
+    width = len(str(len(imported)))
+    for at, base in enumerate(imported, 1):
+        with open(f"{folder}/objects/{at:0{width}}-{base}", "xb") as file:
             file.write(body_head(base, objects, store))
             for it in objects.archive(base):
                 file.write(it)
@@ -170,23 +171,23 @@ def kept_roots(rows, faults, kept):
 # ---- the folder
 
 
-def rescue(folder, file, examined):
+def rescue(folder: str, file: str, examined: Examined) -> Rescued:
     """Writes what is sound to a new folder, which its owner alone may read, and returns what was Rescued.
 
     Raises OSError if something is there, such as a folder or a link, or the folder can't be written.
     """
     os.mkdir(folder, 0o700)
     rows, objects, faults, store = examined.rows, examined.objects, examined.row_faults, examined.store_dir
-    bodies, left_out = in_order(objects, bad_objects(objects, faults, rows.partial))
-    roots, left_roots = kept_roots(rows, faults, set(bodies))
-    write_bodies(folder, bodies, objects, store)
-    with open(os.path.join(folder, "store.toml"), "x") as out:
+    imported, left_out = in_order(objects, bad_objects(objects, faults, rows.partial))
+    roots, left_roots = kept_roots(rows, faults, set(imported))
+    write_imports(folder, imported, objects, store)
+    with open(f"{folder}/store.toml", "x") as out:
         out.write(f'store-dir = "{store}"\n')
-    with open(os.path.join(folder, "restore"), "x") as out:
+    with open(f"{folder}/restore", "x") as out:
         # (no file name ends the comment that it is in)
-        out.write(SCRIPT.format(file=ascii(file), count=len(bodies)))
+        out.write(SCRIPT.format(file=ascii(file), count=len(imported)))
         out.writelines(it + "\n" for it in ["", "# The roots, each set by its owner.", *root_commands(roots, store)])
-    os.chmod(os.path.join(folder, "restore"), 0o700)
+    os.chmod(f"{folder}/restore", 0o700)
     count = sum(len(found) for table, found in roots.items() if table != "profile")
     lost = [(shown("object", (it,)), why) for it, why in sorted(left_out.items())]
-    return Rescued(len(bodies), count, [*lost, *left_roots])
+    return Rescued(len(imported), count, [*lost, *left_roots])

@@ -1,7 +1,9 @@
 """The rows of a file: read as far as its damage allows, and every rule that one breaks."""
 import collections
 import hashlib
+import sqlite3
 import sys
+from collections.abc import Iterable, Iterator
 
 from . import drv, nar, paths
 from .explain_schema import DAMAGED, Fault
@@ -26,16 +28,16 @@ def shown_columns(table):
     return [f"iif(typeof({it}) = 'blob', length({it}), NULL)" if it in ("nar", "bytes") else it for it in names]
 
 
-def scanned(conn, text, parameters=()):
+def scanned(conn: sqlite3.Connection, text: str, parameters: tuple = ()) -> tuple[list[tuple], str | None]:
     """The rows of a query up to the first damage, and what SQLite says of that, or None."""
-    found = []
+    rows = []
     try:
         for row in conn.execute(text, parameters):
             # (one text for all rows that name an object, since there may be millions)
-            found.append(tuple([sys.intern(it) if type(it) is str else it for it in row]))
+            rows.append(tuple([sys.intern(it) if type(it) is str else it for it in row]))
     except DAMAGED as error:
-        return found, str(error)
-    return found, None
+        return rows, str(error)
+    return rows, None
 
 
 def keys_of(conn, table):
@@ -97,7 +99,7 @@ class Rows:
     `partial` names the tables of which rows may be missing: they can't be read whole, or aren't `there`.
     """
 
-    def __init__(self, conn, schema, there):
+    def __init__(self, conn: sqlite3.Connection, schema: int, there: set[str]):
         self.conn, self.schema, self.tables, self.faults, self.partial = conn, schema, {}, [], set()
         for table in FORMS:
             read = read_table(conn, table) if table in there else Read({}, table in LACKS[schema], [])
@@ -117,16 +119,16 @@ class Rows:
                 return False
         return True
 
-    def of(self, table):
+    def of(self, table: str) -> list[tuple]:
         """The rows of a table, in the order of their keys."""
         return sorted(self.tables[table].values(), key=lambda row: row[:FORMS[table][1]])
 
-    def bytes_of(self, table, column, rowid):
+    def bytes_of(self, table: str, column: str, rowid: int) -> bytes:
         """The bytes of one archive column."""
-        found, problem = scanned(self.conn, f"SELECT {column} FROM {table} WHERE rowid = ?", (rowid,))
-        if problem or not found:
+        rows, problem = scanned(self.conn, f"SELECT {column} FROM {table} WHERE rowid = ?", (rowid,))
+        if problem or not rows:
             raise Unreadable(problem or "the row is missing")
-        return found[0][0]
+        return rows[0][0]
 
 
 class Unreadable(Exception):
@@ -136,17 +138,17 @@ class Unreadable(Exception):
 # ---- settings
 
 
-def settings(rows):
+def settings(rows: Rows) -> Iterator[Fault]:
     """The Faults of meta."""
-    found = dict(rows.of("meta"))
+    values = dict(rows.of("meta"))
     for word in ("schema", "store-dir"):
-        if word not in found:
+        if word not in values:
             yield Fault("meta", (word,), "the row is missing")
-    if found.get("schema", str(rows.schema)) != str(rows.schema):
-        yield Fault("meta", ("schema",), f"val {found['schema']!r} isn't the number of a schema: 1, 2 or 3")
-    if not paths.is_store_dir(found.get("store-dir", paths.STORE)):
-        yield Fault("meta", ("store-dir",), f"val {found['store-dir']!r} isn't a store directory")
-    for word in found.keys() - {"schema", "store-dir"}:
+    if values.get("schema", str(rows.schema)) != str(rows.schema):
+        yield Fault("meta", ("schema",), f"val {values['schema']!r} isn't the number of a schema: 1, 2 or 3")
+    if not paths.is_store_dir(values.get("store-dir", paths.STORE)):
+        yield Fault("meta", ("store-dir",), f"val {values['store-dir']!r} isn't a store directory")
+    for word in values.keys() - {"schema", "store-dir"}:
         yield Fault("meta", (word,), "meta has the rows schema and store-dir, and no other")
 
 
@@ -156,7 +158,7 @@ def settings(rows):
 class Objects:
     """The objects of a file, each tested with its references, outputs and pieces."""
 
-    def __init__(self, rows, store):
+    def __init__(self, rows: Rows, store: str):
         self.rows, self.store = rows, store
         self.objects = {row[0]: (rowid, row) for rowid, row in rows.tables["object"].items()}
         self.references, self.outputs, self.pieces = (collections.defaultdict(list) for _ in range(3))
@@ -170,13 +172,13 @@ class Objects:
             it.sort()
         self.checked = {}
 
-    def archive(self, base):
+    def archive(self, base: str) -> Iterator[bytes]:
         """Yields the bytes of an archive as they are: the row of the object and its pieces in order."""
         yield self.rows.bytes_of("object", "nar", self.objects[base][0])
         for _, rowid, _ in self.pieces[base]:
             yield self.rows.bytes_of("piece", "bytes", rowid)
 
-    def faults(self):
+    def faults(self) -> Iterator[Fault]:
         """The Faults of all objects and of the rows that belong to them."""
         for base in sorted(self.objects):
             yield from self.faults_of(base)
@@ -209,7 +211,7 @@ class Objects:
         yield from self.output_faults(base, outputs)
         self.checked[base] = Checked(read.size, read.digest, address is not None and not found and not read.fault)
 
-    def is_proved(self, base):
+    def is_proved(self, base: str) -> bool:
         """Whether a content address proves the path, the references and the archive of an object."""
         return base in self.checked and self.checked[base].is_proved
 
@@ -253,15 +255,15 @@ class Objects:
         """The rules on the recorded outputs of an object; None where its derivation text isn't known."""
         if outputs is None:
             return
-        wanted, found = dict(outputs), dict(self.outputs[base])
-        for name in sorted(wanted.keys() - found.keys()):
+        wanted, recorded = dict(outputs), dict(self.outputs[base])
+        for name in sorted(wanted.keys() - recorded.keys()):
             yield Fault("outs", (base, name), f"the row is missing: the derivation has the output {wanted[name]}")
-        for name in sorted(found):
+        for name in sorted(recorded):
             if not base.endswith(".drv"):
                 yield Fault("outs", (base, name), "the name of base doesn't end in .drv, so it has no outputs")
             elif name not in wanted:
                 yield Fault("outs", (base, name), "the derivation has no such output")
-            elif found[name] != wanted[name]:
+            elif recorded[name] != wanted[name]:
                 yield Fault("outs", (base, name), f"target has to be that of the derivation: {wanted[name]}")
 
     def faults_around(self):
@@ -302,19 +304,19 @@ class ArchiveRead:
         self.is_file = not self.fault and top is not None and top.kind in "rx"
         self.plain = self.inner.digest() if self.is_file and top.kind == "r" else None
 
-    def passing(self, pieces):
+    def passing(self, pieces: Iterable[bytes]) -> Iterator[bytes]:
         for it in pieces:
             self.size += len(it)
             self.whole.update(it)
             yield it
 
-    def take(self, path, part):
+    def take(self, path: bytes, part: bytes) -> None:
         if path == b".":
             self.inner.update(part)
             if self.contents is not None:
                 self.contents += part
 
-    def outputs(self, store):
+    def outputs(self, store: str) -> tuple[list[tuple] | None, str | None]:
         """The outputs of the derivation text; or None, and the rule that it breaks."""
         if not self.is_file:
             return None, "the name ends in .drv, and the archive isn't a regular file"
@@ -361,7 +363,7 @@ def generation_rules(row, profiles):
         yield "there is no such profile"
 
 
-def roots(rows, objects):
+def roots(rows: Rows, objects: dict) -> Iterator[Fault]:
     """The Faults of all roots."""
     generations = {row[:3] for row in rows.of("generation")}
     profiles = {row[:2] for row in rows.of("profile")}

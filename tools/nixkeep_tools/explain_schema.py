@@ -2,6 +2,7 @@
 import collections
 import re
 import sqlite3
+from collections.abc import Collection, Iterator
 
 from .store_file import FORMS, LACKS
 
@@ -16,28 +17,28 @@ _QUOTED = r"'(?:[^']|'')*'|\"(?:[^\"]|\"\")*\"|`(?:[^`]|``)*`|\[[^\]]*\]"
 _SQL = re.compile(_QUOTED + r"|--[^\n]*|/\*.*?(?:\*/|\Z)|\w+", re.DOTALL)
 
 
-def shown(table, row):
+def shown(table: str, row: tuple | None) -> str:
     """A row in words: its table and the values of its key."""
     if row is None:
         return table
     return f"{table} ({', '.join(it if isinstance(it, str) and it.isprintable() else repr(it) for it in row)})"
 
 
-def lower(name):
+def lower(name: str) -> str:
     """A name as SQLite compares names: by ASCII letters of either case."""
     return name.translate({at: at + 32 for at in range(65, 91)})
 
 
-def quoted(name):
+def quoted(name: str) -> str:
     return '"' + name.replace('"', '""') + '"'
 
 
-def entries_of(conn):
+def entries_of(conn: sqlite3.Connection) -> list[Entry]:
     columns = "type, name, tbl_name, rootpage, coalesce(sql, '')"
     return [Entry(*row) for row in conn.execute(f"SELECT {columns} FROM sqlite_schema")]
 
 
-def words_of(text):
+def words_of(text: str) -> list[str]:
     """The words of a statement in capitals, with their quotes, and without comments."""
     return [it.upper() for it in _SQL.findall(text) if not it.startswith(("--", "/*"))]
 
@@ -108,7 +109,7 @@ def index_columns(conn, name):
     return [row for row in conn.execute("SELECT * FROM pragma_index_xinfo(?)", (name,)) if row[5]]
 
 
-def has_hidden_index(conn, table):
+def has_hidden_index(conn: sqlite3.Connection, table: str) -> bool:
     """Whether a table has an index with a WHERE or an expression."""
     found = conn.execute("SELECT * FROM pragma_index_list(?)", (table,)).fetchall()
     return any(row[4] or any(it[1] == -2 for it in index_columns(conn, row[1])) for row in found)
@@ -129,7 +130,7 @@ def index_faults(conn, table):
             yield f"the unique index {name} has an order or a collation of its own"
 
 
-def foreign_keys(conn, entries):
+def foreign_keys(conn: sqlite3.Connection, entries: list[Entry]) -> Iterator[tuple[str, str, list[str]]]:
     """Each foreign key: its table, the table that it refers to in small letters, and its columns."""
     for entry in entries:
         keys = collections.defaultdict(list)
@@ -140,7 +141,7 @@ def foreign_keys(conn, entries):
             yield entry.name, to, columns
 
 
-def faults_by_others(conn, entries):
+def faults_by_others(conn: sqlite3.Connection, entries: list[Entry]) -> Iterator[Fault]:
     """What another program has that could act on one of the store's tables, there or not."""
     for name, to, _ in foreign_keys(conn, entries):
         if to in FORMS and lower(name) not in FORMS:
@@ -154,23 +155,23 @@ def faults_by_others(conn, entries):
 # ---- the whole schema
 
 
-def taken(entries):
+def taken(entries: list[Entry]) -> dict[str, Entry]:
     """The entries that have a name of one of the store's tables, by this name."""
     return {lower(it.name): it for it in entries if lower(it.name) in FORMS}
 
 
-def lacks_counter(entries):
+def lacks_counter(entries: list[Entry]) -> bool:
     """Whether a table counts its rowids without the table for it, so that SQLite can't add a table."""
     counts = any(it.type == "table" and "AUTOINCREMENT" in words_of(it.text) for it in entries)
     return counts and "sqlite_sequence" not in {lower(it.name) for it in entries}
 
 
-def number_by_tables(names):
+def number_by_tables(names: Collection[str]) -> int:
     """The schema whose tables these are, or that comes nearest."""
     return 3 if "temp_root" in names else 2 if "piece" in names else 1
 
 
-def faults(conn, entries, schema):
+def faults(conn: sqlite3.Connection, entries: list[Entry], schema: int) -> Iterator[Fault]:
     """The Faults of the schema, of a file that should have the tables of this one."""
     names = taken(entries)
     for table in FORMS:
@@ -207,6 +208,6 @@ def shared_trees(entries):
             yield Fault(table, None, f"its pages are those of {', '.join(it for it in names if it != table)} too")
 
 
-def is_of_form(conn, entry):
+def is_of_form(conn: sqlite3.Connection, entry: Entry) -> bool:
     """Whether the table has exactly the form of one of the store's."""
     return entry.type == "table" and not list(form_faults(conn, entry))

@@ -1,4 +1,6 @@
 """What each root and each owner keeps, and what the deletion of a generation would free, as tables."""
+from collections.abc import Iterator
+
 from . import store_file
 
 
@@ -31,7 +33,7 @@ def generations_table(store, usages):
     return table(("would free", "generation"), rows)
 
 
-def lines(store, keep_outputs, keep_derivers):
+def lines(store: store_file.Store, keep_outputs: bool, keep_derivers: bool) -> Iterator[str]:
     """The lines of the report."""
     kept = store_file.edges(store, keep_outputs, keep_derivers)
     usages = store_file.usage_of_roots(store, kept)

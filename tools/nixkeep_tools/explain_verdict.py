@@ -1,4 +1,7 @@
 """What the tables of a file are, every rule that they break, and what nixkeep answers of them."""
+import sqlite3
+from collections.abc import Iterator
+
 from . import explain_pages, explain_rows, explain_schema, paths
 from .count_of import count_of
 from .explain_schema import Fault
@@ -15,7 +18,7 @@ class Examined:
     `row_faults` are the rules that they break, and belong to `faults` if `are_rows_tested`.
     """
 
-    def __init__(self, conn, path):
+    def __init__(self, conn: sqlite3.Connection, path: str):
         self.rows, self.objects, self.row_faults, self.are_rows_tested = None, None, [], False
         self.entries = explain_schema.entries_of(conn)
         self.names = explain_schema.taken(self.entries)
@@ -26,35 +29,35 @@ class Examined:
             self.read(conn)
 
     @property
-    def stated(self):
+    def stated(self) -> int | None:
         """The number of the schema that the file states; None if it states no number."""
         text = str(self.meta.get("schema", ""))
         return int(text) if is_schema(text) else None
 
     @property
-    def store_dir(self):
+    def store_dir(self) -> str:
         """The store directory that the file states, or the default if it states none."""
-        found = self.meta.get("store-dir")
-        return found if isinstance(found, str) and paths.is_store_dir(found) else paths.STORE
+        named = self.meta.get("store-dir")
+        return named if isinstance(named, str) and paths.is_store_dir(named) else paths.STORE
 
     @property
-    def schema(self):
+    def schema(self) -> int:
         """The schema whose tables the file should have."""
         tables = [name for name, it in self.names.items() if it.type == "table"]
         return self.stated if self.stated in LACKS else explain_schema.number_by_tables(tables)
 
     @property
-    def is_of_another(self):
+    def is_of_another(self) -> bool:
         """Whether names of the store's tables are taken, and nothing has the form of one of them."""
         return bool(self.names) and not self.formed
 
     @property
-    def foreign(self):
+    def foreign(self) -> list[str]:
         """The tables and views of other programs."""
         found = [it.name for it in self.entries if it.type in ("table", "view") and it.name not in self.names]
         return [it for it in found if not it.startswith("sqlite_")]
 
-    def schema_faults(self, conn):
+    def schema_faults(self, conn: sqlite3.Connection) -> Iterator[Fault]:
         if not self.names:
             yield from explain_schema.faults_by_others(conn, self.entries)
             if explain_schema.lacks_counter(self.entries):
@@ -63,18 +66,18 @@ class Examined:
             if it.table in self.names or self.formed:
                 yield it
 
-    def read(self, conn):
+    def read(self, conn: sqlite3.Connection) -> None:
         """Reads the rows, and tests them if all tables of the schema are there and no other."""
         self.rows = explain_rows.Rows(conn, max(self.schema, explain_schema.number_by_tables(self.formed)), self.formed)
         self.objects = explain_rows.Objects(self.rows, self.store_dir)
-        found = [*self.rows.faults, *explain_rows.settings(self.rows), *self.objects.faults()]
-        self.row_faults = [*found, *explain_rows.roots(self.rows, self.objects.objects)]
+        faults = [*self.rows.faults, *explain_rows.settings(self.rows), *self.objects.faults()]
+        self.row_faults = [*faults, *explain_rows.roots(self.rows, self.objects.objects)]
         self.are_rows_tested = self.formed == set(FORMS) - set(LACKS[self.schema])
         self.faults += self.row_faults if self.are_rows_tested else []
 
     # ---- what nixkeep answers
 
-    def refusal(self, wanted):
+    def refusal(self, wanted: str) -> str | None:
         """What nixkeep answers if it is asked for the store of this directory; None if it opens the file."""
         if self.stated is not None and self.stated > LAST:
             return f"{BAD_SCHEMA}: made by a later version of nixkeep: schema {self.stated}; the last known is {LAST}"
@@ -87,7 +90,7 @@ class Examined:
             return f"{OTHER_DIR}: a sound store of {self.store_dir}, and not of {wanted}"
         return None
 
-    def description(self):
+    def description(self) -> str:
         """What a file holds that nixkeep opens."""
         if not self.names:
             what = "the database of another program" if self.entries else "an empty database"

@@ -7,11 +7,20 @@
 A Reply is the server's own, whether the request was done or not. A proxy's own answer and a failed connection raise
 Stop with one line. A request is sent with its length, because the server takes no transfer coding. A reply is a stream.
 """
+from __future__ import annotations
+
 import sys
 
+from . import http_connection
+from .credentials import Credentials
 from .failures import DENIED, DONE, FAILED, REFUSED, Stop, reason
-from .http_connection import SECONDS, Cut, NotHttp, SocketConnection
+from .http_connection import SECONDS, Connection, Cut, NotHttp, SocketConnection
 from .http_place import Place
+
+# (for hints alone: see `http_connection`)
+TYPE_CHECKING = False
+if TYPE_CHECKING:
+    from collections.abc import Callable, Iterable, Iterator
 
 CHUNK = 65_536
 MOST_OF_BODY = 20_971_520
@@ -82,12 +91,12 @@ class _Closing:
 class Reply:
     """A reply of the server. `status` is the exit status of a command with it. The text is a stream, read once."""
 
-    def __init__(self, server, response, status, text=None):
+    def __init__(self, server: "Server", response: http_connection.Reply, status: int, text: bytes | None = None):
         self.server, self.response, self.status = server, response, status
         self.length = len(text) if text is not None else response.length
         self._text = text
 
-    def parts(self):
+    def parts(self) -> Iterator[bytes]:
         """Yields the bytes of the text."""
         if self._text is not None:
             yield self._text
@@ -100,7 +109,7 @@ class Reply:
             if left:
                 raise self.server.gone(f"the connection ended {left} bytes before the end of the answer")
 
-    def bounded(self):
+    def bounded(self) -> Iterator[bytes]:
         """Yields the bytes of a text that is read whole. Raises Stop for one that doesn't end."""
         size = 0
         for part in self.parts():
@@ -109,11 +118,11 @@ class Reply:
                 raise Stop(f"failed: answer: {self.server.place.url}: it has more than {MOST_OF_REPLY} bytes")
             yield part
 
-    def text(self):
+    def text(self) -> str:
         """The text whole."""
         return b"".join(self.bounded()).decode("utf-8", "backslashreplace")
 
-    def refusal(self):
+    def refusal(self) -> int | None:
         """The number of the refusal, or None."""
         return int(self._text.split(b" ")[1]) if self.status == REFUSED else None
 
@@ -125,14 +134,16 @@ class Server:
     file of certificates, `connection` is one that is open already.
     """
 
-    def __init__(self, place, caller=(), credentials=None, ca=None, connection=None):
+    def __init__(self, place: Place, caller: dict[str, str] | tuple[()] = (), credentials: Credentials | None = None,
+                 ca: str | None = None, connection: Connection | None = None):
         self.place, self.credentials = place, credentials
         self.fields = dict(caller)
         if credentials:
             self.fields["authorization"] = credentials.field
         self.connection = connection or place.connection(ca)
 
-    def ask(self, method, target, body=b"", length=None, is_repeated=False):
+    def ask(self, method: str, target: str, body: bytes | Iterable[bytes] = b"", length: int | None = None,
+            is_repeated: bool = False) -> Reply:
         """Sends a request, and returns the reply.
 
         `body` is bytes, or an iterable of bytes whose `length` is given. `is_repeated`, for a body of bytes, sends the
@@ -148,13 +159,13 @@ class Server:
             self.connection.close()
             return self.sent(method, target, body, length)
 
-    def sent(self, method, target, body, length):
+    def sent(self, method: str, target: str, body: bytes | Iterable[bytes], length: int) -> Reply:
         fields = {**self.fields, "content-length": str(length)} if length or method == "POST" else self.fields
         with self.closing_at_faults():
             self.guard(self.send, method, self.place.prefix + target, body, fields)
             return self.reply(self.guard(self.connection.response), length)
 
-    def takes_large(self):
+    def takes_large(self) -> bool:
         """Whether this is a nixkeep-cache that takes archives of any size."""
         try:
             reply = self.ask("GET", "/nix-cache-info", is_repeated=True)
@@ -162,10 +173,10 @@ class Server:
         except Foreign:
             return False
 
-    def closing_at_faults(self):
+    def closing_at_faults(self) -> _Closing:
         return _Closing(self.connection)
 
-    def send(self, method, target, body, fields):
+    def send(self, method: str, target: str, body: bytes | Iterable[bytes], fields: dict[str, str]) -> None:
         """Sends a request, or the part of it that is taken before the other side answers and closes."""
         self.connection.open()
         try:
@@ -173,7 +184,7 @@ class Server:
         except (BrokenPipeError, ConnectionResetError):
             pass
 
-    def reply(self, response, length):
+    def reply(self, response: http_connection.Reply, length: int) -> Reply:
         media = response.fields.get("content-type", "none").partition(";")[0]
         if response.status == 200 and media in _TYPES:
             return Reply(self, response, DONE)
@@ -185,7 +196,7 @@ class Server:
         self.connection.close()
         raise self.foreign(response, media, length)
 
-    def guard(self, work, *words):
+    def guard(self, work: Callable, *words: object) -> bytes | http_connection.Reply | None:
         """The result of `work(*words)`, a part of a request; Stop if the connection fails in it."""
         try:
             return work(*words)
@@ -200,7 +211,7 @@ class Server:
         except OSError as error:
             raise Stop(f"failed: {self.fault(error)}") from None
 
-    def fault(self, error):
+    def fault(self, error: OSError) -> str:
         """What is said of an error of the system, or of TLS where that is in use."""
         ssl = sys.modules.get("ssl")
         if ssl and isinstance(error, ssl.SSLCertVerificationError):
@@ -208,10 +219,10 @@ class Server:
         tls = "TLS: " if ssl and isinstance(error, ssl.SSLError) else ""
         return f"unreachable: {self.place.url}: {tls}{reason(error)}"
 
-    def gone(self, why):
+    def gone(self, why: str) -> "Lost":
         return Lost(f"failed: unreachable: {self.place.url}: {why}")
 
-    def foreign(self, response, media, length):
+    def foreign(self, response: http_connection.Reply, media: str, length: int) -> "Foreign":
         """Foreign for an answer that isn't the server's own."""
         status, why = f"{response.status} {response.reason}".rstrip(), ""
         if response.status == 401:

@@ -4,7 +4,15 @@ Starting fast is the point: loading `http.client` and `socket` takes many times 
 a socket of `_socket`, which `socket` wraps. A reply is read here if it has the form of the server's own: a status line
 of HTTP/1.1, fields in printable ASCII, and a length. `http.client` reads a reply of another form, from its first byte.
 """
+from __future__ import annotations
+
 import _socket
+
+# For hints alone: ssl takes longer to load than a request, and collections and typing take milliseconds.
+TYPE_CHECKING = False
+if TYPE_CHECKING:
+    import ssl
+    from collections.abc import Iterable
 
 SECONDS = 600
 PIECE = 8_192
@@ -19,7 +27,7 @@ class NotHttp(Exception):
 class Cut(Exception):
     """The connection ended before the end of a reply. `left` is the number of missing bytes, or None."""
 
-    def __init__(self, left):
+    def __init__(self, left: int | None):
         super().__init__(f"{left} bytes are missing")
         self.left = left
 
@@ -29,14 +37,14 @@ class Connection:
 
     default_port, auto_open = 80, True
 
-    def __init__(self, host, port=None):
+    def __init__(self, host: str, port: int | None = None):
         self.host, self.port = host, self.default_port if port is None else port
         self.sock = self.reply = None
 
-    def connect(self):
+    def connect(self) -> None:
         self.sock = connected(self.host, self.port)
 
-    def open(self):
+    def open(self) -> None:
         """Connects, unless a connection is open that takes another request."""
         if self.reply is not None and not self.reply.is_read():
             self.close()
@@ -45,7 +53,7 @@ class Connection:
                 raise ConnectionResetError
             self.connect()
 
-    def close(self):
+    def close(self) -> None:
         for it in (self.sock, self.reply and self.reply.sock):
             if it is not None:
                 it.close()
@@ -58,14 +66,14 @@ class Connection:
         host = f"[{self.host}]" if ":" in self.host else self.host
         return host if self.port == self.default_port else f"{host}:{self.port}"
 
-    def head(self, method, target, fields):
+    def head(self, method: str, target: str, fields: dict[str, str]) -> bytes:
         if not (target.isascii() and target.isprintable()) or " " in target:
             raise NotHttp
         lines = [f"{method} {target} HTTP/1.1", f"Host: {self.authority()}", "Accept-Encoding: identity"]
         lines += [f"{name}: {value}" for name, value in fields.items()]
         return "".join(f"{it}\r\n" for it in [*lines, ""]).encode("latin-1")
 
-    def send(self, method, target, body, fields):
+    def send(self, method: str, target: str, body: Iterable[bytes], fields: dict[str, str]) -> None:
         """Sends a request. The body is an iterable of bytes, of which short ones are sent together."""
         waiting = self.head(method, target, fields)
         for it in body:
@@ -77,7 +85,7 @@ class Connection:
 
     # ---- its reply
 
-    def response(self):
+    def response(self) -> "Reply":
         """The reply to the request, once its head is there."""
         ahead = b""
         while b"\r\n\r\n" not in ahead and len(ahead) < MOST_OF_HEAD:
@@ -88,9 +96,9 @@ class Connection:
         if not ahead:
             raise ConnectionResetError
         head, end, rest = ahead.partition(b"\r\n\r\n")
-        found = plain_head(head) if end else None
-        if found:
-            self.reply = Reply(self.sock, *found, rest)
+        plain = plain_head(head) if end else None
+        if plain:
+            self.reply = Reply(self.sock, *plain, rest)
         else:
             from . import http_replies
 
@@ -131,11 +139,11 @@ class TlsConnection(Connection):
 
     default_port = 443
 
-    def __init__(self, host, port, context=None):
+    def __init__(self, host: str, port: int | None, context: "ssl.SSLContext | None" = None):
         super().__init__(host, port)
         self.context = context
 
-    def connect(self):
+    def connect(self) -> None:
         import ssl
 
         # Of a folder, OpenSSL loads those that it needs. It loads all of a file, which takes longer than all else.
@@ -155,11 +163,11 @@ class TlsConnection(Connection):
 class UnixConnection(Connection):
     """A connection to the Unix socket of a path."""
 
-    def __init__(self, path):
+    def __init__(self, path: str):
         super().__init__("localhost")
         self.path = path
 
-    def connect(self):
+    def connect(self) -> None:
         self.sock = reached(_socket.socket(_socket.AF_UNIX, _socket.SOCK_STREAM), self.path)
 
 
@@ -168,12 +176,12 @@ class SocketConnection(Connection):
 
     auto_open = False
 
-    def __init__(self, sock):
+    def __init__(self, sock: _socket.socket):
         super().__init__("localhost")
         self.sock = sock
 
 
-def plain_head(head):
+def plain_head(head: bytes) -> tuple[int, str, dict[str, str], int] | None:
     """The status, the reason, the fields and the length in the head of a reply that has the form of the server's own;
     None for another form. Of fields with one name the first counts."""
     if not head.isascii():
@@ -199,14 +207,15 @@ def plain_head(head):
 class Reply:
     """A reply with its length, whose text is read from a socket. `ahead` is what was read after its head."""
 
-    def __init__(self, sock, status, reason, fields, length, ahead):
+    def __init__(self, sock: _socket.socket, status: int, reason: str, fields: dict[str, str], length: int,
+                 ahead: bytes):
         self.sock, self.status, self.reason, self.fields, self.length = sock, status, reason, fields, length
         self.ahead, self.is_last = ahead, "close" in fields.get("connection", "").lower()
 
-    def is_read(self):
+    def is_read(self) -> bool:
         return not self.length
 
-    def read(self, count):
+    def read(self, count: int) -> bytes:
         """The next bytes of the text: `count` of them unless it ends before."""
         left = min(count, self.length)
         pieces, self.ahead = [self.ahead[:left]], self.ahead[left:]
@@ -214,8 +223,8 @@ class Reply:
         while left and (piece := self.sock.recv(left)):
             pieces.append(piece)
             left -= len(piece)
-        found = b"".join(pieces)
-        self.length -= len(found)
+        data = b"".join(pieces)
+        self.length -= len(data)
         if self.is_last and (left or not self.length):
             self.sock.close()
-        return found
+        return data

@@ -14,7 +14,7 @@ class Place:
     A path after the host is the prefix of each target.
     """
 
-    def __init__(self, url):
+    def __init__(self, url: str):
         self.url, self.socket, self.host, self.port, self.prefix = url, None, None, None, ""
         self.scheme, _, rest = url.partition(":")
         if self.scheme == "unix" and rest.startswith("/"):
@@ -29,11 +29,16 @@ class Place:
         self.prefix = path.rstrip("/")
 
     @property
-    def is_private(self):
+    def is_private(self) -> bool:
         """Whether nobody on the way can read what is sent there."""
         return self.scheme in ("https", "unix") or self.host == "localhost" or _is_loopback(self.host)
 
-    def connection(self, ca=None):
+    def is_same(self, other: "Place") -> bool:
+        """Whether both name the same server."""
+        key = lambda it: (it.scheme, it.socket, it.host, it.port or {"https": 443}.get(it.scheme, 80))
+        return key(self) == key(other)
+
+    def connection(self, ca: str | None = None) -> http_connection.Connection:
         """A connection. `ca` is a file of certificates, or None for those of the system."""
         if self.socket:
             return http_connection.UnixConnection(self.socket)

@@ -3,6 +3,13 @@
 `walk` yields the nodes of an archive, `check` returns its first fault, and `listing` yields the lines of `nixkeep ls`.
 Each takes the archive as an iterable of pieces of any length, and keeps one string or one piece in memory at a time.
 """
+from __future__ import annotations
+
+# (for hints alone: see `http_connection`)
+TYPE_CHECKING = False
+if TYPE_CHECKING:
+    from collections.abc import Callable, Iterable, Iterator
+
 # An archive has at most this many bytes, and at most this many nodes inside one another.
 LIMIT = 16_777_216
 DEPTH = 256
@@ -23,7 +30,7 @@ CHUNK = 65_536
 class Fault(ValueError):
     """The first fault of an input: its number and name, and the offset in bytes of the string that has it."""
 
-    def __init__(self, name, offset):
+    def __init__(self, name: str, offset: int):
         super().__init__(f"{name} at byte {offset}")
         self.number, self.name, self.offset = FAULTS[name], name, offset
 
@@ -35,7 +42,7 @@ class Node:
     below. `size` is the length of a file's contents, `target` the bytes of a link; both are None elsewhere.
     """
 
-    def __init__(self, kind, path, size=None, target=None):
+    def __init__(self, kind: str, path: bytes, size: int | None = None, target: bytes | None = None):
         self.kind, self.path, self.size, self.target = kind, path, size, target
 
 
@@ -130,15 +137,15 @@ def _node(given, path, contents):
     if kind == b"directory":
         return Node("d", path)
     if kind == b"regular":
-        found = _file(given, path, contents)
+        node = _file(given, path, contents)
     else:
         given.word(b"target")
-        found = Node("l", path, target=given.string())
+        node = Node("l", path, target=given.string())
     given.word(b")")
-    return found
+    return node
 
 
-def walk(pieces, contents=None):
+def walk(pieces: Iterable[bytes], contents: Callable[[bytes, bytes], object] | None = None) -> Iterator[Node]:
     """Yields the nodes of an archive, parents first and entries in order. Raises the first Fault of any other input.
 
     `contents`, if given, is called with the path of each file and each part of its contents, before the file's node.
@@ -163,10 +170,10 @@ def walk(pieces, contents=None):
         given.word(b"node")
         if len(folders) == DEPTH:
             raise given.fault("too-deep")
-        found = _node(given, folder[0] + b"/" + folder[1], contents)
-        yield found
-        if found.kind == "d":
-            folders.append([found.path, None])
+        node = _node(given, folder[0] + b"/" + folder[1], contents)
+        yield node
+        if node.kind == "d":
+            folders.append([node.path, None])
         else:
             given.word(b")")
     given.start = given.offset
@@ -174,7 +181,7 @@ def walk(pieces, contents=None):
         raise given.fault("trailing")
 
 
-def check(pieces):
+def check(pieces: Iterable[bytes]) -> Fault | None:
     """The first Fault of the input, or None where it is an archive."""
     try:
         for _ in walk(pieces):
@@ -196,7 +203,7 @@ def line(node):
     return f"l {path} -> {_shown(node.target)}" if node.kind == "l" else f"{node.kind} {node.size} {path}"
 
 
-def listing(pieces):
+def listing(pieces: Iterable[bytes]) -> Iterable[str]:
     """Yields the lines of the listing of an archive, as `nixkeep ls` prints it."""
     return map(line, walk(pieces))
 
@@ -205,7 +212,7 @@ def _string(text):
     return len(text).to_bytes(8, "little") + text + bytes(-len(text) % 8)
 
 
-def regular_file(contents, is_executable=False):
+def regular_file(contents: bytes, is_executable: bool = False) -> bytes:
     """The archive of a regular file."""
     mark = [b"executable", b""] if is_executable else []
     words = [b"nix-archive-1", b"(", b"type", b"regular", *mark, b"contents", contents, b")"]

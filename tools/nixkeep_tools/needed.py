@@ -3,7 +3,7 @@ import importlib
 import sys
 
 
-def run(program, module, package):
+def run(program: str, module: str, package: str) -> None:
     try:
         found = importlib.import_module(f"nixkeep_tools.{module}")
     except ModuleNotFoundError as missing:

@@ -3,7 +3,7 @@ import os
 import socket
 
 
-def notify(text):
+def notify(text: str) -> None:
     """Sends a state such as `READY=1` to systemd. Without systemd nothing is sent."""
     place = os.environ.get("NOTIFY_SOCKET", "")
     if place.startswith(("/", "@")):

@@ -9,10 +9,12 @@ import re
 import socket
 import subprocess
 import tempfile
+from collections.abc import Callable, Iterable, Iterator
+from pathlib import Path
 
 from . import nar, paths, streams
 from .failures import DONE, REFUSED, Stop
-from .http_client import Foreign, Lost, Server, SocketConnection
+from .http_client import Foreign, Lost, Place, Server, SocketConnection
 
 # `nar_hash` is 32 bytes, `refs` a list of base names, `deriver` a base name or None, `ca` a content address or None.
 Record = collections.namedtuple("Record", "base nar_hash nar_size refs deriver ca")
@@ -23,12 +25,12 @@ TRIES = 10
 REFERENCES, CLOSURE = 4_096, 1_000_000
 
 
-def lines(*pairs):
+def lines(*pairs: tuple) -> bytes:
     """The lines of a body, and the empty one after them."""
     return "".join(f"{key}: {value}\n" for key, value in pairs).encode() + b"\n"
 
 
-def read_record(text):
+def read_record(text: str) -> Record:
     """The Record in a text of `nixkeep info`."""
     fields = dict(line.partition(": ")[::2] for line in text.splitlines())
     base = fields["StorePath"].rpartition("/")[2]
@@ -37,14 +39,14 @@ def read_record(text):
     return Record(base, digest, int(fields["NarSize"]), refs, fields.get("Deriver"), fields.get("CA"))
 
 
-def is_sound(record):
+def is_sound(record: Record) -> bool:
     """Whether a Record of a server may be one of a store."""
     named = [*record.refs, *([record.deriver] if record.deriver is not None else [])]
     is_size = 0 <= record.nar_size < 1 << 63
     return is_size and len(record.refs) <= REFERENCES and all(map(paths.is_base_name, named))
 
 
-def source_address(record, folder):
+def source_address(record: Record, folder: str) -> str | None:
     """The content address of a source if the path is that of one, else None."""
     if record.base in record.refs:
         return None
@@ -52,7 +54,7 @@ def source_address(record, folder):
     return paths.address("source", record.nar_hash) if of == record.base else None
 
 
-def contents(archive):
+def contents(archive: bytes) -> bytes | None:
     """The contents of an archive that is a regular file and not executable, else None."""
     found = bytearray()
     try:
@@ -62,12 +64,12 @@ def contents(archive):
     return bytes(found) if kinds == ["r"] else None
 
 
-def text_address(record, archive, folder):
+def text_address(record: Record, archive: bytes, folder: str) -> str | None:
     """The content address of a text if the path is that of one, else None."""
-    found = None if record.base in record.refs else contents(archive)
-    if found is None:
+    text = None if record.base in record.refs else contents(archive)
+    if text is None:
         return None
-    digest = paths.sha256([found])
+    digest = paths.sha256([text])
     of = paths.path_of("text", digest, record.base[33:], record.refs, folder)
     return paths.address("text", digest) if of == record.base else None
 
@@ -79,7 +81,7 @@ def _is_address(text):
         return False
 
 
-def with_address(record, folder):
+def with_address(record: Record, folder: str) -> Record:
     """The record with its content address if nixkeep has such addresses, else with that of a source, or none."""
     is_kept = _is_address(record.ca) and record.base not in record.refs
     return record._replace(ca=record.ca if is_kept else source_address(record, folder))
@@ -88,7 +90,7 @@ def with_address(record, folder):
 class Child:
     """A process `nixkeep serve` on a database file, over a pair of sockets."""
 
-    def __init__(self, program, file, config):
+    def __init__(self, program: str, file: str, config: str | None):
         ours, theirs = socket.socketpair()
         self.errors, self.socket = tempfile.TemporaryFile(), ours
         words = [program, "--db", file, *(["--config", config] if config else []), "serve"]
@@ -99,10 +101,10 @@ class Child:
         finally:
             theirs.close()
 
-    def server(self, place, caller):
+    def server(self, place: "FilePlace", caller: dict[str, str]) -> Server:
         return Server(place, caller, connection=SocketConnection(self.socket))
 
-    def end(self):
+    def end(self) -> tuple[str, int]:
         """Ends the process, and returns its standard error and its exit status."""
         self.socket.close()
         status = self.process.wait()
@@ -110,12 +112,12 @@ class Child:
         return self.errors.read().decode("utf-8", "backslashreplace").strip(), status
 
 
-class FilePlace:
+class FilePlace(Place):
     """The place of a server that is a child process."""
 
     is_private, prefix, host = True, "", None
 
-    def __init__(self, file):
+    def __init__(self, file: str):
         self.url = file
 
 
@@ -125,14 +127,15 @@ class Store:
     `folder` is the store directory. `child` is the process for a database file.
     """
 
-    def __init__(self, server, me, folder, child=None):
+    def __init__(self, server: Server, me: str, folder: str, child: Child | None = None):
         self.server, self.me, self.folder, self.child = server, me, folder, child
         self.session = None
 
     def __str__(self):
         return self.server.place.url
 
-    def ask(self, method, target, body=b"", about=None, allowed=(), length=None):
+    def ask(self, method: str, target: str, body: bytes | Iterable[bytes] = b"", about: str | None = None,
+            allowed: tuple[int, ...] = (), length: int | None = None) -> tuple[int | None, bytes]:
         """The number of the refusal, None if the request is done, and the bytes of the reply.
 
         Raises Stop for a request that isn't done, except refusals whose numbers are `allowed`. `about` is a full path.
@@ -153,16 +156,16 @@ class Store:
             raise Stop(f"{line} {about}" if about else line, reply.status)
         return number, text
 
-    def full(self, base):
+    def full(self, base: str) -> str:
         return f"{self.folder}/{base}"
 
-    def check_folder(self):
+    def check_folder(self) -> None:
         """Tests the store directory, by a deletion that is denied to everybody."""
         head = lines(("path", self.full("0" * 32 + "-none")), ("ignore-liveness", "true"))
         if self.probe("POST", "/delete", head) == BAD_BODY:
             raise Stop(f"failed: store-dir: {self}: it isn't a store of {self.folder}")
 
-    def probe(self, method, target, body=b""):
+    def probe(self, method: str, target: str, body: bytes = b"") -> int | None:
         """The number of the refusal of a request that is never done; None if a rule or a proxy forbids it."""
         try:
             return self.ask(method, target, body, allowed=(BAD_BODY, BAD_NAME))[0]
@@ -173,26 +176,26 @@ class Store:
                 return None
             raise
 
-    def is_trusted(self):
+    def is_trusted(self) -> bool:
         """Whether the caller is trusted. Only then the server looks at the bad name of a permanent root."""
         return self.probe("DELETE", "/root/permanent/-") == BAD_NAME
 
     # ---- what is there
 
-    def record(self, base):
+    def record(self, base: str) -> Record:
         return self.record_in(self.ask("GET", f"/info/{base}", about=self.full(base))[1], base)
 
-    def record_in(self, text, base):
+    def record_in(self, text: bytes, base: str) -> Record:
         """The Record of a path in a reply. Raises Stop for a reply that isn't its record."""
         try:
-            found = read_record(text.decode())
+            record = read_record(text.decode())
         except (KeyError, ValueError):
-            found = None
-        if not found or found.base != base or not is_sound(found):
+            record = None
+        if not record or record.base != base or not is_sound(record):
             raise Stop(f"failed: answer: {self}: it isn't the record of {self.full(base)}")
-        return found
+        return record
 
-    def closure(self, tops):
+    def closure(self, tops: Iterable[str]) -> dict:
         """The records of the closure of these paths, by base names. The session keeps it."""
         for base in tops:
             if not self.keep(base):
@@ -208,34 +211,34 @@ class Store:
                 raise Stop(f"failed: answer: {self}: the closure has more than {CLOSURE} objects")
         return found
 
-    def valid(self, bases):
+    def valid(self, bases: Iterable[str]) -> set[str]:
         """The valid ones of these paths, as a set."""
         _, text = self.ask("GET", "/paths")
         return {line.rpartition("/")[2] for line in text.decode("ascii", "replace").splitlines()} & set(bases)
 
-    def archive(self, record):
+    def archive(self, record: Record) -> bytes:
         return self.ask("GET", f"/nar/{record.base}", about=self.full(record.base))[1]
 
-    def pieces(self, record):
+    def pieces(self, record: Record) -> Iterator[bytes]:
         """Yields a large archive."""
         reply = self.server.ask("GET", f"/nar/{record.base}")
         if reply.status != DONE:
             raise Stop(f"{reply.text().rstrip()} {self.full(record.base)}", reply.status)
         yield from reply.parts()
 
-    def takes_large(self):
+    def takes_large(self) -> bool:
         """Whether archives of any size may be put here."""
         return self.server.takes_large()
 
     # ---- what is put there
 
-    def keep(self, base):
+    def keep(self, base: str) -> bool:
         """Keeps a path by the session, and returns whether the path is valid."""
         target = f"/temp/{self.me}/{self.session}"
         number, _ = self.ask("POST", target, lines(("path", base)), self.full(base), (NOT_VALID,))
         return number is None
 
-    def put(self, record, archive, of_large=None):
+    def put(self, record: Record, archive: bytes, of_large: Callable[[], Iterable[bytes]] | None = None) -> bool:
         """Imports an object and keeps it. Returns False if a reference of it isn't valid. `of_large` returns an
         iterable of the bytes of a large archive, which isn't given whole."""
         pairs = [("path", record.base), ("nar-hash", paths.nar_hash(record.nar_hash))]
@@ -254,7 +257,7 @@ class Store:
                 return True
         raise Stop(f"failed: collected: {about} was deleted {TRIES} times before it could be kept")
 
-    def set_root(self, kind, name, base):
+    def set_root(self, kind: str, name: str, base: str) -> str:
         """Sets a root, and returns the text of the reply. `kind` is root, permanent or profile."""
         targets = {
             "permanent": f"/root/permanent/{name}",
@@ -264,21 +267,21 @@ class Store:
         text = self.ask("POST", targets[kind], lines(("path", base)), self.full(base))[1]
         return streams.printable(text.decode("utf-8", "backslashreplace"))
 
-    def end_session(self):
+    def end_session(self) -> None:
         self.ask("DELETE", f"/temp/{self.me}/{self.session}")
 
-    def close(self):
+    def close(self) -> None:
         if self.child:
             self.child.end()
         else:
             self.server.connection.close()
 
 
-def is_url(text):
+def is_url(text: str) -> bool:
     return re.match(r"(?:https?|unix):", text) is not None
 
 
-def program_beside(folder):
+def program_beside(folder: Path) -> str:
     """The program `nixkeep` in a folder if it is there, else the name of the one on the path."""
-    beside = os.path.join(folder, "nixkeep")
-    return beside if os.access(beside, os.X_OK) and not os.path.isdir(beside) else "nixkeep"
+    near = folder / "nixkeep"
+    return str(near) if os.access(near, os.X_OK) and not near.is_dir() else "nixkeep"

@@ -1,6 +1,7 @@
 """Who keeps how much of a store, what a collection would free, and why a path is kept."""
 import collections
 import subprocess
+from collections.abc import Callable
 
 from . import store_file
 from .store_file import Usage
@@ -45,7 +46,8 @@ def usages(sizes, count):
 class Overview:
     """The figures of a store. `live` is the set of live paths by the server's own word, or None without a server."""
 
-    def __init__(self, store, keeps_outputs=False, keeps_derivers=True, live=None):
+    def __init__(self, store: store_file.Store, keeps_outputs: bool = False, keeps_derivers: bool = True,
+                 live: set[str] | None = None):
         self.store, self.keeps, self.is_served = store, (keeps_outputs, keeps_derivers), live is not None
         self.kept = store_file.edges(store, *self.keeps)
         self.bits = store_file.keepers(store, self.kept)
@@ -53,18 +55,18 @@ class Overview:
         # (other settings of the server's, or a change between two questions)
         self.differs = 0 if live is None else len(live ^ {base for base, bits in self.bits.items() if bits})
 
-    def sizes(self, bits):
+    def sizes(self, bits: dict[str, int]) -> collections.Counter:
         found = collections.Counter()
         for base, it in bits.items():
             found[it] += self.store.objects[base].size
         return found
 
-    def total(self, is_counted):
+    def total(self, is_counted: Callable[[int], bool]) -> tuple[int, int]:
         """The number and the bytes of the objects whose roots are such."""
         found = [self.store.objects[base].size for base, bits in self.bits.items() if is_counted(bits)]
         return len(found), sum(found)
 
-    def lines(self):
+    def lines(self) -> list[Line]:
         """The roots by owner and kind, those that keep most first."""
         counts = collections.Counter((root.owner or "", root.kind) for root in self.store.roots)
         groups = {key: at for at, key in enumerate(counts)}
@@ -74,12 +76,12 @@ class Overview:
         found = [Line(*key, counts[key], used[at]) for key, at in groups.items()]
         return sorted(found, key=lambda it: (-it.usage.all, -it.usage.alone, it.owner, it.kind))
 
-    def roots(self):
+    def roots(self) -> list[tuple[store_file.Root, Usage]]:
         """Each root with its Usage, largest first."""
         found = zip(self.store.roots, self.used)
         return sorted(found, key=lambda it: (-it[1].all, -it[1].alone, it[0].label, it[0].target))
 
-    def profiles(self, roots):
+    def profiles(self, roots: list[tuple[store_file.Root, Usage]]) -> list[tuple]:
         """Pairs of an owner and a profile's name, each with its generations: root, Usage, and whether it is the
         current one."""
         found = collections.defaultdict(list)
@@ -89,12 +91,12 @@ class Overview:
                 found[root.owner, root.name].append((root, used, is_current))
         return [(key, sorted(found[key], key=lambda it: -it[0].number)) for key in sorted(found)]
 
-    def dead(self):
+    def dead(self) -> list[tuple[str, int]]:
         """The dead paths with their sizes, largest first."""
         found = [(base, self.store.objects[base].size) for base, bits in self.bits.items() if not bits]
         return sorted(found, key=lambda it: (-it[1], it[0]))
 
-    def why(self, base):
+    def why(self, base: str) -> Why | None:
         """Why a path is kept, or None for a path that isn't there."""
         if base not in self.bits:
             return None
@@ -104,7 +106,7 @@ class Overview:
         root = self.store.roots[(bits & -bits).bit_length() - 1]
         return Why(base, root, self.chain(root.target, base))
 
-    def chain(self, start, end):
+    def chain(self, start: str, end: str) -> list[Step]:
         """The shortest chain of objects, each of which keeps the next one."""
         came, left = {start: None}, collections.deque([start])
         while end not in came:
@@ -119,13 +121,13 @@ class Overview:
             end = came[end]
         return steps[::-1]
 
-    def link(self, base, to):
+    def link(self, base: str | None, to: str) -> str:
         if base is None:
             return "root"
-        found = self.store.objects[base]
-        if to in found.references:
+        item = self.store.objects[base]
+        if to in item.references:
             return "reference"
-        return "output" if self.keeps[0] and to in found.outputs.values() else "deriver"
+        return "output" if self.keeps[0] and to in item.outputs.values() else "deriver"
 
 
 # ---- the drawing
@@ -146,7 +148,7 @@ def graph(why):
     return f"digraph why {{ {style}; {'; '.join([*nodes, *edges])} }}"
 
 
-def drawing(why):
+def drawing(why: Why) -> str | None:
     """The chain as an SVG element, or None if graphviz isn't installed or can't draw it in time."""
     try:
         ran = subprocess.run(["dot", "-Tsvg"], input=graph(why), capture_output=True, text=True, timeout=20, check=True)

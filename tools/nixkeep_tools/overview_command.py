@@ -49,15 +49,15 @@ def made(said):
     return asyncio.run(of_server(said.store, cache_server.Caller(said.user, said.group), keeps))
 
 
-def main(words=None):
+def main(words: list[str] | None = None) -> None:
     asked = parser()
     said = asked.parse_args(words)
     if said.store and not said.user:
         asked.error("--store needs --user")
     try:
-        found = made(said)
+        overview = made(said)
         name = said.name or overview_source.name_of(said.config, said.db)
-        text = overview_page.page(found, name, why=said.why and paths.base_name(said.why, found.store.store_dir))
+        text = overview_page.page(overview, name, why=said.why and paths.base_name(said.why, overview.store.store_dir))
         if said.output:
             with open(said.output, "w", encoding="utf-8") as out:
                 out.write(text)

@@ -1,6 +1,7 @@
 """The page of the figures of the last day: HTML with its style and its drawing inside, and no script."""
 import datetime
 
+from .cache_day import Day
 from .overview_style import rendered
 
 TEMPLATE = """<header>
@@ -25,13 +26,13 @@ TEMPLATE = """<header>
 <div class="wide" tabindex="0" role="region" aria-labelledby="hours"><table aria-labelledby="hours">
 <thead><tr><th scope="col">From</th>{{ heads() }}<th scope="col" class="n full">Slowest</th></tr></thead>
 <tbody>{% for it in spans|reverse if it.sums.requests %}<tr><th scope="row">{{ it.time }}</th>{{ cells(it.sums) }}
-  <td class="n full">{{ it.slowest|seconds }}</td></tr>{% endfor %}</tbody></table></div>
+  <td class="n full">{{ seconds(it.slowest) }}</td></tr>{% endfor %}</tbody></table></div>
 
 {% for word, name, lines in tables %}<h2 id="{{ name }}">{{ word }}</h2>
 <div class="wide" tabindex="0" role="region" aria-labelledby="{{ name }}"><table aria-labelledby="{{ name }}">
 <thead><tr><th scope="col">{{ name }}</th>{{ heads() }}<th scope="col" class="n full">Mean</th></tr></thead>
 <tbody>{% for key, sums in lines[:most] %}<tr><th scope="row" class="path">{{ key }}</th>{{ cells(sums) }}
-  <td class="n full">{{ (sums.seconds / sums.requests)|seconds }}</td></tr>{% endfor %}</tbody></table></div>
+  <td class="n full">{{ seconds(sums.seconds / sums.requests) }}</td></tr>{% endfor %}</tbody></table></div>
 {% if lines|length > most %}<p class="quiet">And {{ lines|length - most }} more.</p>{% endif %}
 {% endfor %}
 </main>
@@ -57,7 +58,7 @@ def column(part, highest):
     time = datetime.datetime.fromtimestamp(part["since"], datetime.timezone.utc).strftime("%H:%M UTC")
     return part | {"time": time, "high": high(part["sums"]["requests"]), "bad": high(part["sums"]["failures"])}
 
-def page(day, store, link, tiles, notices):
+def page(day: Day, store: str, link: str, tiles: list[tuple[str, str]], notices: list[str]) -> str:
     """The page. `tiles` are further pairs of a word and a value, `notices` lines of what needs somebody."""
     sums, spans = day.sums(), day.spans()
     highest = max(it["sums"]["requests"] for it in spans)
@@ -65,10 +66,10 @@ def page(day, store, link, tiles, notices):
     count = "{:,}".format
     return rendered(
         MACROS + TEMPLATE,
-        {"seconds": seconds},
         title="The last day",
         store=store,
         link=link,
+        seconds=seconds,
         highest=highest,
         spans=[column(it, highest or 1) for it in spans],
         tiles=[

@@ -51,8 +51,8 @@ TEMPLATE = """{% macro path(base) %}
   <td>{{ kinds.get(line.kind, line.kind) }}</td>
   <td class="n">{{ '{:,}'.format(line.count) }}</td><td class="n">{{ size(line.usage.all) }}</td>
   <td class="n">{{ size(line.usage.alone) }}</td>
-  <td class="full"><div class="bar" style="width: {{ line.usage.all|share }}%"></div>
-  <div class="bar alone" style="width: {{ line.usage.alone|share }}%"></div></td></tr>{% endfor %}</tbody>
+  <td class="full"><div class="bar" style="width: {{ share(line.usage.all) }}%"></div>
+  <div class="bar alone" style="width: {{ share(line.usage.alone) }}%"></div></td></tr>{% endfor %}</tbody>
 </table></div>{{ more(most, lines|length) }}{% else %}<p>There is no root.</p>{% endif %}
 
 <h2 id="profiles">Profiles</h2>
@@ -101,7 +101,7 @@ WORDS = {
 KINDS = {"hidden": "runtime or session, hidden"}
 
 
-def page(it, name=None, link=None, why=None):
+def page(it: overview.Overview, name: str | None = None, link: str | None = None, why: str | None = None) -> str:
     """The page of an Overview. `name` is that of the store, or None; `link` is where the page is served, or None for
     one by itself; `why` a path to explain."""
     sums = [("live", it.total(bool)), ("dead", it.total(lambda bits: not bits)), ("in all", it.total(lambda _: True))]
@@ -112,11 +112,11 @@ def page(it, name=None, link=None, why=None):
     title = f"Why {found.base[33:]} is kept" if found else "Who keeps what"
     return rendered(
         TEMPLATE,
-        {"share": share},
         title=f"{title} in {name}" if name else title,
         it=it,
         name=name,
         link=link,
+        share=share,
         kinds=KINDS,
         program="nixkeep-remote" if it.is_served else "nixkeep",
         words=WORDS,

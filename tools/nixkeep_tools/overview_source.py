@@ -1,12 +1,13 @@
 """What a store holds, for an overview: read from its file, or asked of its server."""
 import asyncio
-import os
+import os.path
 import re
 import sys
 import tomllib
+from pathlib import Path
 
 from . import drv, nar, paths, pointers, store_file
-from .cache_server import Unreachable
+from .cache_server import Caller, Reply, Server, Unreachable
 
 _LABELS = [
     ("user", re.compile(r"gcroots/per-user/(?P<owner>[^/]+)/(?P<name>[^/]+)")),
@@ -20,39 +21,40 @@ CENSORED = "{censored}"
 class Denied(Exception):
     """The server's reply to a caller that may not ask, or that it refuses for another reason."""
 
-    def __init__(self, reply):
+    def __init__(self, reply: Reply):
         super().__init__(reply.text.decode().strip())
         self.reply = reply
 
 
-def settings(file):
+def settings(file: str | None) -> tuple[str, bool, bool]:
     """The store directory, whether outputs are kept and whether derivers are, by a configuration file or by the
     defaults."""
-    found = {}
+    table = {}
     if file:
         with open(file, "rb") as config:
-            found = tomllib.load(config)
-    return found.get("store-dir", paths.STORE), found.get("keep-outputs", False), found.get("keep-derivations", True)
+            table = tomllib.load(config)
+    return table.get("store-dir", paths.STORE), table.get("keep-outputs", False), table.get("keep-derivations", True)
 
 
-def name_of(config, file):
+def name_of(config: str | None, file: str | None) -> str | None:
     """What people call a store: the name of its configuration, or else that of its file's folder; None where neither
     says anything."""
-    for it in (config and os.path.basename(config), file and os.path.basename(os.path.dirname(os.path.abspath(file)))):
+    # (abspath: of Path's, one leaves `..` in a path, and the other takes links out of it)
+    for it in (config and Path(config).name, file and Path(os.path.abspath(file)).parent.name):
         name = (it or "").removesuffix(".toml")
         if name not in ("", "store", "nixkeep"):
             return name
     return None
 
 
-def of_file(file):
+def of_file(file: str) -> store_file.Store:
     """The Store in a file that no other process has open."""
     with store_file.open_store(file) as conn:
-        found = store_file.read(conn)
-        for base in may_be_pointers(found.objects):
-            found.objects[base] = sized(found.objects[base], b"".join(store_file.archive(conn, base)),
-                                        paths.full(base, found.store_dir))
-        return found
+        store = store_file.read(conn)
+        for base in may_be_pointers(store.objects):
+            store.objects[base] = sized(store.objects[base], b"".join(store_file.archive(conn, base)),
+                                        paths.full(base, store.store_dir))
+        return store
 
 
 def may_be_pointers(objects):
@@ -62,8 +64,8 @@ def may_be_pointers(objects):
 
 def sized(item, archive, path):
     """An object with the size of the archive that it names, if it is a pointer, else as it is."""
-    found = pointers.read(archive, path)
-    return item._replace(size=found.nar_size) if found else item
+    pointer = pointers.read(archive, path)
+    return item._replace(size=pointer.nar_size) if pointer else item
 
 
 # ---- from a server
@@ -75,8 +77,8 @@ def root(label, target):
     if label == CENSORED:
         return store_file.Root("hidden", target, label, None, None, None)
     for kind, form in _LABELS:
-        if found := form.fullmatch(label):
-            more = {"owner": None, "name": None, "number": None, **found.groupdict()}
+        if match := form.fullmatch(label):
+            more = {"owner": None, "name": None, "number": None, **match.groupdict()}
             number = int(more["number"]) if more["number"] else None
             return store_file.Root(kind, target, label, more["owner"], more["name"], number)
     return store_file.Root("runtime", target, label, None, None, None)
@@ -101,45 +103,44 @@ def outputs(archive, store_dir):
 class Records:
     """The objects of a server, kept from one overview to the next: an object never changes while it is there."""
 
-    def __init__(self, server, keeps_outputs):
-        self.server, self.keeps_outputs, self.found, self.connection = server, keeps_outputs, {}, None
+    def __init__(self, server: Server, keeps_outputs: bool):
+        self.server, self.keeps_outputs, self.objects, self.connection = server, keeps_outputs, {}, None
 
-    def forget(self, text):
+    def forget(self, text: bytes) -> None:
         """Forgets the paths that a reply names, one a line: they have been deleted."""
         for line in text.decode().splitlines():
-            self.found.pop(line.rpartition("/")[2], None)
+            self.objects.pop(line.rpartition("/")[2], None)
 
-    async def ask(self, caller, target):
+    async def ask(self, caller: Caller, target: str) -> list[str]:
         reply = await self.server.ask(caller, "GET", target)
         if reply.status != 200:
             raise Denied(reply)
         return reply.text.decode().splitlines()
 
-    async def store(self, caller):
+    async def store(self, caller: Caller) -> tuple[store_file.Store, set[str]]:
         """The Store as a caller sees it, and the set of live paths by the server's own word. Raises Denied or
         Unreachable."""
         lines = await self.ask(caller, "/paths")
         if self.connection != self.server.connections:
-            self.found, self.connection = {}, self.server.connections
+            self.objects, self.connection = {}, self.server.connections
         listed = [line.rpartition("/")[2] for line in lines]
         store_dir = lines[0].rpartition("/")[0] if lines else paths.STORE
-        await self.read([it for it in listed if it not in self.found], caller, store_dir)
-        objects = {it: self.found[it] for it in listed if it in self.found}
-        self.found = objects
+        await self.read([it for it in listed if it not in self.objects], caller, store_dir)
+        objects = {it: self.objects[it] for it in listed if it in self.objects}
+        self.objects = objects
         roots = [root(*line.split(" ")) for line in await self.ask(caller, "/roots")]
         roots = [it._replace(target=it.target.rpartition("/")[2]) for it in roots]
         live = {line.rpartition("/")[2] for line in await self.ask(caller, "/live")}
         return store_file.Store(None, store_dir, objects, [it for it in roots if it.target in objects], {}), live
 
-    async def read(self, bases, caller, store_dir):
-        replies = await self.server.gets(caller, [f"/info/{it}" for it in bases])
+    async def read(self, bases: list[str], caller: Caller, store_dir: str) -> None:
         # (an object that has been deleted meanwhile is left out)
-        fresh = {base: item(it.text) for base, it in zip(bases, replies) if it.status == 200}
-        unsure = may_be_pointers(fresh)
-        for base, it in zip(unsure, await self.server.gets(caller, [f"/nar/{it}" for it in unsure])):
+        infos = self.server.gets(caller, "/info/", bases)
+        fresh = {base: item(it.text) async for base, it in infos if it.status == 200}
+        async for base, it in self.server.gets(caller, "/nar/", may_be_pointers(fresh)):
             if it.status == 200:
                 fresh[base] = sized(fresh[base], it.text, paths.full(base, store_dir))
-        self.found |= fresh
+        self.objects |= fresh
         if self.keeps_outputs:
             for base in [it for it in bases if it.endswith(".drv")]:
                 await self.read_outputs(base, caller, store_dir)
@@ -149,10 +150,10 @@ class Records:
         meanwhile."""
         reply = await self.server.ask(caller, "GET", f"/nar/{base}")
         if reply.status == 200:
-            found = await asyncio.to_thread(outputs, reply.text, store_dir)
+            recorded = await asyncio.to_thread(outputs, reply.text, store_dir)
             # (it may have been deleted by now)
-            if base in self.found:
-                self.found[base] = self.found[base]._replace(outputs=found)
+            if base in self.objects:
+                self.objects[base] = self.objects[base]._replace(outputs=recorded)
 
 
 __all__ = ["Denied", "Records", "Unreachable", "of_file", "settings"]

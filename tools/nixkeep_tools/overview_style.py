@@ -1,5 +1,6 @@
 """What the pages of the overview share: their policy, their style, and how they write sizes and times."""
 import datetime
+import functools
 
 import jinja2
 import markupsafe
@@ -73,7 +74,7 @@ HEAD = """<!DOCTYPE html>
 """
 
 
-def human(count):
+def human(count: float) -> str:
     """A number of bytes in the unit that leaves at most four digits."""
     for unit in ("B", "KiB", "MiB", "GiB"):
         if count < 1024:
@@ -82,9 +83,15 @@ def human(count):
     return f"{count:.1f} TiB"
 
 
-def rendered(template, filters=(), **values):
-    """A page: the head, and what the template makes of the values."""
+@functools.cache
+def compiled(template):
+    """A template after the head. To compile it takes longer than all else of a page, so that is done once."""
     made = jinja2.Environment(autoescape=True, trim_blocks=True)
-    made.filters.update({"human": human, **dict(filters)})
+    made.filters["human"] = human
+    return made.from_string(HEAD + template)
+
+
+def rendered(template: str, **values: object) -> str:
+    """A page: the head, and what the template makes of the values."""
     time = datetime.datetime.now(datetime.timezone.utc).strftime("%-d %B %Y, %H:%M UTC")
-    return made.from_string(HEAD + template).render(style=markupsafe.Markup(STYLE), time=time, **values)
+    return compiled(template).render(style=markupsafe.Markup(STYLE), time=time, **values)

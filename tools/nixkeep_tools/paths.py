@@ -3,6 +3,13 @@
 A function that rejects a text raises Malformed, with the number and the name of the refusal that nixkeep answers.
 A path is kept as its base name, such as `xv2iccirbrvklck36f1g7vldn5v58vck-myfile`; `full` adds the store directory.
 """
+from __future__ import annotations
+
+# (for hints alone: see `http_connection`)
+TYPE_CHECKING = False
+if TYPE_CHECKING:
+    from collections.abc import Iterable
+
 DIGITS = "0123456789abcdfghijklmnpqrsvwxyz"
 STORE = "/nix/store"
 _VALUES = {digit: value for value, digit in enumerate(DIGITS)}
@@ -15,7 +22,7 @@ _DOTS = (".", "..")
 class Malformed(ValueError):
     """A text that isn't of its kind: the number and the name of its refusal."""
 
-    def __init__(self, number, name):
+    def __init__(self, number: int, name: str):
         super().__init__(f"refused: {number} {name}")
         self.number, self.name = number, name
 
@@ -23,13 +30,13 @@ class Malformed(ValueError):
 # ---- base 32
 
 
-def base32(data):
+def base32(data: bytes) -> str:
     """Bytes in Nix's base 32: they are one little-endian number, and its most significant digit comes first."""
     number = int.from_bytes(data, "little")
     return "".join(DIGITS[number >> 5 * at & 31] for at in reversed(range((8 * len(data) + 4) // 5)))
 
 
-def unbase32(text, count):
+def unbase32(text: str, count: int) -> bytes:
     """The bytes, `count` of them, that the digits spell."""
     if any(it not in _VALUES for it in text):
         raise Malformed(9, "bad-digit")
@@ -46,43 +53,43 @@ def unbase32(text, count):
 # ---- texts of a kind
 
 
-def is_plain_name(text):
+def is_plain_name(text: str) -> bool:
     """Whether the text may name a user, a group, a root or a profile: 1 to 64 letters, digits, `_`, `.` and `-`, and no
     `-` first."""
     return 1 <= len(text) <= 64 and text[0] != "-" and _OF_PLAIN.issuperset(text)
 
 
-def is_store_name(text):
+def is_store_name(text: str) -> bool:
     """Whether the text may follow the digits and the dash of a base name: 1 to 211 letters, digits, `+`, `.`, `_`, `?`,
     `=` and `-`, and before the first `-` neither `.` nor `..` alone."""
     return 1 <= len(text) <= 211 and _OF_NAME.issuperset(text) and text.partition("-")[0] not in _DOTS
 
 
-def is_store_dir(text):
+def is_store_dir(text: str) -> bool:
     """Whether the text may be a store directory: an absolute path of at most 200 bytes."""
     start, *folders = text.split("/")
     is_path = start == "" and folders and all(it and _OF_NAME.issuperset(it) and it not in _DOTS for it in folders)
     return len(text) <= 200 and bool(is_path)
 
 
-def is_base_name(text):
+def is_base_name(text: str) -> bool:
     """Whether the text is a base name: 32 digits, a dash and a store name."""
     return text[32:33] == "-" and _OF_DIGITS.issuperset(text[:32]) and is_store_name(text[33:])
 
 
-def is_label(text):
+def is_label(text: str) -> bool:
     """Whether the text may be the label of a runtime root: 1 to 256 printable ASCII characters without blanks."""
     return 1 <= len(text) <= 256 and text.isascii() and text.isprintable() and " " not in text
 
 
-def store_name(text):
+def store_name(text: str) -> str:
     """The name, where it is a store name."""
     if not is_store_name(text):
         raise Malformed(12, "bad-store-name")
     return text
 
 
-def base_name(text, store=STORE):
+def base_name(text: str, store: str = STORE) -> str:
     """The base name that a path text stands for: a base name, or a full path in the store directory."""
     found = text.removeprefix(store + "/")
     if not is_base_name(found):
@@ -90,7 +97,7 @@ def base_name(text, store=STORE):
     return found
 
 
-def full(base, store=STORE):
+def full(base: str, store: str = STORE) -> str:
     """The full path of a base name."""
     return f"{store}/{base}"
 
@@ -98,7 +105,7 @@ def full(base, store=STORE):
 # ---- paths that follow from contents
 
 
-def sha256(pieces):
+def sha256(pieces: Iterable[bytes]) -> bytes:
     """The SHA-256 of an iterable of pieces."""
     import hashlib
 
@@ -116,7 +123,7 @@ def fold20(digest):
     return bytes(folded)
 
 
-def path_of(kind, inner, name, references=(), store=STORE):
+def path_of(kind: str, inner: bytes, name: str, references: Iterable[str] = (), store: str = STORE) -> str:
     """The base name of an object with a content address.
 
     `kind` is `text` or `source`. `inner` is the SHA-256 of the contents of a text, or of the archive of a source.
@@ -132,12 +139,12 @@ def path_of(kind, inner, name, references=(), store=STORE):
 _METHODS = {"text": "text:sha256:", "source": "fixed:r:sha256:"}
 
 
-def address(kind, inner):
+def address(kind: str, inner: bytes) -> str:
     """The content address of a `text` or a `source`; `inner` as for `path_of`."""
     return _METHODS[kind] + base32(inner)
 
 
-def read_address(text):
+def read_address(text: str) -> tuple[str, bytes]:
     """The kind, `text` or `source`, and the digest of a content address."""
     for kind, start in _METHODS.items():
         if text.startswith(start):
@@ -148,6 +155,6 @@ def read_address(text):
     raise Malformed(15, "bad-ca")
 
 
-def nar_hash(digest):
+def nar_hash(digest: bytes) -> str:
     """A SHA-256 as `nixkeep info` and the body of an import write it."""
     return "sha256:" + base32(digest)

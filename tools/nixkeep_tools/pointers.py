@@ -22,7 +22,7 @@ FORM = re.compile(
 Pointer = collections.namedtuple("Pointer", "path nar_hash nar_size file_hash file_size")
 
 
-def contents(pointer):
+def contents(pointer: Pointer) -> bytes:
     """The contents of a pointer: lines, and line feeds up to the fixed length."""
     lines = [
         FIRST,
@@ -36,33 +36,33 @@ def contents(pointer):
     return "\n".join(lines).encode().ljust(LENGTH, b"\n")
 
 
-def archive(pointer):
+def archive(pointer: Pointer) -> bytes:
     """The archive of a pointer, which the store has at its path."""
     return nar.regular_file(contents(pointer))
 
 
-def read_line(line):
+def read_line(line: str) -> Pointer:
     """The Pointer in a line of nixkeep-cache's listing of all pointers. Raises ValueError."""
     path, nar_hash, nar_size, file_hash, file_size = line.split(" ")
     unhashed = [paths.unbase32(it.removeprefix("sha256:"), 32) for it in (nar_hash, file_hash)]
     return Pointer(path, unhashed[0], int(nar_size), unhashed[1], int(file_size))
 
 
-def may_be(nar_size, address):
+def may_be(nar_size: int, address: str | None) -> bool:
     """Whether an object with an archive of this size and this content address, or None, may be a pointer."""
     return nar_size == SIZE and not address
 
 
-def read(data, path):
+def read(data: bytes, path: str) -> Pointer | None:
     """The Pointer in the archive of an object at this full path, or None for any other archive."""
     if len(data) != SIZE:
         return None
-    found = FORM.fullmatch(data[len(nar.regular_file(b"")) - 16 :][:LENGTH].decode("latin-1"))
-    if not found or found["path"] != path:
+    match = FORM.fullmatch(data[len(nar.regular_file(b"")) - 16 :][:LENGTH].decode("latin-1"))
+    if not match or match["path"] != path:
         return None
     try:
-        hashes = [paths.unbase32(found[it].removeprefix("sha256:"), 32) for it in ("nar_hash", "file_hash")]
+        hashes = [paths.unbase32(match[it].removeprefix("sha256:"), 32) for it in ("nar_hash", "file_hash")]
     except paths.Malformed:
         return None
-    made = Pointer(path, hashes[0], int(found["nar_size"]), hashes[1], int(found["file_size"]))
+    made = Pointer(path, hashes[0], int(match["nar_size"]), hashes[1], int(match["file_size"]))
     return made if archive(made) == data else None

@@ -1,13 +1,20 @@
 """The progress of a transfer: one line on standard error, rewritten as it goes on, if that is a terminal."""
+from __future__ import annotations
+
 import time
 
 from . import streams
+
+# (for hints alone: see `http_connection`)
+TYPE_CHECKING = False
+if TYPE_CHECKING:
+    from collections.abc import Iterable, Iterator
 
 # Seconds before the line is first shown, and between two versions of it.
 AFTER, EVERY = 0.5, 0.2
 
 
-def size(count):
+def size(count: float) -> str:
     """A number of bytes for people to read, such as `1.5 MiB`."""
     for unit in ("bytes", "KiB", "MiB", "GiB"):
         if count < 1024 or unit == "GiB":
@@ -15,7 +22,7 @@ def size(count):
         count /= 1024
 
 
-def clock(seconds):
+def clock(seconds: float) -> str:
     """Seconds as `M:SS` or `H:MM:SS`."""
     minutes, seconds = divmod(round(seconds), 60)
     hours, minutes = divmod(minutes, 60)
@@ -25,13 +32,13 @@ def clock(seconds):
 class Progress:
     """The bytes that are done, of `total`, and the objects that are done, of `objects` unless that is None."""
 
-    def __init__(self, what, total, objects=None):
+    def __init__(self, what: str, total: int, objects: int | None = None):
         self.what, self.total, self.objects = what, total, objects
         self.bytes = self.done = 0
         self.start = self.last = time.monotonic()
         self.is_shown, self.is_on = False, streams.is_terminal()
 
-    def add(self, count, objects=0):
+    def add(self, count: int, objects: int = 0) -> None:
         self.bytes += count
         self.done += objects
         now = time.monotonic()
@@ -39,7 +46,7 @@ class Progress:
             self.last, self.is_shown = now, True
             self.put(self.line(now))
 
-    def line(self, now):
+    def line(self, now: float) -> str:
         parts = [self.what]
         if self.objects is not None:
             parts.append(f"{self.done} of {self.objects} objects,")
@@ -48,7 +55,7 @@ class Progress:
             parts.append(f"{clock((now - self.start) / self.bytes * (self.total - self.bytes))} left")
         return " ".join(parts)
 
-    def put(self, text):
+    def put(self, text: str) -> None:
         import shutil
 
         width = shutil.get_terminal_size().columns - 1
@@ -57,13 +64,13 @@ class Progress:
         except streams.Stop:
             self.is_on = False
 
-    def end(self):
+    def end(self) -> None:
         """Removes the line."""
         if self.is_shown:
             self.put("")
             self.is_shown = False
 
-    def over(self, parts):
+    def over(self, parts: Iterable[bytes]) -> Iterator[bytes]:
         """Yields parts, and counts their bytes."""
         try:
             for part in parts:

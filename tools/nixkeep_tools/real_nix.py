@@ -6,6 +6,7 @@ are base names.
 import os
 import subprocess
 import tempfile
+from collections.abc import Callable, Iterable, Iterator
 
 from . import paths
 from .failures import Stop, reason
@@ -39,7 +40,7 @@ def read_hash(text):
 class Nix:
     """A store of Nix. `store` is a URL such as `local?root=/FOLDER`, or None for Nix's own default."""
 
-    def __init__(self, store, folder):
+    def __init__(self, store: str | None, folder: str):
         self.folder, self.store = folder, store
         self.options = ["--store", store] if store else []
         self.errors = tempfile.TemporaryFile()
@@ -58,14 +59,14 @@ class Nix:
 
     # ---- the protocol
 
-    def failed(self):
+    def failed(self) -> Stop:
         """Stop with the last line of the standard error of nix-store, which has ended."""
         self.close()
         self.errors.seek(0)
         said = self.errors.read().decode("utf-8", "backslashreplace").strip().splitlines()
         return Stop(f"failed: nix: {said[-1].removeprefix('error: ') if said else 'nix-store ended'}")
 
-    def send(self, *parts):
+    def send(self, *parts: bytes) -> None:
         try:
             for part in parts:
                 self.process.stdin.write(part)
@@ -73,36 +74,36 @@ class Nix:
         except OSError:
             raise self.failed() from None
 
-    def read(self, count):
+    def read(self, count: int) -> bytes:
         data = self.process.stdout.read(count)
         if len(data) < count:
             raise self.failed()
         return data
 
-    def number(self):
+    def number(self) -> int:
         return int.from_bytes(self.read(8), "little")
 
-    def string(self):
+    def string(self) -> str:
         length = self.number()
         return self.read(length + -length % 8)[:length].decode()
 
-    def strings(self):
+    def strings(self) -> list[str]:
         return [self.string() for _ in range(self.number())]
 
-    def full(self, base):
+    def full(self, base: str) -> str:
         return f"{self.folder}/{base}"
 
-    def base(self, path):
+    def base(self, path: str) -> str:
         return path.rpartition("/")[2]
 
     # ---- what is there
 
-    def valid(self, bases):
+    def valid(self, bases: Iterable[str]) -> set[str]:
         """The valid ones of these paths, as a set. Nix keeps them until the process ends."""
         self.send(number(VALID_PATHS), number(1), number(0), strings([*map(self.full, bases)]))
         return set(map(self.base, self.strings()))
 
-    def closure(self, tops):
+    def closure(self, tops: list[str]) -> dict[str, Record]:
         """The records of the closure of these paths, by base names."""
         missing = sorted({*tops} - self.valid(tops))
         if missing:
@@ -112,7 +113,7 @@ class Nix:
         self.send(number(PATH_INFOS), strings(found))
         return {it.base: it for it in iter(self.record, None)}
 
-    def record(self):
+    def record(self) -> Record | None:
         """Reads the next record, or None after the last."""
         path = self.string()
         if not path:
@@ -123,10 +124,10 @@ class Nix:
         self.strings()
         return Record(self.base(path), digest, size, refs, deriver, ca)
 
-    def archive(self, record):
+    def archive(self, record: Record) -> bytes:
         return b"".join(self.pieces(record))
 
-    def pieces(self, record):
+    def pieces(self, record: Record) -> Iterator[bytes]:
         """Yields an archive. All of it is read, also where the rest isn't wanted."""
         self.send(number(DUMP), string(self.full(record.base)))
         left = record.nar_size
@@ -139,16 +140,16 @@ class Nix:
             while left:
                 left -= len(self.read(min(left, CHUNK)))
 
-    def takes_large(self):
+    def takes_large(self) -> bool:
         """Whether archives of any size may be put here."""
         return True
 
     # ---- what is put there
 
-    def keep(self, base):
+    def keep(self, base: str) -> bool:
         return base in self.valid([base])
 
-    def put(self, record, archive, of_large=None):
+    def put(self, record: Record, archive: bytes, of_large: Callable[[], Iterable[bytes]] | None = None) -> bool:
         """Adds an object, which Nix keeps until the process ends. Returns True. `of_large` returns an iterable of the
         bytes of a large archive, which isn't given whole."""
         deriver = self.full(record.deriver) if record.deriver else ""
@@ -161,7 +162,7 @@ class Nix:
         self.valid([record.base])
         return True
 
-    def set_root(self, kind, name, base):
+    def set_root(self, kind: str, name: str, base: str) -> str:
         """Makes a link to a path that is a root, or a generation of a profile, and returns its name and a line feed."""
         words = ["nix-store", *self.options, "--realise", self.full(base), "--add-root", name]
         if kind == "profile":
@@ -170,15 +171,16 @@ class Nix:
         if ran.returncode:
             said = ran.stderr.strip().splitlines()
             raise Stop(f"failed: nix: {said[-1].removeprefix('error: ') if said else words[0]}")
+        # (Path.absolute leaves `..` in it)
         return f"{os.path.abspath(name)}\n"
 
-    def check_folder(self):
+    def check_folder(self) -> None:
         pass
 
-    def end_session(self):
+    def end_session(self) -> None:
         pass
 
-    def close(self):
+    def close(self) -> None:
         for end in (self.process.stdin, self.process.stdout):
             try:
                 end.close()

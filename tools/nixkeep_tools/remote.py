@@ -5,13 +5,21 @@ an escape for each byte that no store's text has. No route of a server returns t
 path is in the store directory. Where nixkeep-cache doesn't answer that, both are found out by requests that are always
 denied or refused, so they change nothing.
 """
+from __future__ import annotations
+
+# (os.path: see `credentials`)
 import os
 
 from . import credentials, nar, paths, streams, subcommands
-from .command_line import Told
+from .command_line import Line, Printed
 from .failures import DENIED, DONE, FAILED, REFUSED, Stop, refused
 from .http_client import MOST_OF_BODY, Foreign, Place, Server
 from .progress import Progress
+
+# (for hints alone: see `http_connection`)
+TYPE_CHECKING = False
+if TYPE_CHECKING:
+    from collections.abc import Mapping
 
 # The bytes of an archive that decide what it is, the most bytes of a text, and those that decide whether it is one.
 MOST_OF_ARCHIVE = nar.LIMIT + 8
@@ -35,7 +43,7 @@ ANSWERS = [f"class: {it}\n{CONNECTS}" for it in ("allowed", "trusted")]
 class Request:
     """A request: its method, its target, and its body, which is bytes and then an input if there is one."""
 
-    def __init__(self, method, target, head=b"", given=None):
+    def __init__(self, method: str, target: str, head: bytes = b"", given: streams.Input | None = None):
         self.method, self.target, self.head, self.given = method, target, head, given
 
 
@@ -66,7 +74,7 @@ def _lines(*pairs):
 class Asked:
     """A command line, with the server and the caller that it names."""
 
-    def __init__(self, line, environ):
+    def __init__(self, line: Line, environ: Mapping[str, str]):
         self.line, self.values = line, line.values
         self.option = lambda name, variable: line.options.get(name, environ.get(variable))
         self.store_dir = self.option("store-dir", "NIXKEEP_STORE_DIR")
@@ -78,7 +86,7 @@ class Asked:
 
     # ---- the server
 
-    def fields(self):
+    def fields(self) -> dict[str, str]:
         """The header fields that name the caller."""
         if not self.is_named:
             return {}
@@ -86,28 +94,28 @@ class Asked:
             raise refused(20, "bad-caller")
         return {"store-user": self.user, **({"store-group": self.group} if self.has_group else {})}
 
-    def server(self):
+    def server(self) -> Server:
         if not self._server:
             fields, url = self.fields(), self.option("server", "NIXKEEP_SERVER")
             if not url:
                 raise Stop("failed: server: none is named; --server URL or NIXKEEP_SERVER says which")
             place = Place(url)
-            found = credentials.found(place, self.option("credentials", "NIXKEEP_CREDENTIALS_FILE"))
-            self._server = Server(place, fields, found, self.option("ca", "NIXKEEP_CA"))
+            login = credentials.of_place(place, self.option("credentials", "NIXKEEP_CREDENTIALS_FILE"))
+            self._server = Server(place, fields, login, self.option("ca", "NIXKEEP_CA"))
         return self._server
 
-    def me(self):
+    def me(self) -> str:
         """The name by which the server knows the caller."""
         own = self.user if self.is_named else self.option("me", "NIXKEEP_USER")
         return _plain(own or credentials.user_of(self._server.credentials))
 
     # ---- what is asked
 
-    def owner(self):
+    def owner(self) -> str:
         owner = self.values.get("owner")
         return self.me() if owner is None else _plain(owner)
 
-    def base(self):
+    def base(self) -> str:
         """The base name of the path, which is tested to be one of the server's."""
         text = self.values["path"]
         base = _base(text)
@@ -126,14 +134,14 @@ class Asked:
             # A proxy may pass on nothing but reading.
             return True
 
-    def request(self):
+    def request(self) -> Request:
         """The Request of the subcommand."""
         name = self.line.name
         if name in ("list", "live", "dead", "roots", "report"):
             return Request("GET", {"list": "/paths"}.get(name, f"/{name}"))
         return getattr(self, "ask_" + name.replace("-", "_"))()
 
-    def path(self, name="path"):
+    def path(self, name: str = "path") -> bytes:
         """The head of a body that names a path."""
         _base(self.values[name])
         return _lines(("path", self.values[name]))
@@ -147,7 +155,7 @@ class Asked:
     def ask_why(self):
         return Request("GET", f"/roots-of/{self.base()}")
 
-    def added(self, target, most):
+    def added(self, target: str, most: int) -> Request:
         name, refs = self.values["name"], self.values["reference"]
         if not paths.is_store_name(name):
             raise refused(12, "bad-store-name")
@@ -174,7 +182,7 @@ class Asked:
     def ask_runtime(self):
         return Request("POST", "/runtime", b"", streams.Input(MOST_OF_BODY + 1))
 
-    def root(self):
+    def root(self) -> str:
         name = _plain(self.values["name"])
         return f"/root/permanent/{name}" if "permanent" in self.values else f"/root/user/{self.owner()}/{name}"
 
@@ -330,10 +338,10 @@ def run(words, title):
         line = subcommands.read(words, title)
         is_who = line.name == "who"
         return OWN.get(line.name, store_command)(Asked(line, os.environ))
-    except Told as told:
-        text = told.text.encode("utf-8", "backslashreplace")
-        streams.write([text], 1 if told.status == DONE else 2)
-        return told.status
+    except Printed as printed:
+        text = printed.text.encode("utf-8", "backslashreplace")
+        streams.write([text], 1 if printed.status == DONE else 2)
+        return printed.status
     except Stop as stop:
         # The failures of the client itself are on standard error always.
         return say(stop.line, stop.status, is_who and (stop.status == REFUSED or stop.line == OUTPUT))
@@ -341,7 +349,7 @@ def run(words, title):
         return say("failed: memory", FAILED, is_who)
 
 
-def main(words):
+def main(words: list[str]) -> int:
     """The program: `words` are its name and the words of its command line."""
     streams.keep_closed()
     try:

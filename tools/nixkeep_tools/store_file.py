@@ -19,6 +19,9 @@ import sqlite3
 import struct
 import sys
 import urllib.parse
+from collections.abc import Callable, Iterable, Iterator
+from pathlib import Path
+from typing import BinaryIO
 
 # Each table of the third schema: its columns, `?` where NULL is allowed, and how many of them make its key.
 FORMS = {
@@ -64,12 +67,12 @@ Usage = collections.namedtuple("Usage", "all alone")
 class Locked(OSError):
     """Another process has locked the file. `pid` is its number, or 0 if the system doesn't say."""
 
-    def __init__(self, path, pid):
+    def __init__(self, path: str, pid: int):
         super().__init__(f"{path} is locked by {f'process {pid}' if pid else 'another process'}")
         self.path, self.pid = path, pid
 
 
-def locker(file):
+def locker(file: BinaryIO) -> int | None:
     """The number of the process whose lock keeps nixkeep from an open file, or None if there is no lock.
 
     The number is 0 if the system doesn't say.
@@ -79,12 +82,13 @@ def locker(file):
     return None if kind == fcntl.F_UNLCK else max(pid, 0)
 
 
-def log_of(path):
+def log_of(path: str) -> str:
     """The path of the log of a file. If the file is a link, the log is next to its target."""
+    # (Path.resolve raises an error for a link that leads to itself)
     return os.path.realpath(path) + "-wal"
 
 
-def stamps(path):
+def stamps(path: str) -> list[tuple[int, int, int]]:
     """A value that changes whenever the file or its log is written."""
     found = []
     for it in (path, log_of(path)):
@@ -103,18 +107,18 @@ def _sum(data, order, first, second):
     return first, second
 
 
-def checksum(data):
+def checksum(data: bytes) -> bytes:
     """The checksum of a page as SQLite's cksumvfs computes it, which is that of a log in one byte order."""
     return struct.pack("<2I", *_sum(data, "<", 0, 0))
 
 
-def is_log_head(head):
+def is_log_head(head: bytes) -> bool:
     """Whether these are the 32 bytes with which a log begins."""
     order = LOG_ORDERS.get(head[:4])
     return order is not None and len(head) == 32 and _sum(head[:24], order, 0, 0) == struct.unpack(">2I", head[24:])
 
 
-def commits(path):
+def commits(path: str) -> Iterator[tuple[bytes | None, int, int]]:
     """Yields the commits that SQLite takes from the log of a file.
 
     Each is the first page, or None if the log has none so far, the number of pages of the database, and the number of
@@ -129,26 +133,26 @@ def commits(path):
         if not is_log_head(head):
             return
         order, size = LOG_ORDERS[head[:4]], struct.unpack(">I", head[8:12])[0]
-        found = struct.unpack(">2I", head[24:])
+        so_far = struct.unpack(">2I", head[24:])
         count = 0
         while len(frame := log.read(24 + size)) == 24 + size:
             number, pages, *sums = struct.unpack(">2I8x2I", frame[:24])
-            found = _sum(frame[24:], order, *_sum(frame[:8], order, *found))
-            if frame[8:16] != head[16:24] or tuple(sums) != found or not number:
+            so_far = _sum(frame[24:], order, *_sum(frame[:8], order, *so_far))
+            if frame[8:16] != head[16:24] or tuple(sums) != so_far or not number:
                 return
             first, count = frame[24:] if number == 1 else first, count + 1
             if pages:
                 yield first, pages, count
 
 
-def is_schema(text):
+def is_schema(text: str) -> bool:
     """Whether a text is the number of a schema, of this version or a later one."""
     return text.isascii() and text.isdigit() and len(text) < 10 and str(int(text)) == text
 
 
-def quoted(path):
+def quoted(path: str) -> str:
     """A path as it is written after `file:` in a URI of SQLite."""
-    return urllib.parse.quote(os.path.abspath(path))
+    return urllib.parse.quote(str(Path(path).absolute()))
 
 
 def connect(path):
@@ -159,7 +163,7 @@ def connect(path):
     where = quoted(path)
     # SQLite deletes a log without a commit, or next to an empty file, so it must not look for such a log.
     # It makes no file of shared memory next to a log if it has the file for itself.
-    is_in_log = os.path.getsize(path) and next(commits(path), None)
+    is_in_log = Path(path).stat().st_size and next(commits(path), None)
     how = "mode=ro&vfs=unix-none" if is_in_log else "mode=ro&immutable=1"
     conn = sqlite3.connect(f"file:{where}?{how}", uri=True, isolation_level=None)
     conn.text_factory = lambda it: it.decode("utf-8", "surrogateescape")
@@ -168,7 +172,7 @@ def connect(path):
 
 
 @contextlib.contextmanager
-def open_store(path, despite_lock=False):
+def open_store(path: str, despite_lock: bool = False) -> Iterator[sqlite3.Connection]:
     """A connection as from `connect`, under a lock that keeps others from writing. Raises Locked if one has the file.
 
     With `despite_lock` a locked file is read all the same. Its rows may be torn if `stamps` changes meanwhile.
@@ -186,29 +190,29 @@ def open_store(path, despite_lock=False):
 # ---- rows as objects and roots
 
 
-def tables_of(conn):
+def tables_of(conn: sqlite3.Connection) -> list[str]:
     """The names of the store's tables that exist."""
     found = {name for name, in conn.execute("SELECT name FROM sqlite_schema WHERE type = 'table'")}
     return [it for it in FORMS if it in found]
 
 
-def version(path):
+def version(path: str) -> str | None:
     """A digest of the paths of a store's objects and of its roots, or None if they can't be read, as while they are
     written. It needs no lock, and stays as it is where a log is copied into its file."""
-    found = hashlib.sha256()
+    digest = hashlib.sha256()
     try:
         with open_store(path, despite_lock=True) as conn:
             for it in conn.execute("SELECT base FROM object ORDER BY base"):
-                found.update(repr(it).encode())
+                digest.update(repr(it).encode())
             for name in tables_of(conn):
                 if name not in ("object", "refs", "outs", "piece"):
-                    found.update(repr((name, sorted(conn.execute(f"SELECT * FROM {name}")))).encode())
+                    digest.update(repr((name, sorted(conn.execute(f"SELECT * FROM {name}")))).encode())
     except (OSError, sqlite3.Error):
         return None
-    return found.hexdigest()
+    return digest.hexdigest()
 
 
-def archive(conn, base):
+def archive(conn: sqlite3.Connection, base: str) -> Iterator[bytes]:
     """Yields the bytes of an object's archive in pieces."""
     yield from (it for it, in conn.execute("SELECT nar FROM object WHERE base = ?", (base,)))
     if "piece" in tables_of(conn):
@@ -223,7 +227,7 @@ def _lists(rows):
     return found
 
 
-def read_objects(conn):
+def read_objects(conn: sqlite3.Connection) -> dict[str, Object]:
     """The objects by path, in the order of paths."""
     references = collections.defaultdict(list)
     for base, target in conn.execute("SELECT base, target FROM refs ORDER BY base, target"):
@@ -255,7 +259,7 @@ def read_roots(conn):
     return sorted(found, key=lambda it: (KINDS.index(it.kind), it.target, it.label, it.owner or ""))
 
 
-def read(conn):
+def read(conn: sqlite3.Connection) -> Store:
     """The Store of a connection."""
     settings = dict(conn.execute("SELECT * FROM meta"))
     current = {(owner, name): cur for owner, name, cur in conn.execute("SELECT * FROM profile")}
@@ -265,7 +269,7 @@ def read(conn):
 # ---- what keeps what
 
 
-def edges(store, keep_outputs=False, keep_derivers=True):
+def edges(store: Store, keep_outputs: bool = False, keep_derivers: bool = True) -> dict:
     """A list for each path: the objects that this object keeps directly, under these settings of a configuration."""
     found = {}
     for base, it in store.objects.items():
@@ -275,7 +279,7 @@ def edges(store, keep_outputs=False, keep_derivers=True):
     return found
 
 
-def reach(kept, starts):
+def reach(kept: dict[str, list[str]], starts: Iterable[str]) -> set[str]:
     """The set of objects that some paths reach, themselves included. `kept` is from `edges`."""
     seen, left = set(), [it for it in starts if it in kept]
     while left:
@@ -314,7 +318,8 @@ def _components(kept):
     return found[::-1]
 
 
-def keepers(store, kept, bit=lambda at, root: at):
+def keepers(store: Store, kept: dict[str, list[str]],
+            bit: Callable[[int, Root], int] = lambda at, root: at) -> dict[str, int]:
     """A number for each path: bit N is set if `store.roots[N]` reaches it. The number of a dead path is 0. Other bits
     than these are given by `bit`, of a root and its place."""
     bits = dict.fromkeys(kept, 0)
@@ -349,17 +354,17 @@ def owner_of(root):
     return root.owner or f"({root.kind})"
 
 
-def _largest_first(found):
-    return sorted(found, key=lambda it: (-it[1].all, -it[1].alone))
+def _largest_first(pairs):
+    return sorted(pairs, key=lambda it: (-it[1].all, -it[1].alone))
 
 
-def usage_of_roots(store, kept):
+def usage_of_roots(store: Store, kept: dict[str, list[str]]) -> list[tuple[Root, Usage]]:
     """Pairs of a root and its Usage, largest first. To delete a generation frees what its root keeps alone."""
     sizes = _sizes(store, keepers(store, kept))
     return _largest_first([(root, _usage(sizes, 1 << at)) for at, root in enumerate(store.roots)])
 
 
-def usage_of_owners(store, kept):
+def usage_of_owners(store: Store, kept: dict[str, list[str]]) -> list[tuple[str, Usage]]:
     """Pairs of an owner, as from `owner_of`, and the Usage of all roots of this owner together, largest first."""
     sizes, owned = _sizes(store, keepers(store, kept)), collections.Counter()
     for at, root in enumerate(store.roots):
@@ -367,7 +372,7 @@ def usage_of_owners(store, kept):
     return _largest_first([(owner, _usage(sizes, roots)) for owner, roots in owned.items()])
 
 
-def usage_of_all(store, kept):
+def usage_of_all(store: Store, kept: dict[str, list[str]]) -> tuple[int, int, int]:
     """The bytes of the live objects, of the dead, and of all."""
     sizes = _sizes(store, keepers(store, kept))
     return sum(sizes.values()) - sizes[0], sizes[0], sum(sizes.values())

@@ -10,7 +10,7 @@ BESIDES = (255 << 20) + 200_000_000
 CGROUPS, OWN = "/sys/fs/cgroup", "/proc/self/cgroup"
 
 
-def used(file):
+def used(file: str) -> int:
     """The bytes of the pages that a store's file uses, with those in its log. Other processes may have it open."""
     with open(file, "rb") as data:
         head = data.read(100)
@@ -37,7 +37,7 @@ def of_log(file):
     return None
 
 
-def memory():
+def memory() -> int | None:
     """The bytes of memory that this service may use (`MemoryMax=`), or None without a limit."""
     found = []
     with contextlib.suppress(OSError):
@@ -51,6 +51,6 @@ def memory():
     return min(found, default=None)
 
 
-def opened_with(limit):
+def opened_with(limit: int) -> int:
     """The bytes of the largest file that a server opens with so much memory: docs/OPERATING.md, Growth."""
     return max(0, limit - BESIDES)

@@ -1,16 +1,23 @@
 """Standard input and output. A stream that can't be read or written raises Stop with the line that `nixkeep` prints."""
+from __future__ import annotations
+
 import io
 import os
 import stat
 
 from .failures import Stop
 
+# (for hints alone: see `http_connection`)
+TYPE_CHECKING = False
+if TYPE_CHECKING:
+    from collections.abc import Iterable, Iterator
+
 CHUNK = 65_536
 # Bytes of an input from a pipe that are held in memory; a longer one is held in a file.
 IN_MEMORY = 1_048_576
 
 
-def keep_closed():
+def keep_closed() -> None:
     """Opens standard streams that are closed, so that no other file gets their numbers. They fail as closed ones do."""
     for number, mode in enumerate((os.O_WRONLY, os.O_RDONLY, os.O_RDONLY)):
         try:
@@ -20,7 +27,7 @@ def keep_closed():
             os.open(os.devnull, mode)
 
 
-def write(parts, number=1):
+def write(parts: Iterable[bytes], number: int = 1) -> None:
     """Writes bytes to standard output or another open file."""
     try:
         for part in parts:
@@ -31,12 +38,12 @@ def write(parts, number=1):
         raise Stop("failed: output") from None
 
 
-def printable(text):
+def printable(text: str) -> str:
     """A text with each character that isn't printable as an escape: a server may have written it, for a terminal."""
     return "".join(it if it.isprintable() or it == "\n" else ascii(it)[1:-1] for it in text)
 
 
-def shown(parts):
+def shown(parts: Iterable[bytes]) -> Iterator[bytes]:
     """Yields the bytes of a text of a server, which is ASCII, with each byte that doesn't print as an escape: others
     may be meant for a terminal."""
     import re
@@ -46,7 +53,7 @@ def shown(parts):
         yield odd.sub(lambda it: b"\\x%02x" % it[0][0], part)
 
 
-def say(line):
+def say(line: str) -> bool:
     """Writes a line to standard error, and returns whether that was possible."""
     try:
         write([f"{printable(line)}\n".encode()], 2)
@@ -62,7 +69,7 @@ def read(count):
         raise Stop("failed: input") from None
 
 
-def received(most=None):
+def received(most: int | None = None) -> Iterator[bytes]:
     """Yields the bytes of standard input, at most `most` of them."""
     while most is None or most > 0:
         part = read(CHUNK if most is None else min(CHUNK, most))
@@ -84,7 +91,7 @@ def _left_in_file():
 class Input:
     """At most `most` bytes of standard input, with their number, which a request states before its body."""
 
-    def __init__(self, most):
+    def __init__(self, most: int):
         left = _left_in_file()
         self.is_file = left is not None
         if self.is_file:
@@ -100,7 +107,7 @@ class Input:
             self.file.write(part)
         self.file.seek(0)
 
-    def extend(self):
+    def extend(self) -> None:
         """Takes the rest of standard input, too."""
         if self.is_file:
             self.length = len(self.first) + (_left_in_file() or 0)
@@ -120,7 +127,7 @@ class Input:
             self.file = tempfile.TemporaryFile()
             self.file.write(found)
 
-    def parts(self):
+    def parts(self) -> Iterator[bytes]:
         """Yields exactly `length` bytes."""
         if not self.is_file:
             yield from iter(lambda: self.file.read(CHUNK), b"")
@@ -136,7 +143,7 @@ class Input:
             raise Stop("failed: input")
 
 
-def is_terminal(number=2):
+def is_terminal(number: int = 2) -> bool:
     try:
         return os.isatty(number)
     except OSError:

@@ -1,6 +1,6 @@
 """The command line of `nixkeep-remote`: the subcommands of `nixkeep`, and the options before them."""
 from . import command_line
-from .command_line import Argument, Command, flag, option, optional, required
+from .command_line import Argument, Command, Line, flag, option, optional, required
 
 # The name of the value of an ACTION, how each is written that wants one, and how each that doesn't.
 ACTIONS = {
@@ -118,14 +118,14 @@ def misuse_of_action(name, values):
     return None
 
 
-def is_decimal(text, most):
+def is_decimal(text: str, most: int) -> bool:
     """Whether the text is a number from 0 to `most`, which has at most 20 digits, without a zero before it."""
     is_number = text.isascii() and text.isdigit() and len(text) <= 20
     return is_number and (text == "0" or text[0] != "0") and int(text) <= most
 
 
-def read(words, title):
-    """The Line of the words of a command line. Raises Told. `title` is the name of the program in its texts."""
+def read(words: list[str], title: str) -> Line:
+    """The Line of the words of a command line. Raises Printed. `title` is the name of the program in its texts."""
     line = command_line.read(TOP, title, words)
     misuse = misuse_of(line)
     if misuse:
