@@ -3,12 +3,11 @@
 PART is one of who, small, configuration, contents, archive, references. What isn't installed (nix-store, sha256sum) is
 skipped, which is printed. Exits with 1 where a figure misses its limit.
 """
-import os
 import statistics
 import subprocess
 from pathlib import Path
 
-from nixkeep_dev.bench.figures import beside, commands, limit, main, median, skipped, title
+from nixkeep_dev.bench.figures import commands, limit, main, median, skipped, title, versus
 from nixkeep_dev.testing import nar
 
 MIB16 = 16_777_216
@@ -22,9 +21,9 @@ def who(run, words, folder):
     found = commands(each, 101)
     median("time", found["who"][0], 0.003)
     limit("memory", found["who"][1], None, "MiB")
-    beside("next to a process that does nothing", found["true"][0], found["who"][0], None, "true", statistics.median)
+    versus("next to a process that does nothing", found["true"][0], found["who"][0], None, "true", statistics.median)
     if theirs := found.get("nix-store --version"):
-        beside("next to its version", theirs[0], found["who"][0], 0.25, "nix-store --version", statistics.median)
+        versus("next to its version", theirs[0], found["who"][0], 0.25, "nix-store --version", statistics.median)
 
 
 def small(run, words, folder):
@@ -44,7 +43,7 @@ def configuration(run, words, folder):
         for group in range(10_000):
             members = ", ".join(f'"user{group}-{at}"' for at in range(6))
             out.write(f"group{group} = [{members}]\n")
-    title(f"who, over a configuration of {os.path.getsize(path):,} bytes with 10,000 groups")
+    title(f"who, over a configuration of {Path(path).stat().st_size:,} bytes with 10,000 groups")
     seconds, mib = commands({"who": [run.file, "--config", path, "--user", "user9999-5", "who"]}, 5)["who"]
     median("time", seconds, 1)
     limit("memory", mib, 64, "MiB")
@@ -69,7 +68,7 @@ def contents(run, words, folder):
     found = hashed({"text-path": [run.file, "text-path", "n"]}, path)
     limit("memory", found["text-path"][1], 40, "MiB")
     if "sha256sum" in found:
-        beside("time", found["sha256sum"][0], found["text-path"][0], 1.5, "sha256sum", statistics.median)
+        versus("time", found["sha256sum"][0], found["text-path"][0], 1.5, "sha256sum", statistics.median)
 
 
 def archive(run, words, folder):
@@ -84,7 +83,7 @@ def archive(run, words, folder):
     median("ls", found["ls"][0], None)
     if "sha256sum" in found:
         theirs = 1.5 * statistics.median(found["sha256sum"][0]) + statistics.median(found["ls"][0])
-        beside("time", theirs, found["source-path"][0], 1, "1.5 times sha256sum, and ls", statistics.median)
+        versus("time", theirs, found["source-path"][0], 1, "1.5 times sha256sum, and ls", statistics.median)
 
 
 def references(run, words, folder):

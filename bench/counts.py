@@ -3,7 +3,7 @@
   memory        what a server holds for each object and each reference once it has opened a file, and for each text
                 that is added after, apart from pages
   copies        the bytes that are copied for each byte of an archive of 16 MiB: in, out and by an opening, next to a
-                server that uses C SQLite for the same
+                program that uses C SQLite for the same, and by a server; and how many of them `sqlite` copies
   digests       the bytes that are hashed for each byte of archives, and the instructions of SHA-256: by `list`,
                 `add-source`, `text-path`, `source-path`, and by the crate itself
   openings      the instructions of `list` for each object, how many of a hundred the opening by `sqlite` alone and
@@ -16,6 +16,7 @@ a tenth of the objects.
 """
 import collections
 import contextlib
+import json
 import os
 import re
 import struct
@@ -25,13 +26,13 @@ import tempfile
 from pathlib import Path
 from unittest import mock
 
-from nixkeep_dev.bench.figures import MIB, beside, limit, main, note, program, skipped, title
+from nixkeep_dev.bench.figures import MIB, limit, main, note, program, skipped, title, versus
 from nixkeep_dev.bench.serving import served
 from nixkeep_dev.bench.sqlite import base, filled, foreign, opened
-from nixkeep_dev.testing import libraries
+from nixkeep_dev.testing import libraries, report
 from nixkeep_dev.testing.nar import archive
 from nixkeep_dev.testing.preload import Loaded
-from nixkeep_dev.testing.requests import text
+from nixkeep_dev.testing.requests import imported, text
 
 COPIES, MEMORY = 1, 2
 BLOCK = 64
@@ -125,10 +126,49 @@ def copied(words, ahead, given=None):
     return ahead.counted()[1]
 
 
+def shares(words, folder, given=None):
+    """The bytes that a command copies, as valgrind counts them: those of `sqlite` and those of all else."""
+    file = f"{tempfile.mkdtemp(dir=folder)}/dhat"
+    with open(given or os.devnull, "rb") as source:
+        subprocess.run(["valgrind", "--quiet", "--tool=dhat", "--mode=copy", f"--dhat-out-file={file}", *words],
+                       stdin=source, stdout=subprocess.DEVNULL, stderr=subprocess.DEVNULL, check=True)
+    found, made = json.loads(Path(file).read_text()), collections.Counter()
+    for place in found["pps"]:
+        # (the first frame is the copy itself, the second what asks for it)
+        by = found["ftbl"][place["fs"][min(1, len(place["fs"]) - 1)]].partition(": ")[2]
+        made["sqlite" if by.startswith("sqlite") else "else"] += place["tb"]
+    return made
+
+
+def show_shares(run, path, name, nar, folder):
+    """Who copies: `sqlite`, on the way into a file and out of it, and what nixkeep copies itself."""
+    size, fresh = Path(nar).stat().st_size, f"{folder}/shares.db"
+    none, opening = shares(run.words(fresh, "list"), folder), shares(run.words(path, "list"), folder)
+    into = shares(run.words(fresh, "add-source", "large"), folder, nar)
+    out = shares(run.words(path, "cat-nar", name), folder)
+    for what, whole, without in (("in, by `add-source`", into, none), ("out, without the opening", out, opening)):
+        for who, name in (("sqlite", "`sqlite`"), ("else", "nixkeep and std")):
+            limit(f"{what}: by {name}", (whole[who] - without[who]) / size, None, "bytes")
+
+
+def copied_by_a_server(run, ahead, path, name, nar):
+    """The bytes that a server copies of an archive that it sends, and of one that is imported, by what it does."""
+    counts = ahead.at("copied")
+    with mock.patch.dict(os.environ, ahead.env(counts, COUNT=COPIES)), served(run, path) as server:
+        made = {}
+        for what, words in [("out, by a server", ("GET", f"/nar/{name}")),
+                            ("in, by `POST /import` to a server", ("POST", "/import", imported(base(1), nar)[3]))]:
+            server.client.get("/paths")
+            before = struct.unpack("<qq", Path(counts).read_bytes())[1]
+            server.client.ask(*words)
+            made[what] = struct.unpack("<qq", Path(counts).read_bytes())[1] - before
+        return made
+
+
 def copies(run, words, folder):
     path, other, nar = f"{folder}/copies.db", f"{folder}/by-sqlite.db", f"{folder}/copies.nar"
     Path(nar).write_bytes(archive(os.urandom(16 * MIB - 112)))
-    size = os.path.getsize(nar)
+    size = Path(nar).stat().st_size
     for it in (path, other):
         run(it, "list")
     none = copied(run.words(path, "list"), words.ahead)
@@ -141,12 +181,17 @@ def copies(run, words, folder):
     theirs = {"in, by `add-source` into a file": copied([*python, PUT, other], words.ahead, nar),
               "out, by `cat-nar`, and of its opening": copied([*python, TAKE, other], words.ahead)}
     title(f"bytes copied for each byte of an archive of {size:,} bytes")
+    served_bytes = copied_by_a_server(run, words.ahead, path, name.rpartition("/")[2], Path(nar).read_bytes())
+    for what, it in served_bytes.items():
+        limit(what, it / size, None, "bytes")
     for what, it in ours.items():
         each = (it - none) / size
         if what in theirs:
-            beside(what, (theirs[what] - nothing) / size, each, None, "python3 and C SQLite", unit="bytes")
+            versus(what, (theirs[what] - nothing) / size, each, None, "python3 and C SQLite", unit="bytes")
         else:
             limit(what, each, None, "bytes")
+    if not skipped("valgrind"):
+        show_shares(run, path, name, nar, folder)
 
 
 # ---- instructions
@@ -173,9 +218,9 @@ def instructions(words, folder, given=None):
     return own, calls
 
 
-def hashed(found):
+def hashed(counts):
     """The instructions of SHA-256, and its blocks."""
-    own, calls = found
+    own, calls = counts
     named = [it for it in own if re.search(COMPRESS, it)]
     return sum(own[it] for it in named), sum(calls[it] for it in named)
 
@@ -202,15 +247,15 @@ def digests(run, words, folder):
               "texts": stored(run, folder, "add-text", plain)}
     crate = libraries.Libraries(words.libraries, True).file
     title("SHA-256, for each byte of the archives of 1 MiB that are read")
-    told("an archive that comes in pieces, by the crate", [crate, "arrivals", "hold", "65536"], 1, folder, "nar")
-    told("`text-path`", [run.file, "text-path", "n"], 1, folder, "plain")
-    told("`source-path`", [run.file, "source-path", "n"], 1, folder, "nar")
-    told("`add-source` into a new file", run.words(f"{folder}/new.db", "add-source", "n"), 1, folder, "nar")
+    show("an archive that comes in pieces, by the crate", [crate, "arrivals", "hold", "65536"], 1, folder, "nar")
+    show("`text-path`", [run.file, "text-path", "n"], 1, folder, "plain")
+    show("`source-path`", [run.file, "source-path", "n"], 1, folder, "nar")
+    show("`add-source` into a new file", run.words(f"{folder}/new.db", "add-source", "n"), 1, folder, "nar")
     for what, path in listed.items():
-        told(f"`list` of 16 {what}", run.words(path, "list"), 16, folder, most=2.01 if what == "texts" else 1.01)
+        show(f"`list` of 16 {what}", run.words(path, "list"), 16, folder, most=2.01 if what == "texts" else 1.01)
 
 
-def told(what, command, count, folder, given=None, most=1.01):
+def show(what, command, count, folder, given=None, most=1.01):
     """Prints what share SHA-256 has of a command that reads `count` archives."""
     own, blocks = hashed(instructions(command, folder, given and f"{folder}/{given}"))
     if not blocks:
@@ -237,7 +282,7 @@ def openings(run, words, folder):
 
 
 def begin(words):
-    words.ahead = Loaded(words, __file__)
+    words.ahead = Loaded(report.program_file(words), words.folder, "bench/counts.c")
     return program(words)
 
 

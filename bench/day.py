@@ -31,7 +31,7 @@ from nixkeep_dev.bench.serving import Serving
 from nixkeep_dev.bench.team import BUILD, STAFF, Team, configuration
 from nixkeep_dev.bench.users import Differs, User
 from nixkeep_dev.build import program
-from nixkeep_dev.testing import report
+from nixkeep_dev.testing import processes, report
 from nixkeep_dev.testing.http_messages import free_port, lines
 
 # How many objects and bytes the store has, how many periods the day, and how often each user acts in one.
@@ -44,11 +44,6 @@ DOES = {"add": 6, "profile": 2, "pull": 3, "question": 3}
 def family(pid):
     """A process, and those that it has started."""
     return [pid, *map(int, Path(f"/proc/{pid}/task/{pid}/children").read_text().split())]
-
-
-def memory(pid):
-    """The most memory in MiB that a process held."""
-    return int(Path(f"/proc/{pid}/status").read_text().partition("VmHWM:")[2].split()[0]) / 1024
 
 
 class Day:
@@ -113,12 +108,12 @@ class Day:
         subprocess.run(words, check=True, stdout=subprocess.DEVNULL)
         shutil.rmtree(f"{self.folder}/copies")
 
-    def restart(self):
+    def restart(self) -> None:
         """Ends the server, and starts it again; it listens once it has opened the store."""
         self.server.__exit__()
         self.server = self.serving()
 
-    def run(self):
+    def run(self) -> dict[str, float]:
         """The day; the seconds that its periods and what comes in the middle took."""
         self.server, self.acting, took = self.serving(), 0, {}
         try:
@@ -128,7 +123,7 @@ class Day:
                     if at == self.periods // 2 - 1:
                         took["backup"] = self.meanwhile(pool, self.back_up)
                         took["restart"] = self.meanwhile(pool, self.restart)
-            took["memory"] = sum(memory(it) for it in family(self.server.started.pid))
+            took["memory"] = sum(processes.memory(it) for it in family(self.server.started.pid)) / 1024
         finally:
             self.server.__exit__()
         return took

@@ -34,8 +34,8 @@ MOST = {4: 20, 2: 45}
 
 def command(folder):
     """The first command of a clone's README.md that runs bin/nixkeep, and the answer below it."""
-    found = re.search(r"^\$ (.*bin/nixkeep .*)\n(.*\n)", Path(f"{folder}/README.md").read_text(), re.M)
-    return found.groups() if found else sys.exit("bench/first_run.py: README.md has no command that runs bin/nixkeep")
+    match = re.search(r"^\$ (.*bin/nixkeep .*)\n(.*\n)", Path(f"{folder}/README.md").read_text(), re.M)
+    return match.groups() if match else sys.exit("bench/first_run.py: README.md has no command that runs bin/nixkeep")
 
 
 def clone(folder, commit):
@@ -58,17 +58,17 @@ def shares(work, seconds, before, after, processors):
     return own, max(busy - own, 0), 1 - max(busy, own)
 
 
-def tell(found, seconds, work, part, processors):
+def tell(crates, seconds, work, part, processors):
     title(f"the same without a release: proving and building, {processors} processors")
     limit("time", seconds / 60, MOST.get(processors), "min")
     limit("processor time", work / 60, None, "min")
     for what, it in zip(("this run", "other work", "nothing"), part):
         limit(f"share of the processors' time: {what}", 100 * it, None, "%")
-    if found:
-        most = max(found, key=lambda it: found[it]["memory"])
-        limit(f"memory of the largest process ({most})", found[most]["memory"] / 1e9, None, "GB")
-    for crate in sorted(found, key=lambda it: -found[it]["seconds"])[:5]:
-        limit(f"one of the five longest crates: {crate}", found[crate]["seconds"] / 60, None, "min")
+    if crates:
+        most = max(crates, key=lambda it: crates[it]["memory"])
+        limit(f"memory of the largest process ({most})", crates[most]["memory"] / 1e9, None, "GB")
+    for crate in sorted(crates, key=lambda it: -crates[it]["seconds"])[:5]:
+        limit(f"one of the five longest crates: {crate}", crates[crate]["seconds"] / 60, None, "min")
 
 
 def answer_released(folder):
@@ -117,8 +117,8 @@ def main():
     asked = parser.parse_args()
     processors = bind(asked.processors)
     with tempfile.TemporaryDirectory(prefix="nixkeep-first-run-") as room:
-        folder = os.path.abspath(asked.folder or f"{room}/nixkeep")
-        is_new = not os.path.exists(folder)
+        folder = str(Path(asked.folder or f"{room}/nixkeep").absolute())
+        is_new = not Path(folder).exists()
         if is_new:
             clone(folder, asked.at)
         is_well = (not is_new or answer_released(folder)) and run(folder, processors)

@@ -7,7 +7,6 @@ here. With --quick, the closure has a fiftieth of the size. Needs what that tria
 what isn't installed is skipped.
 """
 import json
-import os
 import subprocess
 from pathlib import Path
 
@@ -29,7 +28,7 @@ def measured(words, folder, where, *more, is_limited=True):
     """Runs the trial, and reports its figures."""
     file = f"{folder}/figures.json"
     given = ["--program", words.file, "--figures", file, *(["--part", "50"] if words.quick else []), *more]
-    if subprocess.run([TRIAL, *given], stdin=subprocess.DEVNULL).returncode and not os.path.exists(file):
+    if subprocess.run([TRIAL, *given], stdin=subprocess.DEVNULL).returncode and not Path(file).exists():
         raise report.Failed(f"{TRIAL} didn't end well")
     found = json.loads(Path(file).read_text())
     title(f"a closure of {found['size'] / MIB:,.0f} MiB through nginx and nixkeep-cache, {where}")

@@ -14,7 +14,7 @@ import re
 import statistics
 from pathlib import Path
 
-from nixkeep_dev.bench.figures import MIB, beside, command, limit, main, median, note, skipped, title
+from nixkeep_dev.bench.figures import MIB, command, limit, main, median, note, skipped, title, versus
 from nixkeep_dev.testing import libraries, nar, report
 
 LIMIT = 16_777_216
@@ -60,12 +60,12 @@ def peak(ours, *words, path):
 
 def rates(ours, name, path, works):
     """Prints the time of each kind of work next to a plain copy, and returns the GB a second of each."""
-    size, plain, found = os.path.getsize(path), archive_seconds(ours, path, "copy"), {}
+    size, plain, found = Path(path).stat().st_size, archive_seconds(ours, path, "copy"), {}
     title(f"{name}: {size:,} bytes, of which a plain copy takes {plain * 1000:.2f} ms")
     for work in works:
         took = archive_seconds(ours, path, work)
         found[work] = size / took / 1e9
-        beside(f"pieces of {int(work):,}" if work.isdigit() else work, plain, took, None, "a copy")
+        versus(f"pieces of {int(work):,}" if work.isdigit() else work, plain, took, None, "a copy")
     return found
 
 
@@ -83,7 +83,7 @@ def archives(ours, words, folder):
 
 def large(ours, paths):
     found = rates(ours, "one file", paths["one file"], ["read", "write", "list", "65536", "100"])
-    limit("read", os.path.getsize(paths["one file"]) / found["read"] / 1e9, 0.001)
+    limit("read", Path(paths["one file"]).stat().st_size / found["read"] / 1e9, 0.001)
     # A file's contents are counted and not looked at, so here the pieces alone take time.
     for what, work in (("write", "write"), ("checker, pieces of 65,536", "65536"), ("checker, pieces of 100", "100")):
         limit(what, found[work], 0.5, "GB/s", True)
@@ -105,9 +105,9 @@ def many_files(ours, paths):
         return
     listing = ["nix", "--extra-experimental-features", "nix-command", "nar", "ls", "-R", path, "/"]
     theirs = command_seconds(listing, path)
-    beside("the whole command that lists", theirs, command_seconds([ours.file, "archives", "list"], path), None,
+    versus("the whole command that lists", theirs, command_seconds([ours.file, "archives", "list"], path), None,
            "nix nar ls -R")
-    beside("read", theirs, os.path.getsize(path) / found["read"] / 1e9, 0.1, "nix nar ls -R")
+    versus("read", theirs, Path(path).stat().st_size / found["read"] / 1e9, 0.1, "nix nar ls -R")
 
 
 def depth(ours, paths):
@@ -167,7 +167,7 @@ def derivations(ours, words, folder):
         # A text of 1 MiB has 20 ms; a longer one as much for each MiB.
         median("the call", [int(line[0]) / 1e9 for line in lines], 0.02 * max(1, len(text) / MIB))
         whole = command_seconds([ours.file, "derivations", "outputs"], path)
-        beside("the whole program", command_seconds(["cat"], path), whole, None, "cat", statistics.median)
+        versus("the whole program", command_seconds(["cat"], path), whole, None, "cat", statistics.median)
 
 
 # ---- arrivals
@@ -179,15 +179,15 @@ def arrivals(ours, words, folder):
         size = LIMIT - len(nar.archive(b"", is_executable))
         path = put(folder, name, nar.archive(os.urandom(size), is_executable))
         for piece in (100, 4_096, 65_536):
-            title(f"an archive of {name}, {os.path.getsize(path):,} bytes, in pieces of {piece:,}")
+            title(f"an archive of {name}, {Path(path).stat().st_size:,} bytes, in pieces of {piece:,}")
             arrival(ours, path, str(piece), most)
 
 
 def arrival(ours, path, piece, most):
     lines = ours("arrivals", "time", piece, str(ROUNDS), path=path).decode().splitlines()
     digest, came, answered = zip(*([int(it) / 1e9 for it in line.split()] for line in lines))
-    beside("what comes", digest, came, 1.2, "one digest")
-    beside("all that is asked of it", digest, answered, most, "one digest")
+    versus("what comes", digest, came, 1.2, "one digest")
+    versus("all that is asked of it", digest, answered, most, "one digest")
     kind, held = ours("arrivals", "hold", piece, path=path).decode().splitlines()
     report.same("what is held", kind, "an archive")
     limit("memory", int(held.split()[1]) / 1024, 20, "MiB")
@@ -207,7 +207,7 @@ def liveness(ours, words, folder):
     title(f"{PATHS:,} paths, {PATHS * EACH:,} entries, {ROOTS:,} roots")
     note(", ".join(sorted(counted)))
     limit("making the graph", took["graph"], 0.25)
-    beside("the walk", took["pass"], took["mark"], 5, "one pass over the entries")
+    versus("the walk", took["pass"], took["mark"], 5, "one pass over the entries")
     limit("the roots of a path", took["roots_of"], 0.1)
     limit("the referrers of a path", took["referrers"], 0.1)
 

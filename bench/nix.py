@@ -21,7 +21,7 @@ import statistics
 import subprocess
 from pathlib import Path
 
-from nixkeep_dev.bench.figures import MIB, ROUNDS, beside, command, exponent, limit, main, program, skipped, title
+from nixkeep_dev.bench.figures import MIB, ROUNDS, command, exponent, limit, main, program, skipped, title, versus
 from nixkeep_dev.bench.load import SERVER
 from nixkeep_dev.bench.serving import served
 from nixkeep_dev.bench.sqlite import base, filled
@@ -198,22 +198,22 @@ def measured(run, folder, objects, words):
     return found
 
 
-def told(found, objects, way, what):
+def show(times, objects, way, what):
     title(f"{objects:,} objects, {what}")
     most = 1 if way != "command" or objects <= BY_COMMAND else None
-    for name, ours in found[way].items():
-        if "nix" in found:
-            beside(name, found["nix"][name], ours, most, "Nix", statistics.median)
+    for name, ours in times[way].items():
+        if "nix" in times:
+            versus(name, times["nix"][name], ours, most, "Nix", statistics.median)
         else:
             limit(name, ours, None, of=statistics.median)
 
 
-def exponents(found, way, what, is_limited=True):
+def exponents(times, way, what, is_limited=True):
     """Over the last two numbers of objects."""
-    few, many = sorted(found)[-2:]
+    few, many = sorted(times)[-2:]
     title(f"the exponent of the growth from {few:,} to {many:,} objects, {what}")
-    for name in found[few].get(way, ()):
-        exponent(name, found[few][way][name], found[many][way][name], many / few, is_limited)
+    for name in times[few].get(way, ()):
+        exponent(name, times[few][way][name], times[many][way][name], many / few, is_limited)
 
 
 WAYS = {"command": (by_command, "by a command"), "remote": (by_remote, "by nixkeep-remote over a server"),
@@ -226,7 +226,7 @@ def actions(run, words, folder):
     for objects in sizes:
         found[objects] = measured(run, folder, objects, words)
         for way in [it for it in WAYS if it in found[objects]]:
-            told(found[objects], objects, way, WAYS[way][1])
+            show(found[objects], objects, way, WAYS[way][1])
     for way, (_, what) in WAYS.items():
         exponents(found, way, what)
     exponents(found, "nix", "by Nix", False)
@@ -246,12 +246,12 @@ def archives(run, words, folder):
     ours = seconds(run.words(path, "cat-nar", name))
     title("`cat-nar` of 16 MiB")
     for tool, most in (("cat", 3), ("sha256sum", None)):
-        beside("time", seconds([tool, f"{large}.nar"]), ours, most, tool)
+        versus("time", seconds([tool, f"{large}.nar"]), ours, most, tool)
     if words.is_there:
         nix = Nix(f"{folder}/nix")
         place = nix.place(nix.lines("nix-store", "--add", large)[0])
         theirs = seconds(["nix-store", "--dump", place], nix.env)
-        beside("next to an archive of the same file", theirs, ours, None, "nix-store --dump")
+        versus("next to an archive of the same file", theirs, ours, None, "nix-store --dump")
         nix.clear()
 
 

@@ -19,7 +19,7 @@ import statistics
 import sys
 from pathlib import Path
 
-from nixkeep_dev.bench.figures import MIB, ROUNDS, beside, limit, main, note, program, skipped, timed, title
+from nixkeep_dev.bench.figures import MIB, ROUNDS, limit, main, note, program, skipped, timed, title, versus
 from nixkeep_dev.bench.load import PROXY, SERVER, Load, on
 from nixkeep_dev.bench.nginx import KEPT, nginx
 from nixkeep_dev.bench.serving import Handed, Serving, served
@@ -27,7 +27,7 @@ from nixkeep_dev.bench.sqlite import base, filled
 from nixkeep_dev.testing import libraries
 from nixkeep_dev.testing.http_messages import free_port
 from nixkeep_dev.testing.nar import archive
-from nixkeep_dev.testing.packages import found
+from nixkeep_dev.testing.packages import place_of
 from nixkeep_dev.testing.requests import imported
 
 PYTHON = """
@@ -61,16 +61,16 @@ def loads(words, server, target, clients=1):
     """Rounds of requests to a server, which isn't asked for anything else meanwhile."""
     with server:
         count, seconds = (1, 1) if words.quick else (ROUNDS, 3)
-        found = [Load(server.port, target, clients, seconds) for _ in range(count)]
-    if wrong := sum(it.wrong for it in found):
+        runs = [Load(server.port, target, clients, seconds) for _ in range(count)]
+    if wrong := sum(it.wrong for it in runs):
         note(f"{wrong} requests weren't answered with 200")
-    return found
+    return runs
 
 
 def peers(folder):
     """The servers of files that are there, each with what starts it."""
     yield "http.server", lambda: python(folder)
-    if found("nginx"):
+    if place_of("nginx"):
         yield "nginx", lambda: files(folder)
 
 
@@ -79,8 +79,8 @@ def record_in(run, folder, path):
     return Path(f"{folder}/files/record").write_bytes(run(path, "info", base(7))[1])
 
 
-def each(found):
-    return [it.each for it in found]
+def each(runs):
+    return [it.each for it in runs]
 
 
 def small(run, words, folder):
@@ -92,9 +92,9 @@ def small(run, words, folder):
     limit("each", ours, None)
     for peer, server in peers(folder):
         theirs = each(loads(words, server(), "/record"))
-        beside("next to a file of those bytes", theirs, ours, {"http.server": 1}.get(peer), peer)
+        versus("next to a file of those bytes", theirs, ours, {"http.server": 1}.get(peer), peer)
     over_few = each(loads(words, served(run, few, SERVER), target))
-    beside(f"{objects:,} objects next to 10", over_few, ours, 1.3, "over 10")
+    versus(f"{objects:,} objects next to 10", over_few, ours, 1.3, "over 10")
 
 
 def clients(run, words, folder):
@@ -110,14 +110,14 @@ def clients(run, words, folder):
             ours = loads(words, proxied(folder, store.port), target, count)
         theirs = {peer: loads(words, server(), "/record", count) for peer, server in peers(folder)}
         for peer, of_peer in theirs.items():
-            rates = [[it.rate for it in found] for found in (of_peer, ours)]
-            beside("requests", *rates, None, f"{peer}, a file", max, "a second")
+            rates = [[it.rate for it in runs] for runs in (of_peer, ours)]
+            versus("requests", *rates, None, f"{peer}, a file", max, "a second")
         # (a client that waits for its turn isn't in percentiles of those that are answered)
         limit("how long a client waits on average", [count / it.rate for it in ours], None)
         for part in (50, 99):
             for peer, of_peer in theirs.items():
-                times = [[it.percentiles[part] for it in found] for found in (of_peer, ours)]
-                beside(f"{part}th percentile", *times, None, f"{peer}, a file", statistics.median)
+                times = [[it.percentiles[part] for it in runs] for runs in (of_peer, ours)]
+                versus(f"{part}th percentile", *times, None, f"{peer}, a file", statistics.median)
 
 
 def large_out(run, words, folder):
@@ -135,7 +135,7 @@ def large_out(run, words, folder):
         servers["nginx without sendfile"] = lambda: files(folder, "off")
     for peer, server in servers.items():
         theirs = each(loads(words, server(), "/archive"))
-        beside("next to a file of those bytes", theirs, ours, {"nginx": 3}.get(peer), peer)
+        versus("next to a file of those bytes", theirs, ours, {"nginx": 2}.get(peer), peer)
     limit("memory of the server", most, 48, "MiB")
 
 
@@ -154,8 +154,8 @@ def large_in(run, words, folder):
                 if at == 0:
                     most = serving.memory()
         title(f"POST /import of 16 MiB into a store in {where}")
-        beside("next to one SHA-256 of it by the same crate", own, ours, 2 if path else None, "that one")
-        beside("next to one SHA-256 of it by C", hashes, ours, None, "C")
+        versus("next to one SHA-256 of it by the same crate", own, ours, 2 if path else None, "that one")
+        versus("next to one SHA-256 of it by C", hashes, ours, None, "C")
         if path:
             limit("memory of the server, after the first", most, 48, "MiB")
 
@@ -184,7 +184,7 @@ def bytewise(run, words, folder):
         for size, (took, own) in each_size.items():
             note(f"{size:,} bytes: {took * 1000:.1f} ms, {own * 1000:.1f} of the processor")
         times = 4 * each_size[4096][1], each_size[16_384][1]
-        beside("16,384 bytes, by the processor", *times, 2, "four times 4,096")
+        versus("16,384 bytes, by the processor", *times, 2, "four times 4,096")
 
 
 def begin(words):

@@ -83,17 +83,17 @@ def parted(crate, named, room):
     return [((at - before) / 1e9, crate, name) for (before, _), (at, name) in pairwise(files)]
 
 
-def show(found, above, what):
+def show(by_crate, above, what):
     """The functions or modules that take at least `above` seconds, longest first, and the crates."""
     title(f"processor seconds of {what}, {above:g} and more")
-    for seconds, crate, name in sorted((row for rows in found.values() for row in rows), reverse=True):
+    for seconds, crate, name in sorted((row for rows in by_crate.values() for row in rows), reverse=True):
         if seconds >= above:
             is_alone = name != AFTER and not name.startswith(FIRST)
             limit(f"{crate} {name}", seconds, LONG if is_alone else None)
     title("processor seconds of crates")
-    sums = {crate: sum(row[0] for row in rows) for crate, rows in found.items()}
+    sums = {crate: sum(row[0] for row in rows) for crate, rows in by_crate.items()}
     for crate in sorted(sums, key=lambda it: -sums[it]):
-        limit(f"{crate}, {sum(name != AFTER for *_, name in found[crate])} {what}", sums[crate], None)
+        limit(f"{crate}, {sum(name != AFTER for *_, name in by_crate[crate])} {what}", sums[crate], None)
     limit("together", sum(sums.values()), None)
 
 
@@ -105,10 +105,10 @@ def asked(named):
     parser.add_argument("--above", type=float, default=2, metavar="SECONDS", help="print functions from there on")
     half = max(1, proving.processors() // 2)
     parser.add_argument("--at-once", type=int, default=half, metavar="N", help="how many crates are checked at once")
-    found = parser.parse_args()
-    if unknown := [it for it in found.crates if it not in named]:
+    words = parser.parse_args()
+    if unknown := [it for it in words.crates if it not in named]:
         parser.error(f"crates.txt has no crate {' '.join(unknown)}")
-    return found
+    return words
 
 
 def main():
@@ -120,10 +120,10 @@ def main():
     with proving.room_with(below) as room, ThreadPoolExecutor(words.at_once) as pool:
         try:
             take = parted if words.modules else timed
-            found = dict(zip(crates, pool.map(lambda it: take(it, named, room), crates)))
+            by_crate = dict(zip(crates, pool.map(lambda it: take(it, named, room), crates)))
         except proving.Stopped as stopped:
             sys.exit(str(stopped))
-    show(found, words.above, "modules" if words.modules else "functions")
+    show(by_crate, words.above, "modules" if words.modules else "functions")
     ended(words)
 
 

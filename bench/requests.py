@@ -21,7 +21,7 @@ import subprocess
 import time
 from pathlib import Path
 
-from nixkeep_dev.bench.figures import MIB, ROUNDS, beside, limit, main, program, rounds, timed, title
+from nixkeep_dev.bench.figures import MIB, ROUNDS, limit, main, program, rounds, timed, title, versus
 from nixkeep_dev.bench.serving import Client, served
 from nixkeep_dev.bench.sqlite import base, delete, filled, insert, opened, refer
 from nixkeep_dev.testing import libraries, report
@@ -67,8 +67,8 @@ def text_body(number):
 def added_twice(run, path, folder):
     """Seconds of 1,000 adds, and of the same made again, by a server that reads them of a file: no client is waited
     for."""
-    bodies = [text_body(number) for number in range(1000)]
-    asked = [("root", "GET", "/roots"), *[("root", "POST", "/text", body) for body in [*bodies, *bodies]]]
+    texts = [text_body(number) for number in range(1000)]
+    asked = [("root", "GET", "/roots"), *[("root", "POST", "/text", body) for body in [*texts, *texts]]]
     Path(f"{folder}/messages").write_bytes(messages(asked))
     words, came, times = [run.file, "--db", path, "serve"], 0, []
     with open(f"{folder}/messages", "rb") as given, \
@@ -97,10 +97,10 @@ def adds(run, words, folder):
         beyond.append(first - again)
     inserts, both = zip(*theirs)
     title("1,000 adds of 1 KiB with 3 references")
-    beside("time", both, ours, 3, "inserts and digests by C SQLite")
-    beside("what the tables take of them: all beyond the same adds made again", inserts, beyond, 1.6,
+    versus("time", both, ours, 3, "inserts and digests by C SQLite")
+    versus("what the tables take of them: all beyond the same adds made again", inserts, beyond, 1.6,
            "inserts by C SQLite")
-    beside("the same in a file of 20,000 objects", ours, more, 1.3, "in one of 1,000")
+    versus("the same in a file of 20,000 objects", ours, more, 1.3, "in one of 1,000")
 
 
 def walks(run, words, folder):
@@ -111,7 +111,7 @@ def walks(run, words, folder):
             limit(f"GET {target}", rounds(server.client.get, target), most)
     path = filled(run, f"{folder}/collect.db", 5000, 1024, 0, roots=range(1952))
     found = deletes(run, path, range(1952, 5000), "/collect")
-    beside("a collection of 3,048 of 5,000 objects", *found, 4, "deletes by C SQLite")
+    versus("a collection of 3,048 of 5,000 objects", *found, 4, "deletes by C SQLite")
 
 
 def deletes(run, path, numbers, *asked):
@@ -129,7 +129,7 @@ def removals(run, words, folder):
     path, numbers = filled(run, f"{folder}/remove.db", 10_000, 1024, 0), range(0, 10_000, 5)
     body = "".join(f"path: {base(number)}\n" for number in numbers).encode() + b"\n"
     title("2,000 of 10,000 objects deleted in one call")
-    beside("time", *deletes(run, path, numbers, "/delete", body), 2.5, "deletes by C SQLite")
+    versus("time", *deletes(run, path, numbers, "/delete", body), 2.5, "deletes by C SQLite")
 
 
 def looks(run, words, folder):
@@ -191,8 +191,8 @@ def reads(run, words, folder):
         ours = rounds(lambda: [serving.client.get(f"/nar/{base(number)}") for number in range(100)])
         more = serving.memory() - before
     title("100 archives of 1 MiB read one after another")
-    beside("time", theirs, ours, 2, "the same rows by C SQLite")
-    beside("next to a server that reads them by C SQLite", sent, ours, None, "that one")
+    versus("time", theirs, ours, 2, "the same rows by C SQLite")
+    versus("next to a server that reads them by C SQLite", sent, ours, None, "that one")
     limit(f"memory of the server, beyond the {before:.0f} MiB that it held once it had opened the file", more, 8, "MiB")
 
 
@@ -224,7 +224,7 @@ def added(run, digest, nar, what, path):
             if at == 0:
                 most = serving.memory()
     title(what)
-    beside("time", once, takes, ADD, "one SHA-256 by the same crate")
+    versus("time", once, takes, ADD, "one SHA-256 by the same crate")
     if path:
         limit("memory of the server, after the first", most, 48, "MiB")
 

@@ -37,7 +37,7 @@ class Service:
         self.words += ["serve", "--port", str(self.port), "--connections", str(connections)]
         self.running, self.thread = None, threading.Thread(target=self.run)
 
-    def run(self):
+    def run(self) -> None:
         while not self.is_over.is_set():
             self.running = subprocess.Popen(self.words, stdin=subprocess.DEVNULL, stderr=subprocess.DEVNULL)
             self.running.wait()
@@ -53,7 +53,7 @@ class Service:
         self.running.terminate()
         self.thread.join()
 
-    def restart(self):
+    def restart(self) -> None:
         self.running.terminate()
 
 

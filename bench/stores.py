@@ -20,7 +20,7 @@ import shutil
 import sqlite3
 import tempfile
 
-from nixkeep_dev.bench.figures import MIB, ROUNDS, beside, limit, main, memory_of, timed, title
+from nixkeep_dev.bench.figures import MIB, ROUNDS, limit, main, memory_of, timed, title, versus
 from nixkeep_dev.bench.sqlite import base, delete, drop_pages, filled, foreign, opened
 from nixkeep_dev.model.tables import TABLES
 from nixkeep_dev.testing.nar import archive
@@ -65,10 +65,10 @@ def opening(run, folder, objects, size, references, most_times=None, most=None, 
     each = [(read_all(path), timed(read, path), read_tested(path), listed(path), listed(other)) for _ in range(ROUNDS)]
     theirs, kept, tested, ours, alone = map(list, zip(*each))
     title(f"`list` on {objects:,} objects of {size:,} bytes with {references} references each")
-    beside("time", theirs, ours, most_times)
-    beside("with the tests of `integrity_check` and of references", tested, ours, tested_times)
-    beside("where the kernel keeps the file's pages for C SQLite", kept, ours)
-    beside("of that, the opening by `sqlite` alone: the same rows in tables of another program", theirs, alone)
+    versus("time", theirs, ours, most_times)
+    versus("with the tests of `integrity_check` and of references", tested, ours, tested_times)
+    versus("where the kernel keeps the file's pages for C SQLite", kept, ours)
+    versus("of that, the opening by `sqlite` alone: the same rows in tables of another program", theirs, alone)
     memory = memory_of(run.words(path, "list"))
     limit("memory", memory, most, "MiB")
     limit("memory of the opening by `sqlite` alone", memory_of(run.words(other, "list")), None, "MiB")
@@ -82,7 +82,7 @@ def openings(run, words, folder):
     refs = [base(near) for near in range(3)]
     adds = [run(copy, "add-text", f"text{at}", *refs, given=b"%1024d" % at)[0] for at in range(10)]
     limit("`add-text` of 1 KiB with 3 references to that file", adds, None)
-    beside("`add-text` next to `list`", alone, adds, None, "`list`")
+    versus("`add-text` next to `list`", alone, adds, None, "`list`")
 
 
 def large(run, words, folder):
@@ -96,7 +96,7 @@ def growing(run, words, folder):
         for size, references in ((200, 1), (1024, 3)):
             _, few, held_of_few = opening(run, folder, 10_000, size, references)
             _, many, held_of_many = opening(run, folder, 100_000, size, references)
-            beside("100,000 objects next to 10,000", few, many, 11, "10,000")
+            versus("100,000 objects next to 10,000", few, many, 11, "10,000")
             # (among them are pages of the file, of which the archive has 112 more than that)
             more = (held_of_many - held_of_few) * MIB / 90_000
             limit(f"memory for each object of {size:,} bytes more", more, None, "bytes")
@@ -110,7 +110,7 @@ def collections(run, words, folder):
         theirs.append(delete(copy, range(1952, 5000)) + read_all(copy))
         ours.append(run(shutil.copy(path, f"{folder}/ours.db"), "gc")[0])
     title("`gc` of 3,048 of 5,000 objects")
-    beside("time", theirs, ours, 4, "reading, hashing and deleting by C SQLite")
+    versus("time", theirs, ours, 4, "reading, hashing and deleting by C SQLite")
 
 
 def archives(run, words, folder):
@@ -118,9 +118,9 @@ def archives(run, words, folder):
     took, out = run(path, "add-source", "large", given=nar)
     name = out.decode().strip()
     title("an archive of 16 MiB in and out")
-    beside("`add-source` into a new file", timed(hashlib.sha256, nar), took, None, "one SHA-256 by C")
+    versus("`add-source` into a new file", timed(hashlib.sha256, nar), took, None, "one SHA-256 by C")
     takes = [run(path, "cat-nar", name)[0] for _ in range(ROUNDS)]
-    beside("`cat-nar`", [run(path, "list")[0] for _ in range(ROUNDS)], takes, None, "`list`")
+    versus("`cat-nar`", [run(path, "list")[0] for _ in range(ROUNDS)], takes, None, "`list`")
     limit("memory of `cat-nar`", memory_of(run.words(path, "cat-nar", name)), 64, "MiB")
 
 

@@ -4,26 +4,34 @@ Each file of tests/cases is run once, and each of its steps is a test: `pytest t
 does the same without pytest. What is marked `needs("curl", ..)` is skipped where one of these isn't installed, and the
 summary (`-rs`) says what. With xdist, `-n auto --dist loadfile` runs files side by side.
 """
+import functools
 import os
 import random
+import shutil
 import tempfile
+from collections.abc import Callable, Iterator
+from concurrent.futures import ThreadPoolExecutor
 from pathlib import Path
 
 import pytest
 
 from nixkeep_dev.build import release
 from nixkeep_dev.testing import cases, minutes, report
+from nixkeep_dev.testing.libraries import Libraries
 
-# What bin/test runs: these are no tests of pytest yet.
-collect_ignore = ["compare", "faults", "gate", "package", "sabotage", "stores"]
+# The seeds that a day has for itself.
+A_DAY = 100_000
 
 
 def pytest_addoption(parser):
     add = parser.addoption
     add("--program", metavar="FILE", help="the program; else the one that bin/nixkeep runs")
-    add("--seed", metavar="N", type=int, default=report.today(), help="what chance begins with; else the day")
+    add("--seed", metavar="N", type=int, default=A_DAY * report.today(), help="what chance begins with; else the day")
     add("--count", metavar="N", type=int, help="how much is tried; else as much as each test says")
     add("--libraries", metavar="FILE", help="the program of crates/bench; else what needs it is skipped")
+    add("--minutes", metavar="N", type=float, default=0, help="how long at least faults/soak.py goes on (0)")
+    add("--built", action="store_true", help="what `rt ci` leaves has to be there; else tests of that are skipped")
+    add("--root", metavar="FOLDER", help="a clean Debian that was made before, for package/clean_machine.py")
 
 
 def pytest_configure(config):
@@ -32,8 +40,8 @@ def pytest_configure(config):
 
 @pytest.hookimpl(tryfirst=True)
 def pytest_runtest_setup(item):
-    tools = [tool for it in item.iter_markers("needs") for tool in it.args]
-    if why := report.missing(tools):
+    needed = [tool for it in item.iter_markers("needs") for tool in it.args]
+    if why := report.missing(needed):
         pytest.skip(why)
 
 
@@ -42,7 +50,7 @@ def pytest_runtest_setup(item):
 
 def program_file(config):
     try:
-        file = os.path.abspath(config.getoption("--program") or release.ready())
+        file = str(Path(config.getoption("--program") or release.ready()).absolute())
     except SystemExit as stopped:
         pytest.fail(f"there is no program: status {stopped.code}", pytrace=False)
     if not os.access(file, os.X_OK):
@@ -60,10 +68,40 @@ def program(request):
         raise
 
 
+@pytest.fixture(scope="session")
+def left_by_ci(pytestconfig) -> Callable:
+    """Gives the program that --program names, or a file that `rt ci` leaves: `left_by_ci(file, is_there)`. Where that
+    isn't there, what needs it is skipped or, with --built, fails."""
+    def left(file: str, is_there: Callable | None = None) -> Path:
+        if named := pytestconfig.getoption("--program"):
+            return Path(named).absolute()
+        if not (is_there() if is_there else Path(file).exists()):
+            missing = pytest.fail if pytestconfig.getoption("--built") else pytest.skip
+            missing(f"there is no {Path(file).relative_to(cases.HERE)} of the present sources: `rt ci` leaves it")
+        return Path(file)
+
+    return left
+
+
+@pytest.fixture(scope="session")
+def libraries(pytestconfig) -> Libraries:
+    """The program of crates/bench: the one that is named, or the one that the toolchain builds."""
+    file = pytestconfig.getoption("--libraries")
+    if not file and not shutil.which("rt"):
+        pytest.skip("needs the program of crates/bench, which the Rattle toolchain builds (--libraries)")
+    return Libraries(file)
+
+
+@pytest.fixture(scope="session")
+def seed(pytestconfig) -> int:
+    """What chance begins with: the last lines have it where a test asks for it."""
+    return pytestconfig.getoption("--seed")
+
+
 @pytest.fixture
-def rng(pytestconfig):
+def rng(seed) -> random.Random:
     """What chance gives, by the seed."""
-    return random.Random(pytestconfig.getoption("--seed"))
+    return random.Random(seed)
 
 
 @pytest.fixture(scope="session")
@@ -72,11 +110,38 @@ def count(pytestconfig):
     return pytestconfig.getoption("--count")
 
 
+@pytest.fixture(scope="session")
+def some(seed, count):
+    """Chooses among places where something can go wrong, numbered from 1: `some(total, name)`. All, but for --count."""
+    return functools.partial(report.some, seed, count)
+
+
 @pytest.fixture
 def folder():
     """A folder of a test's own, with a short path, which is gone after it."""
     with tempfile.TemporaryDirectory() as made:
         yield made
+
+
+@pytest.fixture(scope="module")
+def shared_folder():
+    """A folder that the tests of a module share."""
+    with tempfile.TemporaryDirectory() as made:
+        yield made
+
+
+@pytest.fixture(scope="module")
+def side_by_side(request) -> Iterator[Callable]:
+    """Begins a call for each value that a parameter has in the tests of this module that are to run: what
+    `side_by_side(name, call)` gives has the running call of each value, whose `result` waits for it."""
+    with ThreadPoolExecutor(len(os.sched_getaffinity(0))) as pool:
+        def begin(name, call):
+            given = [it.callspec.params for it in request.session.items
+                     if it.path == request.path and hasattr(it, "callspec")]
+            return {value: pool.submit(call, value) for value in dict.fromkeys(it[name] for it in given if name in it)}
+
+        yield begin
+        pool.shutdown(cancel_futures=True)
 
 
 # ---- cases

@@ -19,11 +19,13 @@ import re
 import subprocess
 from pathlib import Path
 
+import pytest
+
 from nixkeep_dev.build import program
 from nixkeep_dev.testing import report
 from nixkeep_dev.testing.http_messages import lines
 from nixkeep_dev.testing.nar import STORE, archive, derivation, nar_hash, source_path, text_path
-from nixkeep_dev.testing.report import same, tell
+from nixkeep_dev.testing.report import same
 from nixkeep_dev.testing.requests import imported, path, text
 from nixkeep_dev.testing.store import Server, Store, small_files
 
@@ -61,14 +63,11 @@ REFERENCE = Path(f"{HERE}/docs/REFERENCE.md").read_text()
 
 def routes():
     """The methods of each route, by its pattern, as the table there has them."""
-    found, fixed = {}, []
+    found = {}
     for line in REFERENCE.splitlines():
         row = re.match(r"\| ((?:GET|POST|DELETE)(?:, \w+)*) (?:\| )?(`/[^|]*`) \|", line)
         for pattern in re.findall(r"`([^`]+)`", row[2]) if row else []:
             found[pattern] = row[1].split(", ")
-    for name in glob.glob(f"{HERE}/crates/*/specs/Table.antt"):
-        fixed += re.findall(r'codes "(/[^"]+)"', Path(name).read_text())
-    same("the routes of the reference, next to those that are defined", sorted(found), sorted(fixed))
     return found
 
 
@@ -216,10 +215,16 @@ class Curl:
         ran = subprocess.run(["curl", "-q", "-K", "-"], input="\n".join(config), **how)
         if ran.returncode != status:
             report.fail(f"curl ended with {ran.returncode}: {ran.stderr[-2000:]}")
-        told = [line.split() for line in ran.stdout.splitlines()]
+        measured = [line.split() for line in ran.stdout.splitlines()]
         found = [Reply(head.read_bytes(), text.read_bytes(), int(connects), float(seconds))
-                 for (head, text), (connects, seconds) in zip(files, told, strict=True)]
+                 for (head, text), (connects, seconds) in zip(files, measured, strict=True)]
         return found, ran.stderr
+
+
+@pytest.fixture
+def curl(folder):
+    report.needs("curl")
+    return Curl(folder)
 
 
 def answers(what, reply, text, status=200, **head):
@@ -230,27 +235,33 @@ def answers(what, reply, text, status=200, **head):
 # ---- each route
 
 
-def try_routes(file, folder, curl):
-    """Each request over one connection, over one of its own, and by a command."""
-    asked, table, counts = list(requests()), routes(), collections.Counter()
-    for pattern, methods in table.items():
+def test_each_route_is_asked():
+    """The table has the routes that are defined, and each is asked by each of its methods."""
+    fixed = [it for name in glob.glob(f"{HERE}/crates/*/specs/Table.antt")
+             for it in re.findall(r'codes "(/[^"]+)"', Path(name).read_text())]
+    same("the routes of the reference, next to those that are defined", sorted(routes()), sorted(fixed))
+    asked = [*requests()]
+    for pattern, methods in routes().items():
         for method in methods:
-            if not any(it.method == method and fits(pattern, it.target) for it in asked):
-                report.fail(f"{method} {pattern} isn't asked here")
+            is_asked = any(it.method == method and fits(pattern, it.target) for it in asked)
+            report.right(f"{method} {pattern}", None if is_asked else "it isn't asked here")
+
+
+def test_routes(program, folder, curl):
+    """Each request over one connection, over one of its own, and by a command."""
+    asked = [*requests()]
     Path(config := f"{folder}/store.toml").write_text(CONFIG)
-    options, stores = ["--config", config], [Store(file, f"{folder}/{it}.db") for it in ("commands", "one", "each")]
-    over_one, over_each = ask_twice(file, options, folder, curl,
+    options, stores = ["--config", config], [Store(program, f"{folder}/{it}.db") for it in ("commands", "one", "each")]
+    over_one, over_each = ask_twice(program, options, folder, curl,
                                     [(it.user, it.method, it.target, it.body) for it in asked])
     options += ["--group", "users"]
     for it, one, each in zip(asked, over_one, over_each):
         ran = stores[0].run(*it.words, given=it.given, user=it.user, options=options)
-        counts[try_route(it, one, each, *ran)] += 1
+        try_route(it, one, each, *ran)
     for word in ("list", "roots", "live", "dead", "report"):
         found = [it.run(word, options=options) for it in stores]
         same(f"{word} over one connection", found[1], found[0])
         same(f"{word} over a connection for each", found[2], found[0])
-    of_each = ", ".join(f"{count} with status {status}" for status, count in sorted(counts.items()))
-    tell(f"{len(asked)} requests, over one connection and over {len(asked)}, as commands answer them: {of_each}")
 
 
 def ask_twice(file, options, folder, curl, asked):
@@ -264,7 +275,7 @@ def ask_twice(file, options, folder, curl, asked):
 
 
 def try_route(it, one, each, printed, said, code):
-    """Compares replies with a command's outputs; returns their status."""
+    """Compares replies with a command's outputs."""
     other, answer = (printed, said.encode()) if code else (said.encode(), printed)
     same(f"{it.name()}: the other output of the command", other, b"")
     if it.wanted is not None:
@@ -274,10 +285,9 @@ def try_route(it, one, each, printed, said, code):
     for where, reply, closes in (("", one, False), (" over a connection of its own", each, True)):
         same(f"{it.name()}: the text{where}", reply.text, answer)
         same(f"{it.name()}: the head{where}", reply.head, head_of(status, len(answer), media, closes=closes))
-    return status
 
 
-def try_methods(file, _, curl):
+def test_methods(program, curl):
     """Methods that a route doesn't have; targets without a route."""
     line = b"refused: 40 bad-method\n"
     targets = {re.sub(r"\{\w+\}", "7", pattern): methods for pattern, methods in routes().items()}
@@ -285,15 +295,14 @@ def try_methods(file, _, curl):
              for other in ("GET", "POST", "DELETE", "PUT", "HEAD") if other not in methods]
     none = ["/", "/path", "/paths/", "/paths?all=1", "/info/a/b", "/p%61ths", "/nix-cache-info"]
     every = [*asked, *[("GET", target, b"refused: 39 no-route\n", 404, None) for target in none]]
-    with serving("methods", file, [], 1) as port:
-        found, _ = curl(port, [("ann", method, target, b"") for method, target, *_ in every])
-    for (method, target, wanted, status, allow), reply in zip(every, found):
+    with serving("methods", program, [], 1) as port:
+        replies, _ = curl(port, [("ann", method, target, b"") for method, target, *_ in every])
+    for (method, target, wanted, status, allow), reply in zip(every, replies):
         answers(f"{method} {target}", reply, wanted, status, allow=allow)
     # Asked for a head alone curl takes no text, and leaves it unread as it closes.
-    with serving("HEAD", file, [], 1, [(0, b""), (1, b"failed: input\n")]) as port:
+    with serving("HEAD", program, [], 1, [(0, b""), (1, b"failed: input\n")]) as port:
         (reply,), _ = curl(port, [("ann", "HEAD", "/paths", b"")], "head")
     same("HEAD /paths", reply.head, head_of(405, len(line), allow=["GET"]))
-    tell(f"{len(asked)} methods that a route doesn't have, HEAD among them, and {len(none)} targets without a route")
 
 
 # ---- what the reference says of bodies
@@ -342,20 +351,19 @@ def some_bodies():
     return good, bad
 
 
-def try_bodies(file, _, curl):
+def test_bodies(program, curl):
     good, bad = some_bodies()
-    with serving("bodies", file, [], 1) as port:
-        found, _ = curl(port, [("root", "POST", *it) for it in good + bad])
+    with serving("bodies", program, [], 1) as port:
+        replies, _ = curl(port, [("root", "POST", *it) for it in good + bad])
     line = b"refused: 41 bad-body-head\n"
-    for (target, body), reply in zip(good + bad, found):
+    for (target, body), reply in zip(good + bad, replies):
         same(f"whether {target} is refused for its body {body[:300]!r}", reply.text == line, (target, body) in bad)
-    tell(f"{len(good)} bodies that are read, and {len(bad)} that aren't: keys left out, twice or unknown, other lines")
 
 
-def try_connections(file, _, curl):
+def test_connections(program, curl):
     """Connections that are kept, as curl reports it, and such that end."""
     paths = [("ann", "GET", "/paths", b"")] * 3
-    with serving("connections", file, [], 1 + 3 + 3) as port:
+    with serving("connections", program, [], 1 + 3 + 3) as port:
         kept, said = curl(port, paths)
         closed, _ = curl(port, paths, 'header = "connection: close"')
         old, _ = curl(port, paths, "http1.0")
@@ -366,7 +374,6 @@ def try_connections(file, _, curl):
     for found, closes in ((kept, False), (closed, True), (old, True)):
         for reply in found:
             answers("GET /paths", reply, b"", closes=closes)
-    tell("a connection is kept for 3 requests, and ends after `connection: close` and HTTP/1.0")
 
 
 # ---- what is large
@@ -390,11 +397,11 @@ def line_of(path):
     return f"{STORE}/{path}\n".encode()
 
 
-def try_large(file, folder, curl):
+def test_large_bodies(program, folder, curl):
     large = Large()
     at_once, waiting = 'header = "Expect:"', "Done waiting for 100-continue"
     ends = [(1, b"failed: output\n")]
-    with serving("a client that goes away", file, ["--db", f"{folder}/large.db"], 7, ends) as port:
+    with serving("a client that goes away", program, ["--db", f"{folder}/large.db"], 7, ends) as port:
         # curl asks whether it may go on, gets no answer, and sends the body when it has waited for a second
         (added,), said = curl(port, [large.add])
         came = ["Expect: 100-continue" in said, waiting in said, added.seconds >= 1]
@@ -410,42 +417,28 @@ def try_large(file, folder, curl):
         for more in ([], [at_once]):
             (reply,), _ = curl(port, [large.over], *more)
             answers("a body that is too large", reply, b"refused: 38 too-large\n", 400, closes=True)
-        out = try_large_out(large, curl, port)
-    tell(f"16 MiB in by /source ({added.seconds:.1f} s, one for 100-continue), by /import ({taken.seconds:.1f} s), "
-         f"and out ({out:.2f} s); a body that is too large; a client that goes away")
+        try_large_out(large, curl, port)
 
 
 def try_large_out(large, curl, port):
-    """Both archives out, and a client that closes in the middle of one; returns the seconds of the first."""
-    found, _ = curl(port, large.gets)
-    for name, reply, nar in zip(("source", "import"), found, (large.nar, large.other)):
+    """Both archives out, and a client that closes in the middle of one."""
+    replies, _ = curl(port, large.gets)
+    for name, reply, nar in zip(("source", "import"), replies, (large.nar, large.other)):
         same(f"16 MiB out: the head of the {name}", reply.head, head_of(200, MOST, "application/octet-stream"))
         same(f"16 MiB out: whether the bytes of the {name} are the same", reply.text == nar, True)
     # curl can't write what comes, and closes in the middle of it
     curl(port, large.gets[:1], output="/dev/full", status=23)
     (next_one,), _ = curl(port, [("ann", "GET", "/paths", b"")])
     same("after a client that went away", next_one.text, b"".join(sorted([line_of(large.path), line_of(large.p)])))
-    return found[0].seconds
 
 
-def try_no_room(file, folder, curl):
+def test_no_room(program, folder, curl):
     """A store whose file may not grow: what has failed has status 503, and the connection goes on."""
     small, large = (("ann", "POST", "/text", text("a", it)) for it in (b"x", bytes(3_000_000)))
-    with serving("no room", file, ["--db", f"{folder}/limited.db"], 1, prepare=small_files) as port:
-        found, _ = curl(port, [small, large, ("ann", "GET", "/paths", b"")])
-    added, failed, listed = found
+    with serving("no room", program, ["--db", f"{folder}/limited.db"], 1, prepare=small_files) as port:
+        replies, _ = curl(port, [small, large, ("ann", "GET", "/paths", b"")])
+    added, failed, listed = replies
     answers("room", added, line_of(text_path("a", b"x")))
     same("why there is no room", failed.text in (b"failed: disk\n", b"failed: size\n"), True, failed.text)
     answers("no room", failed, failed.text, 503)
     answers("after what failed", listed, line_of(text_path("a", b"x")))
-    tell(f"no room: 503, {failed.text.decode().strip()}")
-
-
-def run(words):
-    file, curl = report.program_file(words), Curl(words.folder)
-    for tried in (try_routes, try_methods, try_bodies, try_connections, try_large, try_no_room):
-        tried(file, words.folder, curl)
-
-
-if __name__ == "__main__":
-    report.script(__doc__, run, need=["curl"])

@@ -5,33 +5,25 @@ opened anew after each request; and over another file by a server for each reque
 again between any two. After each request all paths, all roots, what is live and the report are asked for, of the
 copies too, and each reply has to be the same, byte for byte. So what a call has left in memory is what its rows say.
 The requests are of every kind, by trusted and allowed callers and strangers, as `nixkeep_dev.model` draws them, and
-many are refused or denied. COUNT lists are tried, of 20 requests.
+many are refused or denied. `--count` lists are tried (20), of 20 requests.
 """
-import collections
 import subprocess
 from pathlib import Path
 
 from nixkeep_dev.model import server
 from nixkeep_dev.model.scenarios import Scenarios
-from nixkeep_dev.model.worlds import World
 from nixkeep_dev.testing import report
-from nixkeep_dev.testing.http_messages import TOLD, all_replies, message, messages, replies
+from nixkeep_dev.testing.http_messages import STATE, all_replies, message, messages, next_replies
 from nixkeep_dev.testing.store import copy
 
-LENGTH = 20
-CONFIG = """trusted-users = ["root", "@wheel"]
-allowed-users = ["ann", "bob"]
-keep-outputs = {}
-keep-derivations = {}
-"""
+COUNT, LENGTH = 20, 20
 
 
 def drawn(seed):
     """A configuration, and requests that meet one another, as the scenarios of the model have them, most of which fit
     what is there by then."""
     scenarios = Scenarios(seed)
-    config, found = CONFIG.format(*[scenarios.pick(["true", "false"]) for _ in range(2)]).encode(), []
-    scenarios.set_config(config, World())
+    config, found = scenarios.server_config(), []
     while len(found) < LENGTH:
         it = scenarios.request()
         asked = (it.user, *scenarios.target(it), scenarios.body(it))
@@ -57,11 +49,7 @@ class Open:
     def ask(self, asked):
         self.ran.stdin.write(messages(asked))
         self.ran.stdin.flush()
-        written = b""
-        while len(replies(written)[0]) < len(asked):
-            more = self.ran.stdout.read1()
-            written += more or report.fail(f"the server of an open file has ended after {written[-300:]!r}")
-        return all_replies(written, len(asked))
+        return next_replies(self.ran.stdout, len(asked))
 
     def end(self):
         self.ran.stdin.close()
@@ -70,35 +58,26 @@ class Open:
 
 
 def try_list(file, folder, name, asked, config):
-    """Returns how many requests had which status."""
+    """Compares the replies to each request of a list, and to what is asked after it."""
     at = lambda end: f"{folder}/{name}{end}.db"
     options, anew = ["--config", config], ["--config", config, "--db", at("")]
-    in_memory = served(file, options, [it for request in asked for it in (request, *TOLD)])
-    counts, is_open = collections.Counter(), Open(file, [*options, "--db", at("-open")])
+    in_memory = served(file, options, [it for request in asked for it in (request, *STATE)])
+    is_open = Open(file, [*options, "--db", at("-open")])
     for number, request in enumerate(asked):
-        wanted = in_memory[number * (1 + len(TOLD)) :][: 1 + len(TOLD)]
+        wanted = in_memory[number * (1 + len(STATE)) :][: 1 + len(STATE)]
         # (what follows a request is asked of a server of its own, which opens the file anew)
-        came = {"a file that is opened anew": [*served(file, anew, [request]), *served(file, anew, TOLD)],
-                "a file that stays open": is_open.ask([request, *TOLD]),
-                "a copy of that": [wanted[0], *served(file, [*options, "--db", copy(at("-open"), at("-copy"))], TOLD)]}
+        came = {"a file that is opened anew": [*served(file, anew, [request]), *served(file, anew, STATE)],
+                "a file that stays open": is_open.ask([request, *STATE]),
+                "a copy of that": [wanted[0], *served(file, [*options, "--db", copy(at("-open"), at("-copy"))], STATE)]}
         for where, found in came.items():
-            for question, one, other in zip((request, *TOLD), wanted, found):
+            for question, one, other in zip((request, *STATE), wanted, found):
                 what = f"list {name}, request {number}, {request[:3]!r}: {question[:3]!r} in {where}"
                 report.same(what, other, one)
-        counts[wanted[0][0].split(b" ")[1].decode()] += 1
     is_open.end()
-    return counts
 
 
-def run(words):
-    file, total = report.program_file(words), collections.Counter()
-    for at in range(words.count):
-        config, asked = drawn(words.seed * 1000 + at)
-        Path(path := f"{words.folder}/{at}.toml").write_bytes(config)
-        total += try_list(file, words.folder, str(at), asked, path)
-    counts = ", ".join(f"{count} with status {status}" for status, count in sorted(total.items()))
-    report.tell(f"seed {words.seed}: {words.count} lists of {LENGTH} requests: {counts}")
-
-
-if __name__ == "__main__":
-    report.script(__doc__, run, 20)
+def test_lists(program, folder, seed, count):
+    for at in range(count or COUNT):
+        config, asked = drawn(seed * 1000 + at)
+        Path(path := f"{folder}/{at}.toml").write_bytes(config)
+        try_list(program, folder, str(at), asked, path)

@@ -1,20 +1,24 @@
 """Compares archives with Nix over random trees of files.
 
-For each of COUNT trees: what `nix-store --dump` writes is read, and written again byte for byte; the archive that is
-written is restored by `nix-store --restore` to a tree whose dump is the same; the checker takes it in small pieces;
-and the listing has the paths, types, sizes and targets of `nix nar ls` (where names are text, as its JSON is). Of
-archives with one bit changed, or cut short, one that is taken here is dumped as it is by a Nix that restores it,
-except where the target of a link has a zero byte, where a link of the system ends. Skipped where Nix isn't installed
-(Debian: nix-bin).
+For each of `--count` trees (40): what `nix-store --dump` writes is read, and written again byte for byte; the archive
+that is written is restored by `nix-store --restore` to a tree whose dump is the same; the checker takes it in small
+pieces; and the listing has the paths, types, sizes and targets of `nix nar ls` (where names are text, as its JSON is).
+Of archives with one bit changed, or cut short, one that is taken here is dumped as it is by a Nix that restores it,
+except where the target of a link has a zero byte, where a link of the system ends. `--libraries FILE` names the
+program of crates/bench; else it is proved and built. Skipped where Nix isn't installed (Debian: nix-bin).
 """
 import json
 import os
 import shutil
 from pathlib import Path
 
-from nixkeep_dev.testing import folders, libraries, nar, report
+import pytest
+
+from nixkeep_dev.testing import folders, nar, report
 from nixkeep_dev.testing.nix import TOOLS, Nix
 
+pytestmark = pytest.mark.needs(*TOOLS)
+COUNT = 40
 # Bytes of names: plain ones, the ends of the escaped ranges, a backslash, and bytes that are no UTF-8.
 BYTES = b"abcXYZ019.-_ \t\n\\!~\"'\x01\x7f\x80\xc3\xa9\xff"
 PLAIN = b"abcXYZ019.-_"
@@ -44,15 +48,15 @@ def deep(path, depth):
 
 
 class Compared:
-    def __init__(self, ours, nix, folder):
-        self.ours, self.nix, self.folder = ours, nix, folder
+    def __init__(self, ours, nix):
+        self.ours, self.nix, self.folder = ours, nix, nix.folder
 
     def restored(self, text):
         """What Nix dumps of the archive that it restored; nothing where it refuses it."""
         path = f"{self.folder}/restored"
         is_taken = self.nix.ran("nix-store", "--restore", path, given=text).returncode == 0
         dumped = self.nix.ran("nix-store", "--dump", path) if is_taken else None
-        if os.path.islink(path) or os.path.isfile(path):
+        if Path(path).is_symlink() or Path(path).is_file():
             os.remove(path)
         else:
             shutil.rmtree(path, ignore_errors=True)
@@ -77,7 +81,7 @@ class Compared:
         return dump
 
     def spoiled(self, rng, dump):
-        """Whether an archive that is cut short, or has one bit changed, is taken; then Nix dumps it as it is."""
+        """Where an archive that is cut short, or has one bit changed, is taken, Nix dumps it as it is."""
         where = rng.randrange(len(dump))
         text = dump[:where]
         if rng.random() >= 0.3:
@@ -88,23 +92,16 @@ class Compared:
             theirs = self.restored(text)
             if theirs is not None:
                 report.same("the tree that Nix restores of a changed archive", theirs, text, text)
-        return is_taken
 
 
-def run(words):
-    folder, rng, taken = words.folder, words.rng, 0
-    compared = Compared(libraries.Libraries(words.libraries), Nix(folder), folder)
-    for at in range(words.count):
+def test_trees(libraries, folder, rng, count):
+    compared = Compared(libraries, Nix(folder))
+    for at in range(count or COUNT):
         path, is_plain = f"{folder}/tree{at}", at % 2 == 0
         if at == 0:
             deep(path, 256)
         else:
             grow(rng, path, PLAIN if is_plain else BYTES)
         dump = compared.one(path, is_plain)
-        taken += sum(compared.spoiled(rng, dump) for _ in range(SPOILED))
-    tried = SPOILED * words.count
-    report.tell(f"seed {words.seed}: {words.count} trees; of {tried} spoiled archives {taken} are archives")
-
-
-if __name__ == "__main__":
-    report.script(__doc__, run, 40, libraries.option, skip=TOOLS)
+        for _ in range(SPOILED):
+            compared.spoiled(rng, dump)

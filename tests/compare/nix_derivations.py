@@ -1,18 +1,23 @@
-"""Compares the outputs of derivation texts with those that Nix shows, over COUNT random derivations.
+"""Compares the outputs of derivation texts with those that Nix shows, over `--count` random derivations
+(120).
 
 Nix instantiates expressions into a store of its own. They have several outputs, some with a path known from their
 hash and some with none yet, depend on each other and on texts, and hold quotes, backslashes, line feeds, tabs, `$`
 and bytes beyond ASCII in builders, arguments and environments. Each `.drv` file that Nix wrote gives the names and
 paths of `nix show-derivation` and the paths of `nix-store --query --outputs`. Of texts with one byte changed, or cut
-short, one that is taken here and by Nix has the outputs that Nix shows for it. Skipped where Nix isn't installed
-(Debian: nix-bin).
+short, one that is taken here and by Nix has the outputs that Nix shows for it. `--libraries FILE` names the program of
+crates/bench; else it is proved and built. Skipped where Nix isn't installed (Debian: nix-bin).
 """
 import json
 from pathlib import Path
 
-from nixkeep_dev.testing import libraries, report
+import pytest
+
+from nixkeep_dev.testing import report
 from nixkeep_dev.testing.nix import NAME, TOOLS, Nix, literal
 
+pytestmark = pytest.mark.needs(*TOOLS)
+COUNT = 120
 PIECES = list('"\\\n\t\r$()[], aé雪\U0001f980\x01\x7f') + ["${", "''", "Derive("]
 OUTPUTS = ["dev", "lib", "bin", "doc", "man", "debug", "a", "z9_+", "x-y"]
 SPOILED = 3
@@ -72,7 +77,7 @@ def named(outputs):
 
 class Compared:
     def __init__(self, ours, nix):
-        self.ours, self.nix, self.outputs, self.without = ours, nix, 0, 0
+        self.ours, self.nix = ours, nix
 
     def one(self, path, theirs):
         """Compares a derivation with its outputs as Nix shows them."""
@@ -83,17 +88,15 @@ class Compared:
         if lines:
             query = self.nix.lines("nix-store", "--query", "--outputs", path)
             report.same(f"the queried outputs of {path}", sorted(query), sorted(it.split(" ")[1] for it in lines), text)
-        self.outputs, self.without = self.outputs + len(lines), self.without + (not lines)
 
     def spoiled(self, rng, path):
-        """Whether a text that is spoiled near its outputs or anywhere is taken by both; then both show the same
-        outputs."""
+        """Where a text that is spoiled near its outputs or anywhere is taken by both, both show the same outputs."""
         text = self.nix.contents(path)
         start = rng.choice([len(text), text.index(b"]")])
         changed = spoiled(rng, text[:start]) + text[start:]
         mine = self.ours("derivations", "outputs", given=changed)
         if mine in (b"bad-derivation\n", b"double-output\n"):
-            return 0
+            return
         file = Path(self.nix.place(path))
         file.chmod(0o644)
         file.write_bytes(changed)
@@ -102,12 +105,10 @@ class Compared:
         try:
             outputs = json.loads(ran.stdout)[path]["outputs"] if ran.returncode == 0 else None
         except ValueError:
-            return 0
+            return
         # Of an output with a hash Nix shows the path that it computes, not the one that is written.
-        if outputs is None or any("hash" in output for output in outputs.values()):
-            return 0
-        report.same("the outputs of a spoiled text", set(mine.decode().splitlines()), named(outputs), changed)
-        return 1
+        if outputs is not None and not any("hash" in output for output in outputs.values()):
+            report.same("the outputs of a spoiled text", set(mine.decode().splitlines()), named(outputs), changed)
 
 
 def spoiled(rng, text):
@@ -119,22 +120,16 @@ def spoiled(rng, text):
     return text[:where] + bytes([byte]) + text[where + rng.randrange(2) :]
 
 
-def run(words):
-    rng, made, count, all_of_them = words.rng, [], words.count, f"{words.folder}/all.nix"
-    nix = Nix(words.folder, "nix-command ca-derivations")
-    compared = Compared(libraries.Libraries(words.libraries), nix)
+def test_derivations(libraries, folder, rng, count):
+    made, count, all_of_them = [], count or COUNT, f"{folder}/all.nix"
+    nix = Nix(folder, "nix-command ca-derivations")
+    compared = Compared(libraries, nix)
     bindings = "".join(derivation(rng, at, made, count) for at in range(count))
     names = " ".join(f"d{at}" for at in range(count))
     Path(all_of_them).write_text(f"let {bindings} in [ {names} ]\n", encoding="utf-8")
     paths = sorted({line.split("!")[0] for line in nix.lines("nix-instantiate", all_of_them)})
     for path, shown in json.loads(nix("nix", "show-derivation", *paths)).items():
         compared.one(path, shown["outputs"])
-    both = sum(compared.spoiled(rng, rng.choice(paths)) for _ in range(SPOILED * count))
+    for _ in range(SPOILED * count):
+        compared.spoiled(rng, rng.choice(paths))
     nix.clear()
-    outputs = f"{compared.outputs} outputs; {compared.without} record none"
-    report.tell(f"seed {words.seed}: {len(paths)} derivations with {outputs}")
-    report.tell(f"of {SPOILED * count} spoiled texts {both} are derivations for both, with the same outputs")
-
-
-if __name__ == "__main__":
-    report.script(__doc__, run, 120, libraries.option, skip=TOOLS)

@@ -5,15 +5,18 @@
   - the path of a folder's archive as `nix-store --dump` writes it, with `nix-store --add`, and the archive's listing,
     with the folder itself.
 
-COUNT texts of each kind and COUNT folders are tried. Skipped where Nix isn't installed (Debian: nix-bin).
+`--count` texts of each kind and as many folders are tried (150). Skipped where Nix isn't installed (Debian: nix-bin).
 """
-import os
 import subprocess
 from pathlib import Path
+
+import pytest
 
 from nixkeep_dev.testing import folders, nar, report
 from nixkeep_dev.testing.nix import NAME, TOOLS, Nix, literal
 
+pytestmark = pytest.mark.needs(*TOOLS)
+COUNT = 150
 ENTRY = "abcXYZ019_+.~ \\-"
 CONTENTS = "abc XYZ019/:-_.,;<>()[]{}#%&*!~^|@\n\t"
 
@@ -28,11 +31,11 @@ def put_folder(rng, path):
                  (1, 5), "folder")
 
 
-class Compared:
+class Texts:
     """The program and Nix, and some texts."""
 
     def __init__(self, file, nix, rng, count):
-        self.file, self.nix, self.rng = file, nix, rng
+        self.file, self.nix = file, nix
         self.names = [text(rng, 1, NAME) + text(rng, rng.randrange(30), NAME + ".-") for _ in range(count)]
         self.contents = [text(rng, rng.randrange(200), CONTENTS) + "." for _ in range(count)]
         self.plain = self.files("plain", [literal(it) for it in self.contents])
@@ -46,48 +49,48 @@ class Compared:
         Path(path := f"{self.nix.folder}/{name}.nix").write_text(f"{before}[\n{''.join(made)}]\n")
         return self.nix.value(path)
 
-    def text_paths(self):
-        """Of texts without references: the path, and the base 32 in it, of its fingerprint's folded digest."""
-        for name, contents, theirs in zip(self.names, self.contents, self.plain):
-            ours = self.ran("text-path", name, given=contents.encode()).decode().strip()
-            report.same(f"the path of a text named {name}", ours, theirs)
-            fingerprint = f"text:sha256:{nar.sha256(contents.encode()).hex()}:{nar.STORE}:{name}"
-            folded = nar.folded(nar.sha256(fingerprint.encode())).hex()
-            digits = self.nix("nix-hash", "--type", "sha1", "--to-base32", folded).decode().strip()
-            report.same(f"base 32 in the path of {name}", os.path.basename(ours)[:32], digits)
 
-    def referring_paths(self):
-        """Of texts with references, given as full paths and as base names, some twice."""
-        chosen = [self.rng.choices(self.plain, k=self.rng.randrange(1, 5)) for _ in self.names]
-        at = {path: f"${{builtins.elemAt t {number}}} " for number, path in enumerate(self.plain)}
-        texts = ['"' + "".join(at[it] for it in refs) + '"' for refs in chosen]
-        theirs = self.files("referring", texts, f"let t = import {self.nix.folder}/plain.nix; in ")
-        for name, refs, wanted in zip(self.names, chosen, theirs):
-            words = [word for it in refs for word in (it, os.path.basename(it))]
-            ours = self.ran("text-path", name, *words, given="".join(f"{it} " for it in refs).encode())
-            report.same(f"the path of {name} with references", ours.decode().strip(), wanted)
-
-    def folders(self):
-        for at, name in enumerate(self.names):
-            path = f"{self.nix.folder}/folders/{at}/{name}"
-            put_folder(self.rng, path)
-            dump = self.nix("nix-store", "--dump", path)
-            ours = self.ran("source-path", name, given=dump)
-            report.same(f"the path of folder {at}", ours, self.nix("nix-store", "--add", path))
-            listed = nar.listing(folders.tree(path))
-            report.same(f"the listing of folder {at}", self.ran("ls", given=dump).decode().splitlines(), listed)
+@pytest.fixture
+def nix(folder):
+    made = Nix(folder)
+    yield made
+    made.clear()
 
 
-def run(words):
-    nix = Nix(words.folder)
-    compared = Compared(report.program_file(words), nix, words.rng, words.count)
-    compared.text_paths()
-    compared.referring_paths()
-    compared.folders()
-    nix.clear()
-    texts = f"paths of {words.count} texts without references, as many with some, and as many folders"
-    report.tell(f"seed {words.seed}: {texts}")
+@pytest.fixture
+def texts(program, nix, rng, count):
+    return Texts(program, nix, rng, count or COUNT)
 
 
-if __name__ == "__main__":
-    report.script(__doc__, run, 150, skip=TOOLS)
+def test_texts_without_references(texts, nix):
+    """The path, and the base 32 in it, of its fingerprint's folded digest."""
+    for name, contents, theirs in zip(texts.names, texts.contents, texts.plain):
+        ours = texts.ran("text-path", name, given=contents.encode()).decode().strip()
+        report.same(f"the path of a text named {name}", ours, theirs)
+        fingerprint = f"text:sha256:{nar.sha256(contents.encode()).hex()}:{nar.STORE}:{name}"
+        folded = nar.folded(nar.sha256(fingerprint.encode())).hex()
+        digits = nix("nix-hash", "--type", "sha1", "--to-base32", folded).decode().strip()
+        report.same(f"base 32 in the path of {name}", Path(ours).name[:32], digits)
+
+
+def test_texts_with_references(texts, nix, rng):
+    """References are given as full paths and as base names, some twice."""
+    chosen = [rng.choices(texts.plain, k=rng.randrange(1, 5)) for _ in texts.names]
+    at = {path: f"${{builtins.elemAt t {number}}} " for number, path in enumerate(texts.plain)}
+    written = ['"' + "".join(at[it] for it in refs) + '"' for refs in chosen]
+    theirs = texts.files("referring", written, f"let t = import {nix.folder}/plain.nix; in ")
+    for name, refs, wanted in zip(texts.names, chosen, theirs):
+        words = [word for it in refs for word in (it, Path(it).name)]
+        ours = texts.ran("text-path", name, *words, given="".join(f"{it} " for it in refs).encode())
+        report.same(f"the path of {name} with references", ours.decode().strip(), wanted)
+
+
+def test_folders(texts, nix, rng):
+    for at, name in enumerate(texts.names):
+        path = f"{nix.folder}/folders/{at}/{name}"
+        put_folder(rng, path)
+        dump = nix("nix-store", "--dump", path)
+        ours = texts.ran("source-path", name, given=dump)
+        report.same(f"the path of folder {at}", ours, nix("nix-store", "--add", path))
+        listed = nar.listing(folders.tree(path))
+        report.same(f"the listing of folder {at}", texts.ran("ls", given=dump).decode().splitlines(), listed)

@@ -1,4 +1,4 @@
-"""Compares stores of COUNT random graphs with stores of Nix that have the same objects.
+"""Compares stores of random graphs, `--count` of them (5), with stores of Nix that have the same objects.
 
 Nix makes the objects: folders, texts that refer to them, derivations over these, and outputs of some, which are
 registered with references and mostly a deriver. `nixkeep` gets their contents, texts and folders by an add and
@@ -14,18 +14,22 @@ No object has a deriver that doesn't record it as its output, and roots of a pat
 deriver: in any other case Nix's own walks differ from one another. Skipped where Nix isn't installed (Debian: nix-bin).
 """
 import graphlib
-import itertools
 import json
 import os
+import random
 import subprocess
 from pathlib import Path
 
-from nixkeep_dev.testing import folders, nar, report
+import pytest
+
+from nixkeep_dev.testing import folders, nar
 from nixkeep_dev.testing.http_messages import lines
 from nixkeep_dev.testing.nix import NAME, TOOLS, Nix, apart
 from nixkeep_dev.testing.report import same
 from nixkeep_dev.testing.store import Store
 
+pytestmark = pytest.mark.needs(*TOOLS)
+COUNT = 5
 STORE = nar.STORE
 
 
@@ -45,7 +49,7 @@ def put_folder(rng, path):
 def expression(rng, folder, count):
     """A Nix expression of `count` objects, each over some of those before: a list of their paths, and of the outputs
     of derivations."""
-    kinds, bindings, told = {}, [], []
+    kinds, bindings, paths = {}, [], []
     for at in range(count):
         kind, before = rng.choice(["folder", "text", "text", "derivation", "derivation"]), list(kinds)
         plain = [it for it in before if kinds[it] != "derivation"]
@@ -61,10 +65,10 @@ def expression(rng, folder, count):
             bindings.append(f'o{at} = derivation {{ name = "{name(rng, at)}"; system = "none"; builder = "/none"; '
                             f'inputs = "{inputs}"; outputs = [ {outputs} ]; }};')
         kinds[f"o{at}"] = kind
-        told.append(f"o{at}.drvPath" if kind == "derivation" else f"o{at}")
+        paths.append(f"o{at}.drvPath" if kind == "derivation" else f"o{at}")
     made = [it for it, kind in kinds.items() if kind == "derivation"]
     outputs = " ".join(f'(map (it: [ {of}.drvPath "${{{of}.${{it}}}}" ]) {of}.outputs)' for of in made)
-    return f"let\n{chr(10).join(bindings)}\nin [ [ {' '.join(told)} ] (builtins.concatLists [ {outputs} ]) ]\n"
+    return f"let\n{chr(10).join(bindings)}\nin [ [ {' '.join(paths)} ] (builtins.concatLists [ {outputs} ]) ]\n"
 
 
 def registered(rng, nix, outputs, has_derivers):
@@ -83,15 +87,6 @@ def registered(rng, nix, outputs, has_derivers):
     nix.register(made)
 
 
-def made(rng, folder, count):
-    """A store of Nix, and whether each output in it has its deriver."""
-    nix, has_derivers = Nix(folder), rng.random() < 0.6
-    Path(f"{folder}/objects.nix").write_text(expression(rng, folder, count))
-    told = nix.value("--read-write-mode", f"{folder}/objects.nix")
-    registered(rng, nix, told[1], has_derivers)
-    return nix, has_derivers
-
-
 # ---- the same objects in a store of nixkeep
 
 
@@ -102,36 +97,11 @@ def put_one(nix, kept, path, digest, deriver, refs, is_output):
         digits = nix("nix-hash", "--type", "sha256", "--to-base32", digest).decode().strip()
         pairs = [("path", path), ("nar-hash", f"sha256:{digits}"), *(("reference", it) for it in refs)]
         came = kept("import", given=lines(*pairs, *[("deriver", deriver)] * bool(deriver), payload=dump))
-    elif os.path.isdir(nix.place(path)):
+    elif Path(nix.place(path)).is_dir():
         came = kept("add-source", of_name, *refs, given=dump)
     else:
         came = kept("add-text", of_name, *refs, given=nix.contents(path))
     same(f"the path of {of_name}", came.decode(), f"{path}\n")
-
-
-def copied(nix, kept, objects, outputs):
-    """Puts each object after those that it refers to."""
-    refs_of = {path: {*refs} - {path} for path, (_, _, _, refs) in objects.items()}
-    for path in graphlib.TopologicalSorter(refs_of).static_order():
-        digest, _, deriver, refs = objects[path]
-        put_one(nix, kept, path, digest, deriver, refs, path in outputs)
-
-
-# ---- what is compared
-
-
-def compare_objects(nix, kept, objects, folder):
-    same("the list of all paths", kept.lines("list"), sorted(objects))
-    nix("nix", "copy", "--all", "--no-check-sigs", "--to", f"file://{folder}/cache?compression=none")
-    for path in objects:
-        theirs = Path(f"{folder}/cache/{path[len(STORE) + 1:][:32]}.narinfo").read_text().splitlines()
-        records = [[line for line in it if not line.startswith("URL: ")] for it in (kept.lines("info", path), theirs)]
-        same(f"the record of {path}", *records)
-        dump = kept("cat-nar", path)
-        same(f"the archive of {path}", dump, nix.archive(path))
-        tree = json.loads(nix("nix", "store", "ls", "--json", "--recursive", path))
-        ours = subprocess.run([kept.file, "ls"], input=dump, capture_output=True, check=True).stdout
-        same(f"the listing of {path}", ours.decode().splitlines(), nar.listing(tree))
 
 
 def put_roots(rng, nix, kept, paths):
@@ -143,8 +113,61 @@ def put_roots(rng, nix, kept, paths):
             kept("profile", "set", f"profile{at}", rng.choice(paths), user=rng.choice(["ann", "bob"]))
     for line in kept.lines("roots"):
         label, target = line.split(" ")
-        os.makedirs(os.path.dirname(f"{nix.state}/{label}"), exist_ok=True)
+        Path(f"{nix.state}/{label}").parent.mkdir(parents=True, exist_ok=True)
         os.symlink(target, f"{nix.state}/{label}")
+
+
+class Graph:
+    """A graph in a store of Nix and in one of nixkeep, with its objects, and whether each output has its deriver."""
+
+    def __init__(self, rng, file, folder):
+        self.nix, self.kept, self.folder = Nix(folder), Store(file, f"{folder}/store.db"), folder
+        count, self.has_derivers = rng.choice([0, 1, 10, 25]), rng.random() < 0.6
+        Path(f"{folder}/objects.nix").write_text(expression(rng, folder, count))
+        _, outputs = self.nix.value("--read-write-mode", f"{folder}/objects.nix")
+        registered(rng, self.nix, outputs, self.has_derivers)
+        self.objects = self.nix.objects()
+        self.copy()
+        if self.objects:
+            put_roots(rng, self.nix, self.kept, sorted(self.objects))
+
+    def copy(self):
+        """Puts each object into the store of nixkeep, after those that it refers to."""
+        refs_of = {path: {*refs} - {path} for path, (_, _, _, refs) in self.objects.items()}
+        derivations = {path for path in self.objects if path.endswith(".drv")}
+        outputs = {it for path in derivations for it in self.nix.lines("nix-store", "--query", "--outputs", path)}
+        for path in graphlib.TopologicalSorter(refs_of).static_order():
+            digest, _, deriver, refs = self.objects[path]
+            put_one(self.nix, self.kept, path, digest, deriver, refs, path in outputs)
+
+
+@pytest.fixture(scope="module")
+def graphs(program, seed, count, shared_folder):
+    rng, made = random.Random(seed), []
+    for at in range(count or COUNT):
+        os.mkdir(folder := f"{shared_folder}/{at}")
+        made.append(Graph(rng, program, folder))
+    yield made
+    for it in made:
+        it.nix.clear()
+
+
+# ---- what is compared
+
+
+def compare_objects(graph):
+    nix, kept, objects = graph.nix, graph.kept, graph.objects
+    same("the list of all paths", kept.lines("list"), sorted(objects))
+    nix("nix", "copy", "--all", "--no-check-sigs", "--to", f"file://{graph.folder}/cache?compression=none")
+    for path in objects:
+        theirs = Path(f"{graph.folder}/cache/{path[len(STORE) + 1:][:32]}.narinfo").read_text().splitlines()
+        records = [[line for line in it if not line.startswith("URL: ")] for it in (kept.lines("info", path), theirs)]
+        same(f"the record of {path}", *records)
+        dump = kept("cat-nar", path)
+        same(f"the archive of {path}", dump, nix.archive(path))
+        tree = json.loads(nix("nix", "store", "ls", "--json", "--recursive", path))
+        ours = subprocess.run([kept.file, "ls"], input=dump, capture_output=True, check=True).stdout
+        same(f"the listing of {path}", ours.decode().splitlines(), nar.listing(tree))
 
 
 def settings(folder, outputs, derivations):
@@ -154,53 +177,44 @@ def settings(folder, outputs, derivations):
     return ["--config", path], [word for pair in found.items() for word in ("--option", *pair)]
 
 
-def compare_liveness(nix, kept, objects, folder, has_derivers):
-    for outputs, derivations in itertools.product((False, True), repeat=2):
-        ours, theirs = settings(folder, outputs, derivations)
-        what = f"with keep-outputs {outputs} and keep-derivations {derivations}"
-        for word in ("live", "dead"):
-            same(f"what is {word} {what}", kept.lines(word, options=ours),
-                 sorted(nix.lines(*apart(), "nix-store", "--gc", f"--print-{word}", *theirs)))
-        for path in objects if has_derivers else []:
-            lines = nix.lines(*apart(), "nix-store", "--query", "--roots", path, *theirs)
-            links = {line.partition(" -> ")[0] for line in lines}
-            same(f"the roots of {path} {what}",
-                 sorted(line.partition(" ")[0] for line in kept.lines("why", path, options=ours)),
-                 sorted(os.path.relpath(it, nix.state) for it in links))
+def compare_liveness(graph, outputs, derivations):
+    nix, kept, (ours, theirs) = graph.nix, graph.kept, settings(graph.folder, outputs, derivations)
+    what = f"with keep-outputs {outputs} and keep-derivations {derivations}"
+    for word in ("live", "dead"):
+        same(f"what is {word} {what}", kept.lines(word, options=ours),
+             sorted(nix.lines(*apart(), "nix-store", "--gc", f"--print-{word}", *theirs)))
+    for path in graph.objects if graph.has_derivers else []:
+        lines = nix.lines(*apart(), "nix-store", "--query", "--roots", path, *theirs)
+        links = {line.partition(" -> ")[0] for line in lines}
+        same(f"the roots of {path} {what}",
+             sorted(line.partition(" ")[0] for line in kept.lines("why", path, options=ours)),
+             sorted(str(Path(it).relative_to(nix.state)) for it in links))
 
 
-def compare_collection(rng, nix, kept, objects, folder):
-    ours, theirs = settings(folder, rng.random() < 0.5, rng.random() < 0.5)
+def compare_collection(rng, graph):
+    nix, kept = graph.nix, graph.kept
+    ours, theirs = settings(graph.folder, rng.random() < 0.5, rng.random() < 0.5)
     gone = sorted(nix.lines("nix-store", "--gc", "--print-dead", *theirs))
     nix("nix-store", "--gc", *theirs)
     same("what a collection deletes", kept.lines("gc", options=ours),
-         [*gone, f"freed {len(gone)} paths {sum(objects[it][1] for it in gone)} bytes"])
+         [*gone, f"freed {len(gone)} paths {sum(graph.objects[it][1] for it in gone)} bytes"])
     same("what a collection leaves", kept.lines("list"), sorted(nix.objects()))
 
 
-def compare(rng, file, folder):
-    nix, has_derivers = made(rng, folder, rng.choice([0, 1, 10, 25]))
-    objects, kept = nix.objects(), Store(file, f"{folder}/store.db")
-    derivations = {path for path in objects if path.endswith(".drv")}
-    outputs = {it for path in derivations for it in nix.lines("nix-store", "--query", "--outputs", path)}
-    copied(nix, kept, objects, outputs)
-    compare_objects(nix, kept, objects, folder)
-    if objects:
-        put_roots(rng, nix, kept, sorted(objects))
-    compare_liveness(nix, kept, objects, folder, has_derivers)
-    compare_collection(rng, nix, kept, objects, folder)
-    nix.clear()
-    return len(objects)
+def test_objects(graphs):
+    """The list of all, and of each object the record, the archive and the listing."""
+    for it in graphs:
+        compare_objects(it)
 
 
-def run(words):
-    count, file = 0, report.program_file(words)
-    for at in range(words.count):
-        os.mkdir(folder := f"{words.folder}/{at}")
-        count += compare(words.rng, file, folder)
-    graphs = f"{words.count} graphs of {count} objects, their records, listings, roots, and what lives"
-    report.tell(f"seed {words.seed}: {graphs}")
+@pytest.mark.parametrize("outputs", [False, True])
+@pytest.mark.parametrize("derivations", [False, True])
+def test_what_lives_and_why(graphs, outputs, derivations):
+    for it in graphs:
+        compare_liveness(it, outputs, derivations)
 
 
-if __name__ == "__main__":
-    report.script(__doc__, run, 5, skip=TOOLS)
+def test_collections(graphs, rng):
+    """Each store is collected, so this comes last."""
+    for it in graphs:
+        compare_collection(rng, it)

@@ -6,14 +6,15 @@ cut in pieces. A row with each fault of nixkeep_dev.testing.unsound makes a stor
 its answer: a store, no store at all, or a refusal; a file that is refused stays as it was. Files of the two earlier
 schemas, which SQLite makes, are brought to the third by their first command: the world is the model's before and
 after, what SQLite finds then is exactly a file of the third, and a migration that has no room leaves the file as it
-was. COUNT files of each kind are tried. SQLite's shell does what is more than rows, where it is installed; the SQLite
-of python3 all else. Both have to be 3.37 or later.
+was. `--count` files of each kind are tried (5). SQLite's shell does what is more than rows, where it is installed; the
+SQLite of python3 all else. Both have to be 3.37 or later.
 """
 import random
 import re
-import sqlite3
 import subprocess
 from pathlib import Path
+
+import pytest
 
 from nixkeep_dev.model.commands import Machine
 from nixkeep_dev.model.runs import rows_in
@@ -25,6 +26,7 @@ from nixkeep_dev.testing.store import Store, copy, small_files
 from nixkeep_dev.testing.tables import AFTER, ALL, BEFORE, BETWEEN, THEIRS, Built, opened, put, some_built, sqlite
 from nixkeep_dev.testing.unsound import Faulty, schemas
 
+COUNT = 5
 BAD_SCHEMA = "refused: 21 bad-schema\n"
 NO_TEXT = "UPDATE {0} SET {1} = CAST(x'ff' AS TEXT) WHERE rowid = (SELECT min(rowid) FROM {0});"
 OTHER_DIR = "refused: 22 other-store-dir\n"
@@ -139,6 +141,12 @@ def ours_first(rng, file, path):
         same("rows of a foreign table", sqlite(path, "SELECT t FROM note ORDER BY id;"), "x\ny\n", path)
 
 
+@pytest.mark.parametrize("change", [theirs_first, ours_first])
+def test_stores(program, folder, rng, count, change):
+    for at in range(count or COUNT):
+        change(rng, program, f"{folder}/{at}.db")
+
+
 # ---- faults, each of which makes a sound store unsound
 
 
@@ -154,30 +162,46 @@ def refuse_each(file, folder, path, faults, of_what=""):
         Refusing(file, spoiled).refuses(BAD_SCHEMA, what + of_what)
 
 
-def try_faults(file, folder):
-    faulty, path = Faulty(), f"{folder}/sound.db"
-    put(path, faulty.store.rows(), ALL)
-    Both(file, path, faulty.store).compare(random.Random(1), "a sound store")
+@pytest.fixture
+def faulty():
+    return Faulty()
+
+
+@pytest.fixture
+def sound(faulty, folder):
+    """A file of a sound store."""
+    put(path := f"{folder}/sound.db", faulty.store.rows(), ALL)
+    return path
+
+
+def test_a_sound_store(program, sound, faulty):
+    Both(program, sound, faulty.store).compare(random.Random(1), "a sound store")
+
+
+def test_another_store_directory(program, sound, folder):
+    Refusing(program, sound).refuses(OTHER_DIR, "another store directory", options=other_directory(folder))
+
+
+def test_faults_of_rows_and_tables(program, folder, sound, faulty):
     faults = {**faulty.whatever_the_schema(), **faulty.of_pieces(), **faulty.of_sessions(), **faulty.of_tables()}
-    Refusing(file, path).refuses(OTHER_DIR, "another store directory", options=other_directory(folder))
-    refuse_each(file, folder, path, faults)
+    refuse_each(program, folder, sound, faults)
 
 
 # ---- schemas
 
 
-def try_schemas(file, folder):
+def test_schemas(program, folder):
     for at, (text, wanted) in enumerate(schemas()):
         path = f"{folder}/schema{at}.db"
         sqlite(path, text + "PRAGMA user_version = 1;")
-        refusing, what = Refusing(file, path), f"...{text[-200:]}"
+        refusing, what = Refusing(program, path), f"...{text[-200:]}"
         if wanted == "refused":
             refusing.refuses(BAD_SCHEMA, what)
             continue
         if wanted == "opened":
             refusing.refuses(BAD_SCHEMA, f"no settings in {what}")
             put(path, {"meta": Built().rows()["meta"]})
-        store, rng = Both(file, path), random.Random(at)
+        store, rng = Both(program, path), random.Random(at)
         store.change(rng)
         store.compare(rng, what)
 
@@ -194,20 +218,18 @@ def misfits():
         yield schema, tables_of(schema), more
 
 
-def try_numbers(file, folder):
+def test_tables_that_are_of_no_schema(program, folder):
     for at, (schema, tables, more) in enumerate(misfits()):
         path, rows = f"{folder}/number{at}.db", Built().rows(schema)
         put(path, {table: it for table, it in rows.items() if table in tables}, "".join(map(making, tables)), more)
-        Refusing(file, path).refuses(BAD_SCHEMA, f"schema {schema} with {', '.join(tables)} {more}")
+        Refusing(program, path).refuses(BAD_SCHEMA, f"schema {schema} with {', '.join(tables)} {more}")
 
 
-def try_texts(file, folder):
-    """A text that isn't UTF-8, in each column that has texts."""
-    path = f"{folder}/texts.db"
-    put(path, Faulty().store.rows(), ALL)
+def test_texts_that_are_no_utf_8(program, folder, sound):
+    """In each column that has texts."""
     spoiled = [(table, it) for table, (columns, *_) in TABLES.items() for it in re.findall(r"(\w+) TEXT", columns)]
     texts = {f"bytes that are no text in {it[1]} of {it[0]}": NO_TEXT.format(*it) for it in spoiled}
-    refuse_each(file, folder, path, texts)
+    refuse_each(program, folder, sound, texts)
 
 
 # ---- files of the earlier schemas
@@ -244,55 +266,41 @@ def migrated(rng, file, path, schema):
     same(f"{what}: rows of foreign tables", sqlite(path, THEIRS), their_rows, path)
 
 
-def unsound_before(file, folder, schema):
+EARLIER = pytest.mark.parametrize("schema", [1, 2])
+
+
+@EARLIER
+def test_unsound_files_of_an_earlier_schema(program, folder, faulty, schema):
     """A fault, or another store directory, leaves an earlier file as it was."""
-    faulty, path = Faulty(), f"{folder}/sound{schema}.db"
+    path = f"{folder}/sound{schema}.db"
     faulty.store.world.temporary.clear()
     laid(schema, path, faulty.store)
     faults = {**faulty.whatever_the_schema(), **(faulty.of_pieces() if schema == 2 else {})}
-    refuse_each(file, folder, path, faults, f" in a file of schema {schema}")
+    refuse_each(program, folder, path, faults, f" in a file of schema {schema}")
     what = f"another store directory in a file of schema {schema}"
-    Refusing(file, path).refuses(OTHER_DIR, what, options=other_directory(folder))
-    sound = Both(file, copy(path, f"{folder}/after{schema}.db"), faulty.store)
+    Refusing(program, path).refuses(OTHER_DIR, what, options=other_directory(folder))
+    sound = Both(program, copy(path, f"{folder}/after{schema}.db"), faulty.store)
     sound.says("list")
     third(sound, random.Random(3), f"a sound file of schema {schema}")
 
 
-def without_room(rng, file, folder):
-    """A migration that has no room: the file has the rows of before, and is migrated by the next command."""
+def test_a_migration_without_room(program, folder, rng):
+    """The file has the rows of before, and is migrated by the next command."""
     built, path = Built(), f"{folder}/large.db"
     for at in range(40):
         built.put_source(f"source{at}", archive(rng.randbytes(300_000)))
     laid(1, path, built)
-    words = [file, "--db", path, "--user", "root", "list"]
+    words = [program, "--db", path, "--user", "root", "list"]
     ran = subprocess.run(words, capture_output=True, preexec_fn=small_files)
     same("a migration without room", (ran.stdout, ran.stderr, ran.returncode), (b"", b"failed: disk\n", 1), path)
     if rows_in(path) != built.rows(1):
         report.fail("a migration without room: other rows than before", path)
-    store = Both(file, path, built)
+    store = Both(program, path, built)
     store.says("list")
     third(store, rng, "a migration that had no room before")
 
 
-def try_migrations(rng, file, folder, files):
-    without_room(rng, file, folder)
-    for schema in (1, 2):
-        unsound_before(file, folder, schema)
-        for at in range(files):
-            migrated(rng, file, f"{folder}/earlier{schema}-{at}.db", schema)
-
-
-def run(words):
-    file, folder, rng = report.program_file(words), words.folder, words.rng
-    for tried in (try_schemas, try_numbers, try_texts, try_faults):
-        tried(file, folder)
-    for at in range(words.count):
-        theirs_first(rng, file, f"{folder}/theirs{at}.db")
-        ours_first(rng, file, f"{folder}/ours{at}.db")
-    try_migrations(rng, file, folder, words.count)
-    stores = f"{2 * words.count} stores, and as many files of earlier schemas"
-    report.tell(f"SQLite {sqlite3.sqlite_version}, seed {words.seed}: {stores}")
-
-
-if __name__ == "__main__":
-    report.script(__doc__, run, 5)
+@EARLIER
+def test_migrations(program, folder, rng, count, schema):
+    for at in range(count or COUNT):
+        migrated(rng, program, f"{folder}/earlier{schema}-{at}.db", schema)

@@ -6,9 +6,8 @@ another on each, of every kind, by trusted and allowed callers and strangers, as
 server takes one connection at a time, so its connections have an order. The model answers them in this order, for
 each store alone, and each reply has to be the model's, byte for byte. In the end each file has to have the rows of its
 own model.
-COUNT pairs of servers are tried, and each server has to have done each kind of request.
+`--count` pairs of servers are tried (20), and each server has to have done each kind of request.
 """
-import collections
 import contextlib
 import os
 import socket
@@ -22,17 +21,12 @@ from nixkeep_dev.model.scenarios import Scenarios
 from nixkeep_dev.model.store import Store
 from nixkeep_dev.model.worlds import World
 from nixkeep_dev.testing import report
-from nixkeep_dev.testing.http_messages import TOLD, message, replies
+from nixkeep_dev.testing.http_messages import STATE, message, replies
 from nixkeep_dev.testing.requests import kept, requests
 from nixkeep_dev.testing.store import Server
 
-CLIENTS, CONNECTIONS, MESSAGES = 4, 8, 6
+COUNT, CLIENTS, CONNECTIONS, MESSAGES = 20, 4, 8, 6
 SIDES = "the first server", "the second server"
-CONFIG = """trusted-users = ["root", "@wheel"]
-allowed-users = ["ann", "bob"]
-keep-outputs = {}
-keep-derivations = {}
-"""
 
 
 class Side:
@@ -40,8 +34,7 @@ class Side:
 
     def __init__(self, name, seed):
         self.name, scenarios = name, Scenarios(f"{seed} {name}")
-        self.config = CONFIG.format(*[scenarios.pick(["true", "false"]) for _ in range(2)]).encode()
-        scenarios.set_config(self.config, World())
+        self.config = scenarios.server_config()
         # (a list of each kind comes on one connection, so nothing that others ask comes between)
         self.clients = [[[message(*it) for it in [*requests(), *kept()]]], *[[] for _ in range(1, CLIENTS)]]
         for asked in [it for _ in range(CONNECTIONS) for it in self.clients]:
@@ -52,7 +45,7 @@ class Side:
     def connection(self, scenarios):
         """What is asked on a connection, most of which fits what is there by then. The first closes no connection: the
         order is written down when its reply has come."""
-        asked = [message(*scenarios.pick(TOLD))]
+        asked = [message(*scenarios.pick(STATE))]
         for _ in range(scenarios.rng.randint(1, MESSAGES)):
             asked.append(scenarios.message())
             if server.serve(scenarios.store, asked[-1])[1]:
@@ -116,15 +109,16 @@ def try_both(file, folder, sides):
 
 
 def compare(what, side, path):
-    """Compares each reply with the model's, and the rows; counts what came, by kind and answer."""
-    found, (wanted, rows) = collections.Counter(), side.wanted()
+    """Compares each reply with the model's, and the rows; returns the kinds of requests that were done."""
+    done, (wanted, rows) = set(), side.wanted()
     report.same(f"{what}: the connections", len(side.served), sum(map(len, side.clients)))
     for at, ((client, number, came), meant) in enumerate(zip(side.served, wanted)):
         for asked, one, other in zip(side.clients[client][number], came, meant):
             report.same(f"{what}, connection {at}, of client {client}: the reply to {asked[:300]!r}", one, other)
-            found[kind_of(asked), answer_of(one)] += 1
+            if b" 200 " in one.partition(b"\r\n")[0]:
+                done.add(kind_of(asked))
     report.same(f"{what}: the rows in the end", runs.rows_in(path), rows)
-    return found
+    return done
 
 
 def kind_of(asked):
@@ -135,29 +129,14 @@ def kind_of(asked):
     return None
 
 
-def answer_of(came):
-    """What was answered, without what it is about."""
-    head, _, text = came.partition(b"\r\n\r\n")
-    words = text.decode("latin-1").split()
-    return "done" if b" 200 " in head.split(b"\r\n")[0] else " ".join(words[: 3 if "refused:" in words[:1] else 2])
-
-
-def run(words):
-    file, found, turns = report.program_file(words), [collections.Counter(), collections.Counter()], 0
-    for at in range(words.count):
-        sides = [Side(name, f"{words.seed} {at}") for name in SIDES]
-        os.mkdir(folder := f"{words.folder}/{at}")
-        turns += try_both(file, folder, sides)
+def test_pairs(program, folder, seed, count):
+    done, turns = [set(), set()], 0
+    for at in range(count or COUNT):
+        sides = [Side(name, f"{seed} {at}") for name in SIDES]
+        os.mkdir(room := f"{folder}/{at}")
+        turns += try_both(program, room, sides)
         for number, side in enumerate(sides):
-            found[number] += compare(f"pair {at}, {side.name}", side, f"{folder}/{number}.db")
-    for name, counted in zip(SIDES, found):
-        report.same(f"the kinds that {name} has never done",
-                    sorted({*TARGET} - {kind for kind, answer in counted if answer == "done"}), [])
-        answers = {answer for _, answer in counted}
-        report.tell(f"{name}: {sum(counted.values())} requests of {len(TARGET)} kinds with {len(answers)} answers")
+            done[number] |= compare(f"pair {at}, {side.name}", side, f"{room}/{number}.db")
+    for name, kinds in zip(SIDES, done):
+        report.same(f"the kinds that {name} has never done", sorted({*TARGET} - kinds), [])
     report.right("the servers", not turns and "they were served one after the other, never at once")
-    report.tell(f"seed {words.seed}: {words.count} pairs, served in turns {turns} times")
-
-
-if __name__ == "__main__":
-    report.script(__doc__, run, 20)

@@ -8,6 +8,8 @@ import functools
 import os
 from concurrent.futures import ProcessPoolExecutor
 
+import pytest
+
 from nixkeep_dev.testing import pieces, report
 
 REFUSED = (b"HTTP/1.1 400 Bad Request\r\ncontent-type: text/plain\r\nconnection: close\r\ncontent-length: 21\r\n\r\n"
@@ -30,19 +32,13 @@ def heads():
     yield "16,384 bytes, all but a request line empty lines", b"\n" * (16_382 - len(START)) + START + b"\r\n", LISTED
 
 
-def came(file, given, at):
-    return pieces.run([file, "serve"], [given[:at], given[at:]])
+def came(program, given, at):
+    return pieces.run([program, "serve"], [given[:at], given[at:]])
 
 
-def run(words):
-    file = report.program_file(words)
+@pytest.mark.parametrize("name, given, wanted", [pytest.param(*it, id=it[0]) for it in heads()])
+def test_each_cut(program, some, name, given, wanted):
+    places = some(len(given) - 1, name)
     with ProcessPoolExecutor(len(os.sched_getaffinity(0))) as pool:
-        for name, given, wanted in heads():
-            places = report.some(words, len(given) - 1, name)
-            for at, found in zip(places, pool.map(functools.partial(came, file, given), places, chunksize=16)):
-                report.same(f"{name}, cut after byte {at}", found, (wanted, 0))
-            report.tell(f"a head of {name}, cut at {len(places):,} of {len(given) - 1:,} places")
-
-
-if __name__ == "__main__":
-    report.script(__doc__, run)
+        for at, found in zip(places, pool.map(functools.partial(came, program, given), places, chunksize=16)):
+            report.same(f"{name}, cut after byte {at}", found, (wanted, 0))

@@ -28,10 +28,12 @@ import subprocess
 import tempfile
 from concurrent.futures import ThreadPoolExecutor
 
+import pytest
+
 from nixkeep_dev.model.runs import rows_in
 from nixkeep_dev.model.tables import PIECE
 from nixkeep_dev.testing import report
-from nixkeep_dev.testing.http_messages import TOLD, all_replies, connected, message, messages, replies, told
+from nixkeep_dev.testing.http_messages import STATE, all_replies, connected, message, messages, replies, state_of
 from nixkeep_dev.testing.nar import archive, text_path
 from nixkeep_dev.testing.preload import Loaded
 from nixkeep_dev.testing.requests import imported, path, text
@@ -45,6 +47,7 @@ CONFIG = 'trusted-users = ["root"]\n'
 SHORTEST = "two"
 # What a call does in place of what it should; the first three are tried on commands too.
 KINDS = "fails", "runs out of memory", "is interrupted", "takes one byte", "takes none"
+SESSIONS = pytest.mark.parametrize("name", [SHORTEST, "small", "large"])
 
 
 def some_sessions():
@@ -79,15 +82,14 @@ class Session:
         self.replies = [head + b"\r\n\r\n" + text for head, text in all_replies(self.written, len(asked))]
         self.starts = [*itertools.accumulate(map(len, self.replies), initial=0)]
         # Each number of messages by itself, over a file of its own.
-        self.rows, self.told = [], []
+        self.rows, self.states = [], []
         for count in range(len(asked) + 1):
             path = tried.path(f"{name}-{count}")
             _, written, _ = tried.serve(path, messages(asked[:count]))
             if written != b"".join(self.replies[:count]):
                 report.fail(f"{name}: the first {count} messages alone are answered otherwise")
             self.rows.append(rows_in(path))
-            self.told.append(told(tried.serve(path, messages(TOLD))[1]))
-        self.changes = sum(one != other for one, other in zip(self.rows, self.rows[1:]))
+            self.states.append(state_of(tried.serve(path, messages(STATE))[1]))
 
     def of_input(self, taken):
         """How many whole messages this number of bytes has."""
@@ -125,8 +127,8 @@ def some_commands():
 class Tried(Loaded):
     """The program, run over files of one folder, with a fault or without."""
 
-    def __init__(self, words, script):
-        super().__init__(words, script)
+    def __init__(self, *made):
+        super().__init__(*made)
         self.config = self.put("store.toml", CONFIG)
 
     def path(self, name):
@@ -221,7 +223,7 @@ def try_one(tried, fault, at):
     session, (name, faults) = fault.session, fault.settings(tried, at)
     path, after = tried.path(name), None
     if fault.stream in ("recv", "send"):
-        status, (came, after), errors = tried.serve_port(path, [session.given, messages(TOLD)], 2, faults)
+        status, (came, after), errors = tried.serve_port(path, [session.given, messages(STATE)], 2, faults)
     else:
         status, came, errors = tried.serve(path, session.given, **faults)
     taken, calls = taken_at(tried, faults)
@@ -234,7 +236,7 @@ def try_one(tried, fault, at):
         return f"{len(replies(came)[0])} whole replies, {len(came)} bytes, where {why}", calls
     if rows != session.rows[wanted[3]]:
         return f"the file isn't as {wanted[3]} messages leave it", calls
-    if after is not None and told(after) != session.told[wanted[3]]:
+    if after is not None and state_of(after) != session.states[wanted[3]]:
         return f"the next client isn't answered as {wanted[3]} messages leave it: {after!r}", calls
     return None, calls
 
@@ -244,13 +246,13 @@ def try_connecting(tried, fault, at):
     fails."""
     session, (name, faults) = fault.session, fault.settings(tried, at)
     path, is_over = tried.path(name), fault.stream == "accept"
-    clients = [session.given, messages(TOLD)][: at - 1 if is_over else 2]
+    clients = [session.given, messages(STATE)][: at - 1 if is_over else 2]
     status, came, errors = tried.serve_port(path, clients, 3 if is_over else 2, faults)
     if taken_at(tried, faults)[0] is None:
         return "it doesn't come to the fault"
     if (status, errors) != ((1, INPUT) if is_over else (0, b"")):
         return f"status {status}, {errors!r}"
-    if [*came[:1], *map(told, came[1:])] != [session.written, session.told[-1]][: len(clients)]:
+    if [*came[:1], *map(state_of, came[1:])] != [session.written, session.states[-1]][: len(clients)]:
         return f"clients are answered {came!r}"
     is_right = rows_in(path) == session.rows[len(session.asked) if clients else 0]
     return None if is_right else "the file isn't as it should be"
@@ -287,37 +289,58 @@ def try_each(pool, tried, fault, run=try_one):
     """Each call of the stream in turn, or some of them."""
     why, total = run(tried, fault, 0)
     check(fault, 0, why)
-    chosen = range(1, total + 1) if fault.session.name == SHORTEST else report.some(tried.words, total, fault.name())
+    chosen = range(1, total + 1) if fault.session.name == SHORTEST else tried.some(total, fault.name())
     for at, (why, _) in zip(chosen, pool.map(functools.partial(run, tried, fault), chosen)):
         check(fault, at, why)
-    report.tell(f"  {fault.name()}: {total} calls, {len(chosen)} of them tried")
 
 
-def try_session(pool, tried, session):
-    size = f"{len(session.asked)} messages of {len(session.given)} bytes, {session.changes} of which change the file"
-    report.tell(f"{session.name}: {size}; {len(session.written)} bytes of replies")
-    for call, most in (("accept", 3), ("setsockopt", 1)):
-        for at in range(1, most + 1):
-            fault = Fault(session, call, "fails")
-            check(fault, at, try_connecting(tried, fault, at))
-    for stream, kind in itertools.product(("read", "write", "recv", "send"), KINDS):
-        try_each(pool, tried, Fault(session, stream, kind))
-    for stream, kind in itertools.product(("read", "write"), ("fails", "takes none")):
-        fault = Fault(session, stream, kind, one_byte=True)
-        if session.name != "large":
-            try_each(pool, tried, fault)
-        elif kind == "fails":
-            check(fault, 0, try_one(tried, fault, 0)[0])
+@pytest.fixture(scope="module")
+def pool():
+    with ThreadPoolExecutor(len(os.sched_getaffinity(0))) as made:
+        yield made
 
 
-def run(words):
-    tried = Tried(words, __file__)
-    with ThreadPoolExecutor(len(os.sched_getaffinity(0))) as pool:
-        for name, asked in some_sessions().items():
-            try_session(pool, tried, Session(tried, name, asked))
-        for fault in itertools.product(some_commands(), ("read", "write"), KINDS[:3]):
-            try_each(pool, tried, Fault(*fault), try_command)
+@pytest.fixture(scope="module")
+def tried(program, shared_folder, some):
+    return Tried(program, shared_folder, "tests/faults/fail_streams.c", some)
 
 
-if __name__ == "__main__":
-    report.script(__doc__, run, need=["cc"])
+@pytest.fixture(scope="module")
+def sessions(tried):
+    return functools.cache(lambda name: Session(tried, name, some_sessions()[name]))
+
+
+@SESSIONS
+@pytest.mark.parametrize("call, most", [("accept", 3), ("setsockopt", 1)])
+def test_a_connection_that_fails(tried, sessions, name, call, most):
+    for at in range(1, most + 1):
+        fault = Fault(sessions(name), call, "fails")
+        check(fault, at, try_connecting(tried, fault, at))
+
+
+@SESSIONS
+@pytest.mark.parametrize("stream", ["read", "write", "recv", "send"])
+@pytest.mark.parametrize("kind", KINDS)
+def test_a_session(pool, tried, sessions, name, stream, kind):
+    try_each(pool, tried, Fault(sessions(name), stream, kind))
+
+
+@pytest.mark.parametrize("name", [SHORTEST, "small"])
+@pytest.mark.parametrize("stream", ["read", "write"])
+@pytest.mark.parametrize("kind", ["fails", "takes none"])
+def test_a_session_byte_by_byte(pool, tried, sessions, name, stream, kind):
+    try_each(pool, tried, Fault(sessions(name), stream, kind, one_byte=True))
+
+
+@pytest.mark.parametrize("stream", ["read", "write"])
+def test_a_large_session_byte_by_byte(tried, sessions, stream):
+    """Nothing fails: the calls are too many."""
+    fault = Fault(sessions("large"), stream, "fails", one_byte=True)
+    check(fault, 0, try_one(tried, fault, 0)[0])
+
+
+@pytest.mark.parametrize("command", some_commands(), ids=lambda it: it.name)
+@pytest.mark.parametrize("stream", ["read", "write"])
+@pytest.mark.parametrize("kind", KINDS[:3])
+def test_a_command(pool, tried, command, stream, kind):
+    try_each(pool, tried, Fault(command, stream, kind), try_command)

@@ -6,12 +6,12 @@ and connections that are reset in a head, a body or a reply. Each kind goes on f
 server then, since it serves one connection after another. Meanwhile an honest client opens one connection after
 another and asks for the paths of the store: each time it has to get them. A client that is never silent keeps the
 server as long as it likes, so an honest one may wait for the end of the attack; its answer has to come within 10
-seconds of that or, on a machine that is slow or busy, within the time of ten large bodies. What the slowest answer to
-it took is printed for each kind, and at the end how much memory the server had at most, which has to be below 96 MiB.
+seconds of that or, on a machine that is slow or busy, within the time of ten large bodies. After each kind the memory
+that the server had at most has to be below 96 MiB.
 
-With the part `limits`, servers are left alone with a client that stops within a head, within a body, between two
-messages or before reading a reply, or who reads a byte of it a second: they have to end by themselves when the limit
-of 60 seconds is over, at the latest in twice that time, and say what they should.
+Then servers are left alone with a client that stops within a head, within a body, between two messages or before
+reading a reply, or that reads a byte of it a second: they have to end by themselves when the limit of 60 seconds is
+over, at the latest in twice that time, and say what they should.
 """
 import contextlib
 import functools
@@ -24,8 +24,10 @@ import time
 from concurrent.futures import ThreadPoolExecutor
 from pathlib import Path
 
-from nixkeep_dev.testing import report
-from nixkeep_dev.testing.http_messages import message, replies
+import pytest
+
+from nixkeep_dev.testing import processes, report
+from nixkeep_dev.testing.http_messages import last_reply, message, replies
 from nixkeep_dev.testing.nar import archive
 from nixkeep_dev.testing.requests import imported
 from nixkeep_dev.testing.store import Server
@@ -49,12 +51,7 @@ class Target(Server):
     def asks(self, *asked):
         """What comes on a connection of its own for a message, up to its end."""
         with self.connect() as it:
-            it.sendall(message(*asked).replace(b"\r\n\r\n", b"\r\nconnection: close\r\n\r\n", 1))
-            return b"".join(iter(lambda: it.recv(65_536), b""))
-
-    def memory(self):
-        """The MiB of memory that it had at most."""
-        return int(Path(f"/proc/{self.ran.pid}/status").read_text().partition("VmHWM:")[2].split()[0]) / 1024
+            return last_reply(it, *asked)
 
 
 # ---- hostile clients: each is given a server and a time to end at
@@ -177,36 +174,36 @@ def granted(server):
     return min(max(AFTER, BODIES * (time.monotonic() - since)), 2 * LIMIT)
 
 
-def try_kind(name, kind, server, seconds):
-    """What the honest client waited for the slowest answer, and how many came."""
-    until, count, slowest = time.monotonic() + seconds, 0, 0
+@pytest.fixture(scope="module")
+def server(program, shared_folder):
+    with Target(program, shared_folder, stderr=subprocess.DEVNULL) as made:
+        added = replies(made.asks(*imported(made.large, archive(CONTENTS))))
+        report.same("the answer to an import", [it[1] for it in added[0]], [LISTED])
+        yield made
+
+
+@pytest.mark.parametrize("name", KINDS)
+def test_an_honest_client_next_to(server, count, name):
+    """What the honest client gets, and what it waits for the slowest answer."""
+    seconds, answers, slowest = count or SECONDS, 0, 0
+    until = time.monotonic() + seconds
     with ThreadPoolExecutor(1) as pool:
-        hostile = pool.submit(attack, kind, server, until)
-        while time.monotonic() < until or not count:
+        hostile = pool.submit(attack, KINDS[name], server, until)
+        while time.monotonic() < until or not answers:
             since = time.monotonic()
             came = replies(server.asks("ann", "GET", "/paths"))
             if [it[1] for it in came[0]] != [LISTED]:
                 report.fail(f"{name}: the honest client gets {came!r}")
-            count, slowest = count + 1, max(slowest, time.monotonic() - since)
+            answers, slowest = answers + 1, max(slowest, time.monotonic() - since)
             time.sleep(0.05)
         hostile.result()
-    what = f"{name}: the honest client's answers"
     is_late = slowest > seconds + AFTER and slowest > seconds + granted(server)
-    report.right(what, is_late and f"one took {slowest:.1f} s, and the attack {seconds} s")
-    if server.wrong:
-        report.fail(f"{name}: {server.wrong[0]}")
-    report.tell(f"  {name}: {count} answers, the slowest after {slowest:.2f} s; memory {server.memory():.1f} MiB")
-
-
-def crowd(words, file, folder):
-    with Target(file, folder, stderr=subprocess.DEVNULL) as server:
-        added = replies(server.asks(*imported(server.large, archive(CONTENTS))))
-        report.same("the answer to an import", [it[1] for it in added[0]], [LISTED])
-        for name, kind in KINDS.items():
-            try_kind(name, kind, server, words.count)
-        most = server.memory()
-        report.right("the memory of the server", most >= MOST and f"{most:.1f} MiB, and it may have {MOST}")
-        report.tell(f"the server had at most {most:.1f} MiB of memory")
+    report.right(f"{name}: the honest client's answers",
+                 is_late and f"one took {slowest:.1f} s, and the attack {seconds} s")
+    wrong, server.wrong = server.wrong, []
+    assert not wrong
+    most = processes.memory(server.ran.pid) / 1024
+    report.right("the memory of the server", most >= MOST and f"{most:.1f} MiB, and it may have {MOST}")
 
 
 # ---- the time limits
@@ -229,10 +226,10 @@ def sip(it):
             time.sleep(1)
 
 
-def stop_at(file, folder, name):
-    """Leaves a server alone with such a client, and waits for its end."""
-    given, wanted = STOPS[name]
-    with Target(file, folder, connections=2 if given is None else 1) as server:
+def stop_at(program, folder, name):
+    """Leaves a server alone with such a client: its status and what it says as it ends, and the seconds until then."""
+    given, _ = STOPS[name]
+    with Target(program, folder, connections=2 if given is None else 1) as server:
         if given is None:
             server.asks(*imported(server.large, archive(CONTENTS)))
             given = message("ann", "GET", f"/nar/{server.large}") * 32
@@ -242,24 +239,19 @@ def stop_at(file, folder, name):
             it.sendall(given)
             if name == SIPS:
                 threading.Thread(target=sip, args=[it], daemon=True).start()
-            return name, server.ended(2 * LIMIT + 20), wanted, time.monotonic() - since
+            return server.ended(2 * LIMIT + 20), time.monotonic() - since
 
 
-def limits(words, file, folder):
+@pytest.fixture(scope="module")
+def stops(program, shared_folder):
+    """The ends of all these servers, which begin at once."""
     with ThreadPoolExecutor(len(STOPS)) as pool:
-        for name, came, wanted, seconds in pool.map(lambda it: stop_at(file, folder, it), STOPS):
-            report.same(f"a client that {name}", came, wanted)
-            what = f"a client that {name} is let go after {seconds:.1f} s"
-            report.right(what, not LIMIT - 1 < seconds < 2 * LIMIT + 10 and f"{LIMIT} s is the limit")
-            report.tell(f"  {what}")
+        yield {name: pool.submit(stop_at, program, shared_folder, name) for name in STOPS}
 
 
-def run(words):
-    file = report.program_file(words)
-    for part in words.parts:
-        report.tell(part.__name__)
-        part(words, file, words.folder)
-
-
-if __name__ == "__main__":
-    report.script(__doc__, run, SECONDS, parts=[crowd, limits])
+@pytest.mark.parametrize("name", STOPS)
+def test_limits(stops, name):
+    ended, seconds = stops[name].result()
+    report.same(f"a client that {name}", ended, STOPS[name][1])
+    report.right(f"a client that {name} is let go after {seconds:.1f} s",
+                 not LIMIT - 1 < seconds < 2 * LIMIT + 10 and f"{LIMIT} s is the limit")

@@ -21,16 +21,18 @@ chosen by the seed. Needs cc.
 """
 import functools
 import itertools
-import os
+from pathlib import Path
+
+import pytest
 
 from nixkeep_dev.model.runs import rows_in
 from nixkeep_dev.testing import report
-from nixkeep_dev.testing.http_messages import TOLD, all_replies, message, messages, replies, told
+from nixkeep_dev.testing.http_messages import STATE, all_replies, message, messages, replies, state_of
 from nixkeep_dev.testing.http_messages import lines as lines_of
 from nixkeep_dev.testing.nar import archive, text_path
 from nixkeep_dev.testing.preload import Loaded
 from nixkeep_dev.testing.refusals import all_refused
-from nixkeep_dev.testing.requests import LISTS, imported, some_store
+from nixkeep_dev.testing.requests import imported, named, some_store
 from nixkeep_dev.testing.store import copy, remove
 from nixkeep_dev.testing.tables import Built, made_by, put
 
@@ -49,16 +51,10 @@ class Refusing(Loaded):
         return report.fail(f"nixkeep {' '.join(words)}: {held} blocks aren't freed", refused) if held else came
 
     def each(self, name, fault):
-        """Refuses as many allocations in turn as the last run has asked for, or some: what is wrong with a run, or
-        None, and whether it was answered as failed."""
-        (total, _), failed = self.counted(), 0
-        chosen = report.some(self.words, total, name)
-        for refused in chosen:
-            why, is_failed = fault(refused)
-            report.right(f"{name}: allocation {refused} refused", why)
-            failed += is_failed
-        tried = f"{total} allocations, {len(chosen)} of them refused"
-        report.tell(f"{name}: {tried}: {failed} runs answer that they failed")
+        """Refuses as many allocations in turn as the last run has asked for, or some: `fault` says what is wrong with
+        a run, or None."""
+        for refused in self.some(self.counted()[0], name):
+            report.right(f"{name}: allocation {refused} refused", fault(refused))
 
     def compare(self, name, words, run, wanted=None, is_kept=lambda came: True):
         """Each run gives what it gives with ample memory, where this line is wanted, or says that memory is wanting,
@@ -70,9 +66,14 @@ class Refusing(Loaded):
         def fault(refused):
             came = run(refused)
             is_failed = came[0] in ([0, 1] if is_server else [1]) and texts_of(came, is_server) == [b"", FAILED]
-            return None if (is_failed or came == ample) and is_kept(came) else f"{came}, or other rows", is_failed
+            return None if (is_failed or came == ample) and is_kept(came) else f"{came}, or other rows"
 
         self.each(name, fault)
+
+
+@pytest.fixture(scope="module")
+def refusing(program, shared_folder, some):
+    return Refusing(program, shared_folder, "tests/faults/refuse_memory.c", some)
 
 
 def texts_of(came, is_server):
@@ -84,30 +85,33 @@ def texts_of(came, is_server):
 
 # ---- lines
 
-
-def lines(refusing):
-    config, bad = refusing.put("store.toml", CONFIG), refusing.put("bad.toml", 'store-dir = "/"\n')
-    file = archive(b"abc")
-    a, b = "0" * 32 + "-a", "1" * 32 + "-b"
-    for words, given in [(["--user", "root", "who"], b""),
-                         (["--config", config, "--user", "ann", "--group", "users", "who"], b""), (["who"], b""),
-                         (["text-path", "n", b, a], b"abc"), (["--config", config, "text-path", "n"], b"abc"),
-                         (["text-path", "."], b""), (["source-path", "n", b, a], file),
-                         (["--config", config, "source-path", "n"], file[:-1]), (["ls"], file), (["ls"], file + b"x"),
-                         (["--config", bad, "ls"], b""), (["--config", bad, "--user", "root", "who"], b""),
-                         (["text-path", "n", "x"], b""), ([], b""), (["--help"], b""), (["text-path", "--help"], b""),
-                         (["whom"], b""), (["who", "x"], b""), (["--user"], b""), (["--nope"], b""),
-                         (["--user", "a", "--user", "b", "who"], b"")]:
-        name = " ".join(["nixkeep", *map(os.path.basename, words)])
-        refusing.compare(name, words, functools.partial(refusing.run, words, given))
-    for wanted, settings, words, given in all_refused():
-        words = ["--config", refusing.put("refused.toml", settings), *words]
-        name = f"{wanted.strip()}: {' '.join(words[2:])}"[:99]
-        refusing.compare(name, words, functools.partial(refusing.run, words, given), wanted.encode())
-    stream(refusing)
+FILE, A, B = archive(b"abc"), "0" * 32 + "-a", "1" * 32 + "-b"
+# Words without an input, and such that read one; `store.toml` and `bad.toml` are configurations.
+COMMANDS = [(it.split(), b"") for it in (
+    "--user root who", "--config store.toml --user ann --group users who", "who", "text-path .",
+    "--config bad.toml --user root who", "text-path n x", "", "--help", "text-path --help", "whom", "who x", "--user",
+    "--nope", "--user a --user b who", "--config bad.toml ls")]
+COMMANDS += [(it.split(), given) for it, given in (
+    (f"text-path n {B} {A}", b"abc"), ("--config store.toml text-path n", b"abc"), (f"source-path n {B} {A}", FILE),
+    ("--config store.toml source-path n", FILE[:-1]), ("ls", FILE), ("ls", FILE + b"x"))]
 
 
-def stream(refusing):
+@pytest.mark.parametrize("words, given", COMMANDS, ids=lambda it: " ".join(it) if isinstance(it, list) else len(it))
+def test_lines(refusing, words, given):
+    files = {"store.toml": CONFIG, "bad.toml": 'store-dir = "/"\n'}
+    placed = [refusing.put(it, files[it]) if it in files else it for it in words]
+    refusing.compare(" ".join(["nixkeep", *words]), placed, functools.partial(refusing.run, placed, given))
+
+
+@pytest.mark.parametrize("wanted, settings, words, given", [
+    pytest.param(*it, id=f"{it[0].strip()}: {' '.join(it[2])}"[:99]) for it in all_refused()])
+def test_refused_lines(refusing, wanted, settings, words, given):
+    words = ["--config", refusing.put("refused.toml", settings), *words]
+    name = f"{wanted.strip()}: {' '.join(words[2:])}"[:99]
+    refusing.compare(name, words, functools.partial(refusing.run, words, given), wanted.encode())
+
+
+def test_two_messages(refusing):
     """Two messages to a store in memory: each reply is that of ample memory or says that memory is wanting, and a run
     that ends before has written a beginning of them."""
     asked = [("ann", "GET", "/paths"), ("ann", "POST", "/text", lines_of(("name", "a"), payload=b"x"))]
@@ -125,7 +129,7 @@ def stream(refusing):
         is_failed = (status, errors) == (1, FAILED) and len(came) < len(ample)
         fits = all(one == other or one[1] == FAILED for one, other in zip(came, ample))
         is_begun = not left or ample[len(came)][0].startswith(left) or left.startswith(ample[len(came)][0])
-        return None if (is_whole or is_failed) and fits and is_begun else f"{status, written, errors}", is_failed
+        return None if (is_whole or is_failed) and fits and is_begun else f"{status, written, errors}"
 
     refusing.each("two messages", fault)
 
@@ -144,54 +148,69 @@ class Served:
         words = ["--config", self.config, "--db", path, "serve"]
         return self.refusing.run(words, messages(asked), refused, **self.where)
 
-    def told(self, path):
-        return told(self.over(path, TOLD)[1])
+    def state(self, path):
+        return state_of(self.over(path, STATE)[1])
 
-    def fault(self, request, refused, before, ample):
-        """What is wrong with a run over a copy of the file, or None; and whether the run was answered as failed."""
+    def fault(self, asked, before, ample, refused):
+        """What is wrong with a run over a copy of the file, or None."""
         copy(self.path, self.spare)
-        status, written, errors = self.over(self.spare, [request, *TOLD], refused)
+        status, written, errors = self.over(self.spare, [asked, *STATE], refused)
         came, left = replies(written)
         if [status, errors, left, came] == [0, b"", b"", ample]:
-            return None, False
+            return None
         if (status, errors) not in ((0, b""), (1, FAILED)) or status == 0 and (left or len(came) != len(ample)):
-            return f"status {status}, {len(came)} replies, {errors!r}", True
+            return f"status {status}, {len(came)} replies, {errors!r}"
         if came and came[0] not in (ample[0], FAILED_REPLY):
-            return f"another reply: {came[0]}", True
+            return f"another reply: {came[0]}"
         self.answered += came[:1] == [FAILED_REPLY]
         # a request that has failed changes nothing; without its reply it may have been done
         states = [before, ample[1:]] if not came else [before] if came[0] == FAILED_REPLY else [ample[1:]]
         fits = [it for it in states if all(one == other or one == FAILED_REPLY for one, other in zip(came[1:], it))]
         if not fits:
-            return f"the store is neither that before nor that after: {came}", True
-        if self.told(self.spare) not in fits:
-            return f"the file has another store than the server described: {came}", True
-        return None, True
+            return f"the store is neither that before nor that after: {came}"
+        if self.state(self.spare) not in fits:
+            return f"the file has another store than the server described: {came}"
+        return None
 
 
-def store(refusing):
-    served = Served(refusing)
-    for settings, asked in LISTS:
-        refusing.put("settings.toml", settings)
-        before = served.told(copy(served.path, served.spare)) if os.path.exists(served.path) else None
-        for request in asked():
-            before = ask(served, request, before)
-            # (a server's start was tried with the first request)
-            served.where = {"REFUSE_FROM_INPUT": "1"}
-    if not served.answered:
-        report.fail("store: no request was answered as failed")
-    report.tell(f"store: {served.answered} requests were answered with status 503 and `failed: memory`")
+ASKED = named()
 
 
-def ask(served, request, before):
-    """Makes a request after each of its refusals was tried; returns what the store says then."""
+@pytest.fixture(scope="module")
+def served(refusing):
+    return Served(refusing)
+
+
+@pytest.fixture(scope="module")
+def before_each(served):
+    """The file that each request finds, and what the store says then: no file, and nothing, before the first."""
+    states = []
+    for number, (_, settings, asked) in enumerate(ASKED):
+        served.refusing.put("settings.toml", settings)
+        is_there = Path(served.path).exists()
+        kept = copy(served.path, served.refusing.at(f"found-{number}.db"))
+        states.append((kept, served.state(copy(kept, served.spare)) if is_there else None))
+        served.over(served.path, [asked])
+    return states
+
+
+@pytest.mark.parametrize("number", range(len(ASKED)), ids=lambda it: f"{it} {ASKED[it][0]}")
+def test_store(served, before_each, number):
+    (name, settings, asked), (kept, before) = ASKED[number], before_each[number]
+    served.refusing.put("settings.toml", settings)
+    # (a server's start is tried with the first request)
+    served.path, served.where = kept, {"REFUSE_FROM_INPUT": "1"} if number else {}
     copy(served.path, served.spare)
-    ample = all_replies(served.over(served.spare, [request, *TOLD])[1], 1 + len(TOLD))
+    ample = all_replies(served.over(served.spare, [asked, *STATE])[1], 1 + len(STATE))
     # (no file yet: the tables are made, and nothing is in them)
     was = before or ample[1:]
-    served.refusing.each(" ".join(request[:3]), lambda refused: served.fault(request, refused, was, ample))
-    served.over(served.path, [request])
-    return ample[1:]
+    served.refusing.each(name, functools.partial(served.fault, asked, was, ample))
+
+
+def test_some_requests_to_a_store_are_answered_as_failed(served, request):
+    """Those of the tests above."""
+    if any(it.name.startswith("test_store") for it in request.session.items):
+        assert served.answered
 
 
 # ---- the request once more
@@ -230,43 +249,40 @@ def cycle(one, other):
     return made
 
 
-def again(refusing):
+@pytest.mark.parametrize("made, asked, text", [
+    pytest.param(*it, id=f"{at} {' '.join(it[1][:3])}") for at, it in enumerate(worked())])
+def test_again(refusing, made, asked, text):
     served = Served(refusing)
     served.where = {"REFUSE_FROM_INPUT": "1"}
     refusing.put("settings.toml", "")
-    for made, request, text in worked():
-        remove(served.path)
-        if isinstance(made, Built):
-            put(served.path, made.rows(), made_by(3))
-        else:
-            served.over(served.path, made)
-        once_more(served, request, text)
+    remove(served.path)
+    if isinstance(made, Built):
+        put(served.path, made.rows(), made_by(3))
+    else:
+        served.over(served.path, made)
+    once_more(served, asked, text)
 
 
-def once_more(served, request, text):
+def once_more(served, asked, text):
     """Refuses each allocation of a request over a copy of the file, and makes the request once more."""
-    name = f"{' '.join(request[:3])}, once more"
-    over = lambda asked, refused=0: served.over(copy(served.path, served.spare), asked, refused)
-    ample, twice = [all_replies(over([*it, *TOLD])[1], len(it) + len(TOLD)) for it in ([request], [request] * 2)]
+    name = f"{' '.join(asked[:3])}, once more"
+    over = lambda given, refused=0: served.over(copy(served.path, served.spare), given, refused)
+    ample, twice = [all_replies(over([*it, *STATE])[1], len(it) + len(STATE)) for it in ([asked], [asked] * 2)]
     report.same(name, ample[0][1], text)
-    over([request])
-    total, _ = served.refusing.counted()
-    chosen = report.some(served.refusing.words, total, name)
-    for refused in chosen:
-        why = fault_of_both(served, request, over([request, request, *TOLD], refused), ample, twice)
-        report.right(f"{name}: allocation {refused} refused", why)
-    report.tell(f"{name}: {total} allocations, {len(chosen)} of them refused")
+    over([asked])
+    served.refusing.each(name, lambda refused: fault_of_both(
+        served, asked, over([asked, asked, *STATE], refused), ample, twice))
 
 
-def fault_of_both(served, request, ran, ample, twice):
+def fault_of_both(served, asked, ran, ample, twice):
     """What is wrong with a run that was asked twice, or None: a request that failed is done the second time."""
     status, written, errors = ran
     came, left = replies(written)
     if (status, errors) == (1, FAILED) and came in ([], [ample[0]]):
         # the connection has ended, and the request is made on the next one; without a reply it may have been done
-        ran = served.over(served.spare, [request, *TOLD])
+        ran = served.over(served.spare, [asked, *STATE])
         wanted = [twice[1:]] if came else [ample, twice[1:]]
-        return None if all_replies(ran[1], 1 + len(TOLD)) in wanted else f"{came}, and then {ran}"
+        return None if all_replies(ran[1], 1 + len(STATE)) in wanted else f"{came}, and then {ran}"
     if [status, errors, left, len(came)] != [0, b"", b"", len(twice)]:
         return f"status {status}, {len(came)} replies, {errors!r}"
     wanted = [[FAILED_REPLY, *ample], [ample[0], FAILED_REPLY, *ample[1:]], twice]
@@ -309,52 +325,51 @@ def ending():
             yield user, "POST", target, FAR
 
 
-def bodies(refusing):
+SMALL = "ann", "POST", "/text", lines_of(("name", "a"), payload=b"x")
+ADDED = f"/nix/store/{text_path('a', b'x')}\n".encode()
+
+
+@pytest.fixture
+def over(refusing):
+    """What a server answers that is given no large block: its status, the texts, what is left, and its errors."""
     config = refusing.put("bodies.toml", 'allowed-users = ["bob"]\ntrusted-users = ["ann"]\n')
 
-    def over(asked, behind=b""):
+    def run(asked, after=b""):
         where = {"REFUSE_BLOCKS": 16_384, "REFUSE_FROM_INPUT": 1}
-        status, written, errors = refusing.run(["--config", config, "serve"], messages(asked) + behind, **where)
+        status, written, errors = refusing.run(["--config", config, "serve"], messages(asked) + after, **where)
         came, left = replies(written)
         return status, [text for _, text in came], left, errors
 
-    small = ("ann", "POST", "/text", lines_of(("name", "a"), payload=b"x"))
-    added = f"/nix/store/{text_path('a', b'x')}\n".encode()
-    asked, wanted = [small], [added]
+    return run
+
+
+def test_bodies_that_are_answered(over):
+    asked, wanted = [SMALL], [ADDED]
     for one, text in answered():
         asked += [one, NEXT]
-        wanted += [text, added]
+        wanted += [text, ADDED]
     status, came, *rest = over(asked)
-    for request, text, other in itertools.zip_longest(asked, came, wanted):
-        report.same(f"{' '.join(request[:3])}, a body without memory", text, other)
+    for one, text, other in itertools.zip_longest(asked, came, wanted):
+        report.same(f"{' '.join(one[:3])}, a body without memory", text, other)
     report.same("bodies without memory, and how the server ends", (status, *rest), (0, b"", b""))
+
+
+@pytest.mark.parametrize("target, body", [("/source", lines_of(("name", "a"), payload=FAR)), ("/rollback/ann/p", FAR)],
+                         ids=["source", "rollback"])
+def test_bodies_that_end_early(over, target, body):
     # (the head says one byte more than comes)
-    for target, body in ("/source", lines_of(("name", "a"), payload=FAR)), ("/rollback/ann/p", FAR):
-        short = message("ann", "POST", target, body).replace(b": %d\r" % len(body), b": %d\r" % (len(body) + 1))
-        wanted = 0, [added, b"refused: 37 bad-length\n"], b"", b""
-        report.same(f"POST {target} without memory, which ends early", over([small], short), wanted)
+    short = message("ann", "POST", target, body).replace(b": %d\r" % len(body), b": %d\r" % (len(body) + 1))
+    wanted = 0, [ADDED, b"refused: 37 bad-length\n"], b"", b""
+    report.same(f"POST {target} without memory, which ends early", over([SMALL], short), wanted)
+
+
+def test_bodies_that_end_the_connection(over):
     for one in ending():
         name = f"{' '.join(one[:3])}, a body without memory"
-        report.same(name, over([small, one, NEXT]), (1, [added], b"", FAILED))
-    report.tell(f"bodies: {len(asked)} messages on a connection, and {len(list(ending()))} that end one")
+        report.same(name, over([SMALL, one, NEXT]), (1, [ADDED], b"", FAILED))
 
 
 # ---- files that are opened
-
-
-def openings(refusing):
-    """Refuses allocations of a command after it has opened a copy of a file of each schema."""
-    for schema in (1, 2, 3):
-        opening(refusing, schema, some_store(schema))
-    model = some_store(3)
-    first = next(iter(model.world.objects))
-    other = refusing.put("other.toml", 'store-dir = "/other/store"\n')
-    spoils, fills = ("UPDATE object SET hash = zeroblob(32);",
-                     "UPDATE generation SET num = num + 9997; UPDATE profile SET cur = 9999;")
-    for wanted, words, change in (("21 bad-schema", ["roots"], spoils),
-                                  ("22 other-store-dir", ["--config", other, "roots"], ""),
-                                  ("32 generation-limit", ["profile", "set", "tools", first], fills)):
-        refused_opening(refusing, wanted, words, model, change)
 
 
 def open_each(refusing, name, whole, words, allowed=None):
@@ -371,28 +386,32 @@ def open_each(refusing, name, whole, words, allowed=None):
     return run(0), rows_in(spare)
 
 
-def refused_opening(refusing, wanted, words, model, change):
+SPOILED = "UPDATE object SET hash = zeroblob(32);"
+FULL = "UPDATE generation SET num = num + 9997; UPDATE profile SET cur = 9999;"
+
+
+@pytest.mark.parametrize("wanted, words, change", [
+    ("21 bad-schema", ["roots"], SPOILED), ("22 other-store-dir", ["--config", "other.toml", "roots"], ""),
+    ("32 generation-limit", ["profile", "set", "tools", "PATH"], FULL)], ids=["schema", "directory", "generations"])
+def test_openings_that_are_refused(refusing, wanted, words, change):
     """A request over a file, which is refused: each run says so, or that memory is wanting, and leaves the rows."""
+    built = some_store(3)
+    places = {"other.toml": refusing.put("other.toml", 'store-dir = "/other/store"\n'),
+              "PATH": next(iter(built.world.objects))}
     remove(whole := refusing.at("refused.db"))
-    put(whole, model.rows(), made_by(3), change)
-    came, _ = open_each(refusing, f"a file and {wanted}", whole, ["--user", "ann", *words])
+    put(whole, built.rows(), made_by(3), change)
+    words = ["--user", "ann", *(places.get(it, it) for it in words)]
+    came, _ = open_each(refusing, f"a file and {wanted}", whole, words)
     if came != (3, b"", f"refused: {wanted}\n".encode()):
         report.fail(f"refused: {wanted} is wanted, and {came} came")
 
 
-def opening(refusing, schema, model):
-    put(whole := refusing.at(f"schema{schema}.db"), model.rows(schema), made_by(schema))
-    allowed, words = [model.rows(it) for it in (schema, 3)], ["--user", "root", "roots"]
+@pytest.mark.parametrize("schema", [1, 2, 3])
+def test_openings(refusing, schema):
+    """A command that opens a file of each schema: one that fails has left the rows, or those of the third schema."""
+    built = some_store(schema)
+    put(whole := refusing.at(f"schema{schema}.db"), built.rows(schema), made_by(schema))
+    allowed, words = [built.rows(it) for it in (schema, 3)], ["--user", "root", "roots"]
     (status, printed, _), rows = open_each(refusing, f"a file of schema {schema}", whole, words, allowed)
-    if status or printed.count(b"\n") != len(model.world.roots()) or rows != allowed[1]:
+    if status or printed.count(b"\n") != len(built.world.roots()) or rows != allowed[1]:
         report.fail(f"a file of schema {schema}: status {status}, {printed!r}, or other rows")
-
-
-def run(words):
-    refusing = Refusing(words, __file__)
-    for part in words.parts:
-        part(refusing)
-
-
-if __name__ == "__main__":
-    report.script(__doc__, run, parts=[lines, store, again, bodies, openings], need=["cc"])

@@ -14,10 +14,13 @@ import socket
 import statistics
 import threading
 import time
+import typing
 from pathlib import Path
 
-from nixkeep_dev.testing import report
-from nixkeep_dev.testing.http_messages import message, replies
+import pytest
+
+from nixkeep_dev.testing import processes, report
+from nixkeep_dev.testing.http_messages import last_reply, message, replies
 from nixkeep_dev.testing.store import Server
 
 CONNECTIONS, MORE, SLOWER, ROUND_TRIPS, LEAST = 1000, 2048, 4, 100, 0.01
@@ -64,7 +67,7 @@ class Soaked(Server):
 
     def memory(self):
         """The KiB that it has in memory now."""
-        return int(Path(f"/proc/{self.ran.pid}/status").read_text().partition("VmRSS:")[2].split()[0])
+        return processes.memory(self.ran.pid, "VmRSS")
 
     def ask_all(self):
         """The seconds that a request took on a connection of all; their statuses have to be those that are meant."""
@@ -72,9 +75,7 @@ class Soaked(Server):
         with self.connect() as it:
             for method, target, body, _ in ASKED[:-1]:
                 it.sendall(message("ann", method, target, *[body] if body else []))
-            last = message("ann", *ASKED[-1][:2]).replace(b"\r\n\r\n", b"\r\nconnection: close\r\n\r\n", 1)
-            it.sendall(last)
-            came = b"".join(iter(lambda: it.recv(65_536), b""))
+            came = last_reply(it, "ann", *ASKED[-1][:2])
         statuses = [int(head.split()[1]) for head, _ in replies(came)[0]]
         if statuses != [it[3] for it in ASKED]:
             report.fail(f"the statuses are {statuses}")
@@ -92,46 +93,49 @@ def least(server, count, most):
     return min(found)
 
 
-def in_time(seconds, most):
-    report.right("time", seconds > most and f"{seconds:.5f} s for a request, and at most {most:.5f} s are meant")
+class Figures(typing.NamedTuple):
+    """What a server has at a time, and the least seconds that a request takes."""
+    descriptors: int
+    memory: int
+    seconds: float
 
 
-def soak(server, count, minutes, most):
-    """Asks that often, and for so long: descriptors, memory and the least seconds, in the first tenth and in the last,
-    and how many connections there were."""
-    tenth, until, between = max(count // 10, 1), time.monotonic() + 60 * minutes, 0
-    first = least(server, tenth, most)
-    in_time(first, most)
-    files, before = server.descriptors(), server.memory()
-    while between < count - 2 * tenth or time.monotonic() < until:
-        server.ask_all()
-        between += 1
-    last = least(server, tenth, min(most, max(SLOWER * first, LITTLE)))
-    in_time(last, most)
-    return (files, before, first), (server.descriptors(files), server.memory(), last), between + 2 * tenth
+class Soak(typing.NamedTuple):
+    """The figures of the first tenth of the connections and of the last, and the most that a request may take."""
+    first: Figures
+    last: Figures
+    most: float
 
 
-def more(asked):
-    asked.add_argument("--minutes", metavar="N", type=float, default=0, help="how long at least (0)")
-
-
-def run(words):
-    config = Path(words.folder, "store.toml")
-    config.write_text('allowed-users = ["ann"]\n')
-    trip = round_trip()
-    most = max(ROUND_TRIPS * trip, LEAST)
-    with Soaked(report.program_file(words), "--config", str(config), "--db", f"{words.folder}/store.db") as server:
-        (files, before, first), (files_after, after, last), count = soak(server, words.count, words.minutes, most)
+@pytest.fixture(scope="module")
+def soaked(program, shared_folder, pytestconfig, count):
+    """Asks a server that often, and for so long."""
+    Path(config := f"{shared_folder}/store.toml").write_text('allowed-users = ["ann"]\n')
+    count, most = count or CONNECTIONS, max(ROUND_TRIPS * round_trip(), LEAST)
+    tenth, until, between = max(count // 10, 1), time.monotonic() + 60 * pytestconfig.getoption("--minutes"), 0
+    with Soaked(program, "--config", config, "--db", f"{shared_folder}/store.db") as server:
+        seconds = least(server, tenth, most)
+        first = Figures(server.descriptors(), server.memory(), seconds)
+        while between < count - 2 * tenth or time.monotonic() < until:
+            server.ask_all()
+            between += 1
+        seconds = least(server, tenth, min(most, max(SLOWER * first.seconds, LITTLE)))
+        last = Figures(server.descriptors(first.descriptors), server.memory(), seconds)
     # (how many more there were depends on this machine, so they aren't counted)
-    report.passes(words.count)
-    report.same("the open descriptors at the end", files_after, files)
-    report.right("memory", after > before + MORE and f"{before} KiB grew to {after} KiB in {count} connections")
-    is_slower = last > max(SLOWER * first, LITTLE)
-    report.right("time", is_slower and f"{first:.5f} s for a request grew to {last:.5f} s")
-    report.tell(f"{count} connections, {len(ASKED) * count} requests: {files} descriptors, {before} KiB and"
-                f" {1e6 * first:.0f} us at first, {files_after}, {after} KiB and {1e6 * last:.0f} us at last; a round"
-                f" trip takes {1e6 * trip:.0f} us")
+    report.passes(count)
+    return Soak(first, last, most)
 
 
-if __name__ == "__main__":
-    report.script(__doc__, run, CONNECTIONS, more)
+def test_descriptors(soaked):
+    assert soaked.last.descriptors == soaked.first.descriptors
+
+
+def test_memory(soaked):
+    """In KiB."""
+    assert soaked.last.memory <= soaked.first.memory + MORE
+
+
+def test_time(soaked):
+    """In seconds: it is within the limit, and doesn't grow."""
+    assert max(soaked.first.seconds, soaked.last.seconds) <= soaked.most
+    assert soaked.last.seconds <= max(SLOWER * soaked.first.seconds, LITTLE)

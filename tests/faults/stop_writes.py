@@ -19,19 +19,21 @@ instead, and not changed. Last, the syncs of the file or of the log do nothing a
 has to be wrong: so a sync that the program leaves out is noticed.
 
 With --count N, N stops and failures of each request are tried, chosen by the seed, its end, and all of each
-migration.
-Needs cc, and SQLite 3.37 or later.
+migration. Needs cc, and SQLite 3.37 or later.
 """
+import functools
 import itertools
-import os
+import tempfile
 from pathlib import Path
 
-from nixkeep_dev.model.runs import rows_in
+import pytest
+
+from nixkeep_dev.model.runs import ROOM, rows_in
 from nixkeep_dev.testing import report
-from nixkeep_dev.testing.http_messages import TOLD, messages, replies, told
+from nixkeep_dev.testing.http_messages import STATE, messages, replies, state_of
 from nixkeep_dev.testing.nar import text_path
 from nixkeep_dev.testing.preload import Loaded
-from nixkeep_dev.testing.requests import LISTS, some_store, text
+from nixkeep_dev.testing.requests import named, some_store, text
 from nixkeep_dev.testing.requests import path as path_of
 from nixkeep_dev.testing.store import killed
 from nixkeep_dev.testing.tables import made_by, put, sqlite
@@ -39,15 +41,18 @@ from nixkeep_dev.testing.tables import made_by, put, sqlite
 STOPPED = 77
 LOG = "-wal"
 FAILED, REFUSED = b"failed: disk\n", b"refused: 21 bad-schema\n"
+NOTHING = {"": None, LOG: None}
+# What is asked one after another: the name, the settings and the messages.
+ASKED = [("the making of the tables", "", []), *((name, settings, [it]) for name, settings, it in named())]
 
 
 def content(path):
-    return Path(path).read_bytes() if os.path.exists(path) else None
+    return Path(path).read_bytes() if Path(path).exists() else None
 
 
-def lay(path, found):
+def lay(path, contents):
     """The file and its log have these bytes, or aren't there."""
-    for more, data in found.items():
+    for more, data in contents.items():
         for it in (path + more, path + more + ".synced", path + more + ".named"):
             Path(it).unlink(missing_ok=True)
         if data is not None:
@@ -65,7 +70,7 @@ def left(path, before):
     synced = {more: before[more] if (kept := content(path + more + ".synced")) is None else kept for more in written}
     states = {more: {written[more], synced[more]} for more in written}
     for more in states:
-        if before[more] is None and not os.path.exists(f"{path}{more}.named"):
+        if before[more] is None and not Path(f"{path}{more}.named").exists():
             states[more].add(None)
     return [dict(zip(states, it)) for it in itertools.product(*states.values())]
 
@@ -73,9 +78,9 @@ def left(path, before):
 class Tried(Loaded):
     """The program over a file of its own, with settings."""
 
-    def __init__(self, words, script):
-        super().__init__(words, script)
-        self.path, self.spare, self.stops, self.states = self.at("tried.db"), self.at("spare.db"), 0, 0
+    def __init__(self, *made):
+        super().__init__(*made)
+        self.path, self.spare = self.at("tried.db"), self.at("spare.db")
 
     def put_settings(self, text):
         self.config = self.put("settings.toml", text)
@@ -84,19 +89,19 @@ class Tried(Loaded):
         words = ["--config", self.config, "--db", self.path, "serve"]
         return self.run(words, messages(asked), STOP_IN=self.path, **where)
 
-    def state(self, found):
+    def state(self, contents):
         """What the store says over these bytes, and the rows that SQLite finds in the file then."""
-        lay(self.path, found)
-        status, written, errors = self.serve(TOLD)
+        lay(self.path, contents)
+        status, written, errors = self.serve(STATE)
         if (status, errors) != (0, b""):
             return f"it isn't opened: {errors!r}", None
         if sqlite(self.path, "PRAGMA integrity_check;") != "ok\n":
             return "SQLite finds a fault", None
-        return told(written), rows_in(self.path)
+        return state_of(written), rows_in(self.path)
 
-    def spare_rows(self, found):
+    def spare_rows(self, contents):
         """The rows that SQLite alone finds in these bytes, or its error."""
-        lay(self.spare, found)
+        lay(self.spare, contents)
         return rows_in(self.spare)
 
     def fault(self, asked, before, at, wanted=STOPPED, **where):
@@ -126,57 +131,75 @@ class Tried(Loaded):
         """What is wrong with what a crash may have left of the files, after a request that was answered or wasn't; or
         None."""
         for found in left(self.path, before):
-            self.states += 1
             if self.rows and self.spare_rows(found) not in self.rows[is_done:]:
                 return "SQLite finds rows that are neither those before nor those after"
             state = self.state(found)
             if state not in ([self.after] if is_done else [self.was, self.after]):
                 return f"neither what was there before nor what is after: {state}"[:600]
-        self.stops += 1
         return None
 
-    def stop_each(self, what, asked, before, was):
-        """Each stop of a server that is asked this, over these bytes, or some. Then it isn't stopped, and the bytes
-        that it leaves are returned."""
+    def serve_whole(self, what, asked, before, was):
+        """Keeps what a server that isn't stopped answers and leaves, over these bytes; returns how many of its calls
+        can fail."""
         lay(self.path, before)
         self.serve(asked, STOP_FAILS=1)
         calls = self.counted()[0]
         lay(self.path, before)
         self.written = self.serve(asked)[1]
         self.total, after = self.counted()[0], held(self.path)
-        self.was, self.after, stops, states = was, self.state(after), self.stops, self.states
+        self.was, self.after = was, self.state(after)
         # (a file that is being made is no database yet)
         self.rows = [self.spare_rows(it) for it in (before, after)] if before[""] is not None else []
         if isinstance(self.after[0], str):
             report.fail(f"{what}: {self.after[0]}")
         self.was = self.was or self.after
+        return calls
+
+    def stop_each(self, what, asked, before, was, some=None):
+        """Each stop of a server that is asked this, over these bytes, or some."""
+        calls, some = self.serve_whole(what, asked, before, was), some or self.some
         for torn in (False, True):
-            for at in report.some(self.words, self.total, what, torn):
+            for at in some(self.total, what, torn):
                 why = self.fault(asked, before, at, **({"STOP_TORN": 1} if torn else {}))
                 report.right(f"{what}: stopped at call {at}{', half of which is made' if torn else ''}", why)
         report.right(f"{what}: a crash after the last call", self.fault(asked, before, self.total + 1, 0))
-        for at in report.some(self.words, calls, what, "failures"):
+        for at in some(calls, what, "failures"):
             report.right(f"{what}: files that fail from call {at} on", self.failure(asked, before, at))
-        stops, states = self.stops - stops, self.states - states
-        report.tell(f"{what}: {self.total} calls, {stops} stops, after which {states} states were opened")
-        return after
 
 
-def requests(tried):
-    before, was = {"": None, LOG: None}, None
-    for settings, asked in LISTS:
+@pytest.fixture(scope="module")
+def tried(program, some):
+    # (what a crash leaves is put together of what the program wrote and synced, so no disk has to sync)
+    with tempfile.TemporaryDirectory(dir=ROOM) as folder:
+        yield Tried(program, folder, "tests/faults/stop_writes.c", some)
+
+
+@pytest.fixture(scope="module")
+def before_each(tried):
+    """The bytes and the state that each request finds."""
+    states, before, was = [], NOTHING, None
+    for _, settings, asked in ASKED:
+        states.append((before, was))
         tried.put_settings(settings)
-        for request in [None, *asked()] if was is None else asked():
-            what = " ".join(request[:3]) if request else "the making of the tables"
-            before = tried.stop_each(what, [request] if request else [], before, was)
-            was = tried.after
+        lay(tried.path, before)
+        tried.serve(asked)
+        before = held(tried.path)
+        was = tried.state(before)
+    return states
 
 
-def creation(tried):
+@pytest.mark.parametrize("number", range(len(ASKED)), ids=lambda it: f"{it} {ASKED[it][0]}")
+def test_requests(tried, before_each, number):
+    name, settings, asked = ASKED[number]
+    tried.put_settings(settings)
+    tried.stop_each(name, asked, *before_each[number])
+
+
+def test_creation(tried):
     """A request by which a file comes into being: what is answered has to stay, so its folder has to be synced."""
     tried.put_settings("")
-    nothing, asked = {"": None, LOG: None}, [("ann", "POST", "/text", text("a", b"x"))]
-    tried.stop_each("a request to a file that isn't there", asked, nothing, tried.state(nothing))
+    asked = [("ann", "POST", "/text", text("a", b"x"))]
+    tried.stop_each("a request to a file that isn't there", asked, NOTHING, tried.state(NOTHING))
 
 
 def first_copy(tried, lists):
@@ -190,41 +213,40 @@ def first_copy(tried, lists):
     report.fail("no log was copied into the file")
 
 
-def copies(tried):
-    """A request that finds a long log: this is copied into the file first, and begun anew."""
+@pytest.fixture(scope="module")
+def long_log(tried):
+    """A request that finds a long log, which is copied into the file first, and begun anew; and the bytes before it."""
     tried.put_settings("")
-    lay(tried.path, {"": None, LOG: None})
+    lay(tried.path, NOTHING)
     made, root = text_path("a", b"x"), "/root/user/ann/kept"
     # (a server that is killed leaves the object in the log, so the file alone is another store)
     killed(tried.file, tried.path, [("ann", "POST", "/text", text("a", b"x"))], "--config", tried.config)
     both = [("ann", "POST", root, path_of(made)), ("ann", "DELETE", root)]
     first_copy(tried, 100 * [16 * both])
-    asked, before = first_copy(tried, [[it] for it in 20 * both])
+    return first_copy(tried, [[it] for it in 20 * both])
+
+
+def test_copies(tried, long_log):
+    asked, before = long_log
     tried.stop_each("a request that finds a long log", asked, before, tried.state(before))
-    for name in ("", LOG):
-        is_noticed = tried.fault(asked, before, tried.total + 1, 0, LOST=tried.path + name)
-        report.right(f"a lost sync of the {'log' if name else 'file'}", None if is_noticed else "it isn't noticed")
 
 
-def migrations(tried):
+@pytest.mark.parametrize("lost", ["", LOG], ids=["file", "log"])
+def test_copies_without_a_sync(tried, long_log, lost):
+    """What is left is wrong then, and that is noticed."""
+    asked, before = long_log
+    tried.serve_whole("a request that finds a long log", asked, before, tried.state(before))
+    is_noticed = tried.fault(asked, before, tried.total + 1, 0, LOST=tried.path + lost)
+    report.right(f"a lost sync of the {'log' if lost else 'file'}", None if is_noticed else "it isn't noticed")
+
+
+@pytest.mark.parametrize("schema", [1, 2])
+def test_migrations(tried, seed, schema):
+    """All stops, whatever the count: they are few, and each file is opened in this way once."""
     tried.put_settings("")
-    # (all stops, whatever the count: they are few, and each file is opened in this way once)
-    tried.words.count = None
-    for schema in (1, 2):
-        model, path = some_store(schema), tried.at(f"schema{schema}.db")
-        put(path, model.rows(schema), made_by(schema))
-        tried.stop_each(f"a file of schema {schema}", [], {"": content(path), LOG: None}, None)
-        if tried.after[1] != model.rows():
-            report.fail(f"a file of schema {schema} was brought to other rows")
-
-
-def run(words):
-    tried = Tried(words, __file__)
-    for part in words.parts:
-        part(tried)
-    report.tell(f"{tried.stops} stops, after which {tried.states} states were opened")
-
-
-if __name__ == "__main__":
-    # (what a crash leaves is put together of what the program wrote and synced, so no disk has to sync)
-    report.script(__doc__, run, parts=[requests, creation, copies, migrations], need=["cc"], is_in_memory=True)
+    built, path = some_store(schema), tried.at(f"schema{schema}.db")
+    put(path, built.rows(schema), made_by(schema))
+    every = functools.partial(report.some, seed, None)
+    tried.stop_each(f"a file of schema {schema}", [], {"": content(path), LOG: None}, None, every)
+    if tried.after[1] != built.rows():
+        report.fail(f"a file of schema {schema} was brought to other rows")

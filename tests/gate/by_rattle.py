@@ -1,31 +1,40 @@
 """Runs the cases with the program as Rattle's own compiler builds it.
 
 `rt ci` builds the program twice, by LLVM and by this compiler, and leaves both. They have to do the same, so each case
-of tests/cases has to pass with the second one, too. A CASE is a file or its name; with none, all are run.
+of tests/cases has to pass with the second one, too; its steps are examples. `-k who` runs one. Where a machine lacks
+something that a step needs, the case is skipped after its other steps. Skipped where `rt ci` hasn't run.
 """
 import filecmp
-import os
+from pathlib import Path
+
+import pytest
 
 from nixkeep_dev.build import program
 from nixkeep_dev.testing import report
-from nixkeep_dev.testing.runs import LONG, file_of, run
+from nixkeep_dev.testing.cases import CASES, run_case
 
 
-def more(asked):
-    asked.add_argument("cases", nargs="*", metavar="CASE")
+@pytest.fixture(scope="module")
+def second(left_by_ci):
+    """The program of the second compiler."""
+    return left_by_ci(f"{program.FILE}.by-rattle")
 
 
-def cases(words):
-    file = words.program or f"{program.FILE}.by-rattle"
-    if not os.path.exists(file):
-        report.fail(f"there is no {os.path.relpath(file, program.HERE)}: `rt ci` leaves it if that compiler builds it")
-    if not words.program and filecmp.cmp(file, program.FILE, shallow=False):
-        report.fail("both programs have the same bytes, so one of the compilers hasn't built its own")
-    ran = run([file_of("gate/cases"), "--program", file, *words.cases], limit=LONG)
-    report.passes(ran.passed)
-    report.skipped = ran.skipped
-    return ran.failed
+@pytest.fixture(scope="module")
+def runs(second, side_by_side):
+    return side_by_side("case", lambda case: run_case(f"{CASES}/{case}", {"nixkeep": str(second)}))
 
 
-if __name__ == "__main__":
-    report.script(__doc__, cases, more=more)
+def test_each_compiler_builds_its_own(second, pytestconfig):
+    if not pytestconfig.getoption("--program"):
+        assert not filecmp.cmp(second, program.FILE, shallow=False), "both programs have the same bytes"
+
+
+@pytest.mark.parametrize("case", sorted(it.name for it in Path(CASES).glob("*.txt")))
+def test_case(runs, case):
+    ran = runs[case].result()
+    report.passes(ran.passed())
+    if ran.wrong:
+        report.fail("\n".join(f"{case}, line {step.line}: $ {step.command}\n{why}" for step, why in ran.wrong))
+    if ran.skipped:
+        pytest.skip("; ".join(f"{case}, line {step.line}: without {what}" for step, what in ran.skipped))

@@ -7,6 +7,7 @@ only prepares something for others counts if it fails, and isn't counted if it d
 import glob
 import os
 from concurrent.futures import ThreadPoolExecutor
+from pathlib import Path
 
 from nixkeep_dev.testing import report
 from nixkeep_dev.testing.cases import CASES, SECONDS, Ran, run_case
@@ -14,12 +15,12 @@ from nixkeep_dev.testing.cases import CASES, SECONDS, Ran, run_case
 
 def named(word):
     """The file of a case."""
-    return word if os.path.exists(word) else f"{CASES}/{word.removesuffix('.txt')}.txt"
+    return word if Path(word).exists() else f"{CASES}/{word.removesuffix('.txt')}.txt"
 
 
-def more(asked):
-    asked.add_argument("--seconds", metavar="N", type=float, default=SECONDS, help=f"what a case may take ({SECONDS})")
-    asked.add_argument("cases", nargs="*", metavar="CASE")
+def more(parser):
+    parser.add_argument("--seconds", metavar="N", type=float, default=SECONDS, help=f"what a case may take ({SECONDS})")
+    parser.add_argument("cases", nargs="*", metavar="CASE")
 
 
 def run(words):
@@ -27,7 +28,7 @@ def run(words):
     cases = [named(it) for it in words.cases] or sorted(glob.glob(f"{CASES}/*.txt"))
     with ThreadPoolExecutor(len(os.sched_getaffinity(0))) as pool:
         for case, running in [(it, pool.submit(run_case, it, {"nixkeep": file}, words.seconds)) for it in cases]:
-            name = os.path.basename(case)
+            name = Path(case).name
             try:
                 ran = running.result()
                 wrong = [f"{name}, line {step.line}: $ {step.command}\n{why}" for step, why in ran.wrong]
@@ -35,9 +36,9 @@ def run(words):
                 ran, wrong = Ran(1, [error], []), [f"{name}: {error}"]
             report.passes(ran.passed())
             failed += len(wrong)
-            report.tell(f"{name}: {ran.told()}")
+            report.tell(f"{name}: {ran.summary()}")
             for text in wrong:
-                report.goes_wrong("  " + text.replace("\n", "\n  "))
+                report.failure("  " + text.replace("\n", "\n  "))
             for step, what in ran.skipped:
                 report.skip(f"{name}, line {step.line}: without {what}")
     return failed

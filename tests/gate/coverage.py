@@ -3,7 +3,8 @@
 Runs the tests of the tools and of the deployment, with each Python process that they start measured by coverage
 (Debian: python3-coverage), and prints for each module the part of its lines that ran, the least first. The part of all
 lines may only rise: tests/gate/coverage.txt has the number, and --raise writes a higher one there. Tests that fail
-fail here too. The gate doesn't run it, since the tests take longer under it.
+fail here too, after a second run, since a machine may be busy. No other command runs it, since it takes longer than all
+these tests without it. With NAMES, such as `words`, it runs these tests alone, and compares no number.
 """
 import os
 import re
@@ -13,7 +14,7 @@ from pathlib import Path
 
 from nixkeep_dev.testing import parts, report, sabotage
 from nixkeep_dev.testing.lowered import Raised
-from nixkeep_dev.testing.runs import command, options_of, scripts
+from nixkeep_dev.testing.runs import command, options_of, scripts, spent
 
 NAME = "percent of the lines of tools"
 # The first line of a tool that reads nothing of its environment.
@@ -41,18 +42,26 @@ def prepare(folder, top):
     return {**os.environ, "PYTHONPATH": f"{folder}/path", "COVERAGE_PROCESS_START": f"{folder}/settings"}
 
 
-def run_tests(file, environment, top):
-    """Runs the tests of a copy side by side: the names of those that fail."""
-    names = [f"{top}/tests/tools/{it}.py" for it in scripts("tools", "test_") if it not in NO_TOOL]
-    names.append(os.path.normpath(f"{top}/tests/{parts.TEAM}"))
+def tests_of(top, named):
+    """The tests of a copy that are measured: all, or those that are named."""
+    names = [f"{top}/tests/tools/{it}.py" for it in scripts("tools", "test_")
+             if it not in NO_TOOL and (not named or it.removeprefix("test_") in named)]
+    return names + [str(Path(f"{top}/tests/{parts.TEAM}").resolve())] * (not named or "try" in named)
+
+
+def run_tests(names, given, environment, jobs):
+    """Runs tests side by side: what those print that fail twice."""
 
     def one(name):
-        words = command([name, *options_of(name, {"program": file})])
+        words = command([name, *options_of(name, given)])
         how = {"stdin": subprocess.DEVNULL, "stdout": subprocess.PIPE, "stderr": subprocess.STDOUT, "text": True}
-        ran = subprocess.run(words, env=environment, errors="replace", **how)
-        return f"{os.path.basename(name)}:\n{ran.stdout[-1500:]}" if ran.returncode else None
+        for _ in range(2):
+            ran = subprocess.run(words, env=environment, errors="replace", **how)
+            if not ran.returncode:
+                return None
+        return f"{Path(name).name}:\n{ran.stdout[-1500:]}"
 
-    with ThreadPoolExecutor(len(os.sched_getaffinity(0))) as pool:
+    with ThreadPoolExecutor(jobs) as pool:
         return [it for it in pool.map(one, names) if it]
 
 
@@ -70,21 +79,30 @@ def measured(folder, top):
     return int(found.pop("TOTAL")), sorted(found.items(), key=lambda it: it[1])
 
 
-def more(asked):
-    asked.add_argument("--raise", action="store_true", dest="is_raised", help="write a higher number to coverage.txt")
+def more(parser):
+    parser.add_argument("--raise", action="store_true", dest="is_raised", help="write a higher number to coverage.txt")
+    parser.add_argument("--jobs", metavar="N", type=int, default=len(os.sched_getaffinity(0)), help="how many at once")
+    parser.add_argument("names", nargs="*", metavar="NAME")
 
 
 def run(words):
     file, kept = report.program_file(words), Raised("coverage.txt")
     folder, top = f"{words.folder}/coverage", copied(f"{words.folder}/copy")
-    failed = run_tests(file, prepare(folder, top), top)
+    names = tests_of(top, words.names)
+    if not names:
+        report.fail("no test has this name")
+    failed = run_tests(names, {"program": file, "seed": words.seed}, prepare(folder, top), words.jobs)
+    report.passes(len(names) - len(failed))
     for text in failed:
-        report.goes_wrong(f"a test fails where it is measured: {text}")
+        report.failure(f"a test fails where it is measured: {text}")
+    report.tell(f"{spent() / 60:.1f} processor minutes")
     percent, modules = measured(folder, top)
     for name, part in modules:
         report.tell(f"{part:5.1f} % of {name.removeprefix(top + '/')}")
+    if words.names:
+        return len(failed)
     if words.is_raised:
-        kept.raise_to({NAME: percent})
+        kept.write({NAME: percent})
     is_kept, lines = kept.check(NAME, percent)
     report.tell("\n".join([f"{percent} % of the lines of the tools ran", *lines]))
     report.passes(is_kept)

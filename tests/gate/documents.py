@@ -23,6 +23,7 @@ import ast
 import glob
 import os
 import re
+from pathlib import Path
 
 from nixkeep_dev.build import program
 from nixkeep_dev.build.program import HERE
@@ -100,8 +101,8 @@ def without_code(text):
 
 def rows_of_words():
     """The left cells of CONTRIBUTING.md's table; none without a table."""
-    found = re.search(r"^\| Instead of [^\n]*\n\|[-| :]+\n((?:\|[^\n]*\n?)+)", text_of(WORDS_OF), re.M)
-    return [row.split("|")[1].strip() for row in found[1].splitlines()] if found else []
+    match = re.search(r"^\| Instead of [^\n]*\n\|[-| :]+\n((?:\|[^\n]*\n?)+)", text_of(WORDS_OF), re.M)
+    return [row.split("|")[1].strip() for row in match[1].splitlines()] if match else []
 
 
 def words_pattern(cells):
@@ -188,8 +189,9 @@ def dead_links(name, text):
         place, _, anchor = it[1].partition("#")
         if re.match(r"\w+:", it[1]):
             continue
-        to = os.path.normpath(os.path.join(os.path.dirname(name), place)) if place else name
-        is_there = os.path.exists(f"{HERE}/{to}")
+        # (normpath: the link is read as it is written, and Path leaves `..` in it)
+        to = os.path.normpath(Path(name).parent / place) if place else name
+        is_there = Path(f"{HERE}/{to}").exists()
         if not is_there or anchor and to.endswith(".md") and anchor not in anchors(text_of(to)):
             found.append(f"{name}:{line_at(bare, it.start())}: the link {it[1]} leads nowhere")
     return found
@@ -199,7 +201,7 @@ def is_path(name, path):
     """Whether it is there, from the top, the folder of the document or docs/; a part in capitals is any name."""
     parts = [re.sub(r"^[A-Z][A-Z_]*(?=$|\.edit$)", "*", it) for it in path.split("/")]
     path = "/".join(parts)
-    return any(glob.glob(os.path.join(HERE, base, path)) for base in ("", os.path.dirname(name), "docs"))
+    return any(glob.glob(str(Path(HERE, base, path))) for base in ("", Path(name).parent, "docs"))
 
 
 def columns_of_crates(text):
@@ -285,9 +287,9 @@ def in_crates(pattern, crates):
     }
 
 
-def checks_of_crates(found, kept, is_listed):
+def checks_of_crates(places_of, kept, is_listed):
     """For each number: whether it is kept, and what to print."""
-    for name, places in found.items():
+    for name, places in places_of.items():
         is_kept, lines = kept.check(name, len(places))
         yield is_kept, [*lines, *(places if is_listed or not is_kept else [])]
 
@@ -296,7 +298,7 @@ def checks_of_crates(found, kept, is_listed):
 
 
 def size():
-    bytes_of = os.path.getsize(f"{HERE}/README.md")
+    bytes_of = Path(f"{HERE}/README.md").stat().st_size
     return [f"README.md: {bytes_of} bytes, and at most {README_BYTES} are allowed"] * (bytes_of > README_BYTES)
 
 
@@ -346,9 +348,9 @@ def checks_of_prose(pattern):
             yield words_in(name, prose_of_script(text_of(name)), pattern)
 
 
-def more(asked):
-    asked.add_argument("--list", action="store_true", help="print each place in crates/ too")
-    asked.add_argument("--lower", action="store_true", help="write lower numbers to tests/gate/documents.txt")
+def more(parser):
+    parser.add_argument("--list", action="store_true", help="print each place in crates/ too")
+    parser.add_argument("--lower", action="store_true", help="write lower numbers to tests/gate/documents.txt")
 
 
 def run(words):
@@ -356,7 +358,7 @@ def run(words):
     crates = {*libraries, *(it for named in libraries.values() for it in named), "std"}
     found, kept = in_crates(pattern, crates), Lowered("documents.txt")
     if words.lower:
-        kept.lower({name: len(places) for name, places in found.items()})
+        kept.write({name: len(places) for name, places in found.items()})
     tried = [(not wrong, wrong) for wrong in checks_of_pages(pattern, crates)]
     tried += [(not wrong, wrong) for wrong in checks_of_prose(pattern)]
     tried += checks_of_crates(found, kept, words.list)

@@ -1,49 +1,39 @@
 """Tries edits of crates, each alone: without a NAME the wrong definitions and constants of all crates.
 
-tests/gate/wrong_bodies.py passes these over: what a definition says is in the contracts of many functions, so the whole
-crate is checked with it, and has to be refused. An edit of `laws` may change a definition of a crate below, as `file:
-../model/specs/Step.antt`. Then this crate is built with it, and so are those between the two: one of them has to be
-refused, or else `laws`. A check takes what an earlier one has kept of a crate and is still true. An error counts if it
-isn't for a name that the edit took away, and a text that can't be read isn't refused for what it says. The libraries
-beneath are those that lie in the folders out/, as `rt ci` leaves them, or `rt lib`.
+tests/gate/wrong_bodies.py passes these over: what a definition says is in the contracts of many functions. So some of
+those that cite it are checked with it, over the others, which are only stated: one has to be refused. Where none is,
+the whole crate has to be. An edit of `laws` may change a definition of a crate below, as `file:
+../model/specs/Step.antt`. Then the laws are checked over the sources of this crate and of those between the two, in one
+check; where no law is refused, what they prove themselves has to be. A check takes what an earlier one has kept of a
+crate and is still true. An error counts if it isn't for a name that the edit took away, and a text that can't be read
+isn't refused for what it says. The libraries beneath are those that lie in the folders out/, as `rt ci` leaves them, or
+`rt lib`.
 
-A NAME is a crate, whose edits of bodies are tried too, or CRATE/EDIT. With --today it tries those of a day, by --seed:
-each has one of eight days, so all are tried within eight days. With --minutes no further edit is tried once these
-processor minutes are spent: the last lines say how many are left out, which counts as skipped. Each eight days begin
-with other edits than the eight days before, so what is left out then is tried later.
+Without --gate and --today each check is made without its edit first, and has to pass. One that survives fails, unless
+tests/gate/survivors.txt names it with the reason; so does one that is named there and refused.
+
+A NAME is a crate, whose edits of bodies are tried too, or CRATE/EDIT. With --gate it tries those that
+tests/gate/mistakes.txt names, and with --today a twelfth of the others, by --seed, which is the day: all within twelve
+days. With --minutes no further edit of the day is tried once these processor minutes are spent: the last lines say how
+many are left out, which counts as skipped. Each twelve days begin with other edits than the twelve days before, so what
+is left out then is tried later.
 """
 import os
 import re
-import shutil
-import subprocess
 import tempfile
 import time
 from concurrent.futures import ThreadPoolExecutor
-from pathlib import Path
 
 from nixkeep_dev.build import program
-from nixkeep_dev.sources import bodies
+from nixkeep_dev.sources import bodies, citations, copies, functions
 from nixkeep_dev.testing import days, report
 from nixkeep_dev.testing.runs import spent
 
-HERE = program.HERE
-# The memory that a check takes, in bytes, above what was seen.
-MEMORY = 3_200_000_000
+# How many of the functions that cite a definition are checked alone, before the whole crate is.
+CITING = 3
 ERROR = re.compile(r"(?:\./)?(\S+?):\d+:\d+: error: (?:(`[^`]*`): )?(.*)")
 # What an error says of a text that can't be read.
 UNREAD = re.compile(r"is not in scope|is no name|operand is missing|expected the end|cannot continue")
-
-
-def put(crate, changed, room):
-    """Makes a copy of a crate with these changes."""
-    for part in ("src", "specs", "proofs"):
-        if os.path.isdir(f"{HERE}/crates/{crate}/{part}"):
-            shutil.copytree(f"{HERE}/crates/{crate}/{part}", f"{room}/{crate}/{part}")
-    texts = {file: Path(f"{room}/{crate}/{file}").read_text(encoding="utf-8") for file, _, _ in changed}
-    made = bodies.laid(changed, texts)
-    for file, text in (made or {}).items():
-        Path(f"{room}/{crate}/{file}").write_text(text, encoding="utf-8")
-    return made is not None
 
 
 def changes_of(crate, edit):
@@ -55,92 +45,131 @@ def changes_of(crate, edit):
     return found
 
 
-def checked(crate, named, room, among, kept):
-    """Checks a crate of the copy, or builds it where others of the copy are above it: its status and what it said."""
-    folder_of = lambda it: f"{room}/rlib" if it in among else f"{HERE}/crates/{it}/out/rlib"
-    words = program.words_of(crate, named, folder_of, 1)
-    words = [f"{program.toolchain()}/bin/rattle", "check" if crate == among[-1] else "build", *words, "--incremental",
-             f"{kept}/{crate}"]
-    if crate != among[-1]:
-        words += ["--links", f"{crate}=", "-o", f"{room}/rlib/{crate}.rlib"]
-    how = {"cwd": f"{room}/{crate}", "stdin": subprocess.DEVNULL, "stdout": subprocess.PIPE}
-    ran = subprocess.run(words, stderr=subprocess.STDOUT, text=True, errors="replace", **how)
-    return ran.returncode, ran.stdout
+def errors_of(said):
+    return [ERROR.match(it) for it in said.splitlines() if ERROR.match(it)]
+
+
+def unread(said, changed):
+    """The errors that a check said of these files, which were changed, and whose text can't be read."""
+    return [it[0] for it in errors_of(said) if it[1].endswith(changed) and (not it[2] or UNREAD.search(it[3]))]
 
 
 def judged(status, said, changed):
     """Why what a check said is no refusal; None where it is one."""
+    if status == 0:
+        return "NOT REFUSED"
     if status != 1:
         return f"NOT TRIED: a check ended with status {status}:\n{said[-600:]}"
-    found = [ERROR.match(it) for it in said.splitlines() if ERROR.match(it)]
-    unread = [it[0] for it in found if it[1] in changed and (not it[2] or UNREAD.search(it[3]))]
-    if unread:
-        return f"its text can't be read: {unread[0]}"
+    if found := unread(said, changed):
+        return f"its text can't be read: {found[0]}"
+    found = errors_of(said)
     if any(not any(name in it[3] for name in bodies.OF_NAMES) for it in found) or "it is not proved" in said:
         return None
     return f"NOT REFUSED for what it says:\n{said[-600:]}"
 
 
-def why_not(crate, edit, named, kept):
+def is_refused_by_some(crate, edit, named, kept, is_tried_without):
+    """Whether some of the functions that cite what an edit changes are refused with it, over the others. Where they are
+    tried without it too, all have to be proved then."""
+    texts = {**bodies.sources(crate), **bodies.sources(crate, "specs")}
+    citing, made = citations.citing(edit.pairs, texts)[:CITING], bodies.laid(edit.pairs, texts)
+    if not citing or made is None:
+        return False
+    check = lambda texts: copies.check_stated(crate, named, texts, {*citing}, f"{kept}/{crate}")
+    if is_tried_without and not all(map(check(texts).is_proved, citing)):
+        return False
+    checked, files = check(made), tuple(file for file, _, _ in edit.pairs)
+    if unread(checked.output, files):
+        return False
+    # (an error may be of a lemma on which the function's proof depends)
+    not_proved = [it for it in citing if checked.said.get(it, "").startswith("not proved")]
+    return any(map(checked.is_refused, citing)) or bool(not_proved and judged(1, checked.output, files) is None)
+
+
+def why_not_over_sources(among, changed, named, kept, is_tried_without):
+    """Tries changes of crates over the sources of all that are changed and those above: why they aren't refused."""
+    crate, files = among[-1], tuple(file for of_one in changed.values() for file, _, _ in of_one)
+    laws = [path for *_, path in functions.functions(bodies.sources(crate))] if len(among) > 1 else []
+    with tempfile.TemporaryDirectory(prefix="rt-edit-") as room:
+        check = lambda top, only: copies.check_sources(among, named, top, only, f"{kept}/{among[0]}")
+        if is_tried_without:
+            [copies.put(it, [], f"{room}/without") for it in among]
+            if check(f"{room}/without", laws)[0]:
+                return "NOT TRIED: without it the check fails, too"
+        if not all([copies.put(it, changed.get(it, []), room) for it in among]):
+            return "its text doesn't stand once in the sources"
+        # (with no law that is refused, all that the crates prove is checked)
+        for only in [laws, []] if laws else [[]]:
+            status, said = check(room, only)
+            if status:
+                break
+        return judged(status, said, files)
+
+
+def why_not(crate, edit, named, kept, is_tried_without=False):
     """Tries an edit alone, over what was kept of each crate: why it isn't refused, or None."""
     changed = changes_of(crate, edit)
     among = [it for it in program.with_below(crate, named) if {*program.with_below(it, named)} & {*changed}]
-    with tempfile.TemporaryDirectory(prefix="rt-edit-") as room:
-        os.mkdir(f"{room}/rlib")
-        for it in among:
-            os.makedirs(f"{kept}/{it}", exist_ok=True)
-            if not put(it, changed.get(it, []), room):
-                return "its text doesn't stand once in the sources"
-            status, said = checked(it, named, room, among, kept)
-            if status:
-                return judged(status, said, [file for file, _, _ in changed.get(it, [])])
-    return "NOT REFUSED"
+    for it in among:
+        os.makedirs(f"{kept}/{it}", exist_ok=True)
+    if among == [crate] and is_refused_by_some(crate, edit, named, kept, is_tried_without):
+        return None
+    return why_not_over_sources(among, changed, named, kept, is_tried_without)
 
 
-def try_crate(crate, edits, named, bound):
+def try_crate(crate, edits, named, bound, is_tried_without):
     """Tries edits of a crate one after another: how many were refused."""
-    refused = 0
+    refused, survivors = 0, bodies.excused(bodies.SURVIVORS)
     with tempfile.TemporaryDirectory(prefix="rt-edits-") as kept:
-        for at, edit in enumerate(edits):
-            if bound.leaves_out(edits[at:]):
-                break
+        for edit in edits:
+            if (crate, edit.name) not in bodies.always() and bound.leaves_out([edit]):
+                continue
             since = time.monotonic()
-            why = why_not(crate, edit, named, kept)
+            why = why_not(crate, edit, named, kept, is_tried_without)
             refused += why is None
             told = f"{crate}/{edit.name}: {why or 'refused'} ({time.monotonic() - since:.0f} s)"
-            (report.goes_wrong if why else report.tell)(told)
+            is_known = (crate, edit.name) in survivors
+            if is_known:
+                told = f"{told}: {bodies.SURVIVORS} has it"
+            (report.tell if is_known == (why is not None) else report.failure)(told)
     return refused
 
 
 def chosen(words):
     """The edits to try, as pairs of a crate and a name, and how many there are."""
-    every = [it for together in bodies.definitions() for it in together]
-    if not words.names:
-        return bodies.definitions_of_day(words.seed) if words.today else every, len(every)
-    bodies.having([it.partition("/")[0] for it in words.names])
-    every = [(crate, it.name) for crate in bodies.having() for it in bodies.further(crate)]
-    found = [it for it in every if it[0] in words.names or "/".join(it) in words.names]
-    return found, len(every)
+    every = [(crate, it.name) for crate, it in bodies.every(False)]
+    if words.names:
+        bodies.having([it.partition("/")[0] for it in words.names])
+        every += [(crate, it.name) for crate, it in bodies.every(True)]
+        return [it for it in every if it[0] in words.names or "/".join(it) in words.names], len(every)
+    if words.gate or words.today:
+        of_day = bodies.definitions_of_day(words.seed) if words.today else []
+        return [*([it for it in bodies.always() if it in every] if words.gate else []), *of_day], len(every)
+    return every, len(every)
 
 
-def more(asked):
-    days.add_to(asked)
-    asked.add_argument("names", nargs="*", metavar="NAME", help="a crate that has further edits, or CRATE/EDIT")
+def more(parser):
+    parser.add_argument("--gate", action="store_true", help=f"those that {bodies.MISTAKES} names")
+    days.add_to(parser, bodies.DAYS)
+    parser.add_argument("names", nargs="*", metavar="NAME", help="a crate that has further edits, or CRATE/EDIT")
 
 
 def run(words):
     (found, count), named, bound = chosen(words), program.listed(), days.Bound(words.minutes)
     if not found:
         report.fail("no edit has this name")
-    edits = {(crate, it.name): it for crate in {crate for crate, _ in found} for it in bodies.further(crate)}
-    by_crate = {crate: [edits[it] for it in found if it[0] == crate] for crate in dict.fromkeys(it[0] for it in found)}
-    lanes = max(1, min(len(os.sched_getaffinity(0)), int(program.free() / MEMORY)))
-    with ThreadPoolExecutor(lanes) as pool:
-        refused = sum(pool.map(lambda it: try_crate(*it, named, bound), by_crate.items()))
+    edits = {(crate, it.name): it for of_bodies in (True, False) for crate, it in bodies.every(of_bodies)}
+    is_part, together = words.gate or words.today, {}
+    for it in found:
+        together.setdefault((it[0], *sorted({*bodies.crates_below(edits[it])})), []).append(edits[it])
+    with ThreadPoolExecutor(copies.lanes()) as pool:
+        tried = lambda crates: try_crate(crates[0], together[crates], named, bound, not is_part)
+        refused = sum(pool.map(tried, together))
     report.passes(refused)
-    tried = len(found) - len(bound.left_out)
-    report.tell(f"{refused} of {tried} edits refused, of {count}, in {spent() / 60:.1f} processor minutes")
-    bound.tell("wrong definitions", tried)
+    number = len(found) - len(bound.left_out)
+    report.tell(f"{refused} of {number} edits refused, of {count}{days.said_of(words)}, in {spent() / 60:.1f} processor"
+                " minutes")
+    bound.tell("wrong definitions", number)
     return len(report.wrong)
 
 

@@ -1,20 +1,22 @@
 """Runs `rt ci`, then all that tries the program that it built, and prints what took how long: `gate MINUTES`.
 
-After `rt ci` it compares the bytes of the program with those of release/. Then come, side by side: the wrong bodies
-that are always tried; the program as `bin/nixkeep` builds it, and as Rattle's own compiler does; the cases,
-comparisons, the tests of the tools, a clean Debian with the package, and a part of each fault script, chosen by the
-day. At the end is a table of processor minutes: for each crate its proof, its tests (proved and run) and its edits;
-then one of the parts, with the minutes of the clock too. Both begin with what took most. It fails where a part does,
-and where all took more than MINUTES. The whole is what the system counts; what each crate took is seen by looking at
-the running processes, so the row `else` has what no look has caught. The last lines are what was skipped, the
-comparison with the release, and `N passed, M failed`: those of `rt ci` and of each part and, where it is exceeded, the
-budget. The program stays, and bin/nixkeep runs it. bin/test calls this.
+After `rt ci` it compares the bytes of the program with those of release/. Then come, side by side: wrong bodies, and
+after them wrong definitions, those of the mistakes that a store must not make and those of the day; the program as
+`bin/nixkeep` builds it, and as Rattle's own compiler does; the cases, comparisons, the tests of the tools, a clean
+Debian with the package, and a part of each fault script, chosen by the day; and the planted faults of the day. At the
+end is a table of processor minutes: for each crate its proof, its tests (proved and run) and its edits; then one of the
+parts, with the minutes of the clock too. Both begin with what took most. It fails where a part does, and where all took
+more than MINUTES. The whole is what the system counts; what each crate took is seen by looking at the running
+processes, so the row `else` has what no look has caught. The last lines are what was skipped, the comparison with the
+release, and `N passed, M failed`: those of `rt ci` and of each part and, where it is exceeded, the budget. The program
+stays, and bin/nixkeep runs it. bin/test calls this.
 """
 import collections
 import os
 import re
 import shutil
 import sys
+import threading
 import time
 from pathlib import Path
 
@@ -25,8 +27,11 @@ from nixkeep_dev.testing.processes import children, processes
 from nixkeep_dev.testing.runs import file_of, run, spent, together
 
 TICKS = os.sysconf("SC_CLK_TCK")
-# The minutes that `rt ci` may take, and wrong bodies: on two processors each takes more than an hour.
+# The minutes that `rt ci` may take, and wrong bodies, and definitions: on two processors the first take hours.
 PROOFS, EDITS = 360, 120
+# The processor minutes within which one of the day's may begin, of the wrong bodies (with those that are always tried)
+# and of the wrong definitions: somewhat more than a day takes.
+OF_DAY = {"wrong_bodies": 54, "edits": 12}
 KINDS = ("proof", "tests", "edits")
 
 
@@ -81,11 +86,28 @@ def clear_libraries():
 
 
 def try_parts():
-    """Runs wrong bodies and all parts side by side; returns the runs, and what was seen of the wrong bodies."""
-    watch, given = Watch(), {"program": program.FILE, "libraries": BUILT}
-    bodies = [file_of("gate/wrong_bodies"), "--gate"]
+    """Runs edits and all parts side by side; returns the runs, and what was seen of the edits."""
+    # (all parts have one seed, also where a run goes on into the next day)
+    watch, given = Watch(), {"program": program.FILE, "libraries": BUILT, "seed": report.today()}
+    bodies_ended = threading.Event()
+
+    def try_edits(name):
+        words = ["--gate", "--today", "--seed", str(given["seed"]), "--minutes", str(OF_DAY[name])]
+        return run([file_of(f"gate/{name}"), *words], False, watch.look, EDITS)
+
+    def bodies():
+        try:
+            return try_edits("wrong_bodies")
+        finally:
+            bodies_ended.set()
+
+    def definitions():
+        # (both take all processors, and much memory)
+        bodies_ended.wait()
+        return try_edits("edits")
+
     tried = [*parts.of_gate(given), *parts.of_program(given, is_whole=True)]
-    return parts.side_by_side(tried, [lambda: run(bodies, False, watch.look, EDITS)]), watch.minutes()
+    return parts.side_by_side(tried, [bodies, definitions]), watch.minutes()
 
 
 def show_table(found, cases, whole, since):
@@ -101,10 +123,10 @@ def show_table(found, cases, whole, since):
 
 
 def main():
-    asked = report.parser(__doc__)
-    asked.add_argument("budget", metavar="MINUTES", type=float, help="the processor minutes that all may take")
-    asked.add_argument("--no-skips", action="store_true", help=f"what is skipped fails, unless {skips.NAME} names it")
-    words = asked.parse_args()
+    parser = report.parser(__doc__)
+    parser.add_argument("budget", metavar="MINUTES", type=float, help="the processor minutes that all may take")
+    parser.add_argument("--no-skips", action="store_true", help=f"what is skipped fails, unless {skips.NAME} names it")
+    words = parser.parse_args()
     budget, since, watch = words.budget, time.monotonic(), Watch()
     clear_libraries()
     runs = [run(["rt", "ci"], each_second=watch.look, limit=PROOFS)]

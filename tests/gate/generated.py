@@ -12,9 +12,9 @@
 with a question mark, in whose place its promise has to be written.
 """
 import json
-import os
 import re
 import xml.etree.ElementTree
+from pathlib import Path
 
 from nixkeep_dev.bench import chosen
 from nixkeep_dev.build.program import HERE
@@ -29,17 +29,17 @@ LIMITS = {"docs/PERFORMANCE.md": 8_192, "docs/DECISIONS.md": 25_600, PROMISES: 4
 
 def sizes():
     for name, most in LIMITS.items():
-        if (size := os.path.getsize(f"{HERE}/{name}")) > most:
+        if (size := Path(f"{HERE}/{name}").stat().st_size) > most:
             yield f"{name} has {size} bytes, and at most {most} are allowed"
 
 
 def performance():
     found = json.loads(text_of("bench/figures.json"))
     for file, text in bench.pages(found).items():
-        if text_of(os.path.relpath(file, HERE)) != text:
-            yield f"{os.path.relpath(file, HERE)} isn't what `bin/bench --print` writes"
+        if text_of(str(Path(file).relative_to(HERE))) != text:
+            yield f"{str(Path(file).relative_to(HERE))} isn't what `bin/bench --print` writes"
     for it in chosen.FIGURES:
-        if not chosen.found_in(found, *it[1:]):
+        if not chosen.figure_in(found, *it[1:]):
             yield f"bench/figures.json has no figure {it.label!r}"
     xml.etree.ElementTree.fromstring(text_of("docs/performance.svg"))
 
@@ -66,19 +66,14 @@ def write():
         file.write(made)
 
 
-def more(asked):
-    asked.add_argument("--write", action="store_true", help="write the pages")
+def more(parser):
+    parser.add_argument("--write", action="store_true", help="write the pages")
 
 
 def run(words):
     if words.write:
         write()
-    found = {part.__name__: list(part()) for part in words.parts}
-    for part, wrong in found.items():
-        report.passes(not wrong)
-        for line in wrong:
-            report.tell(f"{part}: {line}")
-    return sum(map(bool, found.values()))
+    return report.run_checks(words.parts)
 
 
 if __name__ == "__main__":

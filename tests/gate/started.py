@@ -1,37 +1,51 @@
-"""Starts each executable of the repository, and each module that is a script, in a fresh copy in which nothing was
-built, with a stand-in for the toolchain on the path.
+"""Starts each executable of the repository, and each module that is a script or has tests, in a fresh copy in which
+nothing was built, with a stand-in for the toolchain on the path.
 
-  helps   each prints its help
-  builds  each that needs the program, started without a release, begins to prove it, and ends with what the stand-in
-          says; so nothing that it imports is missing, and each folder is where it looks for it
-  runs    each part of bin/test begins so too, by one of its names
-
-The copy has the files that git has or would add. It needs git and python3.
+A script prints its help. One that needs the program, started without a release, begins to prove it, and ends with what
+the stand-in says; so nothing that it imports is missing, and each folder is where it looks for it. Each part of
+bin/test begins so too. The copy has the files that git has or would add. It needs git and python3.
 """
-import glob
 import os
 import re
 import subprocess
 import tempfile
-from concurrent.futures import ThreadPoolExecutor
 from pathlib import Path
 
+import pytest
+
 from nixkeep_dev.build import program
-from nixkeep_dev.testing import report
+from nixkeep_dev.testing.by_pytest import has_tests
 from nixkeep_dev.testing.runs import command, compile_modules
-from nixkeep_dev.testing.tracked import copy_to
+from nixkeep_dev.testing.tracked import copy_to, git
 
 FOLDERS = ("bin", "tests", "bench", "tools", "examples")
 SECONDS = 300
 SAYS = "the stand-in proves nothing"
-STAND_IN = {"rt": f"[ $1 != version ] || exec echo '{program.TOOLCHAIN}'; echo {SAYS}; exit 1",
+STAND_IN = {"rt": f"[ $1 != version ] || exec echo 'rattle-kit {program.LOGIC}'; echo {SAYS}; exit 1",
             "rattle": f"echo {SAYS}; exit 1"}
-# What takes the option --program and needs none.
+# What has no option --program, and what has it and needs none.
+WITHOUT = ("bench/first_run.py", "bench/proofs.py", "bin/release", "bin/run", "tests/stores/make")
 NEEDS_NONE = ("bin/test", "bin/bench", "tests/gate/", "tools/",
-              *(f"tests/tools/test_{it}.py" for it in ("foreign", "large_model", "launcher", "release")))
+              *(f"tests/tools/test_{it}.py" for it in ("foreign", "formats", "large_model", "launcher", "release")))
+# What begins to prove although it has no such option, or although the others of its folder need none.
+BUILDS = ("bin/nixkeep", "bin/release", "tests/gate/cases.py")
 # One name of each part of bin/test that needs the program; the others are of checks that need none.
-RUNS = (["cases", "who"], ["compare", "curl"], ["faults", "cut_heads"], ["tools", "remote"], ["team", "cache"],
-        ["package", "files"], [])
+RUNS = ("cases who", "compare curl", "faults cut_heads", "tools remote", "team cache", "package files", "")
+
+
+def is_script(name):
+    """Whether a file can be run, or is a module that bin/run starts. What only a test starts is left out, and the
+    launcher: its words are those of the program."""
+    file = Path(program.HERE, name)
+    if "/cases/tools/" in name or name == "bin/nixkeep" or not file.is_file():
+        return False
+    is_module = re.fullmatch(r"bench/\w+\.py|tests/\w+/\w+\.py", name)
+    return os.access(file, os.X_OK) or bool(is_module) and (
+        '__name__ == "__main__"' in file.read_text() or has_tests(str(file)))
+
+
+SCRIPTS = sorted(filter(is_script, git("ls-files", "-co", "--exclude-standard", "--", *FOLDERS)))
+BUILDERS = sorted({*BUILDS, *(it for it in SCRIPTS if not it.startswith((*NEEDS_NONE, *WITHOUT)))})
 
 
 def put_stand_in(folder):
@@ -51,16 +65,6 @@ class Copy:
         put_stand_in(f"{room}/kit/bin")
         compile_modules(self.top)
 
-    def scripts(self):
-        """The files that can be run, and the modules that are scripts, in order; those that only a test starts are
-        left out."""
-        found = [f"{os.path.relpath(at, self.top)}/{it}" for top in FOLDERS for at, _, names
-                 in os.walk(f"{self.top}/{top}") for it in names if os.access(f"{at}/{it}", os.X_OK)]
-        modules = [it for top in ("bench/*.py", "tests/*/*.py") for it in glob.glob(top, root_dir=self.top)]
-        found += [it for it in modules if '__name__ == "__main__"' in Path(self.top, it).read_text()
-                  or Path(it).name.startswith("test_")]
-        return sorted(it for it in found if "/cases/tools/" not in it and it != "tests/gate/started.py")
-
     def run(self, *words):
         """The status of a command and what it printed; None and why where it couldn't be started, or didn't end."""
         how = {"cwd": self.top, "stdin": subprocess.DEVNULL, "stdout": subprocess.PIPE, "stderr": subprocess.STDOUT}
@@ -74,47 +78,44 @@ class Copy:
         return ran.returncode, ran.stdout
 
 
-def wrong_help(name, status, said):
-    if status != 0 or not re.search("usage", said, re.I) or "Traceback" in said:
-        return f"{name} --help: status {status}\n{said[-2000:]}"
-    return None
+@pytest.fixture(scope="module")
+def copy(shared_folder):
+    return Copy(shared_folder)
 
 
-def wrong_start(fresh, *words):
-    status, said = fresh.run(*words)
-    if not status or SAYS not in said or "Traceback" in said:
-        return f"{' '.join(words)}: status {status}\n{said[-2000:]}"
-    return None
+@pytest.fixture(scope="module")
+def helps(copy, side_by_side):
+    return side_by_side("script", lambda script: copy.run(script, "--help"))
 
 
-def builders(helps):
-    """The scripts that need the program: those that take another one by --program, as their help says."""
-    own = [it for it in helps if not it.startswith(NEEDS_NONE) or it in ("tests/gate/cases.py",)]
-    return [it for it in own if "--program" in helps[it][1]]
+@pytest.fixture(scope="module")
+def starts(copy, side_by_side):
+    return side_by_side("builder", copy.run)
 
 
-def try_all(pool, what, calls):
-    """Makes calls side by side; returns how many found something wrong."""
-    failed = 0
-    for wrong in [it.result() for it in [pool.submit(*call) for call in calls]]:
-        report.passes(wrong is None)
-        if wrong:
-            failed += 1
-            report.goes_wrong(f"{what}: {wrong}")
-    return failed
+@pytest.fixture(scope="module")
+def parts(copy, side_by_side):
+    return side_by_side("part", lambda part: copy.run("bin/test", *part.split()))
 
 
-def run(_):
-    with tempfile.TemporaryDirectory() as room, ThreadPoolExecutor(len(os.sched_getaffinity(0))) as pool:
-        fresh = Copy(room)
-        names = [it for it in fresh.scripts() if it != "bin/nixkeep"]
-        helps = dict(zip(names, pool.map(lambda it: fresh.run(it, "--help"), names)))
-        failed = try_all(pool, "helps", [(wrong_help, it, *helps[it]) for it in names])
-        own = ["bin/nixkeep", "bin/release", *builders(helps)]
-        failed += try_all(pool, "builds", [(wrong_start, fresh, it) for it in own])
-        failed += try_all(pool, "runs", [(wrong_start, fresh, "bin/test", *it) for it in RUNS])
-    return failed
+def begins_to_prove(status, said):
+    return bool(status) and SAYS in said and "Traceback" not in said
 
 
-if __name__ == "__main__":
-    report.script(__doc__, run, parts=())
+@pytest.mark.parametrize("script", SCRIPTS)
+def test_helps(helps, script):
+    status, said = helps[script].result()
+    assert status == 0 and re.search("usage", said, re.I) and "Traceback" not in said, said[-2000:]
+    assert script not in WITHOUT or "--program" not in said, "it needs the program"
+
+
+@pytest.mark.parametrize("builder", BUILDERS)
+def test_builds(starts, builder):
+    status, said = starts[builder].result()
+    assert begins_to_prove(status, said), f"status {status}\n{said[-2000:]}"
+
+
+@pytest.mark.parametrize("part", RUNS)
+def test_runs(parts, part):
+    status, said = parts[part].result()
+    assert begins_to_prove(status, said), f"bin/test {part}: status {status}\n{said[-2000:]}"

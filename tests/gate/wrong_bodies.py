@@ -16,50 +16,33 @@ named, and there is a control: the edits of crates/NAME/further/equal/ change no
 are refused nevertheless are named in tests/gate/equal.txt, each with the reason: a wrong body of their kind shows
 nothing.
 
+A wrong body that survives fails, unless tests/gate/survivors.txt names it with the reason why no clause can forbid it.
+One that is named there and refused fails, too. Where a function isn't proved only for a name that the edit took away,
+or since the check doesn't read such a body, the refusal shows nothing. It fails as well; one of the day counts as
+skipped, and the last lines name it.
+
 Without an option each crate is checked first without its edits: every function that they change has to be proved there.
 
-With --gate it tries the edits that tests/gate/bodies.txt lists, and with --today an eighth of the others and of the
-crates that have a control, by --seed, which is the day: all within eight days. With both it tries both, in the same
-checks. With --minutes those of the list are all tried, but once these processor minutes are spent none of the others is
-tried any more: the last lines say how many are left out, which counts as skipped. Each eight days begin with other
-crates than the eight days before, so what is left out then is tried later.
+With --gate it tries the edits that tests/gate/mistakes.txt names, and with --today a twelfth of the others and of the
+crates that have a control, by --seed, which is the day: all within twelve days. Those of one crate that one check can
+try have the same day. With both options it tries both, in the same checks. With --minutes those of the table are all
+tried, but once these processor minutes are spent none of the others is tried any more: the last lines say how many are
+left out, which counts as skipped. Each twelve days begin with other crates than the twelve days before, so what is left
+out then is tried later.
 """
-import os
-import shutil
-import subprocess
 import tempfile
 import time
 from concurrent.futures import ThreadPoolExecutor
-from pathlib import Path
 
 from nixkeep_dev.build import program
-from nixkeep_dev.sources import bodies, functions
+from nixkeep_dev.sources import bodies, copies
 from nixkeep_dev.testing import days, report
 from nixkeep_dev.testing.runs import spent
-
-HERE = program.HERE
-# The memory that a check takes, in bytes, above what was seen.
-MEMORY = 3_200_000_000
 
 
 def check(crate, named, texts, edits, kept):
     """A check of the functions that edits change, over these texts, in which all others are only stated."""
-    edited = {function for edit in edits for function in edit.functions}
-    texts, stated = functions.stated(texts, edited)
-    with tempfile.TemporaryDirectory(prefix="rt-edit-") as room:
-        for part in ("specs", "proofs"):
-            if os.path.isdir(f"{HERE}/crates/{crate}/{part}"):
-                shutil.copytree(f"{HERE}/crates/{crate}/{part}", f"{room}/{part}")
-        for path, text in texts.items():
-            os.makedirs(os.path.dirname(f"{room}/{path}"), exist_ok=True)
-            Path(f"{room}/{path}").write_text(text, encoding="utf-8")
-        functions.leave_proofs_open(room, crate, stated)
-        only = [it for function in sorted(edited) for it in ("--only", function)]
-        how = {"cwd": room, "stdin": subprocess.DEVNULL, "stdout": subprocess.PIPE, "stderr": subprocess.STDOUT}
-        words = program.words_of(crate, named, lambda library: f"{HERE}/crates/{library}/out/rlib", 1)
-        words = [f"{program.toolchain()}/bin/rattle", "check", *words, "--allow-holes", "--incremental", kept, *only]
-        ran = subprocess.run(words, text=True, errors="replace", **how)
-    return bodies.Check(crate, ran.stdout, edited)
+    return copies.check_stated(crate, named, texts, {it for edit in edits for it in edit.functions}, kept)
 
 
 def together(edits, texts):
@@ -76,15 +59,16 @@ def together(edits, texts):
 
 class Tried:
     """The wrong bodies of a crate: how many there are, how many are tried and were refused, which of them by a search
-    alone, and what is to be said of the others. Where pairs of a crate and a name are given as `asked`, only these are
-    tried. Once the bound is spent, only those of `always` are."""
+    alone, and what is to be said of the others: `empty` are refusals that show nothing. Where pairs of a crate and a
+    name are given as `chosen`, only these are tried. Once the bound is spent, only those of `always` are."""
 
-    def __init__(self, crate, named, asked, always, bound):
+    def __init__(self, crate, named, chosen, always, bound):
         self.crate, self.named, self.refused, self.wrong, self.searched, self.survived = crate, named, 0, [], [], 0
-        self.always, self.bound = always, bound
+        self.always, self.bound, self.known, self.empty = always, bound, [], []
         self.texts = bodies.sources(crate)
         found = [it for it in bodies.further(crate) if it.is_of_bodies()]
-        self.edits = [it for it in found if asked is None or (crate, it.name) in asked]
+        self.edits = [it for it in found if chosen is None or (crate, it.name) in chosen]
+        self.is_part = chosen is not None
         self.total, self.count = len(found), len(self.edits)
 
     def try_all(self, is_tried_without):
@@ -101,7 +85,8 @@ class Tried:
                 waiting = self.judge(taken, check(self.crate, self.named, changed, taken, kept))
                 self.edits = [*waiting, *left]
                 if len(waiting) == len(taken):
-                    self.wrong += [f"{it.name}: it is refused for another function alone" for it in waiting]
+                    for it in waiting:
+                        self.not_refused(it, "it is refused for another function alone", True)
                     self.edits = left
         return self
 
@@ -132,19 +117,32 @@ class Tried:
                         self.wrong.append(f"{bodies.EQUAL}/{edit.name}: {what}: {'; '.join(refused)}")
         return self
 
+    def not_refused(self, edit, why, is_empty):
+        """Notes an edit that isn't refused for what it does: its functions are proved, or the refusal is empty."""
+        of_day = self.is_part and (self.crate, edit.name) not in self.always
+        if (self.crate, edit.name) in bodies.excused(bodies.SURVIVORS):
+            self.known.append(f"{edit.name}: {why}")
+        elif is_empty and of_day:
+            self.empty.append(f"{self.crate}/{edit.name}")
+        else:
+            self.wrong.append(f"{edit.name}: {why}")
+
     def judge(self, taken, checked):
         """Counts the edits that a check refused; returns those whose functions wait for others."""
         found = {edit: [checked.is_refused(it) for it in edit.functions] for edit in taken}
         refused = [it for it in taken if True in found[it]]
         waiting = [it for it in taken if it not in refused and None in found[it]]
         self.refused += len(refused)
+        self.wrong += [f"{it.name}: it is refused, and {bodies.SURVIVORS} has it" for it in refused
+                       if (self.crate, it.name) in bodies.excused(bodies.SURVIVORS)]
         for edit in refused:
             of = [it for it, is_so in zip(edit.functions, found[edit]) if is_so]
             self.searched += [edit.name] if all(map(checked.is_by_search_alone, of)) else []
         for edit in taken:
             if edit not in refused and edit not in waiting:
                 why = "; ".join(map(checked.why_not, edit.functions))
-                self.wrong.append(f"{edit.name}: NOT REFUSED for what it does ({why})")
+                is_empty = any(map(checked.is_not_proved, edit.functions))
+                self.not_refused(edit, f"NOT REFUSED for what it does ({why})", is_empty)
         if not checked.said:
             lines = checked.output.split("\n")
             errors = [it for it in lines if "error" in it][:6]
@@ -158,41 +156,45 @@ def show(tried, seconds):
                 f" {len(tried.searched)} by a search alone; {tried.survived} equal ones survive")
     for name in tried.searched:
         report.tell(f"  by a search alone: {tried.crate}/{name}")
+    for text in tried.known:
+        report.tell(f"  named in {bodies.SURVIVORS}: {tried.crate}/{text}")
     for text in tried.wrong:
         report.tell(f"{tried.crate}/{text}")
-    report.passes(tried.refused + tried.survived)
+    report.passes(tried.refused + tried.survived + len(tried.known))
 
 
-def more(asked):
-    asked.add_argument("--gate", action="store_true", help=f"those that {bodies.SELECTION} lists")
-    days.add_to(asked)
-    asked.add_argument("names", nargs="*", metavar="NAME")
+def more(parser):
+    parser.add_argument("--gate", action="store_true", help=f"those that {bodies.MISTAKES} names")
+    days.add_to(parser, bodies.DAYS)
+    parser.add_argument("names", nargs="*", metavar="NAME")
 
 
 def run(words):
     named, names, done = program.listed(), words.names or bodies.having(words.names), []
-    always, asked, is_part = {*bodies.selected()} if words.gate else set(), None, words.gate or words.today
+    always, chosen, is_part = {*bodies.always()} if words.gate else set(), None, words.gate or words.today
     with_equal, bound = [] if is_part else bodies.having_equal(), days.Bound(words.minutes)
     if is_part:
-        asked = always | {*(bodies.of_day(words.seed) if words.today else ())}
+        chosen = always | {*(bodies.others_of_day(words.seed) if words.today else ())}
     if words.today:
-        names, with_equal = days.in_turn(names, words.seed), bodies.equal_of_day(words.seed)
+        names, with_equal = days.in_turn(names, words.seed, bodies.DAYS), bodies.equal_of_day(words.seed)
 
     def one(crate):
         since = time.monotonic()
-        tried = Tried(crate, named, asked, always, bound).try_all(not is_part)
+        tried = Tried(crate, named, chosen, always, bound).try_all(not is_part)
         return tried.try_equal() if crate in with_equal else tried, time.monotonic() - since
 
-    lanes = max(1, min(len(os.sched_getaffinity(0)), int(program.free() / MEMORY)))
-    with ThreadPoolExecutor(lanes) as pool:
+    with ThreadPoolExecutor(copies.lanes()) as pool:
         for tried, seconds in pool.map(one, names):
             show(tried, seconds)
             done.append(tried)
     searched = sum(len(it.searched) for it in done)
     count = sum(it.count for it in done)
-    report.tell(f"{count} of {sum(it.total for it in done)} wrong bodies tried, and"
+    report.tell(f"{count} of {sum(it.total for it in done)} wrong bodies tried{days.said_of(words)}, and"
                 f" {sum(it.refused for it in done) - searched} of them refused for a goal that is wrong, {searched} by"
                 f" a search alone, in {spent() / 60:.1f} processor minutes")
+    if empty := [name for it in done for name in it.empty]:
+        told = f"{len(empty)} wrong bodies of the day, refused for what they leave out: {', '.join(empty)}"
+        report.skip(told, len(empty))
     bound.tell("wrong bodies", count)
     return sum(len(it.wrong) for it in done)
 

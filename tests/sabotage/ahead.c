@@ -39,6 +39,16 @@ int fsync(int fd) { NEXT(fsync); return IS_LOST(fd) ? 0 : next(fd); }
 int fdatasync(int fd) { NEXT(fdatasync); return IS_LOST(fd) ? 0 : next(fd); }
 #endif
 
+#ifdef FAULT_LOST_CHANGE
+/* (each eighth change of a log counts as written) */
+ssize_t pwrite64(int fd, const void *from, size_t size, off_t at) {
+  NEXT(pwrite64);
+  static int changes;
+  return ends_in(fd, "-wal") && ++changes % 8 == 0 ? (ssize_t)size : next(fd, from, size, at);
+}
+ssize_t pwrite(int fd, const void *from, size_t size, off_t at) { return pwrite64(fd, from, size, at); }
+#endif
+
 #ifdef FAULT_NO_LOCK
 int flock(int fd, int how) { (void)fd, (void)how; return 0; }
 int fcntl(int fd, int what, ...) {
@@ -120,6 +130,17 @@ ssize_t read(int fd, void *to, size_t size) {
   NEXT(read);
   if (fd == 0 && (block = malloc(9))) *block = 1;
   return next(fd, to, size);
+}
+#endif
+
+#ifdef FAULT_LOST_BYTE
+/* (the first of the second piece that comes) */
+ssize_t read(int fd, void *to, size_t size) {
+  NEXT(read);
+  static int pieces;
+  ssize_t done = next(fd, to, size);
+  if (fd == 0 && done > 1 && ++pieces == 2) memmove(to, (char *)to + 1, --done);
+  return done;
 }
 #endif
 

@@ -1,5 +1,4 @@
 """What the tests of nixkeep-explain and nixkeep-cache are given."""
-import os
 from pathlib import Path
 
 import pytest
@@ -25,7 +24,7 @@ def many(count):
 @pytest.fixture
 def path(folder):
     """A sound file."""
-    made = os.path.join(folder, "apart.db")
+    made = f"{folder}/apart.db"
     put(made, Faulty().store.rows(), ALL)
     return made
 

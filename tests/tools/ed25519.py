@@ -18,6 +18,6 @@ VECTORS = [
 ]
 
 
-def coded(*texts):
+def coded(*texts: str) -> str:
     """Bytes in base 16 as the base 64 of a key of Nix."""
     return base64.b64encode(bytes.fromhex("".join(texts))).decode()

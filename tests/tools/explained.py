@@ -2,11 +2,13 @@
 import contextlib
 import io
 import os
+import random
 import shutil
 import sqlite3
 import subprocess
 
 from nixkeep_dev.build.program import HERE
+from nixkeep_dev.model.worlds import World
 from nixkeep_dev.testing import report
 from nixkeep_dev.testing.tables import made_by, put, some_built
 from nixkeep_tools import explain
@@ -15,7 +17,7 @@ EXPLAIN = f"{HERE}/tools/nixkeep-explain"
 BAD_SCHEMA = "refused: 21 bad-schema"
 
 
-def explained(*words):
+def explained(*words: str) -> tuple[str, int, str]:
     """What is printed, its status, and what is printed on standard error."""
     output, errors = io.StringIO(), io.StringIO()
     with contextlib.redirect_stdout(output), contextlib.redirect_stderr(errors):
@@ -26,23 +28,23 @@ def explained(*words):
 class Program:
     """The program, called by root."""
 
-    def __init__(self, file, folder):
+    def __init__(self, file: str, folder: str):
         self.file, self.folder = file, folder
 
     def __call__(self, path, *words, given=b"", user="root"):
         ran = subprocess.run([self.file, "--db", path, "--user", user, *words], input=given, capture_output=True)
         return ran.stdout.decode(), ran.stderr.decode(), ran.returncode
 
-    def refusal(self, path, *options):
+    def refusal(self, path: str, *options: str) -> str | None:
         """What it answers to an opening of a copy, if it refuses that."""
-        copy = shutil.copy(path, os.path.join(self.folder, "copy.db"))
+        copy = shutil.copy(path, f"{self.folder}/copy.db")
         _, errors, status = self(copy, *options, "list")
         for it in (copy, copy + "-wal"):
             with contextlib.suppress(FileNotFoundError):
                 os.remove(it)
         return errors.strip() if status else None
 
-    def agrees(self, path, what):
+    def agrees(self, path: str, what: str) -> str:
         """What is printed of a file, which the program refuses if and only if that says so."""
         output, status, _ = explained(path)
         refusal = self.refusal(path)
@@ -57,7 +59,7 @@ class Program:
 # ---- random files
 
 
-def some_store(rng, path, schema=None):
+def some_store(rng: random.Random, path: str, schema: int | None = None) -> World:
     """A random store in a file."""
     schema = schema or rng.choice([1, 2, 3, 3])
     built = some_built(rng, rng.choice([0, 1, 5, 20]))
@@ -72,7 +74,7 @@ def schema_pages(path):
     return [1]
 
 
-def change_bytes(rng, path):
+def change_bytes(rng: random.Random, path: str) -> str:
     """Changes some bytes of the header or of pages of tables, most of them near the start of a page, or cuts the file.
 
     Texts of the list of tables stay: if they are damaged, nixkeep and SQLite may differ on what they make.

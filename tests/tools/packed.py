@@ -10,18 +10,18 @@ from nixkeep_dev.build.program import HERE
 from nixkeep_dev.testing.tracked import tracked
 
 
-def ran(words, text=""):
+def ran(words: list[str], text: str = "") -> tuple[int, str]:
     """The status of a command, and what it printed."""
     how = {"stdout": subprocess.PIPE, "stderr": subprocess.STDOUT, "text": True, "errors": "replace"}
     done = subprocess.run(words, input=text, **how)
     return done.returncode, done.stdout
 
 
-def told(*words):
+def output_of(*words):
     return subprocess.run(words, stdout=subprocess.PIPE, check=True, text=True).stdout
 
 
-def pack(to, words):
+def pack(to: str, words: list[str]) -> list[str]:
     """The files that bin/package makes in a folder: the package, and the archive."""
     status, said = ran([f"{HERE}/bin/package", "--to", to, *words])
     assert status == 0, f"bin/package failed:\n{said}"
@@ -31,23 +31,23 @@ def pack(to, words):
 # ---- what it depends on
 
 
-def depends(deb):
-    return [it.strip() for it in told("dpkg-deb", "-f", deb, "Depends").split(",")]
+def depends(deb: str) -> list[str]:
+    return [it.strip() for it in output_of("dpkg-deb", "-f", deb, "Depends").split(",")]
 
 
-def libc_of(file):
+def libc_of(file: str) -> str:
     """The latest version of the C library of which a program names a function."""
-    versions = re.findall(r"Name: GLIBC_([0-9.]+)", told("readelf", "--version-info", "--wide", file))
+    versions = re.findall(r"Name: GLIBC_([0-9.]+)", output_of("readelf", "--version-info", "--wide", file))
     return max(versions, key=lambda it: [int(part) for part in it.split(".")])
 
 
-def python_packages(deb):
+def python_packages(deb: str) -> set[str]:
     """The modules of Python whose packages a package names, but for `python3-` before each."""
-    fields = [told("dpkg-deb", "-f", deb, it) for it in ("Depends", "Recommends", "Suggests")]
+    fields = [output_of("dpkg-deb", "-f", deb, it) for it in ("Depends", "Recommends", "Suggests")]
     return {*re.findall(r"python3-([\w-]+)", " ".join(fields))}
 
 
-def imported():
+def imported() -> set[str]:
     """The modules, as packages name them, that are neither the tools' nor Python's and that a tool imports."""
     found = set()
     for path in tracked("tools/*"):
@@ -61,7 +61,7 @@ def imported():
     return {it.replace("_", "-") for it in found}
 
 
-def sums(deb, room):
+def sums(deb: str, room: str) -> tuple[str, list[str], list[str]]:
     """What `sha256sum` finds wrong with the sums of a package, the files that they are of, and those that a proof
     reads, as git has them."""
     subprocess.run(["dpkg-deb", "-x", deb, f"{room}/proved-files"], check=True)

@@ -7,12 +7,15 @@ import collections
 import contextlib
 import http.client
 import io
+import random
 import socket
 import ssl
 import struct
 import threading
 import time
 import types
+from collections.abc import Iterator
+from typing import Any
 
 # What a client makes of a reply: the exit status, the standard output, and the line on standard error, with URL for
 # that of the server.
@@ -25,7 +28,7 @@ NONE = Outcome(1, b"", "failed: unreachable: URL: the connection ended before th
 RESET = None
 
 
-def proxy(text):
+def proxy(text: str) -> Outcome:
     """What comes of a reply that isn't the server's own."""
     return Outcome(1, b"", f"failed: proxy: URL: {text}")
 
@@ -36,18 +39,19 @@ def cut(left, output=b""):
     return Outcome(1, output, f"failed: unreachable: URL: {why}")
 
 
-def reply(*fields, text=TEXT, status="HTTP/1.1 200 OK", kind="text/plain", end="\r\n"):
+def reply(*fields: str, text: bytes = TEXT, status: str = "HTTP/1.1 200 OK", kind: str | None = "text/plain",
+          end: str = "\r\n") -> bytes:
     """A reply without a length."""
     head = [status, *([f"content-type: {kind}"] if kind else []), *fields, "", ""]
     return end.join(head).encode("latin-1") + text
 
 
-def whole(*fields, text=TEXT, **more):
+def whole(*fields: str, text: bytes = TEXT, **more: Any) -> bytes:
     """A reply with its length."""
     return reply(*fields, f"content-length: {len(text)}", text=text, **more)
 
 
-def chunked(*fields, text=b"3\r\npat\r\n2\r\nh\n\r\n0\r\n\r\n", **more):
+def chunked(*fields: str, text: bytes = b"3\r\npat\r\n2\r\nh\n\r\n0\r\n\r\n", **more: Any) -> bytes:
     return reply(*fields, "transfer-encoding: chunked", text=text, **more)
 
 
@@ -219,7 +223,7 @@ TOKENS = [b"\r\n", b"\n", b"\r", b" ", b"\t", b":", b"\0", b"close", b"0", b"100
           b"connection: close\r\n", b"transfer-encoding: chunked\r\n", b"HTTP/1.1 200 OK\r\n", b"\x1c", b"From "]
 
 
-def spoiled(heads):
+def spoiled(heads: random.Random) -> bytes:
     """A random head of a reply, without the empty line after it: one of the table with a few changes."""
     head = bytearray(heads.choice(HEADS))
     for _ in range(heads.randrange(4)):
@@ -230,7 +234,7 @@ def spoiled(heads):
     return bytes(head)
 
 
-def by_http_client(head):
+def by_http_client(head: bytes) -> tuple | None:
     """The status, reason, type, place and length that http.client reads of a head, and whether the connection ends with
     the text; None where it finds a fault."""
     stream = types.SimpleNamespace(makefile=lambda _: io.BytesIO(head + b"\r\n\r\n"))
@@ -283,7 +287,8 @@ def serve(listening, context, replies, is_early):
 
 
 @contextlib.contextmanager
-def server(*connections, path=None, certificate=None, is_early=False):
+def server(*connections: list, path: str | None = None, certificate: tuple[str, str] | None = None,
+           is_early: bool = False) -> Iterator[str]:
     """The URL of a server that answers these connections in turn, each with its replies; at a Unix socket, or by TLS
     with the files of a certificate and its key."""
     context = None

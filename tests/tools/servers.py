@@ -12,19 +12,21 @@ import subprocess
 import tempfile
 import termios
 import threading
+from collections.abc import Callable, Iterator
 from http.server import BaseHTTPRequestHandler, ThreadingHTTPServer
+from typing import IO, Any
 
 from tests.tools import shim
 
 
-def ran(command, given=b"", **more):
+def ran(command: list[str], given: bytes = b"", **more: Any) -> tuple[int, bytes, bytes]:
     """The exit status of a command, and what it wrote to standard output and error."""
     done = subprocess.run(command, input=given, capture_output=True, timeout=600, **more)
     return done.returncode, done.stdout, done.stderr
 
 
 @contextlib.contextmanager
-def server(program, *words, connections=10_000):
+def server(program: str, *words: str, connections: int = 10_000) -> Iterator[int]:
     """A server with these options: its port."""
     with tempfile.TemporaryFile() as errors:
         started, port = shim.started(program, words, errors, connections)
@@ -35,7 +37,8 @@ def server(program, *words, connections=10_000):
             started.wait()
 
 
-def on_terminal(command, take=lambda pipe: pipe.read(), **more):
+def on_terminal(command: list[str], take: Callable[[IO[bytes]], Any] = lambda pipe: pipe.read(),
+                **more: Any) -> tuple[int, Any, bytes]:
     """The exit status of a command, its output, and what it wrote to the terminal that is its standard error."""
     ours, theirs = pty.openpty()
     fcntl.ioctl(theirs, termios.TIOCSWINSZ, struct.pack("HHHH", 24, 100, 0, 0))
@@ -62,7 +65,7 @@ class Handler(BaseHTTPRequestHandler):
 
     protocol_version = "HTTP/1.1"
 
-    def user(self):
+    def user(self) -> str | None:
         field = self.headers.get("authorization", "")
         kind, _, value = field.partition(" ")
         if kind == "Bearer":
@@ -70,7 +73,7 @@ class Handler(BaseHTTPRequestHandler):
         name, _, password = base64.b64decode(value if kind == "Basic" else "").decode().partition(":")
         return name if name and self.server.users.get(name) == password else None
 
-    def answer(self, status, text, media="text/html", **fields):
+    def answer(self, status: int, text: bytes, media: str = "text/html", **fields: str) -> None:
         self.send_response(status)
         for key, value in {"content-type": media, "content-length": str(len(text)), **fields}.items():
             self.send_header(key, value)
@@ -133,7 +136,8 @@ class TcpServer(ThreadingHTTPServer):
 
 
 @contextlib.contextmanager
-def proxy(port, path=None, certificate=None, **more):
+def proxy(port: int, path: str | None = None, certificate: tuple[str, str] | None = None,
+          **more: Any) -> Iterator["UnixServer | TcpServer"]:
     """A proxy for the server on a port: on the Unix socket `path`, or else on a port of its own.
 
     With a certificate it speaks TLS. `more` are settings.
@@ -156,7 +160,7 @@ def proxy(port, path=None, certificate=None, **more):
         made.server_close()
 
 
-def url(made, scheme="http"):
+def url(made: Any, scheme: str = "http") -> str:
     return f"{scheme}://127.0.0.1:{made.server_address[1]}"
 
 
@@ -169,7 +173,7 @@ class Answers(BaseHTTPRequestHandler):
 
     protocol_version = "HTTP/1.1"
 
-    def answer(self):
+    def answer(self) -> None:
         self.rfile.read(int(self.headers.get("content-length", 0)))
         status, media, text, *fields = self.server.reply_to(self.command, self.path, self.headers)
         self.send_response(status)
@@ -189,7 +193,7 @@ class Answers(BaseHTTPRequestHandler):
 
 
 @contextlib.contextmanager
-def answering(reply_to):
+def answering(reply_to: Callable) -> Iterator[str]:
     """A server on a port of its own that answers by a function: its URL."""
     with ThreadingHTTPServer(("127.0.0.1", 0), Answers) as made:
         made.reply_to, made.daemon_threads = reply_to, True

@@ -12,10 +12,12 @@ import subprocess
 import tempfile
 import time
 import tomllib
+from collections.abc import Iterable
+from typing import IO
 
 from nixkeep_dev.testing.http_messages import free_port
 from nixkeep_tools import paths, remote, streams, subcommands
-from nixkeep_tools.command_line import Told
+from nixkeep_tools.command_line import Printed
 
 OPTIONS = ("db", "config", "user", "group")
 # What nixkeep-remote computes by itself.
@@ -24,7 +26,7 @@ LOCAL = ("text-path", "source-path", "ls")
 NETLINK_DIAG, DIAG, ERROR, LISTENS = 4, 20, 2, 10
 
 
-def leading(words):
+def leading(words: list[str]) -> tuple[dict[str, str], list[str]] | None:
     """The options before the subcommand by name, and all words from that on; None where something else is there."""
     found, left = {}, list(words)
     while left and left[0].startswith("-"):
@@ -37,11 +39,11 @@ def leading(words):
     return (found, left) if left else None
 
 
-def why_not(found):
+def why_not(line: tuple[dict[str, str], list[str]] | None) -> str | None:
     """Why the program itself does what the words say, or None."""
-    if not found:
+    if not line:
         return "words before the subcommand"
-    word = found[1][0]
+    word = line[1][0]
     return word if word in ("serve", "help") else None
 
 
@@ -71,23 +73,23 @@ def sockets(folder):
     return set()
 
 
-def told_of(port):
+def said_of(port):
     """What the kernel says of the sockets that listen on a port, by sock_diag(7): a message for each, and one that ends
     them."""
     asked = struct.pack("=IHH8xBB2xI", 72, DIAG, 0x301, socket.AF_INET, socket.IPPROTO_TCP, 1 << LISTENS)
     with socket.socket(socket.AF_NETLINK, socket.SOCK_RAW, NETLINK_DIAG) as kernel:
         kernel.send(asked + struct.pack("!H46x", port))
-        told, at = kernel.recv(1 << 16), 0
-    while at < len(told):
-        length, kind = struct.unpack_from("=IH", told, at)
-        yield kind, told[at : at + length]
+        said, at = kernel.recv(1 << 16), 0
+    while at < len(said):
+        length, kind = struct.unpack_from("=IH", said, at)
+        yield kind, said[at : at + length]
         at += length
 
 
 def listeners(port):
     """The links of /proc to the sockets that listen on a port of this machine."""
     with contextlib.suppress(OSError):
-        found = [*told_of(port)]
+        found = [*said_of(port)]
         if ERROR not in dict(found):
             return {f"socket:[{struct.unpack_from('=I', it, 84)[0]}]" for kind, it in found if kind == DIAG}
     # (a kernel without that has a table of all connections, also of those that ended within the last minute)
@@ -105,7 +107,8 @@ def listens(port, server):
     return False
 
 
-def started(program, words, errors, connections=3):
+def started(program: str, words: Iterable[str], errors: IO[bytes],
+            connections: int = 3) -> tuple[subprocess.Popen, int]:
     """A server on a port. Another program may take the port first, and then it is another one."""
     while True:
         port = free_port()
@@ -139,7 +142,7 @@ def serving(program, options):
                 time.sleep(0.002)
 
 
-def told(ended, is_who):
+def show(ended, is_who):
     streams.write([ended.text], 1 if is_who else 2)
     return ended.status
 
@@ -151,13 +154,13 @@ def store_dir(options):
         return ["--store-dir", tomllib.load(file).get("store-dir", paths.STORE)]
 
 
-def by_remote(program, title, options, words):
+def by_remote(program: str, title: str, options: dict[str, str], words: list[str]) -> int:
     """Does a command by nixkeep-remote, and returns its exit status."""
     named, nowhere = caller(options), ["--server", "unix:/nowhere"]
     as_words = ["--as", named, *words]
     try:
         name = subcommands.read(as_words, title).name
-    except Told:
+    except Printed:
         # (it ends before any server is asked)
         return remote.main([title, *nowhere, *as_words])
     if name in (*LOCAL, "who") or not named:
@@ -169,4 +172,4 @@ def by_remote(program, title, options, words):
             folder = store_dir(options) if name in LOCAL else []
             return remote.main([title, "--server", f"http://127.0.0.1:{port}", *folder, *as_words])
     except Ended as ended:
-        return told(ended, name == "who")
+        return show(ended, name == "who")

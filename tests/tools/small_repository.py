@@ -2,6 +2,8 @@
 import os
 import shutil
 import subprocess
+from pathlib import Path
+from typing import Any
 
 from nixkeep_dev.build import program
 from nixkeep_dev.build.program import HERE
@@ -12,15 +14,16 @@ ASIDE = {"aside": ["low"]}
 # A rattle that logs what it is asked, and when; it fails for a crate that the folder of the log names.
 RATTLE = '''#!/usr/bin/env python3
 import os, sys, time
+from pathlib import Path
 words, top = sys.argv, os.environ["STAND_IN"]
 crate, made = words[words.index("--crate-name") + 1], words[words.index("-o") + 1]
 log = lambda what: open(f"{top}/log", "a").write(f"{what} {crate} {time.monotonic()}\\n")
 log("starts")
 open(f"{top}/words-{crate}", "w").write(" ".join(words[1:]))
 externs = [word.partition("=")[2] for at, word in enumerate(words) if words[at - 1] == "--extern"]
-lacking = [it for it in externs if "/rlibs/" not in it and not os.path.isfile(f"{it}/format")]
+lacking = [it for it in externs if "/rlibs/" not in it and not Path(it, "format").is_file()]
 time.sleep(float(dict(it.split("=") for it in os.environ["STAND_IN_SECONDS"].split()).get(crate, "0.2")))
-if lacking or os.path.exists(f"{top}/fails-{crate}"):
+if lacking or Path(top, f"fails-{crate}").exists():
     print(f"error: {crate} isn't proved", *lacking)
     sys.exit(1)
 if "--statements" in words:
@@ -30,7 +33,7 @@ open(made, "w").write(crate)
 log("ends")
 '''
 RT = f"""#!/bin/sh
-echo '{program.TOOLCHAIN}'
+echo 'rattle-kit {program.LOGIC}'
 """
 LINK = r'''#!/usr/bin/env python3
 import os, sys
@@ -44,7 +47,7 @@ os.chmod(made, 0o755)
 SYSTEM = "/usr/bin:/bin"
 
 
-def put_program(path, text):
+def put_program(path: str, text: str) -> None:
     with open(path, "w") as file:
         file.write(text)
     os.chmod(path, 0o755)
@@ -53,7 +56,7 @@ def put_program(path, text):
 class Repository:
     """A repository of a few crates, and the stand-in for the toolchain."""
 
-    def __init__(self, room):
+    def __init__(self, room: str):
         self.top, self.kit, self.room = f"{room}/repository", f"{room}/kit", room
         crates = {**CRATES, **ASIDE}
         for crate in crates:
@@ -68,12 +71,13 @@ class Repository:
         for name, text in (("rt", RT), ("rattle", RATTLE), ("rattle-link", LINK)):
             put_program(f"{self.kit}/bin/{name}", text)
 
-    def write(self, path, text):
-        os.makedirs(os.path.dirname(f"{self.top}/{path}"), exist_ok=True)
+    def write(self, path: str, text: str) -> None:
+        Path(f"{self.top}/{path}").parent.mkdir(parents=True, exist_ok=True)
         with open(f"{self.top}/{path}", "w") as file:
             file.write(text)
 
-    def start(self, *words, top=None, path=None, seconds=""):
+    def start(self, *words: str, top: str | None = None, path: str | None = None,
+              seconds: str = "") -> subprocess.Popen:
         """Starts a command of bin/, or the launcher with two arguments. Its path has the toolchain before the system's
         folders, or is the one given. `seconds` has crates that take longer than others: `left=2 right=2`."""
         environment = {**os.environ, "PATH": path or f"{self.kit}/bin:{SYSTEM}", "STAND_IN": self.room}
@@ -82,15 +86,15 @@ class Repository:
         name, *given = words or ("nixkeep", "a", "b c")
         return subprocess.Popen([f"{top or self.top}/bin/{name}", *given], **how)
 
-    def run(self, *words, **how):
+    def run(self, *words: str, **how: Any) -> tuple[int, str, str, list]:
         """The status of a command, what it printed, and the lines of the log that it made."""
-        if os.path.exists(f"{self.room}/log"):
+        if Path(f"{self.room}/log").exists():
             os.remove(f"{self.room}/log")
         ran = self.start(*words, **how)
         out, said = ran.communicate()
         return ran.returncode, out, said, self.log()
 
-    def log(self):
+    def log(self) -> list[list]:
         try:
             with open(f"{self.room}/log") as file:
                 return [line.split() for line in file]
@@ -98,5 +102,5 @@ class Repository:
             return []
 
 
-def started(log):
+def started(log: list) -> list[str]:
     return sorted(crate for what, crate, _ in log if what == "starts")

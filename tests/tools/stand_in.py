@@ -14,12 +14,14 @@ import struct
 import subprocess
 import sys
 import traceback
+from collections.abc import Iterator
+from pathlib import Path
 
 from nixkeep_dev.build.program import HERE
 from nixkeep_tools import streams
 from tests.tools import shim
 
-SOURCE = os.path.join(os.path.dirname(os.path.realpath(__file__)), "stand_in.c")
+SOURCE = str(Path(__file__).resolve().with_name("stand_in.c"))
 BY_THE_PROGRAM = 255
 
 
@@ -32,7 +34,7 @@ def compiled(folder, program, listening):
 
 
 @contextlib.contextmanager
-def answering(program, folder):
+def answering(program: str, folder: str) -> Iterator[tuple[str, str]]:
     """The file of the stand-in for a program, and its log. Both are in a folder, and work until the end."""
     path, log = f"{folder}/asked", f"{folder}/log"
     file = compiled(folder, program, path)
@@ -79,12 +81,12 @@ def strings(written):
     return [os.fsdecode(it) for it in written.split(b"\0")[:-1]]
 
 
-def become(pid, is_open, found):
+def become(pid, is_open, descriptors):
     """Takes over the streams and settings of a process: which streams are open, and those in their order."""
     for number in range(3):
         if is_open[number]:
-            os.dup2(found[0], number)
-            os.close(found.pop(0))
+            os.dup2(descriptors[0], number)
+            os.close(descriptors.pop(0))
         else:
             os.close(number)
     streams.keep_closed()
@@ -102,7 +104,7 @@ def become(pid, is_open, found):
 
 def done(connection, program, log):
     """The exit status of the command that is asked for, or that the program has to do it."""
-    is_open, found, _, _ = socket.recv_fds(connection, 3, 3)
+    is_open, descriptors, _, _ = socket.recv_fds(connection, 3, 3)
     pid, _, _ = struct.unpack("3i", connection.getsockopt(socket.SOL_SOCKET, socket.SO_PEERCRED, 12))
     words = strings(of_process(pid, "cmdline"))
     line = shim.leading(words[1:])
@@ -111,8 +113,8 @@ def done(connection, program, log):
         file.write(f"by the program: {why}\n" if why else f"by a server: {line[1][0][:20]!r}\n")
     if why:
         return BY_THE_PROGRAM
-    become(pid, is_open, found)
+    become(pid, is_open, descriptors)
     if stat.S_ISDIR(os.fstat(0).st_mode):
         # (as a program of Python's, the client doesn't start there)
         return subprocess.call([sys.executable, f"{HERE}/tools/nixkeep-remote"])
-    return shim.by_remote(program, os.path.basename(words[0]), *line)
+    return shim.by_remote(program, Path(words[0]).name, *line)

@@ -4,8 +4,10 @@ import contextlib
 import getpass
 import os
 import subprocess
+from collections.abc import Iterator
 from concurrent.futures import ThreadPoolExecutor
 from pathlib import Path
+from typing import Any
 
 import parts
 
@@ -36,7 +38,7 @@ def settings(folder, port, workers=0):
 class Swift:
     """The four servers. `url` is where a client of S3 asks."""
 
-    def __init__(self, folder):
+    def __init__(self, folder: str):
         self.folder, self.ports = folder, {it: parts.free_port() for it in TOOLS}
         os.makedirs(f"{folder}/devices/one")
         Path(f"{folder}/swift.conf").write_text(
@@ -49,7 +51,7 @@ class Swift:
         self.rings()
         Path(f"{folder}/proxy.conf").write_text(self.proxy())
         self.url = f"http://127.0.0.1:{self.ports['swift-proxy-server']}"
-        words = {it: [parts.found(it), f"{folder}/{it.split('-')[1]}.conf", "-v"] for it in TOOLS}
+        words = {it: [parts.place_of(it), f"{folder}/{it.split('-')[1]}.conf", "-v"] for it in TOOLS}
         self.running = [parts.Part(it, words[it], self.ports[it], f"{folder}/{it}.log") for it in TOOLS]
 
     def rings(self):
@@ -63,12 +65,12 @@ class Swift:
         return (f"{settings(self.folder, port)}[pipeline:main]\npipeline = {FILTERS} proxy-server\n"
                 f"[app:proxy-server]\nuse = egg:swift#proxy\naccount_autocreate = true\n{filters}")
 
-    def more(self, name):
+    def more(self, name: str) -> str:
         # (tempauth wants a client of memcached, which needs no server)
         return {"tempauth": f"user_test_tester = {SECRET} .admin\n", "s3api": "s3_acl = false\n",
                 "memcache": f"memcache_servers = 127.0.0.1:{parts.free_port()}\n"}.get(name, "")
 
-    def client(self):
+    def client(self) -> Any:
         import boto3
         import botocore.config
 
@@ -76,7 +78,7 @@ class Swift:
         return boto3.client("s3", endpoint_url=self.url, config=config)
 
     @contextlib.contextmanager
-    def started(self):
+    def started(self) -> Iterator[None]:
         """All servers, with a bucket."""
         os.environ |= ENVIRONMENT
         with contextlib.ExitStack() as running:

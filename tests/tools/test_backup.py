@@ -239,14 +239,29 @@ def test_which_copies_of_a_year_are_kept():
     assert backup_folder.kept(DAILY[:7]) == {*DAILY[:7]}, "old ones alone stay"
 
 
-def test_copies_of_a_clock_that_went_back(folder, monkeypatch):
-    for at in range(backup_folder.WEEKS + backup_folder.COPIES):
-        Path(folder, (FIRST + datetime.timedelta(weeks=at)).strftime(backup_folder.FORM)).touch()
-    for day in (1, 2):
-        monkeypatch.setattr(time, "gmtime", lambda *_: (2000, 1, day, 3, 0, 0, 5, day, 0))
+def copied_at(folder, monkeypatch, times):
+    """Makes a copy at each of these times of the clock, and returns the names that are left."""
+    monkeypatch.setattr(backup_folder, "sync", lambda _: None)
+    for it in times:
+        monkeypatch.setattr(time, "gmtime", lambda *_, it=it: it.timetuple())
         name, _ = backup_folder.add(folder, lambda path: Path(path).touch())
-        assert name in os.listdir(folder), "it stays until the next one"
-    assert [it for it in os.listdir(folder) if it < "2001"] == [name], "and is the only one of that time"
+        assert name in os.listdir(folder), "a copy isn't deleted by its own run"
+    return sorted(os.listdir(folder))
+
+
+def days_from(day, count):
+    return [day + datetime.timedelta(days=at) for at in range(count)]
+
+
+@pytest.mark.parametrize("wrong", [FIRST + datetime.timedelta(days=400), datetime.datetime(2000, 1, 1)],
+                         ids=["ahead", "behind"])
+def test_copies_of_a_clock_that_was_wrong(wrong, folder, monkeypatch):
+    """The copies of each day are kept as without those of the wrong clock: while it is wrong, and once it is right."""
+    before, meanwhile, after = days_from(FIRST, 9), days_from(wrong, 9), days_from(FIRST + datetime.timedelta(18), 9)
+    names = lambda times: {it.strftime(backup_folder.FORM) for it in times}
+    copied_at(folder, monkeypatch, before)
+    assert names(meanwhile[-7:]) < {*copied_at(folder, monkeypatch, meanwhile)}
+    assert names(after[-7:]) < {*copied_at(folder, monkeypatch, after)}
 
 
 # ---- through a server
@@ -349,6 +364,22 @@ def test_a_copy_through_a_server(store):
         wanted = all_of_server(http_client.Place(url))
         fails_with("needs a trusted caller", fetched(store, url, "--as", "ann"))
         assert fetched(store, url, "--as", "eve") == (4, "", "nixkeep-backup: denied: connect\n")
+    is_the_copy(store, wanted)
+
+
+def test_a_copy_of_labels_that_look_like_others(store):
+    """A trusted user may give runtime roots any label, also that of what a caller may not see."""
+    with servers.server(store.program, "--config", store.config, "--db", store.file) as port:
+        place = http_client.Place(f"http://127.0.0.1:{port}")
+        with contextlib.closing(place.connection()) as connection:
+            ask = asker(objects.Store(http_client.Server(place, {}, connection=connection), "build", "/nix/store"))
+            path = add(ask, "labels", "labels")
+            labels = ["{censored}", "{temp:5}", "gcroots/x", "profiles/per-user/ann/a-1-link", "-"]
+            ask("build", "POST", "/runtime", "".join(f"root: {it} {path}\n" for it in labels).encode() + b"\n")
+        came = fetched(store, place.url)
+        assert came[0] == 0, came
+        fails_with("needs a trusted caller", fetched(store, place.url, "--as", "ann"))
+        wanted = all_of_server(place)
     is_the_copy(store, wanted)
 
 

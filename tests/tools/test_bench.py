@@ -15,6 +15,7 @@ import pytest
 from nixkeep_dev.bench import compared
 from nixkeep_dev.build import program as built
 from nixkeep_dev.commands.bench import FIRST
+from nixkeep_dev.testing import report
 from nixkeep_dev.testing.runs import command, options_of
 
 SECONDS = 1200
@@ -22,9 +23,10 @@ SECONDS = 1200
 
 def pytest_generate_tests(metafunc):
     if "benchmark" in metafunc.fixturenames:
-        asked, names = metafunc.config.getoption, FIRST
-        if asked("--count") is not None and asked("--count") < len(names):
-            names = random.Random(asked("--seed")).sample(names, asked("--count"))
+        asked = metafunc.config.getoption
+        count = report.count_places(asked("--count"), len(FIRST), asked("--seed"))
+        # (all are tried in their order)
+        names = FIRST if count == len(FIRST) else random.Random(asked("--seed")).sample(FIRST, count)
         metafunc.parametrize("benchmark", names)
 
 
@@ -46,41 +48,41 @@ STORED = json.loads(Path(f"{built.HERE}/bench/figures.json").read_text())
 
 
 @pytest.fixture
-def found():
+def measured():
     """The stored figures, which a test makes worse."""
     return copy.deepcopy(STORED)
 
 
 @pytest.fixture
-def slow(found):
+def slow(measured):
     """The times of these, each of which is three times as long."""
-    times = [it for of in found.values() for it in of["figures"] if "value" in it and compared.is_of_machine(it)]
+    times = [it for of in measured.values() for it in of["figures"] if "value" in it and compared.is_of_machine(it)]
     for it in times:
         it["value"] *= 1 / 3 if it["unit"] in compared.RATES else 3
     return times
 
 
-def ratios(found):
+def ratios(measured):
     """By how much the figures that are warned of are more."""
-    return sorted(it.rpartition(": ")[2].split()[0] for it in compared.warnings(found, STORED))
+    return sorted(it.rpartition(": ")[2].split()[0] for it in compared.warnings(measured, STORED))
 
 
-def test_no_warning_of_the_same_figures(found):
-    assert ratios(found) == []
+def test_no_warning_of_the_same_figures(measured):
+    assert ratios(measured) == []
 
 
-def test_no_warning_where_all_takes_three_times_as_long(found, slow):
-    assert ratios(found) == []
+def test_no_warning_where_all_takes_three_times_as_long(measured, slow):
+    assert ratios(measured) == []
 
 
-def test_no_warning_of_a_time_that_is_10_percent_more(found, slow):
+def test_no_warning_of_a_time_that_is_10_percent_more(measured, slow):
     slow[0]["value"] *= 1.1
-    assert ratios(found) == []
+    assert ratios(measured) == []
 
 
-def test_warnings_of_others_that_are_more(found, slow):
+def test_warnings_of_others_that_are_more(measured, slow):
     slow[0]["value"] *= 1.1 * 1.4
     next(it for it in slow if it["unit"] in compared.RATES)["value"] /= 1.7
-    peers = [it for of in found.values() for it in of["figures"] if it.get("ratio")]
+    peers = [it for of in measured.values() for it in of["figures"] if it.get("ratio")]
     next(it for it in peers if it["unit"] not in compared.RATES and "least" not in (it["limit"] or ""))["ratio"] *= 1.3
-    assert ratios(found) == ["1.30", "1.54", "1.70"]
+    assert ratios(measured) == ["1.30", "1.54", "1.70"]

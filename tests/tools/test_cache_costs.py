@@ -1,6 +1,8 @@
 """Tests of what one user's requests may cost the others: memory, and time in which nixkeep-cache does nothing else."""
 import asyncio
 import contextlib
+import io
+import lzma
 import random
 import socket
 import sqlite3
@@ -13,7 +15,9 @@ import pytest
 
 import parts
 from nixkeep_dev.testing import nar
-from nixkeep_tools import cache_ending, cache_large, cache_sweep, drv, overview_source, store_file
+from nixkeep_tools import blob_packing, cache_ending, cache_large, cache_records, cache_shares, cache_sweep, drv
+from nixkeep_tools import cache_http, cache_limit, cache_listings, cache_metrics, cache_server, cache_watched
+from nixkeep_tools import overview_day, overview_source, store_file
 from parts import body
 from tests.tools.cached import ask
 
@@ -49,6 +53,22 @@ def test_no_listing_fills_the_memory(unit, program):
         assert len(archive) < 200_000
         assert listed(archive) == (503, b"failed: size the listing is longer than an archive may be\n"), "one of 19 MB"
         assert ask(store.place, "ann", "GET", f"/ls/{'1' * 32}-none") == (404, b"refused: 23 not-valid\n"), "of nothing"
+
+
+def test_no_listing_of_what_comes_meanwhile_fills_the_memory():
+    """A user asks for the listing of a path that isn't there, and adds it right after the look at its archive."""
+    replies = [cache_server.Reply(404, "text/plain", b"refused: 23 not-valid\n")]
+
+    async def ask(*_):
+        return replies.pop()
+
+    class Asked(dict):
+        raw_path, method, transport = f"/ls/{'1' * 32}-it", "GET", types.SimpleNamespace(is_closing=lambda: False)
+
+    asked = Asked(caller=cache_server.Caller("ann", None))
+    with pytest.raises(cache_http.Answered, match="not-valid") as answered:
+        asyncio.run(cache_listings.Listings(types.SimpleNamespace(ask=ask)).demand(asked))
+    assert answered.value.reply.status == 404 and not replies, "the server isn't asked for the listing then"
 
 
 def test_long_records_hold_up_nobody_else(unit):
@@ -131,10 +151,11 @@ def test_an_overview_has_one_derivation_in_memory():
     together = []
 
     class Server:
-        async def gets(self, _, targets):
-            together.append([it for it in targets if it.startswith("/nar/")])
+        async def gets(self, _, route, bases):
+            together.append(bases if route == "/nar/" else [])
             record = f"NarSize: {len(text)}\nReferences: \n".encode()
-            return [types.SimpleNamespace(status=200, text=text if "/nar/" in it else record) for it in targets]
+            for it in bases:
+                yield it, types.SimpleNamespace(status=200, text=text if route == "/nar/" else record)
 
         async def ask(self, _, __, target):
             together.append([target])
@@ -143,8 +164,93 @@ def test_an_overview_has_one_derivation_in_memory():
     found = overview_source.Records(Server(), True)
     asyncio.run(found.read(["a.drv", "b.drv", "gone.drv", "c"], None, "/nix/store"))
     assert [len(it) for it in together if it] == [1, 1, 1], "derivations are read one at a time"
-    outputs = [found.found[it].outputs for it in ("a.drv", "gone.drv", "c")]
+    outputs = [found.objects[it].outputs for it in ("a.drv", "gone.drv", "c")]
     assert outputs == [{"out": f"{'1' * 32}-out"}, {}, {}], "and their outputs"
+
+
+def test_few_records_of_a_store_are_in_memory():
+    """All pointers, a sweep and an overview need the records of all objects, which are read a hundred at a time."""
+    asked, bases = [], [f"{at:032}-x" for at in range(250)]
+    server = cache_server.Server(None, 1)
+
+    async def asks(requests):
+        asked.append([it.target for it in requests])
+        return [cache_server.Reply(200, "text/plain", it.target.encode()) for it in requests]
+
+    async def read():
+        server.asks, seen = asks, []
+        async for base, it in server.gets(cache_server.Caller("ann", None), "/info/", bases):
+            assert it.text == f"/info/{base}".encode()
+            assert len(asked) == len(seen) // 100 + 1, "the next ones are asked for once these are used"
+            seen.append(base)
+        return seen
+
+    assert asyncio.run(read()) == bases
+
+
+def test_pointers_are_listed_once_at_a_time():
+    """Each listing of all pointers has the names of all objects in memory, so those who ask at once take turns."""
+    running, most = [], []
+
+    class Lookup:
+        server = None
+
+        async def listed(self, _):
+            running.append(1)
+            most.append(len(running))
+            await asyncio.sleep(0)
+            return []
+
+        async def among(self, *_):
+            running.pop()
+            return {}
+
+    class Asked(dict):
+        transport = types.SimpleNamespace(is_closing=lambda: False)
+
+    async def ask():
+        large = cache_large.Large(None, Lookup(), 0, None, "/nix/store")
+        names = ["ann", "bob"] * 5
+        return await asyncio.gather(*(large.listing(Asked(caller=cache_server.Caller(it, None))) for it in names))
+
+    assert [it.status for it in asyncio.run(ask())] == [200] * 10
+    assert most == [1] * 10
+
+
+def test_the_page_of_the_last_day_is_made_once_for_many(folder, monkeypatch):
+    """Whoever asks for the page of the last day again and again has it made once a second at most."""
+    made, make = [], overview_day.page
+    monkeypatch.setattr(overview_day, "page", lambda *words: made.append(1) or make(*words))
+    said, waiting = types.SimpleNamespace(db=None, backup_state=None), types.SimpleNamespace(folder=folder)
+    server = types.SimpleNamespace(turns=types.SimpleNamespace(waiting=lambda: 0))
+    watched = cache_watched.Watched(said, server, waiting, cache_limit.Limit(None, None), "/nix/store")
+    began = time.monotonic()
+    replies = [asyncio.run(watched.page(None)).status for _ in range(100)]
+    assert replies == [200] * 100
+    assert len(made) <= 1 + time.monotonic() - began
+
+
+@pytest.mark.needs("python3-prometheus_client")
+def test_between_two_pages_of_figures_others_go_on():
+    """Whoever asks for the figures many times at once has others served in between."""
+    metrics, request = cache_metrics.Metrics(), {"caller": types.SimpleNamespace(user="ann")}
+    left = []
+
+    async def page():
+        await metrics.page(request)
+        left.pop()
+
+    async def other():
+        """Counts how many steps of another one come before the last page."""
+        left.extend(range(30))
+        tasks, steps = [asyncio.create_task(page()) for _ in range(30)], 0
+        while left:
+            await asyncio.sleep(0)
+            steps += 1
+        await asyncio.gather(*tasks)
+        return steps
+
+    assert asyncio.run(other()) >= 29
 
 
 def test_an_end_waits_for_no_reader():
@@ -195,6 +301,129 @@ def test_a_head_byte_by_byte():
     found = []
     takes_linear_time(head)
     assert [(len(it), rest) for it, rest in found] == [(20_002, b"rest"), (160_002, b"rest")]
+
+
+def test_a_deletion_takes_its_own_rows_of_a_list(folder):
+    """What a deletion of one path takes of the list of shares doesn't grow with the list."""
+    steps = []
+    for count in (100, 10_000):
+        shares = cache_shares.Shares(f"{folder}/{count}.db", 1 << 40)
+        rows = [(f"{at:032}-x", f"user{at % 2}", 10) for at in range(count)]
+        shares.conn.executemany("INSERT INTO added VALUES (?, ?, ?)", rows)
+        shares.count()
+        shares.conn.set_progress_handler(lambda: steps.append(count), 1)
+        shares.deleted(f"/nix/store/{3:032}-x\n/nix/store/{count:032}-x\nfreed 2 paths 20 bytes\n".encode())
+        shares.conn.set_progress_handler(None, 1)
+        assert shares.used == {"user0": count * 5, "user1": count * 5 - 10}
+        shares.count()
+        assert shares.used == {"user0": count * 5, "user1": count * 5 - 10}, "as the list itself says"
+    assert steps.count(10_000) < 2 * steps.count(100), "steps of SQLite"
+
+
+def by_zstd(data, window):
+    """Data as one frame of zstd, which asks for 1 << `window` bytes of memory."""
+    import zstandard
+
+    given = zstandard.ZstdCompressionParameters.from_level(1, window_log=window)
+    made = zstandard.ZstdCompressor(compression_params=given).compressobj()
+    return made.compress(data) + made.flush()
+
+
+@pytest.mark.needs("python3-zstandard")
+def test_readers_have_the_memory_in_which_an_archive_is_unpacked(folder):
+    """What an archive asks for while it is unpacked counts as what its reader has. Thus the readers of one that asks
+    for much don't fill the memory. What is sent as it is takes no such memory."""
+    from nixkeep_tools import blobs_folder, cache_blobs, paths, pointers
+
+    found, place = {}, blobs_folder.Folder(f"{folder}/blobs")
+    place.begin()
+
+    class Sending:
+        idle = 60
+
+        async def take(self, _, size):
+            found[name, form] = size
+            raise ConnectionResetError
+
+    kept = cache_blobs.Blobs(place, 1, Sending())
+    request = types.SimpleNamespace(if_none_match=(), headers={}, method="GET")
+    for window in (20, 25):
+        archive = nar.archive(bytes(window) * 100_000)
+        data, digest = by_zstd(archive, window), paths.sha256([archive])
+        name = paths.base32(digest)
+        with open(part := place.part(), "wb") as out:
+            out.write(data)
+        assert place.put(part, name)
+        pointer = pointers.Pointer("/nix/store/x", digest, len(archive), paths.sha256([data]), len(data))
+        for form in ("none", "zstd"):
+            with pytest.raises(ConnectionResetError):
+                asyncio.run(kept.send(request, pointer, form))
+    plain, *others = sorted(found.values())
+    assert plain == cache_blobs.HELD and others == [plain, plain + (1 << 20), plain + (32 << 20)]
+
+
+@pytest.mark.needs("python3-zstandard")
+def test_an_upload_that_is_broken_off_is_unpacked_no_further(folder):
+    """A few bytes may unpack to very many, and whoever has left waits for none of them."""
+    class Broken(io.BytesIO):
+        is_broken = True
+
+    data = by_zstd(nar.archive(bytes(8 << 20)), 20)
+    with open(f"{folder}/out", "wb") as out:
+        assert blob_packing.packed(io.BytesIO(data), "zstd", out, 1).nar_size > 8 << 20
+        with pytest.raises(EOFError):
+            blob_packing.packed(Broken(data), "zstd", out, 1)
+
+
+@pytest.mark.needs("python3-zstandard")
+def test_the_last_bytes_of_an_upload_are_unpacked_in_time(folder, monkeypatch):
+    """An upload that has come, and is unpacked for longer than a proxy waits, is refused, and its work ends."""
+    from nixkeep_tools import cache_blobs
+
+    ended = threading.Event()
+
+    def work(feed, *_):
+        for _ in range(300):
+            if getattr(feed, "is_broken", False):
+                ended.set()
+                return
+            time.sleep(0.1)
+
+    async def given():
+        yield b"x"
+
+    monkeypatch.setattr(cache_blobs, "LAST_BYTES", 0.2, raising=False)
+    with pytest.raises(cache_records.Bad, match="longer than 0.2 seconds"):
+        asyncio.run(cache_blobs.Blobs(None, 1, None).fed(given(), work, "zstd", None))
+    assert ended.is_set()
+
+
+@pytest.mark.needs("python3-zstandard")
+@pytest.mark.parametrize("windows, is_taken", [([25], True), ([20, 23], True), ([25, 25, 20], True), ([26], False),
+                                               ([20, 24], False), ([24, 25], False)])
+def test_what_frames_may_ask_for(windows, is_taken):
+    """A file compressed by zstd asks for 32 MiB of memory at most, and its later frames for no more than the first one
+    or 8 MiB."""
+    data = b"".join(by_zstd(b"x" * 100, it) for it in windows)
+    work = lambda: b"".join(blob_packing.of_zstd(io.BytesIO(data)))
+    if is_taken:
+        assert work() == b"x" * 100 * len(windows)
+    else:
+        with pytest.raises(cache_records.Bad, match="memory"):
+            work()
+
+
+@pytest.mark.parametrize("mebibytes, is_taken", [(64, True), (96, False)])
+def test_what_xz_may_ask_for(mebibytes, is_taken):
+    """A large file compressed by xz asks for no more memory than level 9 does."""
+    filters = [{"id": lzma.FILTER_LZMA2, "preset": 0, "dict_size": mebibytes << 20}]
+    data = lzma.compress(b"x" * 100, filters=filters)
+    work = lambda: b"".join(blob_packing.of_xz(io.BytesIO(data)))
+    if is_taken:
+        assert work() == b"x" * 100
+    else:
+        with pytest.raises(cache_records.Bad, match="emory"):
+            work()
 
 
 def test_users_take_turns_at_sweeps():

@@ -194,6 +194,21 @@ def test_the_share_of_a_user(unit, folder):
         assert (add("bob", "h")[0], Path(f"{file}.damaged").exists()) == (507, False), "and is whole afterwards"
 
 
+def test_what_counts_for_no_share(unit):
+    """An object counts for the user who has added it first, whoever keeps it; and roots for nobody, since a user whose
+    share is full needs them before a collection."""
+    with unit("--most-bytes-each", "25000") as store:
+        add = lambda user, name: ask(store.place, user, "POST", "/text", text(name, bytes(10_000)))
+        (_, one), (_, two) = add("ann", "a"), add("ann", "b")
+        root = lambda user, name, path: ask(store.place, user, "POST", f"/root/user/{user}/{name}",
+                                            body(("path", path.decode().strip())))
+        assert [root("ann", f"root{at}", one)[0] for at in range(5)] == [200] * 5, "roots of a user whose share is full"
+        assert root("bob", "mine", two)[0] == 200, "another user's root"
+        assert ask(store.place, "bob", "POST", "/collect")[0] == 200
+        assert add("ann", "c")[0] == 507, "doesn't move the object into that user's share"
+        assert [add("bob", it)[0] for it in ("d", "e")] == [200, 200]
+
+
 def test_the_limit_by_memory(folder, monkeypatch):
     """The usual limit follows from the memory of the service."""
     Path(f"{folder}/cgroup/system.slice/store.service").mkdir(parents=True)

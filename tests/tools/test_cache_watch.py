@@ -104,6 +104,23 @@ def test_the_record_of_changes(unit):
         assert all(re.fullmatch(r"\d{4}-\d\d-\d\dT\d\d:\d\d:\d\d\.\d{3}\+00:00", it["time"]) for it in records)
 
 
+def test_the_record_of_requests_that_do_nothing(unit):
+    """They don't make the journal forget others: those that name no user have a line each second, and a line of what
+    wasn't done has a short target."""
+    with unit() as store:
+        began = time.monotonic()
+        for _ in range(40):
+            answer = ask(store.place, "ann", "POST", "/" + "x" * 3000, b"", "-H", "origin: https://evil.example")
+            assert answer == (403, b"denied: other-site\n")
+        spent, records = time.monotonic() - began, store.records()
+        assert 1 <= len(records) <= 1 + spent < 40
+        assert {(it["user"], it["status"], len(it["target"])) for it in records} == {(None, 403, 300)}
+        before = len(records)
+        assert ask(store.place, "ann", "POST", "/" + "x" * 3000, b"")[0] == 404
+        parts.until("its line", lambda: len(store.records()) > before)
+        assert [(it["user"], len(it["target"])) for it in store.records()[before:]] == [("ann", 300)], "at once"
+
+
 def test_the_record_of_a_collection_of_many_paths(unit):
     """A line has the first 100, and how many more there are."""
     with unit() as store:

@@ -19,7 +19,7 @@ from nixkeep_dev.build.program import HERE
 from nixkeep_dev.testing import nar
 from nixkeep_dev.testing import nix as real
 from nixkeep_dev.testing.store import Store
-from nixkeep_tools import objects
+from nixkeep_tools import closure_command, objects
 from tests.tools import servers, shim
 from tests.tools.servers import ran
 
@@ -94,7 +94,7 @@ def line_of(what, sent, size, there):
 
 def is_the_object(nix, kept, path, info):
     """A store has the object with all that Nix says of it."""
-    record, base_of = objects.read_record(kept("info", path).decode()), os.path.basename
+    record, base_of = objects.read_record(kept("info", path).decode()), lambda it: Path(it).name
     digest = nar.base32(base64.b64decode(info["narHash"].removeprefix("sha256-")))
     assert (nar.base32(record.nar_hash), record.nar_size, record.ca) == (digest, info["narSize"], info.get("ca"))
     assert record.refs == sorted(map(base_of, info["references"]))
@@ -167,7 +167,7 @@ def test_a_push_of_what_is_there(made, kept):
     assert push("--permanent", "ours", made.top)[0] == 0
     os.symlink(made.top, f"{made.folder}/result")
     assert push(f"{made.folder}/result") == (0, line, ""), "a path by a link"
-    assert push(os.path.basename(made.top)) == (0, line, ""), "a path by its base name"
+    assert push(Path(made.top).name) == (0, line, ""), "a path by its base name"
     labels = "gcroots/ours", "gcroots/per-user/root/top", "profiles/per-user/root/tops-1-link"
     assert kept.lines("roots") == [f"{it} {made.top}" for it in labels]
 
@@ -218,6 +218,29 @@ def test_a_copy(made, kept):
         came = closure(None, *own, "copy", "--to", f"http://127.0.0.1:{port}", made.top)
     assert came == (0, line_of("copied", COUNT, made.bytes, 0), ""), "a copy to a server"
     assert file.lines("list") == sorted(made.infos)
+
+
+def test_credentials_are_for_one_server(folder, monkeypatch):
+    """Of two servers of a copy, the second one doesn't get the password for the first one, but its own."""
+    Path(netrc := f"{folder}/.netrc").write_text("machine blue.example login bob password b\n")
+    os.chmod(netrc, 0o600)
+    monkeypatch.setenv("HOME", folder)
+    monkeypatch.setenv("NIXKEEP_CREDENTIALS", "ann:secret")
+    monkeypatch.delenv("NIXKEEP_CREDENTIALS_FILE", raising=False)
+
+    def users(to, *more):
+        words = closure_command.parser().parse_args([*more, "copy", "--to", to, "0" * 32 + "-x"])
+        stores, found = closure_command.Stores(words, "/nix/store", 1), []
+        for it in ([] if words.db else [stores.first()]) + [stores.second()]:
+            found.append(it.server.credentials and it.server.credentials.user)
+        return found
+
+    red = "--server", "https://red.example"
+    assert users("https://blue.example", *red) == ["ann", "bob"]
+    assert users("https://green.example", *red) == ["ann", None]
+    assert users("https://red.example:444", *red) == ["ann", None]
+    assert users("https://red.example:443/x", *red) == ["ann", "ann"], "the same one"
+    assert users("https://blue.example", "--db", "store.db") == ["ann"], "the only one"
 
 
 # ---- what is refused

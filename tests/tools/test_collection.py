@@ -1,7 +1,8 @@
 """Runs cases and tests by pytest in a small copy of this repository, and looks at what it says of each.
 
 Each step of a case is a test that passes, one that came out otherwise fails with what differs, and one whose tools
-aren't installed is skipped with the reason. bin/run does the same with a module of tests, and counts at its end.
+aren't installed is skipped with the reason. bin/run does the same with a module of tests, and counts at its end. A
+part of the gate that hangs is ended, and has failed.
 """
 import os
 import re
@@ -14,6 +15,7 @@ from pathlib import Path
 import pytest
 
 from nixkeep_dev.build.program import HERE
+from nixkeep_dev.testing import runs
 from nixkeep_dev.testing.cases import steps_of
 
 COPIED = ("bin/run", "dev", "pyproject.toml", "tests/conftest.py", "tests/__init__.py", "tests/packages.txt",
@@ -56,18 +58,39 @@ def test_without_what_it_needs(broken):
 def test_with_a_tool(twice):
     pass
 """
+# One with examples, at some of many places, and one that ends the run before its last test.
+EXAMPLES = """import pytest
+
+from nixkeep_dev.testing import report
+
+
+def test_places(some):
+    for at in some(1000, "places"):
+        report.same(f"place {at}", at, at)
+
+
+def test_that_ends_the_run(request):
+    if request.config.getoption("--seed") == 7:
+        pytest.exit("early", 0)
+
+
+def test_more():
+    report.passes(2)
+"""
 
 
 @pytest.fixture(scope="module")
 def copied():
     with tempfile.TemporaryDirectory() as top:
         for name in COPIED:
-            os.makedirs(os.path.dirname(f"{top}/{name}"), exist_ok=True)
-            put = shutil.copytree if os.path.isdir(f"{HERE}/{name}") else shutil.copy2
+            Path(f"{top}/{name}").parent.mkdir(parents=True, exist_ok=True)
+            put = shutil.copytree if Path(f"{HERE}/{name}").is_dir() else shutil.copy2
             put(f"{HERE}/{name}", f"{top}/{name}")
         Path(f"{top}/tests/cases/kinds.txt").write_text(CASE)
         os.mkdir(f"{top}/tests/tools")
         Path(f"{top}/tests/tools/test_kinds.py").write_text(MODULE)
+        os.mkdir(f"{top}/tests/compare")
+        Path(f"{top}/tests/compare/examples.py").write_text(EXAMPLES)
         yield top
 
 
@@ -112,8 +135,32 @@ def test_a_module_with_a_test_of_each_kind(ran):
     assert "assert (1 + 1) == 3" in said
 
 
+def test_examples_are_counted(ran):
+    status, said = ran("bin/run", "tests/compare/examples.py", "--count", "5")
+    assert status == 0 and "test_places PASSED, 5 examples, at 5 of 1,000 places " in said, said
+    assert said.splitlines()[-3:] == ["7 examples", "5 of 1,000 places tried", "3 passed, 0 failed"], said
+
+
+def test_a_run_that_ends_early_has_failed(ran):
+    status, said = ran("bin/run", "tests/compare/examples.py", "--seed", "7")
+    last = ["the run ended before these tests did: 2", "1 passed, 2 failed"]
+    assert (status, said.splitlines()[-2:]) == (1, last), said
+
+
+def test_a_module_of_any_name_is_found_in_its_folder(pytest_ran):
+    status, said = pytest_ran("tests/compare")
+    assert (status, "3 passed" in said) == (0, True), said
+
+
 def test_some_tests_of_a_module(ran):
     status, said = ran("bin/run", "tests/tools/test_kinds.py", "-k", "as_written")
     assert (status, said.splitlines()[-1]) == (0, "1 passed, 0 failed"), said
     status, said = ran("bin/run", "tests/tools/test_kinds.py", "-k", "no_such_name")
     assert (status != 0, said.splitlines()[-1]) == (True, "0 passed, 0 failed"), said
+
+
+@pytest.mark.parametrize("words", ["sleep 100", "setsid sleep 100 & echo '5 passed, 0 failed'"])
+def test_a_part_that_hangs_is_ended_and_has_failed(words):
+    ran = runs.run(["sh", "-c", words], is_shown=False, limit=0.02)
+    assert (ran.is_good(), ran.failed, ran.minutes < 1) == (False, 1, True), ran.output
+    assert ran.output.endswith("it hangs: it was ended after 0.02 minutes\n")

@@ -1,4 +1,4 @@
-"""Tries the examples for NixOS, containers and logins by another program, as far as a machine without these can.
+"""Tries the examples for NixOS and containers, as far as a machine without these can.
 
 NixOS: Nix evaluates the module over options and packages in place of those of nixpkgs: the files, groups and units that
 it makes of two stores; the program takes the configuration that it writes. What package.nix does in its phase of
@@ -6,11 +6,7 @@ installation is done on the files of an archive: the units name no program below
 
 Containers: each instruction is one that there is, what is copied is what bin/package makes, and the commands of the
 image serve a store, whose check of health succeeds while it runs and fails after.
-
-Logins: nginx with auth-request.conf and a program in place of the one that knows the users: who each of them is to the
-store, and what forged fields, other domains and a missing login come to.
 """
-import base64
 import json
 import os
 import re
@@ -24,7 +20,6 @@ import pytest
 import parts
 from nixkeep_dev.build.layout import version
 from nixkeep_dev.build.program import HERE
-from tests.tools.servers import answering
 
 MODULE, PACKAGE = f"{HERE}/examples/nixos/module.nix", f"{HERE}/examples/nixos/package.nix"
 CONTAINER = f"{HERE}/examples/container/Containerfile"
@@ -85,7 +80,7 @@ def test_the_units_of_the_module(machine, kind, target):
     assert {it["wantedBy"][0] for it in units.values()} == {target}
     # (without it NixOS would make a unit of its own in place of the package's)
     assert {it["overrideStrategy"] for it in units.values()} == {"asDropin"}
-    assert os.path.exists(f"{HERE}/packaging/nixkeep@.{kind.removesuffix('s')}")
+    assert Path(f"{HERE}/packaging/nixkeep@.{kind.removesuffix('s')}").exists()
 
 
 @needs_nix
@@ -193,74 +188,3 @@ def test_the_check_of_health(container, program, folder):
             running.terminate()
     assert (ran.returncode, ran.stderr) == (0, ""), health
     assert subprocess.run(health, env=environment, capture_output=True).returncode != 0, "after the end"
-
-
-# ---- logins
-
-# Who the stand-in knows: the name and password of a login, and the user that it says.
-KNOWN = {"ann:secret": "ann@example.org", "bob:secret": "bob", "eve:secret": "ann@evil.example", "odd:secret": "a b",
-         "none:secret": None}
-ALLOWED = (200, b"class: allowed\nconnect: yes\n")
-NOBODY = (400, b"refused: 20 bad-caller\n")
-needs_nginx = pytest.mark.needs("nginx", "openssl", "curl", "python3-aiohttp")
-
-
-def login(_, target, fields):
-    """What oauth2-proxy answers to nginx: 202 and the user, or 401."""
-    words = base64.b64decode(fields.get("authorization", "").partition(" ")[2] or b"").decode()
-    status = 202 if words in KNOWN and target == "/oauth2/auth" else 401
-    return status, "text/plain", b"", *[("x-auth-request-user", it) for it in [KNOWN.get(words)] if it]
-
-
-def nginx_conf(folder, port, login):
-    """The file of the example with the places and ports of this machine."""
-    text = Path(f"{HERE}/examples/team/auth-request.conf").read_text()
-    for here, there in {"/etc/nixkeep/tls": folder, "/run/nixkeep/red.socket": f"{folder}/red.socket",
-                        "127.0.0.1:4180": f"127.0.0.1:{login}", "listen      443": f"listen 127.0.0.1:{port}"}.items():
-        assert here in text
-        text = text.replace(here, there)
-    kinds = "client_body", "proxy", "fastcgi", "uwsgi", "scgi"
-    rooms = "".join(f"{it}_temp_path {folder}/{it}; " for it in kinds)
-    Path(file := f"{folder}/nginx.conf").write_text(
-        f"daemon off; pid {folder}/nginx.pid; {'user root;' if os.geteuid() == 0 else ''} events {{}}\n"
-        f"http {{ access_log off; {rooms}\n{text}\n}}\n")
-    return file
-
-
-@pytest.fixture(scope="module")
-def who(program):
-    """What nginx answers to a request with these words of curl."""
-    with tempfile.TemporaryDirectory() as folder, answering(login) as url:
-        port = parts.free_port()
-        made = "openssl req -x509 -newkey rsa:2048 -nodes -days 1 -subj /CN=red.example.org " \
-               "-addext subjectAltName=DNS:red.example.org -keyout server.key -out server.pem"
-        subprocess.run(made.split(), cwd=folder, check=True, capture_output=True)
-        config = f"{folder}/red.toml"
-        Path(config).write_text('allowed-users = ["ann", "bob"]\ntrusted-users = ["build"]\n')
-        conf = nginx_conf(folder, port, url.rpartition(":")[2])
-        nginx = [parts.found("nginx"), "-p", folder, "-e", "nginx.log", "-c", conf]
-        site = ["--cacert", f"{folder}/server.pem", "--resolve", f"red.example.org:{port}:127.0.0.1"]
-        unit = parts.Unit(program, folder, config, f"{folder}/store.db", f"{folder}/red.socket")
-        with unit, parts.Part("nginx", nginx, port, f"{folder}/nginx.log"):
-            yield lambda *more: parts.curl(*site, *more, f"https://red.example.org:{port}/who")
-
-
-@needs_nginx
-@pytest.mark.parametrize("login, wanted", [("ann:secret", ALLOWED), ("bob:secret", ALLOWED), ("eve:secret", NOBODY),
-                                           ("odd:secret", NOBODY), ("none:secret", NOBODY)],
-                         ids=["of the team's domain", "without a domain", "of another domain", "not plain", "no name"])
-def test_who_a_login_is(who, login, wanted):
-    assert who("-u", login) == wanted
-
-
-@needs_nginx
-@pytest.mark.parametrize("words", [["-u", "ann:wrong"], []], ids=["a wrong password", "no login"])
-def test_no_login(who, words):
-    assert who(*words)[0] == 401
-
-
-@needs_nginx
-@pytest.mark.parametrize("field", ["store-user: build", "x-auth-request-user: build", "store_user: build"])
-def test_a_forged_field(who, field):
-    assert who("-u", "ann:secret", "-H", field) == ALLOWED
-    assert who("-H", field)[0] == 401

@@ -73,7 +73,7 @@ PLANTED = {(schema, what): text for schema in (1, 2, 3) for what, text in faults
 def sound():
     """A sound file of each schema."""
     with tempfile.TemporaryDirectory() as folder:
-        found = {schema: os.path.join(folder, f"sound{schema}.db") for schema in (1, 2, 3)}
+        found = {schema: f"{folder}/sound{schema}.db" for schema in (1, 2, 3)}
         for schema, path in found.items():
             put(path, FAULTY.store.rows(schema), made_by(schema))
         yield found
@@ -86,10 +86,22 @@ def test_a_sound_file(nixkeep, sound, schema):
 
 @pytest.mark.parametrize("schema, what", PLANTED)
 def test_a_fault_in_rows(nixkeep, folder, sound, schema, what):
-    path = shutil.copy(sound[schema], os.path.join(folder, "spoiled.db"))
+    path = shutil.copy(sound[schema], f"{folder}/spoiled.db")
     sqlite(path, PLANTED[schema, what])
     lines = lines_of(nixkeep.agrees(path, what), NAMED, "no row is tested")
     assert are_lines(lines, wanted := FAULTS.get(what, [])), f"{lines} where {wanted} is meant"
+
+
+@pytest.mark.parametrize("count, is_sound", [(4096, True), (4097, False)])
+def test_the_limit_of_references(nixkeep, folder, sound, count, is_sound):
+    path, own = shutil.copy(sound[3], f"{folder}/many.db"), FAULTY.own
+    # (it has two already, and the others are of objects with its archive)
+    others = f"WITH RECURSIVE n(i) AS (VALUES (1) UNION ALL SELECT i + 1 FROM n WHERE i < {count - 2}) SELECT"
+    sqlite(path, f"""BEGIN;
+        INSERT INTO object {others} printf('%032d-n', i), nar, hash, NULL, NULL FROM n, object WHERE base = '{own}';
+        INSERT INTO refs {others} '{own}', printf('%032d-n', i) FROM n; COMMIT;""")
+    output = nixkeep.agrees(path, f"{count} references")
+    assert (f"object ({own}): it has 4097 references, and may have 4096" in output) != is_sound, output[:600]
 
 
 def test_each_fault_of_the_table_is_planted():
@@ -108,7 +120,7 @@ OTHER_SCHEMAS = [*schemas()]
 
 @pytest.mark.parametrize("text, answer", OTHER_SCHEMAS, ids=range(len(OTHER_SCHEMAS)))
 def test_a_schema(nixkeep, folder, text, answer):
-    path, what = os.path.join(folder, "schema.db"), difference(text)
+    path, what = f"{folder}/schema.db", difference(text)
     sqlite(path, text + "PRAGMA user_version = 1;")
     if answer == "opened":
         put(path, {"meta": Built().rows()["meta"]})
@@ -128,7 +140,7 @@ THEIRS = "CREATE TABLE t (a INTEGER PRIMARY KEY, b TEXT); INSERT INTO t VALUES (
 @pytest.mark.parametrize("text", [it for it in OTHERS if not it.startswith("#")])
 def test_what_other_programs_have(nixkeep, folder, text):
     """Tables, settings and header bytes."""
-    path, first = os.path.join(folder, "others.db"), "".join(re.findall("PRAGMA [^;]*;", text))
+    path, first = f"{folder}/others.db", "".join(re.findall("PRAGMA [^;]*;", text))
     sqlite(path, first + THEIRS + ("" if text.startswith("header ") else text[len(first):]))
     if text.startswith("header "):
         with open(path, "r+b") as file:
@@ -165,7 +177,7 @@ def change_row(rng, path):
 
 def test_random_changes(nixkeep, folder, rng, many):
     for at in range(many):
-        path = os.path.join(folder, f"chance{at}.db")
+        path = f"{folder}/chance{at}.db"
         some_store(rng, path)
         nixkeep.agrees(path, "a random store")
         nixkeep.agrees(path, (change_row if rng.random() < 0.6 else change_bytes)(rng, path))
@@ -230,7 +242,7 @@ def test_no_database(folder, data, line, status):
 
 
 def test_no_file(folder):
-    other = os.path.join(folder, "other")
+    other = f"{folder}/other"
     says([other], f"{other}: failed: there is no such file; *", 1)
     says([f"{other}/none.db"], f"{other}/none.db: {BAD_SCHEMA}: there is no folder {other}", 3)
     says([folder], f"{folder}: {BAD_SCHEMA}: a folder or a device, and no file", 3)
@@ -247,13 +259,13 @@ def test_a_journal(path):
 
 
 def test_two_names(nixkeep, path, folder):
-    os.link(path, os.path.join(folder, "other"))
+    os.link(path, f"{folder}/other")
     says([path], f"{path}: {BAD_SCHEMA}: the file has 2 names *", 3)
     assert nixkeep(path, "list")[1] == f"{BAD_SCHEMA}\n"
 
 
 def test_a_log_that_is_a_link(path, folder):
-    os.symlink(os.path.join(folder, "other"), path + "-wal")
+    os.symlink(f"{folder}/other", path + "-wal")
     says([path], f"{path}: {BAD_SCHEMA}: its log {path}-wal is a link, *", 3)
 
 
@@ -266,7 +278,7 @@ def test_a_wrong_configuration(path, folder, text, line):
 
 
 def test_another_directory(path, folder):
-    config = os.path.join(folder, "explain.toml")
+    config = f"{folder}/explain.toml"
     says(["--config", config, path], f"failed: No such file or directory: {config}", 1)
     Path(config).write_text('store-dir = "/a/store"')
     says(["--config", config, path],
@@ -279,7 +291,7 @@ def test_a_later_version(path):
 
 
 def test_another_program_with_a_name_in_use(folder):
-    foreign = os.path.join(folder, "foreign.db")
+    foreign = f"{folder}/foreign.db"
     sqlite(foreign, "CREATE TABLE object (id INTEGER PRIMARY KEY); CREATE TABLE other (a TEXT);")
     says([foreign], f"{foreign}: {BAD_SCHEMA}: the database of another program, *: object", 3)
     sqlite(foreign, "DROP TABLE object;")
@@ -306,7 +318,7 @@ def test_each_option_is_in(name):
 
 def test_a_file_and_its_folder_are_left_alone(program, folder):
     """Also where the rows are in the log alone."""
-    path = os.path.join(folder, "store.db")
+    path = f"{folder}/store.db"
     killed(program, path, [("root", "POST", "/text", text_body("t", b"text"))])
     before = {it.name: it.read_bytes() for it in sorted(Path(folder).iterdir())}
     says([path], f"{path}: sound: 1 object of 120 bytes in {STORE}, schema 3", 0)
@@ -319,7 +331,7 @@ def test_a_file_and_its_folder_are_left_alone(program, folder):
 @pytest.fixture
 def logged(program, folder):
     """A file with three objects, which are in its log alone, and the bytes of the log."""
-    path = os.path.join(folder, "logged.db")
+    path = f"{folder}/logged.db"
     for at in range(3):
         killed(program, path, [("root", "POST", "/text", text_body(f"t{at}", b"text"))])
     return path, Path(path + "-wal").read_bytes()
@@ -327,7 +339,7 @@ def logged(program, folder):
 
 def test_a_damaged_log(nixkeep, folder, rng, many, logged):
     """The program and SQLite take the commits before the damage, and the log stays as it is."""
-    (path, whole), other = logged, os.path.join(folder, "damaged.db")
+    (path, whole), other = logged, f"{folder}/damaged.db"
     for _ in range(min(many, 20)):
         log, frame = bytearray(whole), 32 + 4120 * rng.randrange(len(whole) // 4120)
         at = rng.choice([rng.randrange(32), frame + rng.randrange(24), frame + rng.randrange(4120)])
@@ -354,7 +366,7 @@ def test_a_damaged_log(nixkeep, folder, rng, many, logged):
 
 def test_a_damaged_page_of_each_frame(folder, logged):
     """As many adds are lost by SQLite's reading as commits by --log."""
-    (path, whole), other = logged, os.path.join(folder, "damaged.db")
+    (path, whole), other = logged, f"{folder}/damaged.db"
     for frame in range(32, 32 + 4120 * (len(whole) // 4120), 4120):
         if whole[frame + 8:frame + 16] == whole[16:24]:
             shutil.copy(path, other)
@@ -369,7 +381,7 @@ def from_sqlite(folder, path):
     """What has to be said of the log of a file, and its objects: SQLite says how many frames count."""
     with open(path + "-wal", "rb") as file:
         log = file.read()
-    copy = os.path.join(folder, "read.db")
+    copy = f"{folder}/read.db"
     for end in ("", "-wal"):
         shutil.copy(path + end, copy + end)
     with contextlib.closing(sqlite3.connect(copy)) as conn:
@@ -388,11 +400,11 @@ def from_sqlite(folder, path):
 def by_itself(path):
     """What --log says of the log of a file, as the numbers of frames and of commits; None if its head is damaged."""
     output, status, errors = explained("--log", path)
-    found = re.fullmatch(rf"{re.escape(path)}: its log: (\d+) frames? at its end (?:don't|doesn't) count, "
+    match = re.fullmatch(rf"{re.escape(path)}: its log: (\d+) frames? at its end (?:don't|doesn't) count, "
                          r"with (\d+) commits?: (.*)\n", output)
-    counted = (int(found[1]), int(found[2])) if found else (0, 0)
+    counted = (int(match[1]), int(match[2])) if match else (0, 0)
     if "its head is damaged" in output:
         return None
     assert (status, errors) == (3 if counted[1] else 0, ""), output
-    assert bool(found) == bool(output), "one line or none"
+    assert bool(match) == bool(output), "one line or none"
     return counted

@@ -1,16 +1,18 @@
 """Tests the tools with a server and a bucket that answer what no store and no bucket does."""
-import hashlib
+import itertools
 import time
 
 import pytest
 
 from nixkeep_dev.build.program import HERE
-from nixkeep_tools import blobs, http_client, nar, objects, paths
+from nixkeep_dev.testing import nar
+from nixkeep_tools import blobs, http_client, objects
 from nixkeep_tools.failures import Stop
+from tests.tools import replies
 from tests.tools.servers import answering, ran
 
 REMOTE = f"{HERE}/tools/nixkeep-remote"
-ARCHIVE = nar.regular_file(b"x")
+ARCHIVE = nar.archive(b"x")
 # (the bounds of the tools are a million objects and 256 MiB)
 OBJECTS, BYTES = 300, 1 << 20
 # A title for the terminal's window, a colour, what isn't ASCII, and a carriage return.
@@ -20,13 +22,12 @@ BEFORE = len(f"{'0' * 32}-x")
 
 
 def base(number):
-    return f"{paths.base32(hashlib.sha256(str(number).encode()).digest()[:20])}-x{number}"
+    return nar.hidden(f"x{number}")
 
 
 def record(name, refs=(), size=len(ARCHIVE), more=""):
-    digest = paths.nar_hash(hashlib.sha256(ARCHIVE).digest())
-    return (f"StorePath: /nix/store/{name}\nURL: nar/{name}\nCompression: none\nNarHash: {digest}\nNarSize: {size}\n"
-            f"References: {' '.join(refs)}\n{more}").encode()
+    return (f"StorePath: /nix/store/{name}\nURL: nar/{name}\nCompression: none\nNarHash: {nar.nar_hash(ARCHIVE)}\n"
+            f"NarSize: {size}\nReferences: {' '.join(refs)}\n{more}").encode()
 
 
 def text(status, given):
@@ -74,15 +75,33 @@ def test_records_of_a_closure(what, monkeypatch):
 
 
 def test_replies(monkeypatch):
-    """A refusal with a long number, and a reply without an end."""
+    """A refusal with a long number, a reply that is too long, and one without an end."""
     with answering(lambda *_: text(400, b"refused: %s x\n" % (b"9" * 5000))) as url:
         stops(lambda: store(url).ask("GET", "/paths"), "failed: proxy")
     with answering(lambda *_: text(200, b"\xff\n")) as url:
         assert store(url).valid(["x"]) == set(), "paths that are no text"
     monkeypatch.setattr(http_client, "MOST_OF_REPLY", BYTES)
+    with answering(lambda *_: text(200, b"x" * BYTES)) as url:
+        assert store(url).ask("GET", "/paths") == (None, b"x" * BYTES), "one as long as it may be"
+    with answering(lambda *_: text(200, b"x" * (BYTES + 1))) as url:
+        stops(lambda: store(url).ask("GET", "/paths"), f"more than {BYTES} bytes")
     with answering(lambda *_: text(200, None)) as url:
         stops(lambda: store(url).ask("GET", "/paths"), f"more than {BYTES} bytes")
         stops(store(url).takes_large, f"more than {BYTES} bytes")
+
+
+CHUNKED = replies.reply("transfer-encoding: chunked", text=b"1\r\nx\r\n0\r\n")
+ENDLESS = {"interim replies": (b"", b"HTTP/1.1 100 Continue\r\n\r\n"),
+           "fields after the last chunk": (CHUNKED, b"a: b\r\n"),
+           "fields of a head": (b"HTTP/1.1 100 Continue\r\n", b"a: b\r\n"), "a line": (b"", b"x")}
+
+
+@pytest.mark.parametrize("what", ENDLESS)
+def test_heads_without_an_end(what):
+    """What a client reads ahead of a text, or after it, has an end."""
+    first, more = ENDLESS[what]
+    with replies.server([itertools.chain([first], itertools.repeat(more * 1000))]) as url:
+        stops(lambda: store(url).ask("GET", "/paths"), "the answer isn't HTTP")
 
 
 def remote(url, *words):

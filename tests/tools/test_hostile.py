@@ -1,16 +1,16 @@
-"""Sends the hostile requests of hostile_requests.txt through nginx, as examples/team sets it up, and to nixkeep-cache
-without it. Each has to be answered as the table says, and none may do what it tries: to set a root as another user.
+"""Sends the hostile requests of hostile_requests.txt through nginx, with either file of examples/team, and to
+nixkeep-cache without it. Each has to be answered as the table says, and none may do what it tries: to set a root as
+another user.
 
 Needs what examples/team/try needs, and is skipped without it.
 """
 import base64
 import contextlib
-import importlib.machinery
-import importlib.util
 import re
 import socket
 import ssl
 import tempfile
+import time
 from concurrent.futures import ThreadPoolExecutor
 from pathlib import Path
 
@@ -18,19 +18,14 @@ import pytest
 
 import parts
 from nixkeep_dev.build.program import HERE
+from nixkeep_tools import nar, paths
+from tests.tools.logins import BOTH, deployed
+from tests.tools.team_try import TEAM
 
 TABLE = f"{HERE}/tests/tools/hostile_requests.txt"
 LAST = b"GET /last HTTP/1.1\r\n%sconnection: close\r\n\r\n"
 HOST = b"host: red.localhost\r\n"
 LOGIN = b"authorization: Basic %s\r\n" % base64.b64encode(b"ann:ann-secret")
-
-
-def deployment():
-    """The module examples/team/try."""
-    loader = importlib.machinery.SourceFileLoader("team_try", f"{parts.HERE}/try")
-    module = importlib.util.module_from_spec(importlib.util.spec_from_loader("team_try", loader))
-    loader.exec_module(module)
-    return module
 
 
 def rows():
@@ -41,7 +36,7 @@ def rows():
             yield number, (through.split("/"), straight.split("/"), sent)
 
 
-TEAM, ROWS = deployment(), dict(rows())
+ROWS = dict(rows())
 pytestmark = pytest.mark.needs(*TEAM.TOOLS)
 
 
@@ -97,13 +92,11 @@ def answers(connect, fields, path):
 # ---- what runs
 
 
-@pytest.fixture(scope="module")
-def site(program):
-    with tempfile.TemporaryDirectory() as folder, contextlib.ExitStack() as running:
-        made = TEAM.Deployment(program, folder)
-        for it in (made.servers["red"], made.nginx):
-            running.enter_context(it)
-        yield made
+@pytest.fixture(scope="module", params=BOTH)
+def site(request, program):
+    with tempfile.TemporaryDirectory() as folder, deployed(program, folder, request.param) as made:
+        with made.servers["red"], made.nginx:
+            yield made
 
 
 @pytest.fixture(scope="module")
@@ -140,13 +133,19 @@ def by_cache(site, path, by_nginx):
 
 
 def test_there_are_rows():
-    assert len(ROWS) >= 169
+    assert len(ROWS) >= 200
+
+
+# What differs where a program knows the users, by what a row has: the program may refuse a head by itself, which is a
+# failure to nginx, and the one team's name is the only one.
+BY_PROGRAM = {"{fields}": ["500"], "https://green.localhost": ["close"]}
 
 
 @pytest.mark.parametrize("line", ROWS)
-def test_through_nginx(line, by_nginx):
+def test_through_nginx(line, site, by_nginx):
     wanted, _, sent = ROWS[line]
-    assert by_nginx[0][line] in wanted, sent
+    differs = [it for key, it in BY_PROGRAM.items() if site.by_program and key in sent]
+    assert by_nginx[0][line] in (differs or [wanted])[0], sent
 
 
 def test_no_root_was_forged(by_nginx):
@@ -162,6 +161,13 @@ def test_nothing_was_added_but_what_rows_add(by_nginx):
 def test_to_the_cache(line, by_cache):
     _, wanted, sent = ROWS[line]
     assert by_cache[line] in wanted, sent
+
+
+def test_a_forged_group_opens_nothing_that_is_kept(site, path):
+    """This comes before other requests of the stranger, since nginx keeps for a minute who was denied."""
+    ann, eve, record = site.user("ann"), site.user("eve"), f"/{path[11:43]}.narinfo"
+    assert [ann("GET", record)[0] for _ in range(2)] == [200] * 2, "nginx keeps it"
+    assert eve("GET", record, None, "-H", "store-group: builders") == (403, b"denied: connect\n")
 
 
 # Conditions by which a stranger could learn of what nginx keeps, or get it.
@@ -183,6 +189,93 @@ def test_a_stranger_gets_nothing_that_nginx_keeps(what, site, path):
         assert eve("GET", target, None, "-H", it.replace("%s", tag)) == (403, b"denied: connect\n"), it
     for it in ("POST", "PUT", "DELETE", "PURGE", "PROPFIND"):
         assert eve(it, target, b"")[0] == 403, it
+
+
+# What a stranger may send, each with a target that is much longer than a line of the log may be.
+STRANGERS = {
+    "health beyond its limit": ((None, None), "GET", "/health?{}", []),
+    "health as another user": (("ann", "wrong"), "GET", "/health", []),
+    "health as a long name": (("x" * 3000, "wrong"), "GET", "/health", []),
+    "a link of another site": (("ann", "wrong"), "GET", "/{}", ["-H", "sec-fetch-site: cross-site"]),
+    "a link that is fetched ahead": (("ann", "wrong"), "GET", "/{}",
+                                     ["-H", "sec-fetch-site: none", "-H", "sec-purpose: prefetch;prerender"]),
+    "a body beyond its limit": (("ann", "wrong"), "POST", "/{}", ["-H", "content-length: 99999999"]),
+    "another site's request": (("ann", "wrong"), "POST", "/{}", ["-H", "origin: https://evil.example"]),
+    "a certificate of nobody, with a long subject": ((None, "long"), "GET", "/{}", []),
+    "a certificate of nobody, and a password": ((None, "long"), "GET", "/{}", ["-u", "ann:wrong"]),
+}
+
+
+@pytest.fixture
+def logs(site):
+    """How many bytes are in nginx's logs."""
+    return lambda: sum(it.stat().st_size for it in [*Path(f"{site.folder}/log").iterdir(),
+                                                    Path(f"{site.folder}/nginx.log")])
+
+
+@pytest.mark.parametrize("what", STRANGERS)
+def test_what_a_stranger_sends_fills_no_disk(what, site, logs):
+    """It is no line, neither of the log of requests nor of that of errors."""
+    (name, secret), method, target, more = STRANGERS[what]
+    if site.by_program and secret == "long" and more:
+        # (there is no certificate there, and a login that failed has its line)
+        return
+    if secret == "long":
+        subject = "/O=red/CN=ann" + "".join(f"/OU={at:060}" for at in range(100))
+        TEAM.run("openssl", "req", "-x509", "-newkey", "rsa:2048", "-nodes", "-days", "1", "-subj", subject,
+                 "-keyout", f"{site.etc}/tls/long.key", "-out", f"{site.etc}/tls/long.pem")
+        user = site.user(None, certificate="long")
+    else:
+        user = site.user(name, password=secret)
+    before = logs()
+    for _ in range(20):
+        assert user(method, target.format("x" * 3000), b"" if method == "POST" else None, *more)[0] in (
+            200, 400, 401, 403, 404, 413, 429)
+    # (a line is written after its reply)
+    site.user("ann")("GET", "/nix-cache-info")
+    parts.until("the line of a user", lambda: logs() > before)
+    assert logs() - before < 1000
+
+
+def test_a_wrong_password_is_a_short_line(site, logs):
+    before = logs()
+    assert site.user("ann", password="wrong")("GET", f"/{'x' * 3000}")[0] == 401
+    parts.until("its line", lambda: logs() > before)
+    assert logs() - before < 1000
+
+
+@pytest.fixture(scope="module")
+def large(site):
+    """The targets of an archive of 100 MB, by which it is sent as it is."""
+    archive = nar.regular_file(bytes(100_000_000))
+    path, digest = f"/nix/store/{'6' * 32}-large", paths.nar_hash(paths.sha256([archive]))
+    given = parts.body(("path", path), ("nar-hash", digest), payload=archive)
+    assert site.user("build")("POST", "/import", given)[0] == 200
+    return f"/nar/{path[11:]}", f"/large/{digest.removeprefix('sha256:')}/none/{path[11:]}"
+
+
+def sent(site):
+    """The bytes of large archives that nixkeep-cache has sent."""
+    page = site.user("prometheus")("GET", "/metrics")[1]
+    return float(re.search(rb"^nixkeep_blobs_sent_bytes_total (\S+)$", page, re.M)[1])
+
+
+@pytest.mark.needs("python3-prometheus_client")
+@pytest.mark.parametrize("at", [0, 1], ids=["by the store's own request", "as Nix asks"])
+def test_slow_readers_of_large_archives_fill_no_disk(at, site, large):
+    """nginx keeps nothing of a large archive for a reader that takes nothing of it."""
+    before, tls = sent(site), ssl.create_default_context(cafile=f"{site.etc}/tls/ca.pem")
+    with socket.create_connection(("127.0.0.1", site.port)) as plain:
+        reader = tls.wrap_socket(plain, server_hostname="red.localhost")
+        reader.sendall(b"GET %s HTTP/1.1\r\n%s\r\n" % (large[at].encode(), HOST + LOGIN))
+        assert reader.recv(12) == b"HTTP/1.1 200"
+        parts.until("the first bytes", lambda: sent(site) > before)
+        now, last = sent(site), before
+        while now > last:
+            time.sleep(0.5)
+            now, last = sent(site), now
+        assert now - before < 40_000_000
+        reader.close()
 
 
 def test_no_request_has_harmed_the_server(site, by_nginx, by_cache):

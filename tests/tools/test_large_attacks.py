@@ -133,6 +133,32 @@ def test_what_is_no_file_in_the_place_of_a_blob(rng, team_of):
         assert team.tool("sweep")[0] == 0, "then it has nothing left"
 
 
+@pytest.mark.parametrize("aside", ["aside-2026-01-02T03-04-05Z", "aside"])
+def test_a_sweep_after_a_restore(aside, rng, team_of):
+    """The files that a restore has moved aside are the way back, so no sweep deletes what they may name. OPERATING has
+    the first name for restores with the units, and the other one for those by hand."""
+    archive = archive_of(rng)
+    with team_of() as team:
+        assert team.import_("build", archive)[0] == 200
+        team.end()
+        os.mkdir(f"{team.folder}/{aside}")
+        for it in ("store.db", "store.db-wal"):
+            os.rename(f"{team.folder}/{it}", f"{team.folder}/{aside}/{it}")
+        team.start()
+        said = f"failed {aside}: a restore has left this folder, which may name any blob: delete it first"
+        for words in ([], ["--dry-run"], ["--grace", "1"]):
+            assert team.tool("sweep", *words) == (1, [said, "swept 0 blobs 0 bytes, kept 1"])
+        team.end()
+        for it in ("store.db", "store.db-wal"):
+            os.rename(f"{team.folder}/{aside}/{it}", f"{team.folder}/{it}")
+        os.rmdir(f"{team.folder}/{aside}")
+        team.start()
+        assert team("ann", "GET", f"/nar/{team.path(archive)[11:]}") == (200, archive), "the way back has all"
+        team("build", "DELETE", "/temp/build/4194304")
+        assert team("build", "POST", "/delete", body(("path", team.path(archive))))[0] == 200
+        assert team.tool("sweep")[1][-1].startswith("swept 1 blob "), "and sweeps go on"
+
+
 def test_uploads_sweeps_collections_and_kills_at_once(team_of):
     """Uploads of the same archives, sweeps without a time of grace, collections and `kill -9` at once: each object that
     is there is whole."""
@@ -176,7 +202,7 @@ def test_uploads_sweeps_collections_and_kills_at_once(team_of):
 @pytest.mark.needs("prlimit")
 def test_requests_that_never_end(team_of):
     """One user's requests that never end leave connections for others."""
-    with team_of(before=[parts.found("prlimit"), "--nofile=200"]) as team, contextlib.ExitStack() as held:
+    with team_of(before=[parts.place_of("prlimit"), "--nofile=200"]) as team, contextlib.ExitStack() as held:
         statuses = []
         for _ in range(60):
             client = socket.socket(socket.AF_UNIX)

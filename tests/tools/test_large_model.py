@@ -56,7 +56,7 @@ class World:
         self.pointers, self.seen, self.lock, self.now = set(named), [], lock(), 1e9
         kept = cache_blobs.Blobs.__new__(cache_blobs.Blobs)
         kept.place, kept.relied, kept.seen, kept.apart, kept.lock = self, {}, {}, self.apart, lambda _: self.lock
-        kept.put = cache_counts.Count()
+        kept.put, kept.ends = cache_counts.Count(), None
         self.kept, self.large = kept, cache_large.Large(kept, self, 0, None, "/nix/store")
         self.large.uploads, self.large.checked = self, self.checked
         self.sweep = cache_sweep.Sweep(kept, self, cache_shares.Shares(None, None), 3600, 60, "/dev/full/none")

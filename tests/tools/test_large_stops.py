@@ -5,6 +5,7 @@ import random
 import signal
 import subprocess
 import sys
+import threading
 import time
 from pathlib import Path
 
@@ -14,6 +15,7 @@ import parts
 from nixkeep_dev.testing import nar
 from parts import body, some_path
 from tests.tools.large import Team, archive_of, blob_key, bucket, is_sound, send_half
+from tests.tools.servers import answering
 
 BUCKET = "s3://archives/here"
 needs_buckets = pytest.mark.needs("python3-boto3")
@@ -155,10 +157,10 @@ def test_kills(team, rng):
 
 # Runs nixkeep-cache, and kills it ahead of a step of an upload: of a file below a folder that is opened, linked,
 # renamed or deleted, a sync, and what is sent to the server or has come from it.
-KILLER = """import os, runpy, signal, sys
+KILLER = """import os, pathlib, runpy, signal, sys
 left, folder, begun = int(sys.argv[1]), sys.argv[2], False
 sys.argv = sys.argv[3:]
-sys.path.insert(0, os.path.dirname(sys.argv[0]))
+sys.path.insert(0, str(pathlib.Path(sys.argv[0]).parent))
 from nixkeep_tools import cache_server
 
 def step():
@@ -229,7 +231,7 @@ def there(team, archive, path):
 @pytest.mark.needs("prlimit")
 def test_a_full_disk(rng, program, folder):
     """A disk that is full: no file may become larger than 1 MB."""
-    with Team(program, folder, before=[parts.found("prlimit"), "--fsize=1000000"]) as team:
+    with Team(program, folder, before=[parts.place_of("prlimit"), "--fsize=1000000"]) as team:
         came = team.upload(some_path(rng, "full"), archive_of(rng, 3_000_000))
         is_named = came[0] == 507 and came[1].startswith(b"failed: full blobs: ")
         assert is_named and team.folder.encode() not in came[1], ("a full folder: its name, not its place", came)
@@ -251,6 +253,45 @@ def test_a_bucket_that_refuses_or_fails(status, code, rng, program, folder):
         assert any(f"/archives/here/{blob_key(archive)}" in it for it in requests), "the digest is the blob's name"
         assert team.fields(path)[0] == 404, "no pointer"
         assert os.listdir(f"{folder}/waiting/incoming") == [], "and no part"
+
+
+# Runs nixkeep-cache, whose end looks at its clients after a second.
+HASTY = """import pathlib, runpy, sys
+sys.argv = sys.argv[1:]
+sys.path.insert(0, str(pathlib.Path(sys.argv[0]).parent))
+from nixkeep_tools import cache_ending
+cache_ending.LOOK = 1
+runpy.run_path(sys.argv[0], run_name="__main__")"""
+
+
+@needs_buckets
+def test_a_stop_while_a_bucket_hangs(rng, program, folder):
+    """A stop waits for two looks and no longer: the upload is answered as one to be sent again, and there is no
+    pointer."""
+    archive, path, come, goes_on = archive_of(rng), some_path(rng, "hangs"), threading.Event(), threading.Event()
+
+    def hangs(method, target, _):
+        if method == "PUT":
+            come.set()
+            goes_on.wait(100)
+        return 404 if method == "HEAD" and target.endswith(".zst") else 200, "application/xml", b""
+
+    os.environ |= {"AWS_ACCESS_KEY_ID": "a", "AWS_SECRET_ACCESS_KEY": "b", "AWS_DEFAULT_REGION": "us-east-1"}
+    with answering(hangs) as url, concurrent.futures.ThreadPoolExecutor(1) as pool:
+        how = {"blobs": BUCKET, "before": [sys.executable, "-c", HASTY]}
+        with Team(program, folder, "--blobs-endpoint", url, **how) as team:
+            sent = pool.submit(team.upload, path, archive)
+            assert come.wait(100), "the bucket gets it"
+            began = time.monotonic()
+            team.end()
+            spent = time.monotonic() - began
+            goes_on.set()
+            status, said = sent.result()
+            assert status == 503 and b"try again later" in said, (status, said)
+            assert 2 <= spent < 20, "the stop waits for two looks, each of a second here"
+            team.start()
+            assert team.fields(path)[0] == 404, "no pointer"
+            assert os.listdir(f"{folder}/waiting/incoming") == [], "and no part"
 
 
 @needs_buckets

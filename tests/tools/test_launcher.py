@@ -85,21 +85,25 @@ def test_a_copy_proves_the_program_alone(proved):
 
 def test_launched(proved):
     """The same bytes as those of the program here pass; others don't, and neither does a library that isn't kept."""
-    os.makedirs(f"{proved.top}/tests/gate")
-    launched = shutil.copy2(f"{HERE}/tests/gate/launched.py", f"{proved.top}/tests/gate/launched.py")
+    for name in ("pyproject.toml", "tests/__init__.py", "tests/conftest.py", module := "tests/gate/launched.py"):
+        proved.write(name, Path(HERE, name).read_text())
     proved.write(".gitignore", "out/\n")
     subprocess.run(["git", "init", "-q", proved.top], check=True)
-    status, out, _, log = proved.run("run", launched)
-    assert (status, out.count("nixkeep proved"), started(log)) == (0, 1, ["nixkeep"]), "a fresh copy gives the same"
+    launched = ("run", f"{proved.top}/{module}", "--built")
+    status, out, _, log = proved.run(*launched)
+    assert (status, out.splitlines()[-1:], started(log)) == (0, ["3 passed, 0 failed"], ["nixkeep"]), out
     other = f"{proved.room}/other"
     shutil.copy2(f"{proved.top}/crates/nixkeep/out/nixkeep", other)
     with open(other, "a") as file:
         file.write("#")
-    status, out, _, _ = proved.run("run", launched, "--program", other)
-    assert status == 1 and "its bytes" in out, "a byte more is noticed"
+    status, out, _, _ = proved.run(*launched, "--program", other)
+    assert status == 1 and "its bytes" in out and "2 passed, 1 failed" in out, "a byte more is noticed"
     os.remove(f"{proved.top}/out/proved/left.tar.gz")
-    status, out, _, _ = proved.run("run", launched)
+    status, out, _, _ = proved.run(*launched)
     assert status == 1 and "2 crates" in out, "a library that isn't kept is noticed"
+    proved.write("crates/low/src/lib.rt", "// another\n")
+    status, out, _, log = proved.run(*launched)
+    assert (status, log) == (1, []) and "of the present sources" in out, "the program of other sources isn't compared"
 
 
 def test_a_failure_keeps_what_was_proved(proved):
@@ -118,9 +122,10 @@ def test_a_signal(proved, number):
     proved.write("crates/low/src/lib.rt", f"// before {number}\n")
     # (these are ended long before)
     ran = proved.start(seconds="left=100 right=100")
-    while "ends low" not in " ".join(" ".join(it) for it in proved.log()[-6:]):
+    # (what is above a crate starts once that is being kept)
+    while not {"left", "right"} & {*started(proved.log())}:
+        assert ran.poll() is None
         time.sleep(0.05)
-    time.sleep(0.5)
     ran.send_signal(number)
     _, said = ran.communicate()
     assert ran.returncode == 128 + number
@@ -134,17 +139,18 @@ def test_two_runs_prove_each_crate_once(proved):
     other = []
     # (the first of the two still runs when the second looks)
     start = lambda: proved.start(seconds="low=3")
-    beside = threading.Thread(target=lambda: other.append(start().communicate()))
+    second = threading.Thread(target=lambda: other.append(start().communicate()))
     Path(f"{proved.room}/log").unlink(missing_ok=True)
-    beside.start()
+    second.start()
     out, said = start().communicate()
-    beside.join()
+    second.join()
     assert [out, other[0][0]] == [ANSWER] * 2
     assert started(proved.log()) == sorted(CRATES)
     assert "waiting for it" in said + other[0][1]
 
 
-@pytest.mark.parametrize("text, line", [("exit 1", "no Rattle toolchain"), ("echo rattle-kit-1", "rattle-kit-1")])
+@pytest.mark.parametrize("text, line", [("exit 1", "no Rattle toolchain"), ("echo rattle-kit-1", "rattle-kit-1"),
+                                        ("echo rattle-kit-1 logic 0", "rattle-kit-1 logic 0")])
 def test_another_toolchain(folder, text, line):
     """It is refused by one line, as is something else of its name."""
     repository = Repository(folder)

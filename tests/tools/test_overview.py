@@ -344,7 +344,8 @@ def browse():
 
     port = parts.free_port()
     words = "chromium --headless=new --no-sandbox --disable-gpu --no-first-run".split()
-    with tempfile.TemporaryDirectory() as folder:
+    # (some of its processes may still write there for a moment after it has ended)
+    with tempfile.TemporaryDirectory(ignore_cleanup_errors=True) as folder:
         words += [f"--remote-debugging-port={port}", f"--user-data-dir={folder}/chromium", "about:blank"]
         with parts.Part("chromium", words, port, f"{folder}/chromium.log"):
             yield lambda *it: asyncio.run(run(*it))

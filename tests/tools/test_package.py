@@ -38,7 +38,7 @@ def greets(words):
 def given(pytestconfig):
     """The words that name the program, where it isn't that of this checkout."""
     file = pytestconfig.getoption("--program")
-    return ["--program", os.path.abspath(file)] if file else []
+    return ["--program", str(Path(file).absolute())] if file else []
 
 
 @pytest.fixture(scope="module")
@@ -94,7 +94,7 @@ def test_what_the_archive_has_runs_where_it_is_unpacked(both, folder):
 @needs_dpkg
 def test_sums_of_the_sources_are_there_where_they_were_proved(files, given):
     """A package of a program that is given has none."""
-    assert os.path.exists(f"{files}/usr/share/doc/nixkeep/sources.sha256") != bool(given)
+    assert Path(f"{files}/usr/share/doc/nixkeep/sources.sha256").exists() != bool(given)
 
 
 @needs_dpkg
@@ -177,8 +177,8 @@ class Root:
         for name in ("status", "available"):
             open(f"{root}/var/lib/dpkg/{name}", "w").close()
         for path in LIBRARIES:
-            os.makedirs(os.path.dirname(f"{root}{path}"), exist_ok=True)
-            shutil.copyfile(os.path.realpath(path), f"{root}{path}")
+            Path(f"{root}{path}").parent.mkdir(parents=True, exist_ok=True)
+            shutil.copyfile(str(Path(path).resolve()), f"{root}{path}")
             os.chmod(f"{root}{path}", 0o755)
 
     def dpkg(self, *words):
@@ -191,7 +191,7 @@ class Root:
         """The files and links below usr and etc."""
         tops = [f"{self.root}/{it}" for it in ("usr", "etc")]
         found = [f"{at}/{it}" for top in tops for at, _, names in os.walk(top) for it in names]
-        return sorted(os.path.relpath(it, self.root) for it in found)
+        return sorted(str(Path(it).relative_to(self.root)) for it in found)
 
 
 @pytest.fixture(scope="module")
@@ -239,7 +239,7 @@ def test_the_program_names_no_file_of_the_toolchain(installed):
 def not_compiled(folder):
     """The modules of an installation that aren't compiled, by Debian's Python or by the one that there is."""
     modules = {it.removesuffix(".py") for it in os.listdir(f"{folder}/nixkeep_tools") if it.endswith(".py")}
-    made = {os.path.basename(it).split(".")[0] for it in glob.glob(f"{folder}/nixkeep_tools/__pycache__/*.pyc")}
+    made = {Path(it).name.split(".")[0] for it in glob.glob(f"{folder}/nixkeep_tools/__pycache__/*.pyc")}
     return sorted(modules - made)
 
 
@@ -311,7 +311,7 @@ def test_another_installation_takes_away_what_only_the_one_before_had(given, pre
     with open(f"{prefix}/lib/nixkeep/installed", "a") as file:
         file.write("lib/nixkeep/nixkeep_tools/old.py\n")
     assert install("--prefix", prefix, *given)[0] == 0
-    assert not os.path.exists(old)
+    assert not Path(old).exists()
 
 
 def test_bin_install_removes_what_it_has_installed(prefix):
@@ -321,7 +321,7 @@ def test_bin_install_removes_what_it_has_installed(prefix):
         open(it, "w").close()
     assert install("--remove", "--prefix", prefix) == (0, "")
     assert sorted(f"{at}/{it}" for at, _, names in os.walk(prefix) for it in names) == sorted(others)
-    folders = sorted(os.path.relpath(at, prefix) for at, _, _ in os.walk(prefix))
+    folders = sorted(str(Path(at).relative_to(prefix)) for at, _, _ in os.walk(prefix))
     assert folders == [".", "bin", "share", "share/man", "share/man/man1"], "no empty folder"
     status, said = install("--remove", "--prefix", prefix)
     assert status == 1 and said.count("\n") == 1 and "nothing" in said, "a second one is one line"

@@ -93,7 +93,7 @@ def test_what_python_compiled_is_removed(scripts, words, wanted):
     made = f"{scripts.room}/lib/nixkeep_tools/__pycache__"
     os.makedirs(made)
     assert scripts.run("prerm", *words) == (0, "", wanted)
-    assert not os.path.exists(made)
+    assert not Path(made).exists()
 
 
 def test_where_systemd_does_not_run(scripts):

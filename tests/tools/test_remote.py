@@ -22,7 +22,7 @@ from pathlib import Path
 import pytest
 
 from nixkeep_dev.build.program import HERE
-from nixkeep_dev.testing import cases, nar
+from nixkeep_dev.testing import cases, nar, report
 from nixkeep_tools import credentials, failures, http_client, http_connection, http_place, subcommands
 from tests.tools import replies, servers, shim, stand_in
 from tests.tools.servers import ran
@@ -84,6 +84,16 @@ def test_words_of_the_help():
     status, output, _ = ran([REMOTE, "--help"])
     assert status == 0
     assert [it.name for it in subcommands.COMMANDS if f"\n  {it.name} ".encode() not in output] == []
+
+
+def test_what_takes_long_to_load_is_not_loaded():
+    """Each of these takes milliseconds, and a request takes less than one."""
+    words = ["/usr/bin/python3", "-ES", "-X", "importtime", REMOTE, "--help"]
+    lines = subprocess.run(words, stdout=subprocess.DEVNULL, stderr=subprocess.PIPE, text=True, check=True).stderr
+    loaded = {line.rpartition("|")[2].strip() for line in lines.splitlines()}
+    assert "nixkeep_tools.http_client" in loaded
+    assert not loaded & {"argparse", "collections", "email", "enum", "http.client", "pathlib", "re", "socket", "ssl",
+                         "tempfile", "typing"}
 
 
 @pytest.mark.parametrize("page", ["completion/nixkeep-remote.bash", "man/nixkeep-remote.1"])
@@ -230,7 +240,7 @@ def client(folder):
 
 def test_proxies_netrc(folder, monkeypatch):
     """The credentials that ~/.netrc has for a host go there by https, and never in the clear."""
-    user = lambda url: credentials.found(http_place.Place(url))
+    user = lambda url: credentials.of_place(http_place.Place(url))
     file_of(folder, ".netrc", "machine store.example login bob password b\n")
     monkeypatch.setenv("HOME", folder)
     monkeypatch.setenv(credentials.VARIABLE, "")
@@ -568,7 +578,7 @@ def pytest_generate_tests(metafunc):
     """All cases, or as many as a command line says."""
     if "case" in metafunc.fixturenames:
         option = metafunc.config.getoption
-        count = min(option("--count") or len(NAMES), len(NAMES))
+        count = report.count_places(option("--count"), len(NAMES), option("--seed"))
         metafunc.parametrize("case", sorted(random.Random(option("--seed")).sample(NAMES, count)))
 
 

@@ -57,11 +57,11 @@ class Rescue:
 
     def __init__(self, nixkeep, folder, rng):
         built, self.lost = fifty(rng)
-        self.world, self.path, self.out = built.world, os.path.join(folder, "fifty.db"), os.path.join(folder, "rescued")
+        self.world, self.path, self.out = built.world, f"{folder}/fifty.db", f"{folder}/rescued"
         put(self.path, built.rows(), ALL)
         damage(self.path, self.world.objects[self.lost].archive[100:116])
         self.said = nixkeep.agrees(self.path, "a damaged object")
-        self.status, self.new = explained("--rescue", self.out, self.path)[1], os.path.join(folder, "new.db")
+        self.status, self.new = explained("--rescue", self.out, self.path)[1], f"{folder}/new.db"
         ran = subprocess.run(["sh", f"{self.out}/restore", self.new], env={**os.environ, "NIXKEEP": nixkeep.file},
                              capture_output=True, text=True)
         assert ran.returncode == 0, f"restore: {ran.stdout} {ran.stderr}"
@@ -92,8 +92,8 @@ def test_a_rescue_of_the_roots(rescue):
     # (generations are numbered anew, and neighbours of one path become one)
     number = {1: 1, 2: 2, 7: 3}
     labels = {(target, label) for kind, target, label in rescue.world.roots() if kind != 2 and target != rescue.lost}
-    tools = rescue.world.profiles["ann", "tools"].generations
-    labels |= {(tools[was], f"profiles/per-user/ann/tools-{now}-link") for was, now in number.items()}
+    generations = rescue.world.profiles["ann", "tools"].generations
+    labels |= {(generations[was], f"profiles/per-user/ann/tools-{now}-link") for was, now in number.items()}
     assert {(it.target, it.label) for it in rescue.store.roots} == labels
     assert rescue.store.current == {("ann", "tools"): 2}
 
@@ -109,12 +109,12 @@ def test_a_rescue_into_a_folder_that_is_there(folder, path, name):
         Path(place, "restore").touch()
     _, status, errors = explained("--rescue", str(place), path)
     assert (status, errors) == (1, f"failed: File exists: {place}\n")
-    assert not os.path.lexists(f"{folder}/elsewhere"), "nothing is made through a link"
+    assert not Path(folder, "elsewhere").exists(), "nothing is made through a link"
 
 
 def test_what_a_terminal_obeys(folder):
     """Names in a file of other programs are printed without it."""
-    path = os.path.join(folder, "foreign.db")
+    path = f"{folder}/foreign.db"
     with contextlib.closing(sqlite3.connect(path)) as conn:
         for at, name in enumerate(("\x1b]0;title\x07", "\x1b[2J", "two\nlines", "\u202eright", "plain", "\x9b2J")):
             conn.execute(f'CREATE TABLE "{name}" (a)')
@@ -128,11 +128,11 @@ def test_what_a_terminal_obeys(folder):
 
 
 def test_rescues_by_chance(rng, folder, many):
-    """Whatever is damaged, a body that is written has an object of the store as it was. Some damage is found, and some
-    bodies are written: else nothing was tried."""
+    """Whatever is damaged, what is written for an import is an object of the store as it was. Some damage is found, and
+    some objects are written: else nothing was tried."""
     written, statuses = 0, set()
     for at in range(many):
-        path, out = os.path.join(folder, f"pages{at}.db"), os.path.join(folder, f"pages{at}")
+        path, out = f"{folder}/pages{at}.db", f"{folder}/pages{at}"
         world = some_store(rng, path, 3)
         change_bytes(rng, path)
         output, status, errors = explained("--rescue", out, path)
@@ -140,9 +140,9 @@ def test_rescues_by_chance(rng, folder, many):
         if not is_told:
             report.fail(f"a rescue: status {status}, {errors!r}", path)
         statuses.add(status)
-        if status == 3 and os.path.isdir(os.path.join(out, "objects")):
-            for name in os.listdir(os.path.join(out, "objects")):
-                with open(os.path.join(out, "objects", name), "rb") as file:
+        if status == 3 and Path(out, "objects").is_dir():
+            for name in os.listdir(f"{out}/objects"):
+                with open(f"{out}/objects/{name}", "rb") as file:
                     head, _, body = file.read().partition(b"\n\n")
                 was = world.objects[name.split("-", 1)[1]]
                 lines = head.decode().split("\n")
@@ -151,7 +151,7 @@ def test_rescues_by_chance(rng, folder, many):
                 written += 1
         os.remove(path)
         shutil.rmtree(out, ignore_errors=True)
-    assert written and 3 in statuses, "some bodies are written, and some damage is found"
+    assert written and 3 in statuses, "some objects are written, and some damage is found"
 
 
 # ---- usage
@@ -166,8 +166,8 @@ def sizes(world, roots, everything):
 
 
 @pytest.mark.parametrize("at", range(3))
-def test_usage(nixkeep, folder, pytestconfig, at):
-    rng, path = random.Random(f"{pytestconfig.getoption('--seed')} {at}"), os.path.join(folder, "usage.db")
+def test_usage(nixkeep, folder, seed, at):
+    rng, path = random.Random(f"{seed} {at}"), f"{folder}/usage.db"
     world = some_store(rng, path, 3)
     output, status, _ = explained("--usage", path)
     assert status == 0

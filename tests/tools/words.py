@@ -10,7 +10,7 @@ SUBCOMMANDS = {"nixkeep-backup": ("check", "copy", "fetch", "restore", "before-m
                "nixkeep-closure": ("push", "pull", "copy"), "nixkeep-cache": ("sweep", "verify")}
 
 
-def options_in(text):
+def options_in(text: str) -> set[str]:
     return {*OPTION.findall(text)}
 
 
@@ -22,13 +22,13 @@ def said(*words):
     return ran.stdout if ran.returncode == 0 else report.fail(f"{' '.join(words)} --help: {ran.stderr}")
 
 
-def options_of(tool):
+def options_of(tool: str) -> set[str]:
     """The options of a tool and of its subcommands; None where it doesn't run here."""
     helps = [said(f"{HERE}/tools/{tool}", *it) for it in [(), *[(it,) for it in SUBCOMMANDS.get(tool, ())]]]
     return None if None in helps else set().union(*map(options_in, helps))
 
 
-def options_of_program(file):
+def options_of_program(file: str) -> set[str]:
     """The options of the subcommands of nixkeep, but for those of a server: nixkeep-remote has them too."""
     names = re.findall(r"^  ([a-z][a-z-]*)  ", said(file).partition("Commands:")[2].partition("Options:")[0], re.M)
     own = options_in(said(file)) - {"--help"}

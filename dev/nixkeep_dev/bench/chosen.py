@@ -62,21 +62,21 @@ WAYS = {"command": "by a command", "server": "by curl over a server",
         "nixkeep-remote": "by nixkeep-remote over a server"}
 
 
-def found_in(found, bench, section, what, peer=None):
+def figure_in(measured: dict, bench: str, section: str, what: str, peer: str | None = None) -> dict | None:
     """The figure of a benchmark, or None."""
-    for it in found.get(bench, {"figures": []})["figures"]:
+    for it in measured.get(bench, {"figures": []})["figures"]:
         if "skipped" not in it and it["what"] == what and re.fullmatch(section, it["section"]) \
                 and (peer is None or it.get("peer") == peer):
             return it
     return None
 
 
-def action(found, way, what, size):
+def action(measured, way, what, size):
     """The figure of an action of bench/nix.py; for the way `Nix`, that of Nix, which is kept with that of a command."""
-    return found_in(found, "nix", rf"{size:,} objects, {WAYS.get(way, WAYS['command'])}", what)
+    return figure_in(measured, "nix", rf"{size:,} objects, {WAYS.get(way, WAYS['command'])}", what)
 
 
-def seconds(found, way, what, size):
+def seconds(measured: dict, way: str, what: str, size: int) -> float | None:
     """The seconds of an action, or None."""
-    it = action(found, way, what, size)
+    it = action(measured, way, what, size)
     return it and (it["theirs"] if way == "Nix" else it["value"])

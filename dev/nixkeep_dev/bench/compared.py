@@ -1,5 +1,6 @@
 """New figures next to the last ones that are kept: which of them have become worse, whatever the machine."""
 import statistics
+from collections.abc import Iterator
 
 # How much worse a figure may be, as a multiple, before that is said.
 MOST = 1.2
@@ -21,7 +22,7 @@ def worse(new, old):
     return 1 / times if new["unit"] in RATES or (new["limit"] or "").startswith("at least") else times
 
 
-def is_of_machine(figure):
+def is_of_machine(figure: dict) -> bool:
     """Whether a figure depends on how fast the machine is: a time or a rate without a peer's next to it."""
     return figure["unit"] in ("s", *RATES) and not figure.get("ratio")
 
@@ -35,7 +36,7 @@ def pairs(made, kept):
                 yield name, it, worse(it, last[place])
 
 
-def warnings(made, kept):
+def warnings(made: dict, kept: dict) -> Iterator[str]:
     """A line for each figure that is more than 20 % worse than the last one. Times without a peer's are compared with
     the median of all, which says how much faster or slower this machine is."""
     found = [*pairs(made, kept)]

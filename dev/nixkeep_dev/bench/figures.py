@@ -1,4 +1,5 @@
 """How the programs of this folder are called, and how they report: each figure with its limit, where it has one."""
+import argparse
 import json
 import math
 import os
@@ -7,7 +8,9 @@ import subprocess
 import sys
 import tempfile
 import time
+from collections.abc import Callable, Sequence
 from pathlib import Path
+from typing import Any
 
 from nixkeep_dev.testing import report
 
@@ -19,27 +22,27 @@ records = []
 section = None
 
 
-def title(text):
+def title(text: str) -> None:
     """Begins a section of figures."""
     global section
     section = text
     report.tell(text)
 
 
-def note(text):
+def note(text: str) -> None:
     report.tell(f"  {text}")
 
 
-def shown(value, unit):
+def shown(value: float, unit: str) -> str:
     """A figure with its unit; seconds in the unit that suits them."""
     if unit == "s":
         value, unit = (value, "s") if value >= 1 else (value * 1e3, "ms") if value >= 1e-3 else (value * 1e6, "us")
     return f"{value:,.3g} {unit}" if value < 1000 else f"{value:,.0f} {unit}"
 
 
-def spread(found):
+def spread(rounds):
     """By how much the greatest of some rounds is above the least, as a part of it."""
-    return max(found) / min(found) - 1 if len(found) > 1 and min(found) else None
+    return max(rounds) / min(rounds) - 1 if len(rounds) > 1 and min(rounds) else None
 
 
 def line_of(it):
@@ -52,7 +55,7 @@ def line_of(it):
     return f"{it['what']}: {shown(it['value'], unit)}{peer} ({verdict})"
 
 
-def put(what, value, unit, limit, more, is_least=False):
+def put(what: str, value: float, unit: str, limit: float | None, more: dict, is_least: bool = False) -> None:
     """Keeps a figure and prints it: its value, or its ratio to a peer's, next to its limit."""
     ratio = more.get("ratio")
     measured = value if ratio is None else ratio
@@ -63,7 +66,8 @@ def put(what, value, unit, limit, more, is_least=False):
     note(line_of(kept))
 
 
-def beside(what, theirs, ours, most=None, peer="C SQLite", of=min, unit="s"):
+def versus(what: str, theirs: float | Sequence[float], ours: float | Sequence[float], most: float | None = None,
+           peer: str = "C SQLite", of: Callable = min, unit: str = "s") -> None:
     """The figure of nixkeep next to that of a peer, in seconds if not otherwise said, round by round: the least of
     each, since what else the machine does only adds to it, or what else is asked for."""
     theirs, ours = [theirs] if isinstance(theirs, float) else theirs, [ours] if isinstance(ours, float) else ours
@@ -71,50 +75,51 @@ def beside(what, theirs, ours, most=None, peer="C SQLite", of=min, unit="s"):
     put(what, of(ours), unit, most, more)
 
 
-def limit(what, found, most, unit="s", is_least=False, of=min):
+def limit(what: str, rounds: float | list, most: float | None, unit: str = "s", is_least: bool = False,
+          of: Callable = min) -> None:
     """A figure of nixkeep alone, of one or more rounds, and its limit."""
-    found = [found] if isinstance(found, (int, float)) else found
-    put(what, of(found), unit, most, {"spread": spread(found)}, is_least)
+    rounds = [rounds] if isinstance(rounds, (int, float)) else rounds
+    put(what, of(rounds), unit, most, {"spread": spread(rounds)}, is_least)
 
 
-def median(what, found, most, unit="s"):
-    limit(what, found, most, unit, of=statistics.median)
+def median(what: str, rounds: float | list, most: float | None, unit: str = "s") -> None:
+    limit(what, rounds, most, unit, of=statistics.median)
 
 
-def exponent(what, few, many, times, is_limited=True):
+def exponent(what: str, few: list, many: list, times: float, is_limited: bool = True) -> None:
     """The power by which the least time of some rounds grows with the work: 1 is in proportion, 2 is quadratic."""
     power = math.log(min(many) / min(few)) / math.log(times)
     what = f"{what}: {shown(min(few), 's')} and {shown(min(many), 's')}"
     limit(what, power, EXPONENT if is_limited else None, "power")
 
 
-def skipped(*tools):
+def skipped(*needed: str) -> bool:
     """Whether a peer isn't installed, which is printed and kept."""
-    why = report.missing(tools)
+    why = report.missing(needed)
     if why:
         report.tell(f"skipped: {why}")
         records.append({"section": section, "skipped": why})
     return bool(why)
 
 
-def timed(call, *words):
+def timed(call: Callable, *words: Any) -> float:
     """The seconds of a call."""
     start = time.perf_counter()
     call(*words)
     return time.perf_counter() - start
 
 
-def rounds(call, *words):
+def rounds(call: Callable, *words: Any) -> list[float]:
     return [timed(call, *words) for _ in range(ROUNDS)]
 
 
 class Runs:
     """A program on a file, called by root: the time of each run, from the start of the process, and what it printed."""
 
-    def __init__(self, file):
+    def __init__(self, file: str):
         self.file = file
 
-    def words(self, path, *words):
+    def words(self, path: str, *words: str) -> list[str]:
         return [self.file, "--db", path, "--user", "root", *words]
 
     def __call__(self, path, *words, given=b""):
@@ -126,7 +131,7 @@ class Runs:
         return took, ran.stdout
 
 
-def command(words, given=None, env=None):
+def command(words: list, given: str | None = None, env: dict | None = None) -> tuple[float, int]:
     """Seconds and KiB of a run from the start of the process to its end, which has to be with 0; its input is a
     file. So is what it says on standard error, of any length: Nix has a line for each object that it deletes."""
     with open(given or os.devnull, "rb") as source, tempfile.TemporaryFile() as said:
@@ -141,7 +146,7 @@ def command(words, given=None, env=None):
     return took, usage.ru_maxrss
 
 
-def commands(each, count, given=None):
+def commands(each: dict[str, list], count: int, given: str | None = None) -> dict[str, tuple]:
     """The seconds and the most MiB of commands that run in turn, by name."""
     found = {name: [] for name in each}
     for _ in range(count):
@@ -150,7 +155,7 @@ def commands(each, count, given=None):
     return {name: ([it[0] for it in ran], max(it[1] for it in ran) / 1024) for name, ran in found.items()}
 
 
-def memory_of(words):
+def memory_of(words: list) -> float:
     """The most memory in MiB that a command held: what this process holds would count in what is measured of its
     children."""
     code = "import resource, subprocess, sys; subprocess.run(sys.argv[1:], stdout=subprocess.DEVNULL, check=True); "
@@ -158,29 +163,29 @@ def memory_of(words):
     return int(subprocess.check_output([sys.executable, "-c", code, *words])) / 1024
 
 
-def add_records(asked):
+def add_records(parser: argparse.ArgumentParser) -> None:
     """Adds the option that each benchmark takes."""
-    asked.add_argument("--records", metavar="FILE", help="writes the figures, for bin/bench")
+    parser.add_argument("--records", metavar="FILE", help="writes the figures, for bin/bench")
 
 
-def ended(words):
+def ended(words: argparse.Namespace) -> None:
     """Writes the figures where that is asked for, and ends with 1 where one misses its limit."""
     if words.records:
         Path(words.records).write_text(json.dumps(records))
     sys.exit(1 if any(it.get("is_met") is False for it in records) else 0)
 
 
-def program(words):
+def program(words: argparse.Namespace) -> Runs:
     return Runs(report.program_file(words))
 
 
-def main(doc, parts, begin=program, more=lambda asked: None):
+def main(doc: str, parts: list, begin: Callable = program, more: Callable = lambda parser: None) -> None:
     """Runs the parts of a benchmark, or some: functions of what `begin` gives once, of the words and of a folder."""
 
-    def also(asked):
-        add_records(asked)
-        asked.add_argument("--quick", action="store_true", help="a tenth of the objects")
-        more(asked)
+    def also(parser):
+        add_records(parser)
+        parser.add_argument("--quick", action="store_true", help="a tenth of the objects")
+        more(parser)
 
     words = report.options(doc, also, parts)
     with tempfile.TemporaryDirectory() as words.folder:

@@ -10,7 +10,7 @@ SERVER, PROXY, CLIENT = (PROCESSORS[-at % len(PROCESSORS)] for at in (3, 2, 1))
 SECONDS = {"us": 1e-6, "ms": 1e-3, "s": 1, "m": 60, "h": 3600}
 
 
-def on(processor, *words):
+def on(processor: int, *words: str) -> list[str]:
     """A command that runs on one processor."""
     return ["taskset", "-c", str(processor), *words]
 
@@ -19,7 +19,7 @@ class Load:
     """A run of wrk: requests a second, percentiles of the time of a reply in seconds, and replies that weren't 200
     or didn't come. A script says itself what it asks, in two threads on any processors."""
 
-    def __init__(self, port, target="", clients=1, seconds=3, script=None):
+    def __init__(self, port: int, target: str = "", clients: int = 1, seconds: float = 3, script: str | None = None):
         words = ["wrk", "-t2", "--timeout", "30s", "-s", script] if script else on(CLIENT, "wrk", "-t1")
         words += [f"-c{clients}", f"-d{seconds}s", "--latency"]
         words += [] if script else ["--timeout", "10s", "-H", "store-user: root"]

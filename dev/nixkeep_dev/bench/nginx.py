@@ -22,10 +22,10 @@ http {{
 KEPT = 'proxy_http_version 1.1; proxy_set_header connection "";'
 
 
-def nginx(folder, location, http="", workers=1, processor=None):
+def nginx(folder: str, location: str, http: str = "", workers: int = 1, processor: int | None = None) -> Serving:
     """nginx with these directives for each request, and these for all, its files in a new folder of that one."""
     port, room, user = free_port(), tempfile.mkdtemp(dir=folder), "user root;" if os.geteuid() == 0 else ""
     text = CONFIG.format(workers=workers, user=user, http=http, port=port, location=location)
     Path(f"{room}/nginx.conf").write_text(text)
-    words = [packages.found("nginx"), "-p", room, "-e", "errors", "-c", "nginx.conf"]
+    words = [packages.place_of("nginx"), "-p", room, "-e", "errors", "-c", "nginx.conf"]
     return Serving(port, *(words if processor is None else on(processor, *words)))

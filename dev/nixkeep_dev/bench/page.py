@@ -2,6 +2,7 @@
 import collections
 import itertools
 import math
+from collections.abc import Iterator
 
 from nixkeep_dev.bench import chosen, remarks
 from nixkeep_dev.bench.figures import shown
@@ -59,15 +60,15 @@ def heading(text):
     return f"| {text} |{' |' * 6}"
 
 
-def lines_of(name, found):
+def lines_of(name: str, measured: dict) -> Iterator[str]:
     """The lines of a benchmark: what its figures depend on, and each figure."""
-    if name not in found:
+    if name not in measured:
         yield f"bench/{name} isn't measured yet: bin/bench --table {name}"
         return
-    yield from (f"- {word}: {text}" for word, text in found[name]["facts"].items())
+    yield from (f"- {word}: {text}" for word, text in measured[name]["facts"].items())
     yield f"\n{HEADING}"
     of_section = lambda it: f"*skipped: {it['skipped']}*" if "skipped" in it else f"*{it['section']}*"
-    for section, figures in itertools.groupby(found[name]["figures"], of_section):
+    for section, figures in itertools.groupby(measured[name]["figures"], of_section):
         yield heading(section)
         yield from (row(it) for it in figures if "skipped" not in it)
 
@@ -75,17 +76,17 @@ def lines_of(name, found):
 # ---- the page
 
 
-def facts(found):
+def facts(measured):
     """What the figures depend on: the newest run, the newest version of each peer, and what other runs measured."""
-    runs = sorted((it["facts"] for it in found.values()), key=lambda it: it["Date"])
+    runs = sorted((it["facts"] for it in measured.values()), key=lambda it: it["Date"])
     now = runs[-1] if runs else {}
-    tools = {word: text for run in runs for word, text in run.items() if text != "not installed"}
+    versions = {word: text for run in runs for word, text in run.items() if text != "not installed"}
     peers = [word for word in now if word not in ("Machine", "Date", "Commit")]
-    tools = ", ".join(version(word, tools.get(word, now[word])) for word in peers)
+    versions = ", ".join(version(word, versions.get(word, now[word])) for word in peers)
     yield from (f"- {word}: {now[word]}" for word in ("Machine", "Date", "Commit") if word in now)
-    yield f"- Compared with: {tools}"
+    yield f"- Compared with: {versions}"
     earlier = collections.defaultdict(list)
-    for name, it in found.items():
+    for name, it in measured.items():
         if (run := (it["facts"]["Date"], it["facts"]["Commit"])) != (now["Date"], now["Commit"]):
             earlier[run].append(name)
     for (date, commit), names in earlier.items():
@@ -98,41 +99,41 @@ def version(word, text):
     return f"{word} {number}"
 
 
-def figures(found):
+def figures(measured):
     """The table of the figures that users ask for."""
     yield "| What | nixkeep | Compared with | Limit | Is it met? |\n|---|---|---|---|---|"
     for it in chosen.FIGURES:
-        figure = chosen.found_in(found, *it[1:])
+        figure = chosen.figure_in(measured, *it[1:])
         if figure:
             cells = [it.label, shown(figure["value"], figure["unit"]), peer_of(figure), figure["limit"] or "",
                      VERDICT[figure["is_met"]]]
             yield f"| {' | '.join(cells)} |"
 
 
-def power(found, way, what):
+def power(measured, way, what):
     """The power by which the time grows over the last ten times as many objects."""
-    few, many = [chosen.seconds(found, way, what, size) for size in chosen.SIZES[-2:]]
+    few, many = [chosen.seconds(measured, way, what, size) for size in chosen.SIZES[-2:]]
     return f"{math.log10(many / few):.2f}" if few and many else ""
 
 
-def growth(found):
+def growth(measured):
     """The table of growth."""
     columns = [("command", 1_000), ("command", 10_000), ("command", 100_000), ("server", 10_000), ("server", 100_000),
                ("Nix", 10_000), ("Nix", 100_000)]
     yield "| Action | " + " | ".join(f"{way}, {size:,}" for way, size in columns) + " | power |"
     yield "|---" * (len(columns) + 2) + "|"
     for what in chosen.ACTIONS:
-        times = [cell(chosen.seconds(found, way, what, size), "s") for way, size in columns]
-        powers = ", ".join(filter(None, (power(found, way, what) for way in ("command", "server"))))
+        times = [cell(chosen.seconds(measured, way, what, size), "s") for way, size in columns]
+        powers = ", ".join(filter(None, (power(measured, way, what) for way in ("command", "server"))))
         yield f"| {what} | {' | '.join(times)} | {powers} |"
 
 
-def page(found, names):
+def page(measured: dict, names: list) -> str:
     """The page of the benchmarks of these names."""
-    said = "\n".join(remarks.lines({name: found[name] for name in names if name in found}))
-    counted = collections.Counter(it["is_met"] for name in names if name in found for it in found[name]["figures"]
+    said = "\n".join(remarks.lines({name: measured[name] for name in names if name in measured}))
+    counted = collections.Counter(it["is_met"] for name in names if name in measured for it in measured[name]["figures"]
                                   if it.get("is_met") is not None)
-    return "\n".join([INTRODUCTION, *facts(found), "\n## What users ask for\n", *figures(found), GROWTH, *growth(found),
-                      BOUND, "## Limits that are missed\n",
+    return "\n".join([INTRODUCTION, *facts(measured), "\n## What users ask for\n", *figures(measured), GROWTH,
+                      *growth(measured), BOUND, "## Limits that are missed\n",
                       f"Of {sum(counted.values())} limits {counted[False]} are missed, for these reasons:\n",
                       said or "None is missed."]) + "\n"

@@ -36,10 +36,10 @@ def axes(left, action):
         yield text(left + across(size), TOP + 238, f"{size:,}")
 
 
-def line(found, left, action, way):
+def line(measured, left, action, way):
     """A way's line, with a dot for each size that was measured."""
     points = [(left + across(size), TOP + down(time)) for size in chosen.SIZES
-              if (time := chosen.seconds(found, way, action, size))]
+              if (time := chosen.seconds(measured, way, action, size))]
     drawn = " ".join(f"{x:.0f},{y:.0f}" for x, y in points)
     yield f'<polyline points="{drawn}" fill="none" stroke="{COLOURS[way]}" stroke-width="2"/>'
     yield from (f'<circle cx="{x:.0f}" cy="{y:.0f}" r="3" fill="{COLOURS[way]}"/>' for x, y in points)
@@ -52,7 +52,7 @@ def key():
         yield text(x + 26, HEIGHT - 10, name, "start")
 
 
-def svg(found):
+def svg(measured: dict) -> str:
     """The picture, as a text."""
     lines = [f'<svg xmlns="http://www.w3.org/2000/svg" viewBox="0 0 {WIDTH} {HEIGHT}" font-family="sans-serif" '
              'font-size="12">', f'<rect width="{WIDTH}" height="{HEIGHT}" fill="white"/>']
@@ -60,5 +60,5 @@ def svg(found):
         left = LEFT + at * (PANEL + 80)
         lines += axes(left, action)
         for way in NAMES:
-            lines += line(found, left, action, way)
+            lines += line(measured, left, action, way)
     return "\n".join([*lines, *key(), "</svg>"]) + "\n"

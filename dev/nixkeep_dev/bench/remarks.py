@@ -2,6 +2,7 @@
 import collections
 import re
 import textwrap
+from collections.abc import Iterator
 
 WIDTH = 118
 # A pattern of the benchmark, the section and the figure, joined by ": ", and the remark on those that miss a limit.
@@ -18,11 +19,17 @@ REMARKS = [
            Of 100 instructions, the opening of `sqlite` takes 56 and SHA-256 24. A server does this once."""),
     Remark(r"(requests|over_http): .* 16 MiB.*: (time|next to one SHA-256 of it by the same crate)",
            "adds of 16 MiB to a file",
-           """`sqlite` copies each byte of a value eight to fifteen times on its way into the file. No call of it takes
-           a value without a copy."""),
+           """Each byte is copied 16 times on its way into the file: 15 times by `sqlite`, and once by nixkeep. No call
+           of `sqlite` takes a value without a copy."""),
+    Remark(r"over_http: GET .* 16 MiB: next to a file of those bytes", "an archive of 16 MiB, next to nginx",
+           """Each byte is copied six times on its way out of the file: five times by `sqlite`, and once by nixkeep.
+           nginx lets the kernel send the file, and copies nothing."""),
     Remark(r"requests: 100 archives of 1 MiB .*: time", "archives of 1 MiB that a server sends",
            """The server also sends each archive to a client, and C SQLite only reads the rows. A server that reads
            them by C SQLite takes 0.8 of nixkeep's time."""),
+    Remark(r"counts: memory of .*", "memory for objects with a deriver or an address",
+           """Such an object has 104 bytes more. A server also keeps links turned round: a number for each path, and
+           lists of numbers by reference, output and deriver."""),
     Remark(r"nix: the exponent of .*", "growths of everyday actions", "As in bench/growth."),
     Remark(r"nix: .*by nixkeep-remote over a server: .*", "actions by `nixkeep-remote`",
            """Most of the time is the start of python3 and the loading of modules. The server takes less than a
@@ -52,9 +59,9 @@ def remark_of(name):
     return next((it for it in REMARKS if re.fullmatch(it.pattern, name)), None)
 
 
-def missed(found):
+def missed(measured):
     """The names of the figures that miss their limit."""
-    return [name_of(bench, it) for bench, of in found.items() for it in of["figures"] if it.get("is_met") is False]
+    return [name_of(bench, it) for bench, of in measured.items() for it in of["figures"] if it.get("is_met") is False]
 
 
 def item(text):
@@ -63,13 +70,13 @@ def item(text):
                          break_long_words=False, break_on_hyphens=False)
 
 
-def lines(found):
+def lines(measured: dict) -> Iterator[str]:
     """The items of the page: each remark with its number of missed limits, then the missed figures without a remark."""
-    counted = collections.Counter(remark_of(name) for name in missed(found))
+    counted = collections.Counter(remark_of(name) for name in missed(measured))
     for remark in REMARKS:
         if count := counted[remark]:
             figures = "1 figure" if count == 1 else f"{count} figures"
             yield item(f"**{remark.about}** ({figures}). {remark.text}")
-    for name in missed(found):
+    for name in missed(measured):
         if remark_of(name) is None:
             yield item(f"**{name}**. The reason isn't known.")

@@ -5,6 +5,7 @@ import os
 import shutil
 import sqlite3
 import time
+from collections.abc import Callable, Iterable
 
 from nixkeep_dev.model.tables import PIECE, TABLES
 from nixkeep_dev.testing.nar import archive
@@ -12,36 +13,37 @@ from nixkeep_dev.testing.nar import archive
 OF_OBJECT = ("object", "refs", "outs", "piece")
 
 
-def base(number):
+def base(number: int) -> str:
     return "%032d-object" % number
 
 
-def opened(path):
+def opened(path: str) -> contextlib.closing:
     conn = sqlite3.connect(path, isolation_level=None)
     conn.execute("PRAGMA journal_mode = WAL")
     conn.execute("PRAGMA synchronous = FULL")
     return contextlib.closing(conn)
 
 
-def drop_pages(path):
+def drop_pages(path: str) -> None:
     """Has the kernel drop its copies of a file's pages, as nixkeep does of its own file whenever it opens it."""
     with open(path, "rb") as file:
         os.fsync(file.fileno())
         os.posix_fadvise(file.fileno(), 0, 0, os.POSIX_FADV_DONTNEED)
 
 
-def insert(conn, name, nar, digest):
+def insert(conn: sqlite3.Connection, name: str, nar: bytes, digest: bytes) -> None:
     """Puts an object: the first part of its archive in its row, the rest in pieces."""
     conn.execute("INSERT INTO object (base, nar, hash) VALUES (?1, ?2, ?3)", (name, nar[:PIECE], digest))
     pieces = [(name, at // PIECE, nar[at : at + PIECE]) for at in range(PIECE, len(nar), PIECE)]
     conn.executemany("INSERT INTO piece VALUES (?1, ?2, ?3)", pieces)
 
 
-def refer(conn, name, targets):
+def refer(conn: sqlite3.Connection, name: str, targets: Iterable[int]) -> None:
     conn.executemany("INSERT INTO refs (base, target) VALUES (?1, ?2)", [(name, base(it)) for it in targets])
 
 
-def filled(run, path, objects, size, references, roots=(), is_ring=True):
+def filled(run: Callable, path: str, objects: int, size: int, references: int, roots: Iterable[int] = (),
+           is_ring: bool = True) -> str:
     """A store of N objects of a size in bytes, each with references to those after it, the last ones to the first
     where they are a ring, and roots that lead to those with these numbers."""
     run(path, "list")
@@ -59,7 +61,7 @@ def filled(run, path, objects, size, references, roots=(), is_ring=True):
     return path
 
 
-def foreign(run, path):
+def foreign(run: Callable, path: str) -> str:
     """A copy of a file whose tables are another program's. A command opens it, and finds an empty store next to them:
     all that it tests is what `sqlite` tests by itself."""
     copy = shutil.copy(path, f"{path}-foreign")
@@ -71,7 +73,7 @@ def foreign(run, path):
     return copy
 
 
-def delete(path, numbers):
+def delete(path: str, numbers: Iterable[int]) -> float:
     """Seconds of deletes of these objects, in one transaction."""
     with opened(path) as conn:
         start = time.perf_counter()

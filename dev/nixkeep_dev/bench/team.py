@@ -3,7 +3,9 @@ import hashlib
 import json
 import os
 import random
+import sqlite3
 import threading
+from pathlib import Path
 
 from nixkeep_dev.bench.sqlite import insert, opened
 from nixkeep_dev.model import policy, server, worlds
@@ -20,14 +22,14 @@ KEPT = 8
 FRAME = len(archive(b""))
 
 
-def configuration():
+def configuration() -> str:
     return f"{CONFIGURATION}[groups]\nstaff = {json.dumps(STAFF)}\n"
 
 
 def sizes(rng, count, total):
     """The sizes in bytes of files of this machine's /usr, drawn by chance: together at most 16 MiB above `total`."""
     files = (f"{at}/{it}" for at, _, names in os.walk("/usr") for it in sorted(names))
-    each = [os.lstat(it).st_size for it in files if os.path.isfile(it) and not os.path.islink(it)]
+    each = [os.lstat(it).st_size for it in files if Path(it).is_file() and not Path(it).is_symlink()]
     each, found, together = [it for it in each if it <= LIMIT - FRAME - 8], [], 0
     while len(found) < count:
         size = rng.choice(each)
@@ -40,7 +42,7 @@ def sizes(rng, count, total):
 class Team:
     """The store's file and the model of it, with closures of which most have a root."""
 
-    def __init__(self, path, objects, total, seed):
+    def __init__(self, path: str, objects: int, total: int, seed: int):
         self.rng, self.closures, self.digests, self.lock = random.Random(seed), [], {}, threading.Lock()
         self.world = worlds.World()
         self.model = Store(policy.config_of(configuration().encode()), self.world)
@@ -54,7 +56,7 @@ class Team:
             conn.execute("COMMIT")
             conn.execute("PRAGMA wal_checkpoint(TRUNCATE)")
 
-    def put(self, conn, number, size):
+    def put(self, conn: sqlite3.Connection, number: int, size: int) -> None:
         """An object of a closure: it refers to the one before it, and to others of those before it."""
         if number % CLOSURE == 0:
             self.closures.append([])
@@ -69,7 +71,7 @@ class Team:
         self.digests[name] = digest
         closure.append(name)
 
-    def pin(self, conn, at, target):
+    def pin(self, conn: sqlite3.Connection, at: int, target: str) -> None:
         if at % 2:
             conn.execute("INSERT INTO permanent VALUES (?1, ?2)", (f"closure{at}", target))
             self.world.permanent[f"closure{at}"] = target
@@ -78,11 +80,11 @@ class Team:
             conn.execute("INSERT INTO user_root VALUES (?1, ?2, ?3)", (owner, f"closure{at}", target))
             self.world.user[owner, f"closure{at}"] = target
 
-    def kept(self, rng):
+    def kept(self, rng: random.Random) -> list[str]:
         """A closure that has had a root from the beginning."""
         return self.closures[rng.choice([it for it in range(len(self.closures)) if it % 10 < KEPT])]
 
-    def answer(self, user, method, target, body):
+    def answer(self, user: str, method: str, target: str, body: bytes | None) -> tuple[int, bytes]:
         """The status and the text that the model answers, and the change that it makes."""
         with self.lock:
             reply, _, _ = server.answer(self.model, method, target, [(b"store-user", user.encode())], body or b"")

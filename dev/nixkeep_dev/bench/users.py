@@ -6,7 +6,7 @@ import random
 import time
 from collections import namedtuple
 
-from nixkeep_dev.bench.team import REFERENCES
+from nixkeep_dev.bench.team import REFERENCES, Team
 from nixkeep_dev.testing.http_messages import lines
 from nixkeep_dev.testing.nar import archive, base32, hidden, nar_hash
 
@@ -22,11 +22,11 @@ class Differs(Exception):
 class User:
     """A user of the server: each request is a connection of its own."""
 
-    def __init__(self, team, port, name, seed):
+    def __init__(self, team: Team, port: int, name: str, seed: int | str):
         self.team, self.port, self.name, self.rng = team, port, name, random.Random(f"{seed} {name}")
         self.asked, self.made, self.pinned = [], 0, []
 
-    def ask(self, kind, method, target, body=None):
+    def ask(self, kind: str, method: str, target: str, body: bytes | None = None) -> tuple[int, bytes]:
         """The status and the text of the server's reply."""
         sent, connection = time.perf_counter(), http.client.HTTPConnection("127.0.0.1", self.port, timeout=150)
         with contextlib.closing(connection):
@@ -36,7 +36,7 @@ class User:
         self.asked.append(Asked(kind, sent, time.perf_counter() - sent))
         return reply.status, text
 
-    def same(self, kind, method, target, body=None):
+    def same(self, kind: str, method: str, target: str, body: bytes | None = None) -> str:
         """A request whose reply hangs on what this user alone has done, so it has to be the model's at once."""
         came = self.ask(kind, method, target, body)
         wanted = self.team.answer(self.name, method, target, body)
@@ -44,7 +44,7 @@ class User:
             raise Differs(f"{self.name} {method} {target}: {came!r:.300} where {wanted!r:.300} is meant")
         return came[1].decode().strip().rpartition("/")[2]
 
-    def add(self):
+    def add(self) -> None:
         """A small text that refers to a closure; every other one gets a root, and of four roots one is dropped."""
         self.made += 1
         refs = self.rng.sample(self.team.kept(self.rng), REFERENCES)
@@ -57,14 +57,14 @@ class User:
         if self.made % 8 == 0:
             self.same("root", "DELETE", f"/root/user/{self.name}/{self.pinned.pop(0)[0]}")
 
-    def profile(self):
+    def profile(self) -> None:
         """A new generation of the user's profile, and sometimes back to the one before."""
         target = self.team.kept(self.rng)[-1]
         self.same("root", "POST", f"/profile/{self.name}/tools", lines(("path", target)))
         if self.rng.random() < 0.3:
             self.same("root", "POST", f"/rollback/{self.name}/tools")
 
-    def pull(self):
+    def pull(self) -> None:
         """Some of a closure: the record and the archive of each object."""
         for path in self.rng.sample(self.team.kept(self.rng), OF_CLOSURE):
             digest = self.team.digests[path]
@@ -75,7 +75,7 @@ class User:
             if status != 200 or hashlib.sha256(nar).digest() != digest:
                 raise Differs(f"the archive of {path}: {status}, {len(nar)} bytes")
 
-    def push(self):
+    def push(self) -> None:
         """A new closure, each import under a path that refers to the one before, and a root for the last."""
         refs, self.made = [], self.made + 1
         for at in range(OF_CLOSURE):
@@ -86,7 +86,7 @@ class User:
             refs = [path]
         self.same("root", "POST", f"/root/permanent/pushed{self.made}", lines(("path", refs[0])))
 
-    def question(self):
+    def question(self) -> None:
         """Why an object of the user's own is kept."""
         if self.pinned:
             self.same("question", "GET", f"/roots-of/{self.rng.choice(self.pinned)[1]}")

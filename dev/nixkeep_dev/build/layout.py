@@ -17,21 +17,21 @@ COMPLETION = {
 }
 
 
-def version():
+def version() -> str:
     return Path(f"{HERE}/VERSION").read_text().strip()
 
 
-def names_in(folder):
+def names_in(folder: str) -> list[str]:
     """The names of the plain files in a folder of the repository, in order; none where the folder isn't there."""
     at = f"{HERE}/{folder}"
-    return sorted(it for it in os.listdir(at) if os.path.isfile(f"{at}/{it}")) if os.path.isdir(at) else []
+    return sorted(it for it in os.listdir(at) if Path(f"{at}/{it}").is_file()) if Path(at).is_dir() else []
 
 
-def content(path):
+def content(path: str) -> bytes:
     return Path(path).read_bytes()
 
 
-def sum_of(path, kind="sha256"):
+def sum_of(path: str, kind: str = "sha256") -> str:
     return hashlib.new(kind, content(path)).hexdigest()
 
 
@@ -54,7 +54,7 @@ def completion_of(name):
     return None
 
 
-def parts(file):
+def parts(file: str) -> tuple[list, list]:
     """What lies below a prefix: files as triples of place, path and mode, and links as pairs of place and target."""
     files, links = tools()
     files = [(f"bin/{program.NAME}", file, 0o755), *files]
@@ -64,11 +64,11 @@ def parts(file):
     return files + [it for it in shells if it[0]], links
 
 
-def documents():
+def documents() -> list[tuple]:
     """The documents of a package, below its folder of documents."""
     pages = ["README.md", "CHANGELOG.md", "SECURITY.md"]
     found = [*pages, *[f"docs/{it}" for it in names_in("docs")], *examples("examples")]
-    return [(it, f"{HERE}/{it}") for it in found if os.path.isfile(f"{HERE}/{it}")]
+    return [(it, f"{HERE}/{it}") for it in found if Path(f"{HERE}/{it}").is_file()]
 
 
 def examples(folder):
@@ -76,17 +76,17 @@ def examples(folder):
     found = []
     for at, folders, names in os.walk(f"{HERE}/{folder}"):
         folders[:] = sorted(it for it in folders if it not in ("out", "__pycache__"))
-        found += [os.path.relpath(f"{at}/{it}", HERE) for it in sorted(names)]
+        found += [str(Path(f"{at}/{it}").relative_to(HERE)) for it in sorted(names)]
     return found
 
 
-def sources():
+def sources() -> str:
     """The sums of all files that the proof of the program has read, as sha256sum writes and checks them."""
     crates = program.with_below(program.NAME, program.listed())
     paths = ["HANDLES", "crates.txt", *[it for crate in crates for it in program.files_of(crate)]]
     return "".join(f"{sum_of(f'{HERE}/{it}')}  {it}\n" for it in paths)
 
 
-def packed(data):
+def packed(data: bytes) -> bytes:
     """The bytes that gzip makes of these, the same each time."""
     return gzip.compress(data, mtime=0)

@@ -15,13 +15,14 @@ import shutil
 import subprocess
 import sys
 import tarfile
+from collections.abc import Callable, Iterable
 from pathlib import Path
 
 # The top of the repository: this is dev/nixkeep_dev/build/program.py.
 HERE = str(Path(__file__).resolve().parents[3])
 NAME = "nixkeep"
-# The toolchain that proves the sources, as `rt version` prints it.
-TOOLCHAIN = "rattle-kit-13f logic dac8208d650f15bf"
+# The logic that proves the sources, as `rt version` prints it after the name of the toolchain's release.
+LOGIC = "logic dac8208d650f15bf"
 # The machine that the program is for, as `uname -m` prints it.
 MACHINE = "x86_64"
 FILE = f"{HERE}/crates/{NAME}/out/{NAME}"
@@ -29,19 +30,19 @@ KEPT = f"{HERE}/out/proved"
 TIMES = f"{HERE}/out/times.json"
 
 
-def say(text):
+def say(text: str) -> None:
     """Says something on standard error, as the program itself does."""
     print(f"{NAME}: {text}", file=sys.stderr, flush=True)
 
 
-def listed():
+def listed() -> dict[str, list]:
     """The crates of crates.txt, each with the libraries that it names."""
     with open(f"{HERE}/crates.txt") as file:
         lines = [line.partition("#")[0].partition(":") for line in file]
     return {name.split()[0]: words.split() for name, colon, words in lines if colon}
 
 
-def with_below(crate, named):
+def with_below(crate: str, named: dict[str, list]) -> list[str]:
     """The crates of this repository below one, lowest first, and itself."""
     found = []
     for library in named[crate]:
@@ -50,14 +51,14 @@ def with_below(crate, named):
     return [*found, crate]
 
 
-def toolchain():
+def toolchain() -> str | None:
     """The folder of the toolchain whose command rt is on the path, or None where none is."""
     rt = shutil.which("rt")
-    folder = rt and os.path.dirname(os.path.dirname(os.path.realpath(rt)))
-    return folder if folder and os.path.isfile(f"{folder}/bin/rattle") else None
+    folder = rt and str(Path(rt).resolve().parents[1])
+    return folder if folder and Path(f"{folder}/bin/rattle").is_file() else None
 
 
-def toolchain_version():
+def toolchain_version() -> str | None:
     """What `rt version` prints of the toolchain on the path; None where it prints nothing."""
     try:
         ran = subprocess.run(["rt", "version"], stdin=subprocess.DEVNULL, capture_output=True, text=True)
@@ -66,13 +67,18 @@ def toolchain_version():
     return ran.stdout.strip().split("\n")[0] or None
 
 
-def fault_of_toolchain():
+def proves(version: str | None) -> bool:
+    """Whether a toolchain of which `rt version` prints this proves the sources: any release of this logic does."""
+    return version is not None and version.partition(" ")[2] == LOGIC
+
+
+def fault_of_toolchain() -> str | None:
     """Why the sources can't be proved with what is on the path; None where they can."""
     if not shutil.which("rt"):
-        return f"the command rt of the Rattle toolchain ({TOOLCHAIN}) isn't on the path"
+        return f"the command rt of the Rattle toolchain ({LOGIC}) isn't on the path"
     version = toolchain_version()
-    if not toolchain() or version != TOOLCHAIN:
-        return f"rt on the path is {version or 'no Rattle toolchain'}, and {TOOLCHAIN} is needed"
+    if not toolchain() or not proves(version):
+        return f"rt on the path is {version or 'no Rattle toolchain'}, and one of {LOGIC} is needed"
     return None
 
 
@@ -85,10 +91,10 @@ def toolchain_line():
     return f"{folder} {seen.st_size} {int(seen.st_mtime)}"
 
 
-def words_of(crate, named, folder_of, jobs):
+def words_of(crate: str, named: dict[str, list], folder_of: Callable, jobs: int) -> list[str]:
     """The words by which rattle reads a crate, with the libraries of this repository in their folders."""
     kit = toolchain()
-    root = "main" if os.path.isfile(f"{HERE}/crates/{crate}/src/main.rt") else "lib"
+    root = "main" if Path(f"{HERE}/crates/{crate}/src/main.rt").is_file() else "lib"
     words = ["--crate-name", crate, f"src/{root}.rt", "--jobs", str(jobs)]
     for library in dict.fromkeys(["std", *named[crate]]):
         words += ["--extern", f"{library}={folder_of(library) if library in named else f'{kit}/rlibs'}/{library}.rlib"]
@@ -97,7 +103,7 @@ def words_of(crate, named, folder_of, jobs):
     return [*words, "--antt-project", f"{kit}/rattle/logic/antt-project.json", "--logic-built", f"{kit}/logic_built"]
 
 
-def files_of(crate):
+def files_of(crate: str) -> list[str]:
     """The paths of the files of a crate that a proof reads, below the top of the repository, in order."""
     found = []
     for part in ("src", "specs", "proofs"):
@@ -122,7 +128,7 @@ def sources(named, tops=(NAME,)):
     return found
 
 
-def source():
+def source() -> str:
     """The sum of all sources of the program."""
     return sources(listed())[NAME]
 
@@ -151,11 +157,11 @@ def is_kept(crate, source, by):
         return False
 
 
-def keep(crate, source, by):
+def keep(crate: str, source: str, by: str) -> None:
     Path(record_of(crate)).write_text(f"{source}\n{by}\n{mark(made_by(crate))}\n")
 
 
-def keep_library(crate, folder, source, by):
+def keep_library(crate: str, folder: str, source: str, by: str) -> None:
     """Keeps the library of a crate, as one file: rt ci stops at a .rt or .antt file that no check reads.
     A library has up to some hundred MB, and packed a sixth of that."""
     os.makedirs(KEPT, exist_ok=True)
@@ -166,13 +172,13 @@ def keep_library(crate, folder, source, by):
     keep(crate, source, by)
 
 
-def take_library(crate, room):
+def take_library(crate: str, room: str) -> None:
     """Puts the kept library of a crate into a folder."""
     with tarfile.open(made_by(crate)) as file:
         file.extractall(room)
 
 
-def times(path=TIMES):
+def times(path: str = TIMES) -> dict:
     """What earlier runs measured of each crate: seconds, processor seconds (work), and bytes of memory."""
     try:
         return json.loads(Path(path).read_text())
@@ -180,14 +186,14 @@ def times(path=TIMES):
         return {}
 
 
-def keep_times(crate, seconds, work, memory):
+def keep_times(crate: str, seconds: float, work: float, memory: int) -> None:
     found = {**times(), crate: {"seconds": round(seconds, 1), "work": round(work, 1), "memory": memory}}
     with open(f"{TIMES}-{os.getpid()}", "w") as file:
         json.dump(found, file, indent=1, sort_keys=True)
     os.replace(file.name, TIMES)
 
 
-def free():
+def free() -> int:
     """The free memory in bytes, or what two checks may take where the system doesn't say."""
     try:
         return 1024 * int(re.search(r"MemAvailable:\s+(\d+)", Path("/proc/meminfo").read_text())[1])
@@ -208,7 +214,7 @@ def alone():
         yield
 
 
-def prove(tops, why=None):
+def prove(tops: Iterable[str], why: str | None = None) -> bool:
     """Proves these crates and those below them, and builds what they make, where that isn't done for the
     present sources: it prints that it does and, if that is given, why. Returns whether there was anything to do."""
     named, by = listed(), toolchain_line()
@@ -228,18 +234,18 @@ def prove(tops, why=None):
     return True
 
 
-def is_built():
+def is_built() -> bool:
     """Whether the program that was proved and built here is that of the present sources."""
     return is_kept(NAME, source(), toolchain_line())
 
 
-def keep_built():
+def keep_built() -> None:
     """Notes that the program, and the libraries that rt ci left, are made of the present sources."""
     found, by = sources(listed()), toolchain_line()
     for crate, source in found.items():
         made = f"{HERE}/crates/{crate}/out/rlib"
         if crate == NAME:
             keep(NAME, source, by)
-        elif os.path.isdir(f"{made}/{crate}.rlib") and not os.path.exists(f"{made}/stamp"):
+        elif Path(f"{made}/{crate}.rlib").is_dir() and not Path(f"{made}/stamp").exists():
             # (rt ci puts no stamp next to what it proved from scratch)
             keep_library(crate, f"{made}/{crate}.rlib", source, by)

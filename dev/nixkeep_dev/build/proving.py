@@ -16,8 +16,10 @@ import sys
 import tempfile
 import threading
 import time
-from concurrent.futures import FIRST_COMPLETED, ThreadPoolExecutor, wait
+from collections.abc import Iterable, Iterator
+from concurrent.futures import FIRST_COMPLETED, Future, ThreadPoolExecutor, wait
 from pathlib import Path
+from typing import IO, Any
 
 from nixkeep_dev.build import program
 
@@ -25,7 +27,7 @@ TARGET = f"{program.MACHINE}-unknown-linux-gnu"
 # The most jobs that a crate gets: more than four seldom help.
 MOST = 4
 # Where the libraries of a run lie, which are several GB: a folder for temporary files that isn't in memory.
-ROOMS = os.environ.get("TMPDIR") or ("/var/tmp" if os.path.isdir("/var/tmp") else tempfile.gettempdir())
+ROOMS = os.environ.get("TMPDIR") or ("/var/tmp" if Path("/var/tmp").is_dir() else tempfile.gettempdir())
 PREFIX = "nixkeep-proofs-"
 # How many bytes they may take in all.
 ROOM = 5_000_000_000
@@ -35,7 +37,7 @@ class Stopped(Exception):
     """A crate could not be proved or built; with what was said of it."""
 
 
-def processors():
+def processors() -> int:
     return len(os.sched_getaffinity(0))
 
 
@@ -45,7 +47,7 @@ class Runs:
     def __init__(self):
         self.now, self.is_over, self.lock = set(), False, threading.Lock()
 
-    def start(self, words, folder, out):
+    def start(self, words: list[str], folder: str, out: IO[str]) -> subprocess.Popen:
         with self.lock:
             if self.is_over:
                 raise Stopped("")
@@ -53,13 +55,13 @@ class Runs:
             self.now.add(ran)
             return ran
 
-    def end(self):
+    def end(self) -> None:
         with self.lock:
             self.is_over = True
             for ran in self.now:
                 ran.kill()
 
-    def run(self, words, folder):
+    def run(self, words: list[str], folder: str) -> tuple[int, str, float, int]:
         """Runs a command: its status, what it printed, its processor seconds and the memory of its largest process."""
         with tempfile.TemporaryFile("w+", errors="replace") as out:
             ran = self.start(words, folder, out)
@@ -88,7 +90,7 @@ def build(crate, named, room, jobs, runs):
     kit, folder, is_program = program.toolchain(), f"{program.HERE}/crates/{crate}", crate == program.NAME
     made = f"{program.FILE}.o" if is_program else f"{room}/.{crate}.rlib"
     to = ["--toolchain", f"{kit}/toolchain", "--backend", "llvm"] if is_program else ["--statements"]
-    os.makedirs(os.path.dirname(made), exist_ok=True)
+    Path(made).parent.mkdir(parents=True, exist_ok=True)
     words = ["build", *program.words_of(crate, named, lambda library: room, jobs), "--links", f"{crate}="]
     words = [f"{kit}/bin/rattle", *words, *to, "-o", made]
     used = call(crate, words, folder, runs)
@@ -127,10 +129,10 @@ class Plan:
             above = [self.chain[it] for it in self.chain if crate in named[it]]
             self.chain[crate] = self.work[crate] + max(above, default=0)
 
-    def needs(self, crate, jobs):
+    def needs(self, crate: str, jobs: int) -> float:
         return self.memory[crate] * (1 + 0.3 * (jobs - 1))
 
-    def seconds(self, crate, jobs):
+    def seconds(self, crate: str, jobs: int) -> float:
         """How long a crate is likely to take: it loads what it reads by one process, and jobs share the rest. The
         program is linked and compiled by one process."""
         alone = self.work[crate] if crate == program.NAME else min(15, self.work[crate])
@@ -158,7 +160,7 @@ class Shown:
             with self.lock:
                 self.say()
 
-    def minutes(self):
+    def minutes(self) -> int:
         """How many minutes are likely to be left, by what the crates until now took of what was planned for them."""
         work = {it: self.plan.work[it] * self.part_left(it) for it in self.left}
         chain = max((self.plan.chain[it] - self.plan.work[it] + work[it] for it in self.left), default=0)
@@ -174,7 +176,7 @@ class Shown:
         since, jobs = self.at.get(crate, (time.monotonic(), 1))
         return max(0.1, 1 - (time.monotonic() - since) / (self.plan.seconds(crate, jobs) * self.slow()))
 
-    def count(self):
+    def count(self) -> str:
         done = len(self.crates) - len(self.left)
         ahead = f", about {self.minutes()} minute{'s' * (self.minutes() > 1)} left" if self.left else ""
         return f"{done} of {len(self.crates)} crates{ahead}"
@@ -185,11 +187,11 @@ class Shown:
             text = f"nixkeep: {self.count()}; now {now}" if text is None else text
             print(f"\r\x1b[K{text[: shutil.get_terminal_size().columns - 1]}", end="", file=sys.stderr, flush=True)
 
-    def starts(self, crate, jobs):
+    def starts(self, crate: str, jobs: int) -> None:
         with self.lock:
             self.at[crate] = time.monotonic(), jobs
 
-    def ends(self, crate):
+    def ends(self, crate: str) -> float:
         """Notes that a crate is proved, and returns the seconds that it took."""
         with self.lock:
             since, jobs = self.at.pop(crate)
@@ -201,7 +203,7 @@ class Shown:
             self.say()
             return seconds
 
-    def close(self):
+    def close(self) -> None:
         with self.lock:
             self.say("")
             self.is_over.set()
@@ -217,12 +219,12 @@ class Schedule:
         # A crate has times in which one process alone works, so there are more jobs than processors.
         self.lanes = 2 * processors()
 
-    def ready(self):
+    def ready(self) -> list[str]:
         """The crates that can start, first those with the longest chain above them."""
         waited_for = {*self.left, *self.running}
         return [it for it in self.left if not self.below[it] & waited_for - {it}]
 
-    def jobs(self, crate, ready):
+    def jobs(self, crate: str, ready: int) -> int:
         """How many jobs a crate can have now, next to `ready` that are ready too; none where it has to wait. More than
         one job costs a third more of processor time, so only the crate with the longest chain above it gets all
         that it can use, and another gets a second one only where too few are ready for the idle processors."""
@@ -233,7 +235,7 @@ class Schedule:
         fitting = [it for it in range(1, most + 1) if self.plan.needs(crate, it) <= room]
         return max(fitting, default=int(not self.running))
 
-    def next(self):
+    def next(self) -> tuple[str, int] | None:
         """The next crate and its jobs, or None where nothing can start now."""
         ready = self.ready()
         for at, crate in enumerate(ready if len(self.running) < processors() else []):
@@ -248,10 +250,10 @@ class Schedule:
 class Proving:
     """A run over some crates: their libraries lie in its folder."""
 
-    def __init__(self, left, found, named, by, room):
-        self.found, self.named, self.by, self.room, self.runs = found, named, by, room, Runs()
-        plan = Plan([*found], named)
-        self.schedule, self.shown = Schedule(left, named, plan), Shown([*found], left, plan)
+    def __init__(self, left, digests, named, by, room):
+        self.digests, self.named, self.by, self.room, self.runs = digests, named, by, room, Runs()
+        plan = Plan([*digests], named)
+        self.schedule, self.shown = Schedule(left, named, plan), Shown([*digests], left, plan)
 
     def prove(self, crate, jobs):
         """Proves a crate; returns it, and what it took."""
@@ -259,19 +261,19 @@ class Proving:
         used = build(crate, self.named, self.room, jobs, self.runs)
         return crate, self.shown.ends(crate), *used
 
-    def keep(self, crate, *taken):
+    def keep(self, crate: str, *taken: Any) -> None:
         """Keeps what a proved crate made, while those above it begin."""
         program.keep_times(crate, *taken)
         if crate == program.NAME:
-            program.keep(crate, self.found[crate], self.by)
+            program.keep(crate, self.digests[crate], self.by)
         else:
-            program.keep_library(crate, f"{self.room}/{crate}.rlib", self.found[crate], self.by)
+            program.keep_library(crate, f"{self.room}/{crate}.rlib", self.digests[crate], self.by)
 
-    def start(self, pool):
+    def start(self, pool: ThreadPoolExecutor) -> set[Future]:
         """Starts what can start now."""
         return {pool.submit(self.prove, *it) for it in iter(self.schedule.next, None)}
 
-    def run(self):
+    def run(self) -> None:
         """Proves all, and returns when what is proved is kept."""
         kept = []
         with ThreadPoolExecutor(1) as keeper, ThreadPoolExecutor(processors()) as pool:
@@ -294,13 +296,13 @@ class Proving:
 def sweep():
     """Removes the folders of runs that were killed."""
     for name in os.listdir(ROOMS):
-        found = re.match(rf"{PREFIX}(\d+)-", name)
-        if found and not os.path.exists(f"/proc/{found[1]}"):
+        match = re.match(rf"{PREFIX}(\d+)-", name)
+        if match and not Path(f"/proc/{match[1]}").exists():
             shutil.rmtree(f"{ROOMS}/{name}", ignore_errors=True)
 
 
 @contextlib.contextmanager
-def room_with(crates):
+def room_with(crates: Iterable[str]) -> Iterator[str]:
     """A folder with the kept libraries of these crates, for as long as it is used."""
     sweep()
     with tempfile.TemporaryDirectory(prefix=f"{PREFIX}{os.getpid()}-", dir=ROOMS) as room:
@@ -325,13 +327,13 @@ def stops_cleanly():
             signal.signal(it, handler)
 
 
-def prove_all(left, found, named, by):
-    """Proves these crates of those found, lowest first, and builds what they make."""
+def prove_all(left: list[str], digests: dict[str, str], named: dict[str, list], by: str) -> None:
+    """Proves the crates that are left, lowest first, and builds what they make. All crates have digests."""
     if shutil.disk_usage(ROOMS).free < ROOM:
         program.say(f"note: this takes {ROOM / 1e9:.0f} GB in {ROOMS}, which has less; TMPDIR names another folder")
     kept = {below for it in left for below in program.with_below(it, named)} - {*left}
     with stops_cleanly(), room_with(kept) as room:
         try:
-            Proving(left, found, named, by, room).run()
+            Proving(left, digests, named, by, room).run()
         except Stopped as stopped:
             sys.exit(str(stopped))

@@ -27,20 +27,20 @@ class Unusable(Exception):
 
 
 def shown(path):
-    return os.path.relpath(path, program.HERE)
+    return str(Path(path).relative_to(program.HERE))
 
 
 def sum_of(data):
     return hashlib.sha256(data).hexdigest()
 
 
-def version():
+def version() -> str:
     return Path(f"{program.HERE}/VERSION").read_text().strip()
 
 
 def wanted():
-    """What `made-of` has to have in this checkout, next to the sum of the sources."""
-    return {"version": version(), "toolchain": program.TOOLCHAIN, "machine": program.MACHINE}
+    """What `made-of` has to have in this checkout, next to the toolchain and the sum of the sources."""
+    return {"version": version(), "machine": program.MACHINE}
 
 
 def read(path):
@@ -53,7 +53,7 @@ def read(path):
 
 def made_of():
     """What the released program was made of, by KEYS; None where there is no release."""
-    if not os.path.exists(FOLDER):
+    if not Path(FOLDER).exists():
         return None
     pairs = [line.partition(": ") for line in read(MADE_OF).decode(errors="replace").splitlines()]
     found = {key: value for key, _, value in pairs}
@@ -62,29 +62,29 @@ def made_of():
     return found
 
 
-def packed(told):
+def packed(record):
     """The bytes of the packed program, whose sum is that of `made-of`."""
     data = read(PACKED)
-    if sum_of(data) != told["packed"]:
+    if sum_of(data) != record["packed"]:
         raise Unusable(f"{shown(PACKED)} is damaged: its sum isn't that of {shown(MADE_OF)}")
     return data
 
 
-def unpack(data, told):
+def unpack(data, record):
     """The bytes of the released program, whose sum is that of `made-of`."""
     try:
         data = lzma.decompress(data)
     except (lzma.LZMAError, EOFError, MemoryError) as error:
         raise Unusable(f"{shown(PACKED)} is damaged: {error}") from None
-    if sum_of(data) != told["program"]:
+    if sum_of(data) != record["program"]:
         raise Unusable(f"{shown(PACKED)} is damaged: the program's sum isn't that of {shown(MADE_OF)}")
     return data
 
 
 def write(path, data, mode=0o644, test=lambda fresh: None):
     """Puts a file at its place at once and durably, never a part of it, and only if it passes the test."""
-    os.makedirs(os.path.dirname(path), exist_ok=True)
-    with tempfile.TemporaryDirectory(prefix=".fresh-", dir=os.path.dirname(path)) as room:
+    Path(path).parent.mkdir(parents=True, exist_ok=True)
+    with tempfile.TemporaryDirectory(prefix=".fresh-", dir=Path(path).parent) as room:
         with open(f"{room}/fresh", "wb") as file:
             os.fchmod(file.fileno(), mode)
             file.write(data)
@@ -94,17 +94,17 @@ def write(path, data, mode=0o644, test=lambda fresh: None):
         os.replace(file.name, path)
 
 
-def unpacked(told):
+def unpacked(record):
     """The file of the released program, which is unpacked where it isn't there, or isn't the released one."""
-    data = packed(told)
-    for line in differing(told, wanted()):
+    data = packed(record)
+    for line in differing(record, wanted()):
         raise Unusable(line)
     here = f"{platform.system()} on {platform.machine()}"
     if here != f"Linux on {program.MACHINE}":
         raise Unusable(f"the released program is for Linux on {program.MACHINE}, and this is {here}")
     try:
-        if not os.access(UNPACKED, os.X_OK) or sum_of(Path(UNPACKED).read_bytes()) != told["program"]:
-            write(UNPACKED, unpack(data, told), 0o755, refuse_unless_it_runs)
+        if not os.access(UNPACKED, os.X_OK) or sum_of(Path(UNPACKED).read_bytes()) != record["program"]:
+            write(UNPACKED, unpack(data, record), 0o755, refuse_unless_it_runs)
     except OSError as error:
         raise Unusable(f"{shown(UNPACKED)}: {error.strerror}") from None
     return UNPACKED
@@ -121,21 +121,21 @@ def refuse_unless_it_runs(file):
         raise Unusable(f"the released program doesn't run on this machine ({why})")
 
 
-def is_ready():
+def is_ready() -> bool:
     """Whether the program of the present sources is there, released or proved here."""
     return program.is_built() or not faults()
 
 
-def ready():
+def ready() -> str:
     """The file of the program for the present sources: what was proved here, else the released one. Where neither is of
     these sources, or the released one can't be run, the program is proved and built first."""
     if program.is_built():
         return program.FILE
     try:
-        told = made_of()
-        if told and told["sources"] == program.source():
-            return unpacked(told)
-        why = "the sources aren't those of the released program" if told else "there is no released program"
+        record = made_of()
+        if record and record["sources"] == program.source():
+            return unpacked(record)
+        why = "the sources aren't those of the released program" if record else "there is no released program"
     except Unusable as fault:
         why = str(fault)
         if program.fault_of_toolchain():
@@ -145,42 +145,45 @@ def ready():
     return program.FILE
 
 
-def differing(told, wanted):
-    """What `made-of` has otherwise than this checkout, a line for each."""
-    return [f"{shown(MADE_OF)} has {key} {told[key]}, and this checkout has {value}"
-            for key, value in wanted.items() if told[key] != value]
+def differing(record, wanted):
+    """What `made-of` has otherwise than this checkout, a line for each. Any toolchain of its logic is right."""
+    lines = [f"{shown(MADE_OF)} has {key} {record[key]}, and this checkout has {value}"
+             for key, value in wanted.items() if record[key] != value]
+    if not program.proves(record["toolchain"]):
+        lines.append(f"{shown(MADE_OF)} has toolchain {record['toolchain']}, and this checkout needs {program.LOGIC}")
+    return lines
 
 
-def faults():
+def faults() -> list[str]:
     """What is wrong with the release, a line for each: that it isn't of the present sources, or is damaged."""
     try:
-        told = made_of()
-        if not told:
+        record = made_of()
+        if not record:
             return ["there is no release"]
-        unpack(packed(told), told)
+        unpack(packed(record), record)
     except Unusable as fault:
         return [str(fault)]
-    return differing(told, {**wanted(), "sources": program.source()})
+    return differing(record, {**wanted(), "sources": program.source()})
 
 
-def make():
+def make() -> dict[str, str]:
     """Writes the release from the program that was proved and built here for the present sources, and returns what it
     was made of."""
     data = Path(program.FILE).read_bytes()
     small = lzma.compress(data, preset=9 | lzma.PRESET_EXTREME)
-    told = {"version": version(), "sources": program.source(), "toolchain": program.toolchain_version(),
+    record = {"version": version(), "sources": program.source(), "toolchain": program.toolchain_version(),
             "machine": program.MACHINE, "program": sum_of(data), "packed": sum_of(small)}
     write(PACKED, small)
-    write(MADE_OF, "".join(f"{key}: {told[key]}\n" for key in KEYS).encode())
-    return told
+    write(MADE_OF, "".join(f"{key}: {record[key]}\n" for key in KEYS).encode())
+    return record
 
 
-def compare(file):
+def compare(file: str) -> tuple[bool, str]:
     """Compares the bytes of a program that was proved and built just before with those of the release. Returns whether
     they may differ or are the same, and what to print of it: another toolchain may build other bytes."""
-    told, here = made_of(), program.toolchain_version()
-    if here != told["toolchain"]:
-        return True, f"not compared: release/ was made by {told['toolchain']}, and rt here is {here}"
-    if Path(file).read_bytes() == unpack(packed(told), told):
-        return True, f"compared: what was proved and built is release/, byte for byte (sha256 {told['program']})"
+    record, here = made_of(), program.toolchain_version()
+    if here != record["toolchain"]:
+        return True, f"not compared: release/ was made by {record['toolchain']}, and rt here is {here}"
+    if Path(file).read_bytes() == unpack(packed(record), record):
+        return True, f"compared: what was proved and built is release/, byte for byte (sha256 {record['program']})"
     return False, "what was proved and built has other bytes than release/: bin/release makes it anew"

@@ -62,7 +62,7 @@ def facts():
              "Commit": first_line(["git", "-C", HERE, "rev-parse", "--short=12", "HEAD"]),
              "python3": platform.python_version(), "C SQLite": sqlite3.sqlite_version}
     for name, (tool, *words) in PEERS.items():
-        file = packages.found(tool)
+        file = packages.place_of(tool)
         found[name] = first_line([file, *words]) if file else "not installed"
     return found
 
@@ -82,34 +82,34 @@ def figures_of(name, more, given, flags, folder):
 
 def kept():
     """The last figures of each benchmark that has some, each with what they depend on."""
-    return json.loads(Path(KEPT).read_text()) if os.path.exists(KEPT) else {}
+    return json.loads(Path(KEPT).read_text()) if Path(KEPT).exists() else {}
 
 
-def pages(found):
+def pages(measured: dict) -> dict[str, str]:
     """The generated files below docs/, each with its text."""
-    return {PAGE: page.page(found, STORED), PICTURE: picture.svg(found)}
+    return {PAGE: page.page(measured, STORED), PICTURE: picture.svg(measured)}
 
 
-def write_pages(found):
-    for file, text in pages(found).items():
+def write_pages(measured: dict) -> None:
+    for file, text in pages(measured).items():
         Path(file).write_text(text)
 
 
-def keep(found):
-    Path(KEPT).write_text(json.dumps(found, indent=1) + "\n")
-    write_pages(found)
+def keep(measured):
+    Path(KEPT).write_text(json.dumps(measured, indent=1) + "\n")
+    write_pages(measured)
 
 
 # ---- all of it
 
 
-def more(asked):
-    libraries.option(asked)
-    asked.add_argument("names", nargs="*", metavar="NAME", help=f"{', '.join(NAMES)}; else all")
-    asked.add_argument("--quick", action="store_true", help="fewer objects")
-    asked.add_argument("--large", action="store_true", help="100,000 objects too, where a benchmark can")
-    asked.add_argument("--table", action="store_true", help="store the figures, and write docs/PERFORMANCE.md")
-    asked.add_argument("--print", action="store_true", help="print the stored figures of NAMEs; else write the page")
+def more(parser):
+    libraries.option(parser)
+    parser.add_argument("names", nargs="*", metavar="NAME", help=f"{', '.join(NAMES)}; else all")
+    parser.add_argument("--quick", action="store_true", help="fewer objects")
+    parser.add_argument("--large", action="store_true", help="100,000 objects too, where a benchmark can")
+    parser.add_argument("--table", action="store_true", help="store the figures, and write docs/PERFORMANCE.md")
+    parser.add_argument("--print", action="store_true", help="print the stored figures of NAMEs; else write the page")
 
 
 def show_end(made, failed, last):
@@ -126,17 +126,18 @@ def show_end(made, failed, last):
     return not missed and not failed
 
 
-def main():
-    words, found, failed, made = report.options(__doc__, more), kept(), [], {}
+def main() -> int:
+    words, measured, failed, made = report.options(__doc__, more), kept(), [], {}
     if unknown := [it for it in words.names if it not in NAMES]:
         sys.exit(f"no benchmark {' '.join(unknown)}: {', '.join(NAMES)}")
     if words.print:
         for name in words.names:
-            print(f"# bench/{name}\n", *page.lines_of(name, found), sep="\n")
-        sys.exit(None if words.names else write_pages(found))
+            print(f"# bench/{name}\n", *page.lines_of(name, measured), sep="\n")
+        sys.exit(None if words.names else write_pages(measured))
     if words.quick and words.table:
         sys.exit("a table has the whole number of objects")
-    given = {name: it and os.path.abspath(it) for name, it in vars(words).items() if name in ("program", "libraries")}
+    given = {name: it and str(Path(it).absolute()) for name, it in vars(words).items()
+             if name in ("program", "libraries")}
     words.large |= words.table
     flags = [f"--{it}" for it in ("quick", "large") if getattr(words, it)]
     with tempfile.TemporaryDirectory() as folder:
@@ -150,9 +151,9 @@ def main():
                 failed.append(name)
                 figures.append([{"section": None, "skipped": "the rest, since the benchmark didn't end"}])
             made[name] = {"facts": facts(), "figures": sum(filter(None, figures), [])}
-    is_good = show_end(made, failed, {} if words.quick else found)
+    is_good = show_end(made, failed, {} if words.quick else measured)
     if words.table:
-        keep({**found, **{name: it for name, it in made.items() if name in STORED}})
+        keep({**measured, **{name: it for name, it in made.items() if name in STORED}})
     return 0 if is_good else 1
 
 

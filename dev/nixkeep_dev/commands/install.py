@@ -21,6 +21,7 @@ import shutil
 import subprocess
 import sys
 import tempfile
+from pathlib import Path
 
 from nixkeep_dev.build import layout, program, release
 
@@ -30,8 +31,8 @@ LIST = "lib/nixkeep/installed"
 
 def put(place, fill):
     """Makes a file or link at its place at once, never a part of it."""
-    os.makedirs(os.path.dirname(place), exist_ok=True)
-    with tempfile.TemporaryDirectory(prefix=".nixkeep-", dir=os.path.dirname(place)) as room:
+    Path(place).parent.mkdir(parents=True, exist_ok=True)
+    with tempfile.TemporaryDirectory(prefix=".nixkeep-", dir=Path(place).parent) as room:
         fill(f"{room}/fresh")
         os.replace(f"{room}/fresh", place)
 
@@ -61,7 +62,7 @@ def delete(prefix, places):
         with contextlib.suppress(FileNotFoundError):
             os.remove(f"{prefix}/{place}")
         if place.endswith(".py"):
-            shutil.rmtree(f"{prefix}/{os.path.dirname(place)}/__pycache__", ignore_errors=True)
+            shutil.rmtree(f"{Path(prefix, place).parent}/__pycache__", ignore_errors=True)
     for folder in sorted({above for place in places for above in folders_of(place)}, key=len, reverse=True):
         with contextlib.suppress(OSError):
             os.rmdir(f"{prefix}/{folder}")
@@ -69,15 +70,14 @@ def delete(prefix, places):
 
 def folders_of(place):
     """The folders of a place, each below the prefix."""
-    while place := os.path.dirname(place):
-        yield place
+    return [str(it) for it in Path(place).parents[:-1]]
 
 
 def remove(prefix):
     places = listed(prefix)
     if places is None:
         sys.exit(f"bin/install: nothing that lists what it wrote is installed in {prefix}")
-    if wrong := [it for it in places if os.path.isabs(it) or ".." in it.split("/")]:
+    if wrong := [it for it in places if it.startswith("/") or ".." in it.split("/")]:
         sys.exit(f"bin/install: {prefix}/{LIST}: {wrong[0]} isn't below the prefix")
     delete(prefix, [*places, LIST])
 
@@ -103,7 +103,7 @@ def compile_modules(folder):
     subprocess.run([python, "-m", "compileall", "-q", folder], stdout=subprocess.DEVNULL)
 
 
-def asked(words):
+def arguments(words):
     parser = argparse.ArgumentParser(description=__doc__, formatter_class=argparse.RawDescriptionHelpFormatter)
     parser.add_argument("place", nargs="?", help=argparse.SUPPRESS)
     parser.add_argument("--prefix", help="where to install, ~/.local where none is given")
@@ -112,11 +112,11 @@ def asked(words):
     found = parser.parse_args(words)
     if found.place is not None and found.prefix is not None or "" in (found.place, found.prefix):
         parser.error("give one prefix")
-    return os.path.abspath(found.place or found.prefix or os.path.expanduser("~/.local")), found
+    return str(Path(found.place or found.prefix or f"{Path.home()}/.local").absolute()), found
 
 
-def main(words):
-    prefix, found = asked(words)
+def main(words: list[str]) -> None:
+    prefix, found = arguments(words)
     # (the folders are for every user, as the files)
     os.umask(0o022)
     try:

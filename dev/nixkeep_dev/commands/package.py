@@ -54,7 +54,7 @@ def put_program(top, file):
         data = layout.content(path)
         put(top, f"usr/{place}{'.gz' * is_page}", layout.packed(data) if is_page else data, mode)
     for place, target in links:
-        os.makedirs(os.path.dirname(f"{top}/usr/{place}"), exist_ok=True)
+        Path(f"{top}/usr/{place}").parent.mkdir(parents=True, exist_ok=True)
         os.symlink(target, f"{top}/usr/{place}")
 
 
@@ -90,7 +90,7 @@ def put_documents(top, is_proved, when):
 
 
 def files_below(top):
-    return sorted(os.path.relpath(f"{at}/{it}", top) for at, _, names in os.walk(top) for it in names)
+    return sorted(str(Path(at, it).relative_to(top)) for at, _, names in os.walk(top) for it in names)
 
 
 def libc_of(file):
@@ -103,7 +103,7 @@ def put_control(top, file):
     size = sum(os.lstat(f"{top}/{it}").st_size for it in files_below(top))
     told = Path(f"{HERE}/packaging/control").read_text().format(version=layout.version(), size=(size + 1023) // 1024,
                                                                 libc=libc_of(file))
-    plain = [it for it in files_below(top) if it.startswith("usr/") and not os.path.islink(f"{top}/{it}")]
+    plain = [it for it in files_below(top) if it.startswith("usr/") and not Path(f"{top}/{it}").is_symlink()]
     sums = "".join(f"{layout.sum_of(f'{top}/{it}', 'md5')}  {it}\n" for it in plain)
     put(top, "DEBIAN/control", told.encode())
     put(top, "DEBIAN/conffiles", b"/etc/nixkeep/store.toml\n")
@@ -140,15 +140,15 @@ def make(top, file, to, is_proved):
     return f"{to}/{name}.deb", f"{to}/{name}.tar.gz"
 
 
-def asked(words):
+def arguments(words):
     parser = argparse.ArgumentParser(description=__doc__, formatter_class=argparse.RawDescriptionHelpFormatter)
     parser.add_argument("--to", default=f"{HERE}/out", help="the folder for the packages, out/ where none is given")
     parser.add_argument("--program", help="a program to pack in place of the one that is proved here")
     return parser.parse_args(words)
 
 
-def main(words):
-    found = asked(words)
+def main(words: list[str]) -> None:
+    found = arguments(words)
     if not shutil.which("dpkg-deb"):
         sys.exit("bin/package: the command dpkg-deb isn't on the path")
     file = found.program or release.ready()
@@ -156,7 +156,7 @@ def main(words):
     os.makedirs(found.to, exist_ok=True)
     with tempfile.TemporaryDirectory(prefix="nixkeep-package-") as room:
         try:
-            made = make(f"{room}/all", file, os.path.abspath(found.to), not found.program)
+            made = make(f"{room}/all", file, str(Path(found.to).absolute()), not found.program)
         except (OSError, subprocess.CalledProcessError) as fault:
             sys.exit(f"bin/package: {fault}")
     print(*made, sep="\n")

@@ -45,11 +45,11 @@ class Store:
         self.program, self.file, self.config, self.paths = program, f"{folder}/store.db", f"{folder}/red.toml", {}
         Path(self.config).write_text(CONFIG)
 
-    def run(self, user, *words, given=b""):
+    def run(self, user: str, *words: str, given: bytes = b"") -> str:
         command = [self.program, "--config", self.config, "--db", self.file, "--user", user, *words]
         return subprocess.run(command, input=given, stdout=subprocess.PIPE, check=True).stdout.decode().strip()
 
-    def fill(self):
+    def fill(self) -> None:
         for user, name, file, references in ADDED:
             words = ["add-text", name, *(self.paths[it] for it in references)]
             self.paths[name] = self.run(user, *words, given=Path(HERE, file).read_bytes())
@@ -66,11 +66,11 @@ def take(browser, page, to):
         shutil.copy(f"{room}/page.png", to)
 
 
-def main():
-    asked = report.parser(__doc__)
-    asked.add_argument("--program", metavar="FILE", help="the program; else the one that bin/nixkeep runs")
-    asked.add_argument("--to", metavar="FILE", default=f"{HERE}/docs/overview.png", help="the picture")
-    words = asked.parse_args()
+def main() -> None:
+    parser = report.parser(__doc__)
+    parser.add_argument("--program", metavar="FILE", help="the program; else the one that bin/nixkeep runs")
+    parser.add_argument("--to", metavar="FILE", default=f"{HERE}/docs/overview.png", help="the picture")
+    words = parser.parse_args()
     program = report.program_file(words)
     if not (browser := shutil.which("chromium")):
         sys.exit("bin/picture: needs chromium")

@@ -23,14 +23,14 @@ def check():
     print("release/ is that of the present sources")
 
 
-def main():
-    asked = argparse.ArgumentParser(description=__doc__, formatter_class=argparse.RawDescriptionHelpFormatter)
-    asked.add_argument("--check", action="store_true", help="only say whether release/ is of the present sources")
-    if asked.parse_args().check:
+def main() -> None:
+    parser = argparse.ArgumentParser(description=__doc__, formatter_class=argparse.RawDescriptionHelpFormatter)
+    parser.add_argument("--check", action="store_true", help="only say whether release/ is of the present sources")
+    if parser.parse_args().check:
         return check()
     program.prove([program.NAME])
-    told = release.make()
-    print(f"release/: nixkeep {told['version']}, sha256 {told['program']}")
+    record = release.make()
+    print(f"release/: nixkeep {record['version']}, sha256 {record['program']}")
 
 
 if __name__ == "__main__":

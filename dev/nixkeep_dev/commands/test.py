@@ -5,7 +5,8 @@
                                 over a server, a part that changes from day to day
   bin/test all                  what .ci/run does: the checks of the repository, the proofs of all crates from scratch,
                                 their tests and programs, a comparison of the program with the released one, and then
-                                all of the above and wrong bodies on the program that was built
+                                all of the above on the program that was built, the wrong bodies and definitions of
+                                tests/gate/mistakes.txt, and by the day others of these and planted faults
   bin/test cases [CASE..]       the cases: command lines and what they print
   bin/test compare [NAME..]     the program next to Nix, SQLite, curl, itself and a model of it
   bin/test faults [NAME..]      refused memory, failing streams, stops at each write, cut heads, hostile clients: all
@@ -14,24 +15,27 @@
                                 requests, and its units on a machine that is booted
   bin/test package [NAME..]     the package, and a clean Debian on which it is installed, used and removed
   bin/test bodies [CRATE..]     all wrong bodies of crates
+  bin/test plant CRATE..        wrong bodies that `rt plant` makes of crates: which of them the contracts accept
   bin/test gate [NAME..]        the checks of the repository, which prove nothing
   bin/test sabotage [NAME..]    planted faults, each of which a part of the tests has to notice: all, or those of a name
 
-Without a name, each of a part is run. Part by part, a program that --program names is tried, else that of bin/nixkeep.
+Without a name, each of a part is run, but for `plant`. Part by part, a program that --program names is tried, else that
+of bin/nixkeep.
 tests/packages.txt lists the Debian packages that the tests use. With --no-skips what is skipped has failed, unless
 tests/gate/skips.txt names it; .ci/run sets that. `bin/run tests/compare/sqlite.py --help` prints the options of one
-script, and bin/run runs it with them.
+module, and bin/run runs it with them.
 """
 import os
 import sys
+from pathlib import Path
 
 from nixkeep_dev.testing import packages, parts, report, skips
 from nixkeep_dev.testing.runs import ALONE, TESTS, command, file_of, not_allowed, options_of, run, together
 
 # The processor minutes that all may take. Another number is a decision, which belongs into docs/DECISIONS.md.
-BUDGET = 300
+BUDGET = 400
 # Parts that are one script, to which names are given.
-BY_THEMSELVES = {"cases": "cases", "bodies": "wrong_bodies", "sabotage": "sabotage"}
+BY_THEMSELVES = {"cases": "cases", "bodies": "wrong_bodies", "plant": "plant", "sabotage": "sabotage"}
 
 
 def say_what_is_missing():
@@ -44,8 +48,8 @@ def by_itself(part, known):
     return [it for it in known if part != "gate" or it in parts.CHECKS]
 
 
-def run_part(words, asked):
-    program = words.program and os.path.abspath(words.program)
+def run_part(words, parser):
+    program = words.program and str(Path(words.program).absolute())
     given = {"program": program, "seed": words.seed, "count": words.count}
     if words.part in BY_THEMSELVES:
         file = file_of(f"gate/{BY_THEMSELVES[words.part]}")
@@ -53,7 +57,7 @@ def run_part(words, asked):
                         may_skip=not words.no_skips)
     known = parts.by_name()[words.part]
     if unknown := [it for it in words.names if it not in known]:
-        asked.error(f"no {' '.join(unknown)} in {words.part}: {', '.join(known)}")
+        parser.error(f"no {' '.join(unknown)} in {words.part}: {', '.join(known)}")
     found = []
     for name in words.names or by_itself(words.part, known):
         print(f"\n{words.part} {name}", flush=True)
@@ -75,7 +79,7 @@ def run_without_toolchain(words):
 
 def run_all(words):
     """The checks of the repository, and then the gate."""
-    os.chdir(os.path.dirname(TESTS))
+    os.chdir(Path(TESTS).parent)
     for name in parts.CHECKS:
         ran = run([file_of(f"gate/{name}")])
         if not ran.is_good() or words.no_skips and not_allowed([ran]):
@@ -85,19 +89,19 @@ def run_all(words):
     os.execv(words[0], words)
 
 
-def main():
-    asked = report.parser(__doc__)
-    asked.add_argument("part", nargs="?", choices=["all", *BY_THEMSELVES, *parts.by_name()], metavar="PART")
-    asked.add_argument("names", nargs="*", metavar="NAME")
-    asked.add_argument("--program", metavar="FILE", help="the program that is tried")
-    asked.add_argument("--seed", metavar="N", type=int, help="what chance begins with; else the day")
-    asked.add_argument("--count", metavar="N", type=int, help="how much of each is tried; else as each says")
-    asked.add_argument("--no-skips", action="store_true", help=f"what is skipped fails, unless {skips.NAME} names it")
-    words = asked.parse_args()
+def main() -> int:
+    parser = report.parser(__doc__)
+    parser.add_argument("part", nargs="?", choices=["all", *BY_THEMSELVES, *parts.by_name()], metavar="PART")
+    parser.add_argument("names", nargs="*", metavar="NAME")
+    parser.add_argument("--program", metavar="FILE", help="the program that is tried")
+    parser.add_argument("--seed", metavar="N", type=int, help="what chance begins with; else the day")
+    parser.add_argument("--count", metavar="N", type=int, help="how much of each is tried; else as each says")
+    parser.add_argument("--no-skips", action="store_true", help=f"what is skipped fails, unless {skips.NAME} names it")
+    words = parser.parse_args()
     say_what_is_missing()
     if words.part == "all":
         return run_all(words)
-    return run_part(words, asked) if words.part else run_without_toolchain(words)
+    return run_part(words, parser) if words.part else run_without_toolchain(words)
 
 
 if __name__ == "__main__":

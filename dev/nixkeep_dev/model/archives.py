@@ -12,7 +12,7 @@ LIMIT = 16_777_216
 DEPTH = 256
 
 
-def spell(*strings):
+def spell(*strings: bytes) -> bytes:
     """Each string as an archive has it: its length in 8 bytes, least first, its bytes, and zeros to a multiple of 8."""
     return b"".join(len(it).to_bytes(8, "little") + it + bytes(-len(it) % 8) for it in strings)
 
@@ -23,7 +23,7 @@ class Reader:
     def __init__(self, data):
         self.data, self.at = data, 0
 
-    def string(self):
+    def string(self) -> bytes:
         start = self.at + 8
         refuse(1, start > len(self.data))
         size = int.from_bytes(self.data[self.at : start], "little")
@@ -39,14 +39,14 @@ class Reader:
         refuse(2, found not in tags)
         return found
 
-    def name(self, before):
+    def name(self, before: bytes | None) -> bytes:
         """The name of an entry, which is above that of the entry before it."""
         name = self.string()
         refuse(4, name in (b"", b".", b"..") or b"/" in name or b"\0" in name)
         refuse(5, before is not None and name <= before)
         return name
 
-    def entries(self, depth):
+    def entries(self, depth: int) -> list[tuple]:
         found = []
         while self.one_of(b"entry", b")") == b"entry":
             self.one_of(b"(")
@@ -65,11 +65,11 @@ class Reader:
             self.one_of(b"contents")
         return "regular", is_executable, self.string()
 
-    def symlink(self):
+    def symlink(self) -> tuple[str, bytes]:
         self.one_of(b"target")
         return "symlink", self.string()
 
-    def node(self, depth):
+    def node(self, depth: int) -> tuple:
         """A node; depth counts it and those around it."""
         self.one_of(b"(")
         self.one_of(b"type")
@@ -81,7 +81,7 @@ class Reader:
         return node
 
 
-def read(data):
+def read(data: bytes) -> tuple | None:
     """The node of an archive."""
     reader = Reader(data)
     reader.one_of(b"nix-archive-1")
@@ -104,25 +104,25 @@ def entry_bytes(name, node):
     return spell(b"entry", b"(", b"name", name, b"node") + node_bytes(node) + spell(b")")
 
 
-def write(node):
+def write(node: tuple) -> bytes:
     return spell(b"nix-archive-1") + node_bytes(node)
 
 
-def file_archive(contents, is_executable=False):
+def file_archive(contents: bytes, is_executable: bool = False) -> bytes:
     """The archive of a regular file with these contents."""
     return write(("regular", is_executable, contents))
 
 
-def plain_contents(node):
+def plain_contents(node: tuple) -> bytes | None:
     """The contents of a regular file that isn't executable; else None."""
     return node[2] if node[:2] == ("regular", False) else None
 
 
-def shown(text):
+def shown(text: bytes) -> str:
     return "".join(chr(it) if 33 <= it <= 126 and it != 92 else f"\\x{it:02x}" for it in text)
 
 
-def listing(node, path="."):
+def listing(node: tuple, path: str = ".") -> str:
     """The lines of a node and of all nodes inside it."""
     if node[0] == "regular":
         return f"{'x' if node[1] else 'r'} {len(node[2])} {path}\n"

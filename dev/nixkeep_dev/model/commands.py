@@ -1,7 +1,7 @@
 """What the program prints for a command line, and the status that it exits with."""
 from types import SimpleNamespace
 
-from . import archives, bodies, policy, server, texts
+from . import archives, payloads, policy, server, texts
 from .store import Store, checked_text, few_references, request_of
 from .tables import Database
 from .texts import Refused, base_of, is_store_name, refuse
@@ -82,7 +82,7 @@ def check_own(word, given, values):
     if word == "temp":
         require(values[0] in ("add", "end") and len(values) == (3 if values[0] == "add" else 2))
     require(word != "unroot" or not {"permanent", "owner"} <= given.keys())
-    require(word != "gc" or bodies.limit_of(given.get("max-freed", "0")) is not None)
+    require(word != "gc" or payloads.limit_of(given.get("max-freed", "0")) is not None)
     require(word != "serve" or "connections" not in given or "port" in given)
 
 
@@ -138,7 +138,7 @@ def removal_request(command, store_dir):
     ignores = "ignore-liveness" in command.given
     if command.word == "gc":
         limit = command.given.get("max-freed")
-        return request_of("collect", ignore_liveness=ignores, limit=None if limit is None else bodies.limit_of(limit))
+        return request_of("collect", ignore_liveness=ignores, limit=None if limit is None else payloads.limit_of(limit))
     return request_of("delete", ignore_liveness=ignores, paths=[base_of(store_dir, it) for it in command.values])
 
 
@@ -151,7 +151,7 @@ def request(command, caller, store_dir, given):
     if word in ("add-text", "add-source"):
         return add_request(command, store_dir, given)
     if word in ("import", "runtime"):
-        return bodies.request(store_dir, "import" if word == "import" else "replace-runtime", given)
+        return payloads.request(store_dir, "import" if word == "import" else "replace-runtime", given)
     if word in NAMED:
         return request_of(NAMED[word], path=base_of(store_dir, command.values[0]))
     if word in ("gc", "delete"):
@@ -185,22 +185,22 @@ def path_text(command, store_dir, given):
 class Machine:
     """The files that the program sees: configurations as bytes, and databases."""
 
-    def __init__(self, configs, databases):
+    def __init__(self, configs: dict[str, bytes], databases: dict):
         self.configs, self.databases = configs, databases
 
-    def config(self, command):
+    def config(self, command: SimpleNamespace) -> dict | None:
         name = command.common.get("config")
         if name is not None and name not in self.configs:
             raise Failed
         return policy.config_of(self.configs[name] if name is not None else b"")
 
-    def store(self, command, config):
+    def store(self, command: SimpleNamespace, config: dict) -> Store:
         name = command.common.get("db")
         if name is None:
             return Store(config, World())
         return Store(config, self.databases.setdefault(name, Database({})).open(config["store-dir"]))
 
-    def run(self, words, given):
+    def run(self, words: list[str], given: bytes) -> tuple[bytes, bytes, int]:
         """Standard output, standard error and status; None is a text that the model doesn't know."""
         try:
             command = command_of(words)
@@ -214,7 +214,7 @@ class Machine:
             line, status = refused.line().encode(), 3
         return (line, b"", status) if command.word == "who" else (b"", line, status)
 
-    def run_command(self, command, given):
+    def run_command(self, command: SimpleNamespace, given: bytes) -> tuple[bytes, bytes, int] | None:
         config = self.config(command)
         if command.word in ("text-path", "source-path"):
             return path_text(command, config["store-dir"], given), b"", 0

@@ -1,5 +1,6 @@
 """Derivation texts (the ATerm form of a .drv file): their outputs, and writing them."""
 import re
+from collections.abc import Iterable
 
 from .texts import is_base, is_store_name, refuse
 
@@ -12,15 +13,15 @@ class Text:
     def __init__(self, data):
         self.data, self.at = data, 0
 
-    def skip(self, word):
+    def skip(self, word: bytes) -> None:
         refuse(17, not self.data.startswith(word, self.at))
         self.at += len(word)
 
-    def string(self):
-        found = STRING.match(self.data, self.at)
-        refuse(17, not found)
-        self.at = found.end()
-        return re.sub(rb"\\.", lambda it: ESCAPES[it[0]], found[1])
+    def string(self) -> bytes:
+        match = STRING.match(self.data, self.at)
+        refuse(17, not match)
+        self.at = match.end()
+        return re.sub(rb"\\.", lambda it: ESCAPES[it[0]], match[1])
 
     def list_of(self, item):
         self.skip(b"[")
@@ -57,7 +58,7 @@ def read(data):
     return found
 
 
-def outputs(data, store_dir):
+def outputs(data: bytes, store_dir: str) -> list[tuple] | None:
     """Name and base name of each output that has a path, in the order of the text."""
     found = [(name.decode("latin-1"), path.decode("latin-1")) for name, path, _, _ in read(data)]
     for name, path in found:
@@ -82,7 +83,8 @@ def tupled(*parts):
     return b"(" + b",".join(parts) + b")"
 
 
-def write(outs, inputs=(), sources=(), platform=b"p", builder=b"b", args=(), env=()):
+def write(outs: list, inputs: Iterable = (), sources: Iterable = (), platform: bytes = b"p", builder: bytes = b"b",
+          args: Iterable = (), env: Iterable = ()) -> bytes:
     """The text of a derivation with these parts."""
     return b"Derive" + tupled(
         listed(tupled(*map(quoted, it)) for it in outs),

@@ -1,4 +1,6 @@
 """Random requests written as HTTP messages and as command lines, with random faults of form."""
+from types import SimpleNamespace
+
 from . import server
 from .requests import Requests
 from .values import ODD_STORE_NAMES, STORE_NAMES
@@ -58,7 +60,7 @@ TARGET = targets()
 class Messages(Requests):
     """Draws HTTP messages."""
 
-    def lines(self, it):
+    def lines(self, it: SimpleNamespace) -> list[str]:
         """The lines of the body of a request."""
         if it.kind in ("add-text", "add-source"):
             return [f"name: {it.name}", *(f"reference: {path}" for path in it.references)]
@@ -76,7 +78,7 @@ class Messages(Requests):
         has_path = it.kind in ("set-permanent", "set-user-root", "set-profile", "add-temporary")
         return [f"path: {it.path}"] * has_path
 
-    def body(self, it):
+    def body(self, it: SimpleNamespace) -> bytes:
         lines = [line.encode() for line in self.lines(it)]
         payload = getattr(it, "payload", b"")
         if self.chance(0.5):
@@ -102,20 +104,20 @@ class Messages(Requests):
             line = lines[at]
             lines[at] = self.pick([line.upper(), line.replace(b": ", b":"), line + b"\r", b" " + line])
 
-    def target(self, it):
+    def target(self, it: SimpleNamespace) -> tuple[str, str]:
         method, route = TARGET[it.kind]
         fields = {name: getattr(it, name, None) or "" for name in ("owner", "name", "number", "session")}
         path = getattr(it, "path", "")
         fields["path"] = path if self.odd(0.01) else path.removeprefix(self.dir + "/")
         return method, route.format(**fields).replace(" ", "%20").replace("\t", "%09")
 
-    def field(self, name, value):
+    def field(self, name: str, value: str) -> str:
         """A line of a head, with a random case of its name and random white space."""
         name = self.pick([name, name, name, name.title(), name.upper()])
         before, after = self.pick([" ", " ", " ", "", "\t ", "  "]), self.pick(["", "", "", " ", " \t"])
         return f"{name}:{before}{value}{after}"
 
-    def fields(self, it, body):
+    def fields(self, it: SimpleNamespace, body: bytes) -> list[str]:
         lines = [self.field("store-user", it.user)] * (not self.odd(0.005))
         lines += [self.field("store-group", it.group)] * (it.group is not None)
         lines += [self.field("content-length", self.pick(["", "", "0", "000000000000"]) + str(len(body)))] * (
@@ -130,7 +132,7 @@ class Messages(Requests):
         self.rng.shuffle(lines)
         return lines
 
-    def head(self, it, body):
+    def head(self, it: SimpleNamespace, body: bytes) -> str:
         method, target = self.target(it)
         if self.odd(0.02):
             method = self.pick(METHODS)
@@ -149,7 +151,7 @@ class Messages(Requests):
         head = f"GET /paths HTTP/1.1\r\nstore-user: {it.user}\r\nx: "
         return head + "y" * (server.HEAD + self.pick([0, 1]) - len(head) - 4) + "\r\n\r\n"
 
-    def message(self, kind=None):
+    def message(self, kind: str | None = None) -> bytes:
         """The bytes of a message, which most often carries a request of this kind, or else of a random one."""
         it = self.request(kind)
         if self.odd(0.004):
@@ -166,7 +168,7 @@ class Messages(Requests):
 class Commands(Messages):
     """Draws command lines: the words after the common options, and standard input."""
 
-    def words(self, it):
+    def words(self, it: SimpleNamespace) -> list[str]:
         """The words of a request."""
         option = lambda name, value: self.pick([[f"--{name}", value], [f"--{name}={value}"]])
         named = getattr(it, "owner", None)
@@ -198,18 +200,18 @@ class Commands(Messages):
             words.insert(1, "--ignore-liveness")
         return self.moved(words)
 
-    def moved(self, words):
+    def moved(self, words: list[str]) -> list[str]:
         """The words, now and then with the flags last, or with `--` before the last word."""
         if self.chance(0.1):
             flags = [word for word in words if word in ("--permanent", "--ignore-liveness")]
             return [word for word in words if word not in flags] + flags
         return [*words[:-1], "--", words[-1]] if self.chance(0.02) else words
 
-    def input(self, it):
+    def input(self, it: SimpleNamespace) -> bytes:
         """The standard input of a command."""
         return self.body(it) if it.kind in ("import", "replace-runtime") else getattr(it, "payload", b"")
 
-    def odd_words(self, words):
+    def odd_words(self, words: list[str]) -> list[str]:
         """The words with one change that most often makes them no command line."""
         at = self.rng.randint(0, len(words))
         change = self.rng.randrange(3)
@@ -219,7 +221,7 @@ class Commands(Messages):
             return words[:-1]
         return self.pick(["profile keep work", "temp stop 1", "serve --connections 2", "lists", ""]).split()
 
-    def stateless(self):
+    def stateless(self) -> tuple[list[str], bytes]:
         """The words and the standard input of a command that opens no database."""
         word = self.pick(["who", "text-path", "source-path", "ls"])
         if word in ("who", "ls"):
@@ -228,7 +230,7 @@ class Commands(Messages):
         given = self.contents() if word == "text-path" else self.archive()
         return [word, name, *self.references(4)], given
 
-    def common(self, user, group):
+    def common(self, user: str | None, group: str | None) -> list[str]:
         words = [["--user", user]] * (user is not None and not self.odd(0.01))
         words += [["--group", group]] * (group is not None)
         self.rng.shuffle(words)

@@ -1,6 +1,7 @@
 """Configurations, callers, and which rule a request breaks first."""
 import tomllib
 from collections import namedtuple
+from types import SimpleNamespace
 
 from .texts import Refused, is_plain_name, is_store_dir, refuse
 
@@ -36,7 +37,7 @@ KEYS = {
 }
 
 
-def config_of(data):
+def config_of(data: bytes) -> dict | None:
     """The value of each key, from the text of a configuration."""
     refuse(19, len(data) > LIMIT, "syntax")
     try:
@@ -49,7 +50,7 @@ def config_of(data):
     return {key: tree.get(key, default) for key, (default, _) in KEYS.items()}
 
 
-def caller_of(name, group):
+def caller_of(name: str | None, group: str | None) -> Caller:
     """A caller; name and group are texts or None."""
     refuse(20, name is None or not is_plain_name(name) or group is not None and not is_plain_name(group))
     return Caller(name, group)
@@ -60,14 +61,14 @@ def matches(entries, groups, caller):
     return "*" in entries or caller.name in entries or any("@" + group in entries for group in mine)
 
 
-def class_of(config, caller):
+def class_of(config: dict, caller: Caller) -> str:
     for word, key in ("trusted", "trusted-users"), ("allowed", "allowed-users"):
         if matches(config[key], config["groups"], caller):
             return word
     return "stranger"
 
 
-def broken_rule(config, caller, request):
+def broken_rule(config: dict, caller: Caller, request: SimpleNamespace) -> str | None:
     """The word of the first rule that a request breaks, or None; the rule on live paths isn't among them."""
     word = class_of(config, caller)
     is_trusted = word == "trusted"

@@ -2,6 +2,7 @@
 from types import SimpleNamespace
 
 from . import archives, policy, texts
+from .store import Store
 from .values import GROUPS, ODD_STORE_NAMES, STORE_NAMES, USERS, Values
 
 # How often each kind of request is drawn.
@@ -28,23 +29,23 @@ ROOTS, PROFILES = ["r", "s", "work"], ["work", "sys"]
 class Requests(Values):
     """Draws requests with the world in sight, so that most of them name what is there."""
 
-    def __init__(self, seed):
+    def __init__(self, seed: int | str):
         super().__init__(seed)
         self.theme = self.pick(THEMES)
         self.weights = [weight * (5 if kind in self.theme else 1) for kind, weight in WEIGHTS.items()]
 
-    def set_store(self, store):
+    def set_store(self, store: Store) -> None:
         self.store, self.dir = store, store.dir
 
-    def known(self):
+    def known(self) -> str:
         """A base name, most often one of a valid path."""
         valid = sorted(self.store.world.objects)
         return self.pick(valid) if valid and self.chance(0.93) else self.base()
 
-    def path(self):
+    def path(self) -> str:
         return self.path_text(self.known())
 
-    def references(self, most=3):
+    def references(self, most: int = 3) -> list[str]:
         if self.chance(0.002):
             return [self.base()] * self.pick([4096, 4097])
         if not self.store.world.objects and self.chance(0.8) or self.chance(0.4):
@@ -52,7 +53,7 @@ class Requests(Values):
         pool = self.pick([self.known, self.known, self.doomed])
         return [self.path_text(pool()) for _ in range(self.rng.randint(0, most))]
 
-    def caller(self, kind):
+    def caller(self, kind: str) -> tuple[str, str | None]:
         """Name and group of who asks."""
         group = self.pick([None, None, *GROUPS])
         is_trusted = lambda user: policy.class_of(self.store.config, policy.Caller(user, group)) == "trusted"
@@ -61,43 +62,43 @@ class Requests(Values):
             return self.pick(trusted), group
         return self.plain_name(USERS), self.plain_name(GROUPS) if self.odd(0.03) else group
 
-    def owner(self, caller):
+    def owner(self, caller: str) -> str:
         return caller if self.chance(0.8) else self.plain_name(USERS)
 
-    def kind(self):
+    def kind(self) -> str:
         """The kind of a request, most often an add where there is little."""
         if len(self.store.world.objects) < 6 and self.chance(0.5):
             return self.pick(["add-text", "add-source", "import", "import"])
         return self.rng.choices([*WEIGHTS], self.weights)[0]
 
-    def request(self, kind=None):
+    def request(self, kind: str | None = None) -> SimpleNamespace:
         """A request of this kind, or of a random one: who asks, and its fields as texts and bytes."""
         kind = kind or self.kind()
         user, group = self.caller(kind)
-        found = SimpleNamespace(kind=kind, user=user, group=group, ignore=None)
+        drawn = SimpleNamespace(kind=kind, user=user, group=group, ignore=None)
         if kind in ("add-text", "add-source"):
-            self.fill_add(found)
+            self.fill_add(drawn)
         elif kind == "import":
-            self.fill_import(found)
+            self.fill_import(drawn)
         elif kind == "replace-runtime":
-            found.pairs = [(self.label(), self.path()) for _ in range(self.rng.randint(0, 4))]
+            drawn.pairs = [(self.label(), self.path()) for _ in range(self.rng.randint(0, 4))]
             if self.odd(0.05):
-                found.pairs = [("a b", self.path_text(self.base())), *found.pairs]
+                drawn.pairs = [("a b", self.path_text(self.base())), *drawn.pairs]
         elif kind in ("collect", "delete"):
-            found.ignore = self.pick(["false", "false", "true", "yes"]) if self.chance(0.1) else None
-            found.limit = self.limit() if self.chance(0.8) else None
+            drawn.ignore = self.pick(["false", "false", "true", "yes"]) if self.chance(0.1) else None
+            drawn.limit = self.limit() if self.chance(0.8) else None
             pool = self.pick([self.doomed, self.doomed, self.known])
-            found.paths = [self.path_text(pool()) for _ in range(self.pick([0, 1, 1, 1, 2, 3]))]
+            drawn.paths = [self.path_text(pool()) for _ in range(self.pick([0, 1, 1, 1, 2, 3]))]
         else:
-            self.fill_root(found)
-        return found
+            self.fill_root(drawn)
+        return drawn
 
     def doomed(self):
         """A base name, most often one of a dead path."""
         dead = sorted(self.store.world.dead(self.store.config))
         return self.pick(dead) if dead and self.chance(0.6) else self.known()
 
-    def limit(self):
+    def limit(self) -> str:
         """A number of bytes, most often near what some dead paths have together."""
         odd = (str(2**64), "01", "00", "-1", "+1", "", "x", "9" * 30)
         dead = sorted(self.store.world.dead(self.store.config))
@@ -105,35 +106,35 @@ class Requests(Values):
         near = sum(self.rng.sample(sizes, self.rng.randint(0, len(sizes)))) + self.pick([-1, 0, 1])
         return self.number([max(near, 0)] * 6 + [0, 1, 2**64 - 1], odd)
 
-    def fill_add(self, found):
-        found.name = self.often(STORE_NAMES, ODD_STORE_NAMES)
-        found.references = self.references()
-        found.payload = self.file_contents(found.name) if found.kind == "add-text" else self.archive(found.name)
+    def fill_add(self, drawn):
+        drawn.name = self.often(STORE_NAMES, ODD_STORE_NAMES)
+        drawn.references = self.references()
+        drawn.payload = self.file_contents(drawn.name) if drawn.kind == "add-text" else self.archive(drawn.name)
 
-    def fill_import(self, found):
+    def fill_import(self, drawn):
         base = self.base() if self.chance(0.85) else self.known()
-        found.payload, found.references = self.archive(base), self.references()
-        found.deriver = self.path() if self.chance(0.3) else None
-        found.address = None
+        drawn.payload, drawn.references = self.archive(base), self.references()
+        drawn.deriver = self.path() if self.chance(0.3) else None
+        drawn.address = None
         if self.chance(0.35):
-            base, found.address = self.addressed(base, found)
-        found.path = self.path_text(base)
-        digest = texts.sha256(found.payload if not self.odd(0.02) else b"")
-        found.digest = "sha256:" + texts.base32(digest)
+            base, drawn.address = self.addressed(base, drawn)
+        drawn.path = self.path_text(base)
+        digest = texts.sha256(drawn.payload if not self.odd(0.02) else b"")
+        drawn.digest = "sha256:" + texts.base32(digest)
         if self.odd(0.01):
-            odd = ["sha256:" + "z" * 52, found.digest[:-1], found.digest.upper(), "sha256:" + "0" * 52]
-            found.digest = self.pick(odd)
+            odd = ["sha256:" + "z" * 52, drawn.digest[:-1], drawn.digest.upper(), "sha256:" + "0" * 52]
+            drawn.digest = self.pick(odd)
         if self.odd(0.05):
-            found.references.append(base)
+            drawn.references.append(base)
 
-    def addressed(self, base, found):
+    def addressed(self, base, drawn):
         """A base name and a content address that most often fits it."""
         try:
-            references = [texts.base_of(self.dir, it) for it in found.references]
-            plain = archives.plain_contents(archives.read(found.payload))
+            references = [texts.base_of(self.dir, it) for it in drawn.references]
+            plain = archives.plain_contents(archives.read(drawn.payload))
         except texts.Refused:
             references, plain = [], None
-        kind, prefix, data = "source", "fixed:r:sha256:", found.payload
+        kind, prefix, data = "source", "fixed:r:sha256:", drawn.payload
         if plain is not None and self.chance(0.5):
             kind, prefix, data = "text", "text:sha256:", plain
         if self.odd(0.05):
@@ -145,19 +146,19 @@ class Requests(Values):
         digits = texts.base32(digest) if not self.odd(0.03) else self.pick(["2" + "0" * 51, "1" * 51, "e" * 52, ""])
         return found_base, prefix + digits
 
-    def fill_root(self, found):
+    def fill_root(self, drawn):
         """The fields of a request on roots, profiles and sessions, or of one that names a path alone."""
-        found.owner = self.owner(found.user)
-        found.name = self.plain_name(PROFILES if self.is_of_profile(found.kind) else ROOTS)
-        found.path = self.path()
-        found.number = self.number([1, 2, 3, 1, 2, 4])
-        found.session = self.number([1, 2, 10], ("0", "007", "4194304", "4194305", "-1", "x", "99999999999"))
-        self.aim(found)
+        drawn.owner = self.owner(drawn.user)
+        drawn.name = self.plain_name(PROFILES if self.is_of_profile(drawn.kind) else ROOTS)
+        drawn.path = self.path()
+        drawn.number = self.number([1, 2, 3, 1, 2, 4])
+        drawn.session = self.number([1, 2, 10], ("0", "007", "4194304", "4194305", "-1", "x", "99999999999"))
+        self.aim(drawn)
 
     def is_of_profile(self, kind):
         return kind in ("set-profile", "rollback", "switch", "delete-generation")
 
-    def aim(self, found):
+    def aim(self, drawn):
         """Names something that is there, where a random name would seldom hit it."""
         world = self.store.world
         pools = {
@@ -166,16 +167,16 @@ class Requests(Values):
             "end-session": sorted((owner, str(session)) for owner, session, _ in world.temporary),
             **dict.fromkeys(["set-profile", "rollback", "switch", "delete-generation"], sorted(world.profiles)),
         }
-        pool = pools.get(found.kind)
+        pool = pools.get(drawn.kind)
         if not pool or self.chance(0.3):
             return
-        found.owner, name = self.pick(pool)
-        if found.kind == "end-session":
-            found.session = name
+        drawn.owner, name = self.pick(pool)
+        if drawn.kind == "end-session":
+            drawn.session = name
         else:
-            found.name = name
-        found.user = found.user if found.owner is None or self.chance(0.15) else found.owner
-        if self.is_of_profile(found.kind):
-            generations = world.profiles[found.owner, name].generations
-            found.number = self.number(sorted(generations))
-            found.path = self.path_text(self.pick([*generations.values(), self.known()]))
+            drawn.name = name
+        drawn.user = drawn.user if drawn.owner is None or self.chance(0.15) else drawn.owner
+        if self.is_of_profile(drawn.kind):
+            generations = world.profiles[drawn.owner, name].generations
+            drawn.number = self.number(sorted(generations))
+            drawn.path = self.path_text(self.pick([*generations.values(), self.known()]))

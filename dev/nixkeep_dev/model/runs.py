@@ -10,7 +10,7 @@ from pathlib import Path
 from nixkeep_dev.testing.pieces import unread
 from nixkeep_dev.testing.tables import put
 from . import tables
-from .scenarios import FILE
+from .scenarios import FILE, Scenario, Step
 
 SECONDS = 600
 ROOM = "/dev/shm" if os.access("/dev/shm", os.W_OK) else None
@@ -24,9 +24,9 @@ def make_file(path, rows):
         put(path, rows, "PRAGMA synchronous = OFF;" + "".join(map(tables.making, rows)))
 
 
-def rows_in(path):
+def rows_in(path: str) -> dict[str, set]:
     """The rows of a database file, by table; where the file can't be read, its fault in place of a table."""
-    if not os.path.exists(path):
+    if not Path(path).exists():
         return {}
     try:
         with contextlib.closing(sqlite3.connect(path)) as database:
@@ -47,7 +47,7 @@ def feed(running, pieces):
                 time.sleep(0.0005)
 
 
-def pieces_of(step):
+def pieces_of(step: Step) -> list[bytes]:
     data, places = step.input(), [0, *step.cuts]
     return [data[start:end] for start, end in zip(places, [*step.cuts, len(data)])]
 
@@ -84,7 +84,7 @@ def is_same(wanted, came):
     return has_errors and wanted[0] == came[0] and wanted[2] == came[2]
 
 
-def difference(program, scenario):
+def difference(program: str, scenario: Scenario) -> tuple | None:
     """The number of the first step that differs, what the model says and what came; None where all is the same.
 
     After all steps the rows of the database file are compared, as if they were a last step."""

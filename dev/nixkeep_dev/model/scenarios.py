@@ -1,4 +1,6 @@
 """Scenarios: a first database, configurations, and commands over them, some of which serve a stream of messages."""
+from collections.abc import Iterable, Sequence
+
 from . import policy, server, tables, texts, worlds
 from .commands import Machine
 from .forms import Commands
@@ -6,15 +8,21 @@ from .store import Store
 from .values import STORE_DIRS, USERS
 
 FILE = "store.db"
+# A server's configuration that has callers of each class, and any keep settings.
+OF_SERVER = """trusted-users = ["root", "@wheel"]
+allowed-users = ["ann", "bob"]
+keep-outputs = {}
+keep-derivations = {}
+"""
 
 
 class Step:
     """A command: its words, the parts of its standard input, and where this input is cut."""
 
-    def __init__(self, words, parts, cuts=()):
+    def __init__(self, words: list[str], parts: list[bytes], cuts: Sequence[int] = ()):
         self.words, self.parts, self.cuts = words, parts, cuts
 
-    def input(self):
+    def input(self) -> bytes:
         return b"".join(self.parts)
 
 
@@ -23,10 +31,10 @@ class Scenario:
 
     Rows of no table are no file; None is a file that is no database."""
 
-    def __init__(self, configs, rows, steps):
+    def __init__(self, configs: dict[str, bytes], rows: dict[str, set] | None, steps: list[Step]):
         self.configs, self.rows, self.steps = configs, rows, steps
 
-    def machine(self):
+    def machine(self) -> Machine:
         """The model before the first step."""
         return Machine(self.configs, {} if self.rows == {} else {FILE: tables.Database(self.rows)})
 
@@ -34,7 +42,7 @@ class Scenario:
 class Scenarios(Commands):
     """Draws scenarios."""
 
-    def scenario(self):
+    def scenario(self) -> Scenario:
         self.dir = self.pick(STORE_DIRS)
         configs = {"c.toml": self.config()}
         if self.chance(0.4):
@@ -51,6 +59,12 @@ class Scenarios(Commands):
     def set_config(self, text, world):
         self.set_store(Store(policy.config_of(text), world))
 
+    def server_config(self) -> bytes:
+        """The configuration of a server, whose empty store is in sight from now on."""
+        config = OF_SERVER.format(*[self.pick(["true", "false"]) for _ in range(2)]).encode()
+        self.set_config(config, worlds.World())
+        return config
+
     def follow(self, config):
         """Draws from now on with the present database in sight, or an empty one where it can't be opened."""
         try:
@@ -66,8 +80,8 @@ class Scenarios(Commands):
         text = configs[name] if name else b""
         return text, ["--config", name] if name else []
 
-    def stream_step(self, found):
-        config, words = self.config_words(found.configs)
+    def stream_step(self, scenario):
+        config, words = self.config_words(scenario.configs)
         self.follow(config)
         first = ["collect", "collect"] if self.chance(0.2 if self.store.world.roots() else 0.6) else []
         last = self.pick([["collect", "collect", "list"], ["roots", "live"], []])
@@ -84,15 +98,15 @@ class Scenarios(Commands):
             messages.append(self.pick([b"\r\n", b"\n", b"GET /paths", b"x", b"\r", b"\0"]))
         return Step(["--db", FILE, *words, "serve"], messages, self.cuts(sum(map(len, messages))))
 
-    def cuts(self, size):
+    def cuts(self, size: int) -> list[int]:
         """Places at which an input is cut, if it is."""
         count = self.rng.randint(1, 6) if self.chance(0.25) else 0
         return sorted({self.rng.randrange(size + 1) for _ in range(count)})
 
-    def command_step(self, found):
+    def command_step(self, scenario):
         if self.odd(0.06):
-            return self.odd_config_step(found)
-        config, words = self.config_words(found.configs)
+            return self.odd_config_step(scenario)
+        config, words = self.config_words(scenario.configs)
         self.follow(config)
         if self.chance(0.15):
             command, given = self.stateless()
@@ -107,10 +121,10 @@ class Scenarios(Commands):
         self.machine.run(step.words, given)
         return step
 
-    def odd_config_step(self, found):
-        name = f"odd{len(found.configs)}.toml"
+    def odd_config_step(self, scenario):
+        name = f"odd{len(scenario.configs)}.toml"
         if not self.chance(0.1):
-            found.configs[name] = self.odd_config()
+            scenario.configs[name] = self.odd_config()
         command = self.pick([["who"], ["list"], ["ls"], ["serve"], ["text-path", ".."], ["list", "x"]])
         return Step(["--config", name, *self.common(self.pick([None, "ann", "-x"]), None), *command], [b""])
 
@@ -146,7 +160,8 @@ class Scenarios(Commands):
             self.put_roots(world, sorted(world.objects))
         return world
 
-    def put(self, world, base, references, deriver, address):
+    def put(self, world: worlds.World, base: str, references: Iterable[str], deriver: str | None,
+            address: str | None) -> None:
         """Adds an object whose archive fits its name, if a drawn one does."""
         if base.endswith(".drv"):
             archive = tables.archives.file_archive(self.derivation())
@@ -190,7 +205,7 @@ class Scenarios(Commands):
         sessions = lambda: (self.pick(USERS), self.pick([1, 2, 10, 4_194_304]), self.pick(bases))
         world.temporary.update(sessions() for _ in range(self.pick([0, 0, 3])))
 
-    def change(self, rows):
+    def change(self, rows: dict[str, set]) -> None:
         """Removes a table or a row, or changes one value."""
         if self.chance(0.05):
             del rows[self.pick([*rows])]

@@ -1,9 +1,9 @@
 """What a server answers to a stream of HTTP messages."""
 import re
 
-from . import bodies
-from .policy import caller_of, class_of
-from .store import Reply
+from . import payloads
+from .policy import Caller, caller_of, class_of
+from .store import Reply, Store
 from .texts import Refused, is_base, refuse
 
 HEAD, FIELDS, BODY = 16_384, 64, 20_971_520
@@ -43,30 +43,30 @@ PATTERNS = [
 ]
 
 
-def number_of(text, most):
+def number_of(text: str, most: int) -> int:
     """The number from 1 to the given one that a text gives without a leading zero; 0 for any other text."""
-    found = re.fullmatch("[1-9][0-9]{0,8}", text)
-    return int(text) if found and int(text) <= most else 0
+    match = re.fullmatch("[1-9][0-9]{0,8}", text)
+    return int(text) if match and int(text) <= most else 0
 
 
-def head_of(stream):
+def head_of(stream: bytes) -> tuple | None:
     """Method, target, minor version, fields and length of the head at the beginning of a stream."""
-    found = MESSAGE.match(stream[:HEAD])
-    refuse(36, not found)
-    fields = [(name.lower(), value.strip(b" \t")) for name, value in FIELD.findall(found[4])]
+    match = MESSAGE.match(stream[:HEAD])
+    refuse(36, not match)
+    fields = [(name.lower(), value.strip(b" \t")) for name, value in FIELD.findall(match[4])]
     refuse(36, len(fields) > FIELDS)
     try:
-        target = found[2].decode()
+        target = match[2].decode()
     except UnicodeDecodeError as error:
         raise Refused(36) from error
-    return found[1].decode(), target, found[3], fields, found.end()
+    return match[1].decode(), target, match[3], fields, match.end()
 
 
 def values_of(fields, name):
     return [value for other, value in fields if other == name]
 
 
-def length_of(fields):
+def length_of(fields: list[tuple[bytes, bytes]]) -> int:
     """The length of the body."""
     sizes = values_of(fields, b"content-length")
     refuse(37, values_of(fields, b"transfer-encoding") or len(sizes) > 1)
@@ -76,19 +76,19 @@ def length_of(fields):
     return int(digits or b"0")
 
 
-def caller_in(fields):
+def caller_in(fields: list[tuple[bytes, bytes]]) -> Caller:
     users, groups = values_of(fields, b"store-user"), values_of(fields, b"store-group")
     refuse(20, len(users) != 1 or len(groups) > 1)
     text = lambda value: value.decode("latin-1")
     return caller_of(text(users[0]), text(groups[0]) if groups else None)
 
 
-def route_of(target):
+def route_of(target: str) -> tuple | None:
     """The methods of a target's route, and its parameters."""
     for pattern, methods in PATTERNS:
-        found = pattern.fullmatch(target)
-        if found:
-            return methods, found.groupdict()
+        match = pattern.fullmatch(target)
+        if match:
+            return methods, match.groupdict()
     raise Refused(39)
 
 
@@ -104,7 +104,7 @@ def refusal(number):
     return Reply("refused", number, Refused(number).line().encode())
 
 
-def answer(store, method, target, fields, body):
+def answer(store: Store, method: str, target: str, fields: list[tuple], body: bytes) -> tuple:
     """The reply to a whole message, the value of the field `allow`, and whether the text is an archive."""
     try:
         caller = caller_in(fields)
@@ -114,14 +114,14 @@ def answer(store, method, target, fields, body):
         if method not in methods:
             return refusal(40), ", ".join(methods), False
         read_parameters(given)
-        request = bodies.request(store.dir, methods[method], body, **given)
+        request = payloads.request(store.dir, methods[method], body, **given)
     except Refused as refused:
         return refusal(refused.number), None, False
     reply = store.call(caller, request)
     return reply, None, request.kind == "archive" and reply.outcome == "done"
 
 
-def status_of(reply):
+def status_of(reply: Reply) -> int:
     if reply.outcome == "done":
         return 200
     if reply.outcome == "denied":
@@ -138,7 +138,7 @@ def reply_bytes(reply, allow, is_archive, closes):
     return "".join(line + "\r\n" for line in [*lines, ""]).encode() + reply.text
 
 
-def serve(store, stream):
+def serve(store: Store, stream: bytes) -> tuple[list, bool]:
     """The replies to a stream, and whether the server closed the connection before its end."""
     replies, closes = [], False
     while stream and not closes:

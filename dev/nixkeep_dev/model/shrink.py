@@ -26,7 +26,7 @@ class Shrinker:
 
     def __init__(self, program, scenario, seconds):
         self.program, self.scenario = program, scenario
-        self.found, self.end = difference(program, scenario), time.monotonic() + seconds
+        self.difference, self.end = difference(program, scenario), time.monotonic() + seconds
 
     def is_late(self):
         return time.monotonic() > self.end
@@ -38,7 +38,7 @@ class Shrinker:
         other = Scenario(**{**vars(self.scenario), **changed})
         came = difference(self.program, other) if other.steps else None
         if came:
-            self.scenario, self.found = other, came
+            self.scenario, self.difference = other, came
         return came is not None
 
     def tries_step(self, at, **changed):
@@ -46,7 +46,7 @@ class Shrinker:
         steps[at] = Step(**{**vars(steps[at]), **changed})
         return self.tries(steps=steps)
 
-    def steps(self):
+    def steps(self) -> None:
         fewest(self.scenario.steps, lambda steps: self.tries(steps=steps))
         for at in range(len(self.scenario.steps)):
             if not self.tries_step(at, cuts=[]):
@@ -54,7 +54,7 @@ class Shrinker:
             if not self.scenario.steps[at].cuts:
                 fewest(self.scenario.steps[at].parts, lambda parts: self.tries_step(at, parts=parts))
 
-    def rows(self):
+    def rows(self) -> None:
         """Removes objects, each with all rows that name it, and then single rows."""
         without = lambda left: {
             name: {row for row in rows if name == "meta" or left.issuperset(all_bases.intersection(row))}
@@ -67,14 +67,14 @@ class Shrinker:
                 fewer = lambda left: self.tries(rows={**self.scenario.rows, name: {*left}})
                 fewest(sorted(self.scenario.rows[name], key=repr), fewer)
 
-    def files(self):
+    def files(self) -> None:
         if self.scenario.rows and not self.tries(rows={}):
             self.rows()
         for name, text in self.scenario.configs.items():
             fewer = lambda left: self.tries(configs={**self.scenario.configs, name: b"".join(left)})
             fewest(text.splitlines(keepends=True), fewer)
 
-    def lines(self):
+    def lines(self) -> None:
         """Removes lines of heads and words of command lines."""
         for at in range(len(self.scenario.steps)):
             fewest(self.scenario.steps[at].words, lambda words: self.tries_step(at, words=words))
@@ -82,7 +82,7 @@ class Shrinker:
                 for part in range(len(self.scenario.steps[at].parts)):
                     self.head(at, part)
 
-    def head(self, at, part):
+    def head(self, at: int, part: int) -> None:
         parts = self.scenario.steps[at].parts
         lines = re.split(rb"(?<=\n)\r?\n", parts[part])[0].splitlines(keepends=True)
         if len(lines) > 1:
@@ -91,12 +91,12 @@ class Shrinker:
             fewest(lines, lambda left: self.tries_step(at, parts=changed(left)))
 
 
-def shrink(program, scenario, seconds):
+def shrink(program: str, scenario: Scenario, seconds: float) -> tuple:
     """A smaller scenario that has a difference, as small as is found in the time, and this difference."""
     it = Shrinker(program, scenario, seconds)
-    if it.found:
+    if it.difference:
         it.steps()
         it.files()
         it.lines()
         it.steps()
-    return it.scenario, it.found
+    return it.scenario, it.difference

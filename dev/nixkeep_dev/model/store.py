@@ -3,10 +3,12 @@
 A request is a namespace with a kind and that kind's fields. Its paths are base names.
 """
 from collections import namedtuple
+from collections.abc import Collection, Iterable
 from types import SimpleNamespace
+from typing import Any
 
 from . import archives, derivations, texts, worlds
-from .policy import broken_rule, class_of
+from .policy import Caller, broken_rule, class_of
 from .texts import Refused, is_label, is_plain_name, refuse
 
 # What came of a request: "done", "denied" or "refused"; the number of a refusal; the whole text.
@@ -14,19 +16,19 @@ Reply = namedtuple("Reply", "outcome number text")
 REFERENCES, GENERATIONS, SESSIONS = 4096, 9999, 4_194_304
 
 
-def request_of(kind, **fields):
+def request_of(kind: str, **fields: Any) -> SimpleNamespace:
     return SimpleNamespace(kind=kind, **fields)
 
 
 class Store:
-    def __init__(self, config, world):
+    def __init__(self, config: dict, world: worlds.World):
         self.config, self.world = config, world
         self.dir = config["store-dir"]
 
-    def full(self, base):
+    def full(self, base: str) -> str:
         return f"{self.dir}/{base}"
 
-    def call(self, caller, request):
+    def call(self, caller: Caller, request: SimpleNamespace) -> Reply:
         """The reply to a request; the world changes where it is done."""
         is_trusted = class_of(self.config, caller) == "trusted"
         rule = broken_rule(self.config, caller, request) or self.live_rule(request, is_trusted)
@@ -38,7 +40,7 @@ class Store:
             return Reply("refused", refused.number, refused.line().encode())
         return Reply("done", None, text if isinstance(text, bytes) else text.encode())
 
-    def live_rule(self, request, is_trusted):
+    def live_rule(self, request: SimpleNamespace, is_trusted: bool) -> str | None:
         """The rule on live paths with the first root of the first live path that is to be deleted, or None."""
         if request.kind != "delete":
             return None
@@ -49,24 +51,25 @@ class Store:
                 return f"live {label} {self.full(target)}"
         return None
 
-    def paths_text(self, bases):
+    def paths_text(self, bases: Iterable[str]) -> str:
         return "".join(f"{self.full(base)}\n" for base in sorted(bases))
 
-    def roots_text(self, roots, is_trusted):
+    def roots_text(self, roots: list, is_trusted: bool) -> str:
         return "".join(f"{label} {self.full(target)}\n" for label, target in worlds.seen(roots, is_trusted))
 
-    def valid(self, base):
+    def valid(self, base: str) -> str | None:
         refuse(23, base not in self.world.objects)
         return base
 
-    def remove(self, bases):
+    def remove(self, bases: Collection[str]) -> str:
         size = self.world.size(bases)
         text = f"{self.paths_text(bases)}freed {len(bases)} paths {size} bytes\n"
         for base in bases:
             del self.world.objects[base]
         return text
 
-    def add(self, base, archive, references, deriver=None, address=None, is_addressed=True):
+    def add(self, base: str, archive: bytes, references: list[str], deriver: str | None = None,
+            address: str | None = None, is_addressed: bool = True) -> str | None:
         """The tests that all adds share, from the one of self references on, and the new object."""
         node = archives.read(archive)
         plain = archives.plain_contents(node)
@@ -80,7 +83,7 @@ class Store:
         return self.full(base) + "\n"
 
 
-def outputs_of(base, node, store_dir):
+def outputs_of(base: str, node: tuple, store_dir: str) -> list[tuple]:
     """The recorded outputs of an object by its name and its tree."""
     if not base.endswith(".drv"):
         return []
@@ -92,11 +95,11 @@ def plain_names(*names):
     refuse(34, not all(map(is_plain_name, names)))
 
 
-def few_references(references):
+def few_references(references: Collection[str]) -> None:
     refuse(33, len(references) > REFERENCES)
 
 
-def checked_text(contents):
+def checked_text(contents: bytes) -> bytes:
     """The archive of a text, unless it is too large."""
     refuse(8, 112 + len(contents) + -len(contents) % 8 > archives.LIMIT)
     return archives.file_archive(contents)

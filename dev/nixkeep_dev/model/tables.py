@@ -21,23 +21,23 @@ TABLES = {
 }
 
 
-def tables_of(schema):
+def tables_of(schema: int) -> list[str]:
     return [name for name, (_, _, first) in TABLES.items() if first <= schema]
 
 
-def columns_of(name):
+def columns_of(name: str) -> list[str]:
     """The names of a table's columns."""
     return [it.split()[0] for it in TABLES[name][0].split(", ")]
 
 
-def making(name):
+def making(name: str) -> str:
     """The statement that makes a table."""
     columns, key, _ = TABLES[name]
     columns = [it[:-2] if it.endswith(" ?") else it + " NOT NULL" for it in columns.split(", ")]
     return f"CREATE TABLE {name} ({', '.join(columns)}, PRIMARY KEY ({key})) STRICT;"
 
 
-def rows_of(world, store_dir, schema=3):
+def rows_of(world: World, store_dir: str, schema: int = 3) -> dict[str, set]:
     """The rows of each table, as sets of tuples."""
     objects = world.objects.items()
     cut = PIECE if schema > 1 else archives.LIMIT
@@ -121,7 +121,7 @@ def add_profiles(world, rows):
     require(*(profile.current in profile.generations for profile in world.profiles.values()))
 
 
-def world_of(rows):
+def world_of(rows: dict[str, set]) -> tuple[World, str]:
     """The world and the store directory of these rows; refused with 21 where they aren't a sound world."""
     try:
         _, store_dir = schema_of(rows)
@@ -144,10 +144,10 @@ class Database:
 
     None in place of rows is a file that is no database."""
 
-    def __init__(self, rows):
+    def __init__(self, rows: dict[str, set]):
         self.rows, self.world, self.dir = rows, None, None
 
-    def open(self, store_dir):
+    def open(self, store_dir: str) -> World:
         """The world of the file, or 21 or 22."""
         if self.world is None:
             refuse(21, self.rows is None)
@@ -157,5 +157,5 @@ class Database:
         refuse(22, self.dir != store_dir)
         return self.world
 
-    def final_rows(self):
+    def final_rows(self) -> dict[str, set]:
         return self.rows if self.world is None else rows_of(self.world, self.dir)

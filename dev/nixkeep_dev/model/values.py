@@ -1,11 +1,14 @@
 """Random values: names, paths, archives, derivation texts and configurations, most of them valid."""
 import random
+from collections.abc import Iterable, Sequence
+from typing import Any
 
 from . import archives, derivations, texts
 
 USERS = ["ann", "bob", "eve", "root"]
 GROUPS = ["users", "wheel"]
 ODD_NAMES = ["-x", "a" * 64, "a" * 65, "a*b", ".", "..", "A.b_c-1", "a@b", "%41", "0", "", "\u00fc"]
+ODD_NUMBERS = ["0", "007", "+1", "-1", "1 ", "x", "1e3", "9999", "10000", "123456789012", "\u0661"]
 STORE_NAMES = ["p", "x", "y", "o", "lib-1.0", "a+b?c=d_e", "d.drv", "e.drv", ".x", ".drv"]
 ODD_STORE_NAMES = [".", "..", "..-x", ".-x", "", "a b", "a/b", "a" * 211, "a" * 212, "a\u00e9", "..x", "a:b", "x.drv "]
 STORE_DIRS = ["/nix/store", "/nix/store", "/nix/store", "/nix/store", "/a", "/tmp/s.t-o/r=e"]
@@ -17,46 +20,46 @@ WORDS = [b"", b"x", b"hello", b"mycontent\n", b"name: a\n\n", b"12345678", bytes
 class Values:
     """Draws values by a random number generator; a part of them, odd, is against the rules or at their border."""
 
-    def __init__(self, seed):
+    def __init__(self, seed: int | str):
         self.rng = random.Random(seed)
         self.dir = "/nix/store"
         self.oddness = self.pick([0.2, 0.5, 1, 3])
 
-    def chance(self, share):
+    def chance(self, share: float) -> bool:
         return self.rng.random() < share
 
-    def odd(self, share):
+    def odd(self, share: float) -> bool:
         """Whether something odd is drawn, which some scenarios do more often than others."""
         return self.chance(share * self.oddness)
 
-    def pick(self, items):
+    def pick(self, items: Sequence) -> Any:
         return self.rng.choice(items)
 
-    def some(self, items, most):
+    def some(self, items: Sequence, most: int) -> list:
         """Up to a number of the items, in any order, where one may come again."""
         return [self.pick(items) for _ in range(self.rng.randint(0, most))]
 
-    def often(self, items, odd, share=0.04):
+    def often(self, items: Sequence, odd: Sequence, share: float = 0.04) -> Any:
         return self.pick(odd) if self.odd(share) else self.pick(items)
 
-    def plain_name(self, items):
+    def plain_name(self, items: Sequence[str]) -> str:
         return self.often(items, ODD_NAMES, 0.03)
 
-    def contents(self):
+    def contents(self) -> bytes:
         if self.chance(0.005):
             return bytes([self.rng.randrange(256)]) * (65_536 * self.rng.randint(1, 2) + self.rng.randint(-130, 10))
         if self.chance(0.3):
             return self.rng.randbytes(self.rng.randint(0, 40))
         return self.pick(WORDS)
 
-    def base(self):
+    def base(self) -> str:
         """A base name that any scenario draws again soon."""
         digits = self.pick("0123") * 32
         if self.odd(0.03):
             digits = "".join(self.rng.choices(texts.DIGITS, k=32))
         return f"{digits}-{self.pick(STORE_NAMES)}"
 
-    def known(self):
+    def known(self) -> str:
         """A base name to name in a text; where a store is in sight, most often one of its paths."""
         return self.base()
 
@@ -69,12 +72,12 @@ class Values:
             f"{self.dir}/{base}/x", f"{digits}-" + "n" * 211, f"{digits}-" + "n" * 212, f" {base}", f"{base}\u00e9",
         ])
 
-    def path_text(self, base):
+    def path_text(self, base: str) -> str:
         if self.odd(0.03):
             return self.odd_path(base)
         return base if self.chance(0.4) else f"{self.dir}/{base}"
 
-    def node(self, depth=0):
+    def node(self, depth: int = 0) -> tuple:
         kind = self.rng.choices(["regular", "symlink", "directory"], [6, 1, 3 if depth < 3 else 0])[0]
         if kind == "regular":
             return kind, self.chance(0.2), self.contents()
@@ -89,7 +92,7 @@ class Values:
             node = ("directory", [(b"a", node)])
         return archives.write(node)
 
-    def broken(self, data):
+    def broken(self, data: bytes) -> bytes:
         """The bytes with one change."""
         at = self.rng.randint(0, max(len(data) - 1, 0))
         change = self.rng.randrange(5)
@@ -111,28 +114,28 @@ class Values:
             return self.deep(self.pick([256, 257]))[: self.pick([None, None, 34_839, 34_840])]
         return archives.write(("directory", [(name, leaf) for name in names]))
 
-    def archive(self, base=""):
+    def archive(self, base: str = "") -> bytes:
         """An archive; for a name of a derivation most often one of its text."""
         if base.endswith(".drv") and self.chance(0.93):
             node = "regular", self.odd(0.05), self.derivation()
         else:
             node = self.node()
-        found = self.odd_archive() if self.odd(0.02) else archives.write(node)
-        return self.broken(found) if self.odd(0.05) else found
+        data = self.odd_archive() if self.odd(0.02) else archives.write(node)
+        return self.broken(data) if self.odd(0.05) else data
 
-    def output(self):
+    def output(self) -> tuple[bytes, bytes, bytes, bytes]:
         name = self.often(OUTPUTS, [b"", b".", b"a b", b"a" * 211, b"a" * 212, b"\xff"], 0.02)
         path = b"" if self.chance(0.15) else f"{self.dir}/{self.known()}".encode()
         if self.odd(0.03):
             path = self.odd_path(self.base()).encode()
         return name, path, self.pick([b"", b"sha256", b"r:sha256"]), self.pick([b"", b"00ff"])
 
-    def derivation(self):
+    def derivation(self) -> bytes:
         count = self.rng.randint(0, 3)
         outs = [self.output() for _ in range(count)]
         if self.chance(0.8):
             outs = [*{it[0]: it for it in outs}.values()]
-        found = derivations.write(
+        text = derivations.write(
             outs,
             [(self.pick(WORDS), self.some(OUTPUTS, 2)) for _ in range(self.rng.randint(0, 2))],
             self.some(WORDS, 2),
@@ -142,34 +145,34 @@ class Values:
             [(self.pick(WORDS), self.pick(WORDS)) for _ in range(self.rng.randint(0, 2))],
         )
         if self.odd(0.05):
-            found = found.replace(b"p", self.pick([b"\\x", b"\\0", b"\\"]), 1)
-        return self.broken(found) if self.odd(0.08) else found
+            text = text.replace(b"p", self.pick([b"\\x", b"\\0", b"\\"]), 1)
+        return self.broken(text) if self.odd(0.08) else text
 
-    def file_contents(self, name):
+    def file_contents(self, name: str) -> bytes:
         """The contents of a text with this name."""
         return self.derivation() if name.endswith(".drv") and self.chance(0.95) else self.contents()
 
-    def label(self):
+    def label(self) -> str:
         labels = ["a", "b", "/proc/1/exe", "/proc/2/exe", "{temp:2}", "{censored}", "gcroots/r", "~", "a:b"]
         return self.often(labels, ["", "a\u00e9", "l" * 256, "l" * 257, "a\tb", "\x7f"], 0.05)
 
-    def number(self, items, odd=("0", "007", "+1", "-1", "1 ", "x", "1e3", "9999", "10000", "123456789012", "\u0661")):
+    def number(self, items: Iterable[int], odd: Sequence[str] = ODD_NUMBERS) -> str:
         return self.often([str(it) for it in items], odd, 0.06)
 
-    def text(self, value):
+    def text(self, value: str) -> str:
         """A text of a configuration, in one of the ways to write it."""
         return self.pick([f'"{value}"', f'"{value}"', f"'{value}'"])
 
-    def listed(self, items):
+    def listed(self, items: Iterable[str]) -> str:
         """An array of a configuration, on one line or on more."""
         if self.chance(0.2):
             return "[\n" + "".join(f"  {self.text(it)}, # one\n" for it in items) + "]"
         return "[" + ", ".join(map(self.text, items)) + "]"
 
-    def entries(self):
+    def entries(self) -> str:
         return self.listed(self.some([*USERS, *(f"@{it}" for it in GROUPS), "@admins", "nobody", "*"], 3))
 
-    def groups(self):
+    def groups(self) -> dict[str, list[str]]:
         """Names of groups, each with its members."""
         return {name: self.some(USERS, 2) for name in ("wheel", "users", "admins") if self.chance(0.6)}
 
@@ -184,7 +187,7 @@ class Values:
             return [f"groups.{line}" for line in lines], []
         return [], [self.pick(["[groups]", '[ "groups" ] # all'])] * bool(groups) + lines
 
-    def config(self):
+    def config(self) -> bytes:
         """The text of a valid configuration, with the store directory of this scenario."""
         lines = [f"store-dir = {self.text(self.dir)}"] * (self.dir != "/nix/store" or self.chance(0.2))
         lines += [f"allowed-users = {self.entries()}"] * self.chance(0.15)
@@ -197,7 +200,7 @@ class Values:
         self.rng.shuffle(lines)
         return "\n".join([*lines, *table, ""]).encode()
 
-    def odd_config(self):
+    def odd_config(self) -> bytes:
         """The text of a configuration with one line against the rules, or two."""
         odd = [
             "x = 1", 'store-dir = "/"', 'store-dir = "nix"', "store-dir = 1", 'store-dir = "/a/../b"',

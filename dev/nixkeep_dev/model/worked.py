@@ -4,7 +4,7 @@ from . import worked_stores, worked_texts
 GROUPS = [*worked_texts.GROUPS, *worked_stores.GROUPS]
 
 
-def test():
+def test() -> tuple[int, list]:
     """How many checks there are, and a line for each that fails."""
     count, wrong = 0, []
     for group in GROUPS:

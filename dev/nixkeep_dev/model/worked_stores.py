@@ -4,23 +4,23 @@ from .commands import Machine
 from .worked_texts import ABC, CONFIG, DERIVE, EMPTY, MINE, MYFILE, MYHASH, A, B, D, O, P, Q, S, X, Y, refused
 
 
-class Told:
+class Worked:
     """A store with a configuration; what its commands and messages give, as one text."""
 
     def __init__(self, config=b"", rows=None):
         self.machine = Machine({"c": config}, {} if rows is None else {"f": tables.Database(rows)})
 
-    def run(self, words, given=b""):
+    def run(self, words: str, given: bytes = b"") -> str:
         output, errors, _ = self.machine.run(["--db", "f", "--config", "c", "--user", *words.split()], given)
         return (output + errors).decode().replace("/nix/store/", "")
 
-    def status(self, words, given=b""):
+    def status(self, words: str, given: bytes = b"") -> int:
         return self.machine.run(["--db", "f", "--config", "c", "--user", *words.split()], given)[2]
 
-    def add(self, base, *references, archive=EMPTY, user="root", **lines):
+    def add(self, base: str, *references: str, archive: bytes = EMPTY, user: str = "root", **lines: str) -> str:
         return self.run(f"{user} import", body(base, archive, references, **lines))
 
-    def ask(self, stream):
+    def ask(self, stream: bytes) -> bytes:
         return self.machine.run(["--db", "f", "--config", "c", "serve"], stream)[0]
 
 
@@ -33,18 +33,18 @@ def body(base, archive, references=(), digest=None, **lines):
 
 
 def adds():
-    told = Told()
+    told = Worked()
     yield told.run("ann add-source myfile", MINE), MYFILE + "\n"
     yield told.run(f"ann info {MYFILE}"), (
         f"StorePath: {MYFILE}\nURL: nar/{MYFILE}\nCompression: none\nFileHash: sha256:{MYHASH}\nFileSize: 128\n"
         f"NarHash: sha256:{MYHASH}\nNarSize: 128\nReferences: \nCA: fixed:r:sha256:{MYHASH}\n"
     )
     yield told.run("ann add-source myfile", MINE) + told.run("ann list"), f"{MYFILE}\n" * 2
-    told = Told(CONFIG)
+    told = Worked(CONFIG)
     path = told.run("ann add-text empty")
     yield path[32:], "-empty\n"
     yield told.run("ann report").splitlines()[3], "total           1              112"
-    told = Told()
+    told = Worked()
     path = texts.text_path("/nix/store", "t", [], b"hello")
     yield told.add(path, archive=archives.file_archive(b"other")), path + "\n"
     yield told.run("ann add-text t", b"hello"), path + "\n"
@@ -54,25 +54,25 @@ def adds():
 
 def imports():
     right = {"ca": f"fixed:r:sha256:{MYHASH}", "user": "ann"}
-    yield Told().add(MYFILE, archive=MINE, **right), MYFILE + "\n"
-    yield Told().add(MYFILE + "2", archive=MINE, **right), "refused: 16 ca-mismatch\n"
+    yield Worked().add(MYFILE, archive=MINE, **right), MYFILE + "\n"
+    yield Worked().add(MYFILE + "2", archive=MINE, **right), "refused: 16 ca-mismatch\n"
     changed, digest = MINE.replace(b"my", b"mx"), f"sha256:{MYHASH}"
-    yield Told().add(MYFILE, archive=changed, digest=digest, **right), "refused: 25 nar-hash-mismatch\n"
-    yield Told().add(MYFILE, archive=MINE, ca=f"text:sha256:{ABC}", user="ann"), "refused: 16 ca-mismatch\n"
-    yield Told().add(MYFILE, archive=MINE, user="ann"), "denied: trusted-import\n"
-    yield Told().add(MYFILE, archive=b"x", user="ann"), "denied: trusted-import\n"
-    told = Told()
+    yield Worked().add(MYFILE, archive=changed, digest=digest, **right), "refused: 25 nar-hash-mismatch\n"
+    yield Worked().add(MYFILE, archive=MINE, ca=f"text:sha256:{ABC}", user="ann"), "refused: 16 ca-mismatch\n"
+    yield Worked().add(MYFILE, archive=MINE, user="ann"), "denied: trusted-import\n"
+    yield Worked().add(MYFILE, archive=b"x", user="ann"), "denied: trusted-import\n"
+    told = Worked()
     yield told.add(MYFILE, archive=MINE, deriver=D, **right), MYFILE + "\n"
     yield f"Deriver: {D}\n" in told.run(f"ann info {MYFILE}"), True
-    yield Told().add(P, Q), "refused: 24 missing-reference\n"
-    told = Told()
+    yield Worked().add(P, Q), "refused: 24 missing-reference\n"
+    told = Worked()
     yield told.add(S, S) + told.run("ann gc"), f"{S}\n{S}\nfreed 1 paths 112 bytes\n"
     yield told.add(S, S, ca=f"text:sha256:{ABC}"), "refused: 26 self-reference\n"
 
 
 def with_derivation(config, root=False):
     """A store with a derivation and its output, which names it as its deriver."""
-    told = Told(config)
+    told = Worked(config)
     told.add(D, archive=archives.file_archive(DERIVE))
     told.add(O, deriver=D)
     if root:
@@ -91,17 +91,17 @@ def collections():
         "dead            1              208\ntotal           2              320\n"
     )
     yield told.run("ann gc"), f"{D}\nfreed 1 paths 208 bytes\n"
-    yield Told().run("ann report"), (
+    yield Worked().run("ann report"), (
         "class       paths            bytes\nlive            0                0\n"
         "dead            0                0\ntotal           0                0\n"
     )
-    flags = [Told().run(f"{user} gc --ignore-liveness") for user in ("ann", "root")]
+    flags = [Worked().run(f"{user} gc --ignore-liveness") for user in ("ann", "root")]
     yield flags, ["denied: no-ignore-liveness\n"] * 2
 
 
 def triangle(config=b""):
     """A store in which two paths refer to a third."""
-    told = Told(config)
+    told = Worked(config)
     for base, *references in [P], [X, P], [Y, P]:
         told.add(base, *references)
     return told
@@ -112,11 +112,11 @@ def deletions():
     told.run("root runtime", f"root: /proc/1/exe {Y}\nroot: /proc/2/exe {X}\n\n".encode())
     yield told.run(f"ann delete {P}"), f"denied: live {{censored}} {X}\n"
     yield told.run(f"root delete {P}"), f"denied: live /proc/2/exe {X}\n"
-    told = Told()
+    told = Worked()
     told.add(P), told.add(X), told.run(f"ann root r {X}")
     yield told.run(f"ann delete {P} {X}"), f"denied: live gcroots/per-user/ann/r {X}\n"
     yield told.run("ann list"), f"{P}\n{X}\n"
-    told = Told()
+    told = Worked()
     told.add(P), told.add(X, P)
     yield told.run(f"ann delete {P}"), f"{P}\n{X}\nfreed 2 paths 224 bytes\n"
     yield told.run(f"ann delete {P}"), "refused: 23 not-valid\n"
@@ -124,7 +124,7 @@ def deletions():
 
 
 def runtime():
-    told = Told()
+    told = Worked()
     told.add(P)
     yield told.run("root runtime", f"root: a {P}\nroot: b {P}\n\n".encode()), "runtime roots 2\n"
     for command in "roots", f"why {P}":
@@ -136,7 +136,7 @@ def runtime():
 
 
 def profiles():
-    told = Told()
+    told = Worked()
     told.add(P), told.add(X)
     profile = lambda words: told.run(f"ann profile {words}")
     steps = [f"set w {P}", f"set w {X}", "rollback w", f"set w {X}"]
@@ -151,13 +151,13 @@ def profiles():
     world = worlds.World()
     world.objects = {base: worlds.Object(EMPTY, frozenset(), None, None, []) for base in (P, X)}
     world.profiles["ann", "w"] = worlds.Profile({9999: P}, 9999)
-    told = Told(rows=tables.rows_of(world, "/nix/store"))
+    told = Worked(rows=tables.rows_of(world, "/nix/store"))
     yield told.run(f"ann profile set w {P}"), "generation 9999\n"
     yield told.run(f"ann profile set w {X}"), "refused: 32 generation-limit\n"
 
 
 def roots():
-    told = Told()
+    told = Worked()
     told.add(P), told.run(f"bob root r {P}")
     yield told.ask(message("POST /root/user/bob/r", f"path: {P}\n\n", "root")).endswith(b"denied: own-root\n"), True
     yield [told.run("root unroot --owner bob r") for _ in range(2)], ["done\n", "refused: 27 no-root\n"]
@@ -168,13 +168,13 @@ def roots():
 
 
 def sessions():
-    told = Told()
+    told = Worked()
     told.add(P), told.add(X, P)
     told.run("root runtime", f"root: a {P}\nroot: a {X}\n\n".encode())
     told.run(f"ann temp add 2 {P}"), told.run(f"ann temp add 2 {X}")
     yield told.run("root roots"), f"a {P}\na {X}\n{{temp:2}} {P}\n{{temp:2}} {X}\n"
     yield told.run("ann roots"), f"{{censored}} {P}\n{{censored}} {X}\n"
-    told = Told()
+    told = Worked()
     told.add(P)
     told.run(f"ann temp add 10 {P}"), told.run(f"ann temp add 2 {P}"), told.run(f"bob temp add 2 {P}")
     yield told.run(f"root delete {P}"), f"denied: live {{temp:10}} {P}\n"
@@ -193,7 +193,7 @@ def limits():
     yield told.run("ann gc --max-freed 113"), f"{P}\n{Y}\nfreed 2 paths 224 bytes\n"
     world = worlds.World()
     world.objects = {base: worlds.Object(EMPTY, frozenset([other]), None, None, []) for base, other in ((A, B), (B, A))}
-    told = Told(rows=tables.rows_of(world, "/nix/store"))
+    told = Worked(rows=tables.rows_of(world, "/nix/store"))
     yield told.run("ann gc --max-freed 1"), f"{A}\n{B}\nfreed 2 paths 224 bytes\n"
     yield triangle().run(f"ann gc --max-freed {2**64 - 1}"), triangle().run("ann gc")
 
@@ -214,7 +214,7 @@ def files():
     yield opened(profile={("ann", "w", 10_000)}, generation={("ann", "w", 10_000, P)}), 21
     yield refused(tables.world_of, {name: it for name, it in rows[3].items() if name != "refs"}), 21
     yield refused(tables.world_of, {**rows[1], "piece": set()}), 21
-    yield Told(b'store-dir = "/a/store"', rows[2]).run("ann list"), "refused: 22 other-store-dir\n"
+    yield Worked(b'store-dir = "/a/store"', rows[2]).run("ann list"), "refused: 22 other-store-dir\n"
     with_outs = tables.rows_of(with_derivation(b"").machine.databases["f"].world, "/nix/store")
     yield refused(tables.world_of, with_outs), 0
     yield refused(tables.world_of, {**with_outs, "outs": set()}), 21
@@ -231,19 +231,19 @@ def reply(status, text, *fields):
 
 
 def streams():
-    found = Told(CONFIG).ask(message("GET /nothing", "", "bob") + message("GET /nothing"))
+    found = Worked(CONFIG).ask(message("GET /nothing", "", "bob") + message("GET /nothing"))
     yield found, reply("403 Forbidden", "denied: connect\n") + reply("404 Not Found", "refused: 39 no-route\n")
     stream = b"GET /paths HTTP/1.1\r\nstore-user: ann\r\n\r\n"
     stream += b"POST /text HTTP/1.1\r\nstore-user: ann\r\ncontent-length: 10\r\n\r\nname: a\n\nx"
     first, second = reply("200 OK", ""), reply("200 OK", "/nix/store/12wigjpizrn8axaqxj288q1b751qmwya-a\n")
-    yield Told().ask(stream), first + second
+    yield Worked().ask(stream), first + second
     yield len(second) - len(reply("200 OK", "x" * 10)), 36
     short = b"HTTP/1.1 400 Bad Request\r\ncontent-type: text/plain\r\nconnection: close\r\ncontent-length: 23\r\n\r\n"
-    yield Told().ask(stream[:-1]), first + short + b"refused: 37 bad-length\n"
+    yield Worked().ask(stream[:-1]), first + short + b"refused: 37 bad-length\n"
     closed = lambda text: reply("400 Bad Request", text, "connection: close")
-    yield Told().ask(b"GET /paths"), closed("refused: 36 bad-head\n")
-    yield Told().ask(b""), b""
-    yield Told().ask(stream[:-1] + b"x" + message("PUT /temp/ann/1")).endswith(
+    yield Worked().ask(b"GET /paths"), closed("refused: 36 bad-head\n")
+    yield Worked().ask(b""), b""
+    yield Worked().ask(stream[:-1] + b"x" + message("PUT /temp/ann/1")).endswith(
         reply("405 Method Not Allowed", "refused: 40 bad-method\n", "allow: POST, DELETE")
     ), True
 

@@ -1,4 +1,7 @@
 """Checks of the model on published or hand-made values: texts, archives, derivations, configurations and heads."""
+from collections.abc import Callable
+from typing import Any
+
 from . import archives, derivations, policy, server, texts
 from .commands import Machine
 from .texts import Refused
@@ -18,7 +21,7 @@ NAMES = ["0-d.drv", "1-o", "0-p", "1-x", "2-y", "3-s", "4-q", "0-a", "1-b"]
 D, O, P, X, Y, S, Q, A, B = (it[0] * 31 + it for it in NAMES)
 
 
-def refused(call, *arguments):
+def refused(call: Callable, *arguments: Any) -> int:
     """The number of the refusal of a call; 0 where there is none."""
     try:
         call(*arguments)

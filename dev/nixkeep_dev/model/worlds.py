@@ -1,5 +1,6 @@
 """What a store holds, as dictionaries: objects and roots, what reaches what, and what a collection deletes."""
 from collections import namedtuple
+from collections.abc import Iterable, Set
 
 # The archive, the set of base names of references, the deriver or None, the content address or None, and name and base
 # name of each recorded output.
@@ -11,7 +12,7 @@ CENSORED = "{censored}"
 
 
 class Profile:
-    def __init__(self, generations, current):
+    def __init__(self, generations: dict[int, str], current: int):
         self.generations, self.current = generations, current
 
 
@@ -23,7 +24,7 @@ class World:
         # pairs of label and target; triples of owner, session and target
         self.runtime, self.temporary = set(), set()
 
-    def roots(self):
+    def roots(self) -> list[Root]:
         """All roots in their order."""
         found = {Root(PERMANENT, base, f"gcroots/{name}") for name, base in self.permanent.items()}
         found |= {Root(USER, base, f"gcroots/per-user/{user}/{name}") for (user, name), base in self.user.items()}
@@ -34,7 +35,7 @@ class World:
         found |= {Root(TEMPORARY, base, f"{{temp:{session}}}") for _, session, base in self.temporary}
         return sorted(found)
 
-    def next_of(self, base, config):
+    def next_of(self, base: str, config: dict) -> set[str]:
         """The valid paths to which an edge leads."""
         found = self.objects[base]
         ends = set(found.references)
@@ -44,7 +45,7 @@ class World:
             ends |= {found.deriver}
         return ends & self.objects.keys()
 
-    def reached(self, base, config):
+    def reached(self, base: str, config: dict) -> set[str]:
         """All that a path reaches, itself too."""
         found, left = set(), [base]
         while left:
@@ -54,7 +55,7 @@ class World:
                 left += self.next_of(at, config)
         return found
 
-    def roots_of(self, config):
+    def roots_of(self, config: dict) -> dict[str, list]:
         """The roots that reach each live path, in their order."""
         found, reach = {}, {}
         for root in self.roots():
@@ -64,10 +65,10 @@ class World:
                 found.setdefault(base, []).append(root)
         return found
 
-    def dead(self, config):
+    def dead(self, config: dict) -> set[str]:
         return self.objects.keys() - self.roots_of(config).keys()
 
-    def referrers(self, bases, among):
+    def referrers(self, bases: Iterable[str], among: Set[str]) -> set[str]:
         """These paths, and all among the given ones that have a way of references to one of them."""
         found, grows = set(bases), True
         while grows:
@@ -75,7 +76,7 @@ class World:
             found, grows = found | more, bool(more)
         return found
 
-    def collected(self, config, limit):
+    def collected(self, config: dict, limit: int | None) -> set[str]:
         """The paths that a collection deletes; with a limit, group by group until their bytes reach it."""
         left, dead = self.objects.keys() - set(), self.dead(config)
         if limit is None:
@@ -87,11 +88,11 @@ class World:
             gone, dead, left = gone | group, dead - group, left - group
         return gone
 
-    def size(self, bases):
+    def size(self, bases: Iterable[str]) -> int:
         return sum(len(self.objects[base].archive) for base in bases)
 
 
-def seen(roots, is_trusted):
+def seen(roots: Iterable[Root], is_trusted: bool) -> list[tuple[str, str]]:
     """Label and target of each root as a caller sees them."""
     if is_trusted:
         return [(root.label, root.target) for root in roots]

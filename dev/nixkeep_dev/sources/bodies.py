@@ -1,22 +1,32 @@
-"""Wrong bodies and definitions: which the gate tries, and what a check's refusal of one is worth."""
+"""Wrong bodies and definitions: which the gate tries on which day, and what a check's refusal of one is worth."""
 import collections
 import functools
 import glob
-import os
 import re
+from collections.abc import Iterable
 from pathlib import Path
 
 from nixkeep_dev.build import program
 from nixkeep_dev.sources import functions
 from nixkeep_dev.testing import days, report
 
-SELECTION = "tests/gate/bodies.txt"
+# The mistakes that a store must not make, each with the edits that make it, or with what else notices it.
+MISTAKES, ELSEWHERE = "tests/gate/mistakes.txt", ("case", "test")
 # Edits that change nothing: they have to survive. Those that a check refuses nevertheless, each with the reason.
 EQUAL, EXCUSED = "further/equal", "tests/gate/equal.txt"
+# Wrong bodies that a check doesn't refuse for what they do, each with the reason.
+SURVIVORS = "tests/gate/survivors.txt"
 # An error for a name that an edit took away, or for what fell with it: it says nothing of what the body does.
 OF_NAMES = "has no field", "has no goal", "that depend", "that can be named from here"
 # A goal in which nothing is left to prove, which a proof of another shape doesn't fit.
 OF_NOTHING = re.compile(r"(?:expected type|checked against) `(?:\w+\.)*Unit(?: \{\d+\})?`")
+# What a check takes, whatever it checks, as a number of edits; and what one edit of crates with long functions takes.
+CHECK, HEAVY = 6, dict.fromkeys(("store", "store_adds", "tables", "tables_make", "tables_recognize", "tables_writes",
+                                 "tool", "wire"), 4)
+# How many edits of definitions are tried one after another at most, and the days within which all edits are tried.
+NEIGHBOURS, DAYS = 5, days.DAYS_OF_EDITS
+# The functions that a function calls and that aren't proved.
+CALLS = re.compile(r"(?:it calls|a call of) (.*), which (?:(?:is|are) not proved|has no proof)")
 ERROR = re.compile(r"^\./proofs/(\S+)/\w+\.antt:\d+:\d+: error: (.*(?:\n(?:  |\t).*)*)", re.M)
 
 
@@ -24,82 +34,105 @@ class Edit:
     """A wrong body or definition: what it replaces, in which file, and the functions whose bodies it changes."""
 
     def __init__(self, path, texts):
-        self.name, self.path, self.pairs = os.path.basename(path).removesuffix(".edit"), path, changes(path)
+        self.name, self.path, self.pairs = Path(path).name.removesuffix(".edit"), path, changes(path)
         self.functions = [functions.function_at(file, texts, old) for file, old, _ in self.pairs]
 
-    def is_of_bodies(self):
+    def is_of_bodies(self) -> bool:
         return None not in self.functions
 
 
-def sources(crate):
-    """The texts of a crate's sources by their path in it."""
+def sources(crate: str, part: str = "src") -> dict[str, str]:
+    """The texts of a crate's sources, or of its specs, by their path in it."""
     top = Path(f"{program.HERE}/crates/{crate}")
-    return {str(it.relative_to(top)): it.read_text(encoding="utf-8") for it in top.glob("src/**/*") if it.is_file()}
+    return {str(it.relative_to(top)): it.read_text(encoding="utf-8") for it in top.glob(f"{part}/**/*") if it.is_file()}
 
 
 @functools.cache
-def further(crate, folder="further"):
+def further(crate: str, folder: str = "further") -> list[Edit]:
     """The further edits of a crate, in the order of their names."""
     texts = sources(crate)
     return [Edit(it, texts) for it in sorted(glob.glob(f"{program.HERE}/crates/{crate}/{folder}/*.edit"))]
 
 
-def selected():
-    """The edits that the gate tries: pairs of a crate and a name."""
-    lines = Path(f"{program.HERE}/{SELECTION}").read_text().splitlines()
-    return [tuple(it) for line in lines if (it := line.partition("#")[0].split())]
+def mistakes() -> list[tuple[str, list]]:
+    """The mistakes of the table, each with pairs: of a crate and a name, or of what else notices it and its name."""
+    lines = [it for it in Path(f"{program.HERE}/{MISTAKES}").read_text().splitlines() if it and not it.startswith("#")]
+    return [(mistake, [tuple(it.split()) for it in by.split(", ")]) for mistake, _, by in
+            (it.rpartition(": ") for it in lines)]
 
 
 @functools.cache
-def others():
-    """The edits of bodies that the gate doesn't always try: pairs of a crate and a name. Those of one function are
-    neighbours, since a check tries one edit of each function."""
-    always = {*selected()}
-    found = [(crate, it.functions, it.name) for crate in having() for it in further(crate)
-             if it.is_of_bodies() and (crate, it.name) not in always]
-    return [(crate, name) for crate, _, name in sorted(found)]
-
-
-def of_day(day):
-    """Those of them that the gate tries on a day."""
-    return days.of_day(others(), day)
+def always() -> list[tuple]:
+    """The edits that the gate always tries, those of the mistakes: pairs of a crate and a name."""
+    return [*dict.fromkeys(it for _, by in mistakes() for it in by if it[0] not in ELSEWHERE)]
 
 
 @functools.cache
-def definitions():
-    """The edits of definitions and constants that are tried together: lists of pairs of a crate and a name. A crate is
-    proved once for all of its own, so these come together. Those that change a crate below come alone, in the order of
-    these crates."""
-    own, below = {}, []
-    for crate, it in [(crate, it) for crate in having() for it in further(crate) if not it.is_of_bodies()]:
-        if changed := {*crates_below(it)}:
-            below.append((sorted(changed), crate, it.name))
-        else:
-            own.setdefault(crate, []).append((crate, it.name))
-    return [*own.values(), *([(crate, name)] for _, crate, name in sorted(below))]
+def every(of_bodies: bool) -> list[tuple[str, Edit]]:
+    """All further edits of bodies, or all others: pairs of a crate and the edit."""
+    return [(crate, it) for crate in having() for it in further(crate) if it.is_of_bodies() == of_bodies]
 
 
-def crates_below(edit):
+@functools.cache
+def others() -> list[list]:
+    """The edits of bodies that the gate doesn't always try, in lists that one check tries: they are of one crate, and
+    change different functions."""
+    found = []
+    for crate, edit in every(True):
+        if (crate, edit.name) not in always():
+            free = [it for it in found if it[0][0] == crate
+                    and not any({*edit.functions} & {*one.functions} for _, one in it)]
+            if free:
+                free[0].append((crate, edit))
+            else:
+                found.append([(crate, edit)])
+    return found
+
+
+@functools.cache
+def definitions() -> list[list]:
+    """The edits of definitions and constants that the gate doesn't always try, in lists of neighbours: they are of one
+    crate, and change the same crates below it, so a check of one takes much of what another has kept."""
+    found = {}
+    for crate, edit in every(False):
+        if (crate, edit.name) not in always():
+            found.setdefault((crate, *sorted({*crates_below(edit)})), []).append((crate, edit))
+    return [of_one[at : at + NEIGHBOURS] for of_one in found.values() for at in range(0, len(of_one), NEIGHBOURS)]
+
+
+def crates_below(edit: Edit) -> list[str]:
     """The crates below its own that an edit changes."""
     return [file.split("/")[1] for file, _, _ in edit.pairs if file.startswith("../")]
 
 
-def definitions_of_day(day):
-    """Those that the gate tries on a day, in their turn: pairs of a crate and a name."""
-    return [it for together in days.in_turn(days.of_day(definitions(), day), day) for it in together]
+def others_of_day(day: int) -> list[tuple]:
+    """The edits of bodies that the gate tries on a day, but for those that it always tries: pairs of a crate and a
+    name."""
+    on = days.balanced(others(), lambda it: CHECK + len(it) * HEAVY.get(it[0][0], 1), DAYS)[day % DAYS]
+    return names(days.in_turn(on, day, DAYS))
 
 
-def having_equal():
+def definitions_of_day(day: int) -> list[tuple]:
+    """The edits of definitions that the gate tries on a day, but for those that it always tries."""
+    return names(days.in_turn(days.balanced(definitions(), len, DAYS)[day % DAYS], day, DAYS))
+
+
+def names(lists: Iterable[list]) -> list[tuple]:
+    """The edits of these lists, as pairs of a crate and a name."""
+    return [(crate, it.name) for edits in lists for crate, it in edits]
+
+
+def having_equal() -> list[str]:
     """The crates that have edits which change nothing."""
     return [it for it in having() if glob.glob(f"{program.HERE}/crates/{it}/{EQUAL}/*.edit")]
 
 
-def equal_of_day(day):
+def equal_of_day(day: int) -> list[str]:
     """Those of them whose control the gate tries on a day."""
-    return days.of_day(having_equal(), day)
+    return days.of_day(having_equal(), day, DAYS)
 
 
-def having(names=()):
+def having(names: Iterable[str] = ()) -> list[str]:
     """The crates that have further edits; fails where one of these names isn't among them."""
     found = sorted({path.split("/")[-3] for path in glob.glob(f"{program.HERE}/crates/*/further/*.edit")})
     if unknown := [it for it in names if it not in found]:
@@ -107,9 +140,10 @@ def having(names=()):
     return found
 
 
-def excused():
-    """The edits that change nothing and that a check refuses nevertheless: pairs of a crate and a name."""
-    lines = Path(f"{program.HERE}/{EXCUSED}").read_text().splitlines()
+def excused(file: str = EXCUSED) -> list[tuple]:
+    """The edits that change nothing and that a check refuses nevertheless, or those that another file excuses: pairs of
+    a crate and a name."""
+    lines = Path(f"{program.HERE}/{file}").read_text().splitlines()
     return [tuple(it.partition(":")[0].split()) for it in lines if it and not it.startswith("#")]
 
 
@@ -127,7 +161,7 @@ def changes(path):
     return found
 
 
-def laid(changed, texts):
+def laid(changed: Iterable[tuple], texts: dict[str, str]) -> dict[str, str] | None:
     """The texts with these changes, or None where an old text isn't there exactly once."""
     made = dict(texts)
     for file, old, new in changed:
@@ -146,46 +180,50 @@ class Check:
     """What a check of a crate said: a line for each function that was changed, and for those in them, and errors in
     proofs."""
 
-    def __init__(self, crate, output, edited):
+    def __init__(self, crate: str, output: str, edited: Iterable[str]):
         self.crate, self.output, self.edited = crate, output, {plain(it) for it in edited}
         self.said = dict(re.findall(rf"^fn {crate}::(\S+): (.*)", output, re.M))
         self.errors = collections.defaultdict(list)
         for folder, text in ERROR.findall(output):
             self.errors[folder].append(text)
 
-    def errors_of(self, function):
+    def errors_of(self, function: str) -> list[str]:
         """The errors in the proofs of a function and of its closures."""
         folder = function.replace("fn::", "+").replace("::", "/")
         return [text for at, found in self.errors.items() if f"{at}/".startswith(f"{folder}/") for text in found]
 
-    def others(self, function):
+    def others(self, function: str) -> set[str]:
         """The functions that were changed, that aren't proved and that this one calls, its own closures left out."""
         own = {name: text for name, text in self.said.items() if f"{plain(name)}::".startswith(f"{plain(function)}::")}
-        calls = re.findall(r"it calls (.*), which (?:is|are) not proved", "\n".join(own.values()))
+        calls = CALLS.findall("\n".join(own.values()))
         named = {plain(it.removeprefix(f"{self.crate}::")) for it in re.findall(r"`(.*?)`", " ".join(calls))}
         return (named & self.edited) - {plain(it) for it in own}
 
-    def is_proved(self, function):
+    def is_proved(self, function: str) -> bool:
         """Whether a function is proved, over others that are only stated."""
         return self.said.get(function, "").startswith(("no holes", "depends on a hole"))
 
-    def is_refused(self, function):
+    def is_refused(self, function: str) -> bool | None:
         """Whether a function is refused for what its body does: a search failed, or an error is of a goal of its own
         and neither of a name that is gone nor of a goal in which nothing is left. None where another that it calls is
         refused first."""
         said, errors = self.said.get(function, ""), self.errors_of(function)
-        if not said.startswith(("not proved", "no proof")):
+        if not self.is_not_proved(function):
             return False
         if "did not prove" in said or any(is_of_meaning(it) for it in errors):
             return True
         return None if self.others(function) else False
 
-    def is_by_search_alone(self, function):
+    def is_not_proved(self, function: str) -> bool:
+        """Whether it is said of a function that it isn't proved, for whatever reason."""
+        return self.said.get(function, "").startswith(("not proved", "no proof"))
+
+    def is_by_search_alone(self, function: str) -> bool:
         """Whether a function is refused for a search alone that found no proof, as it may of a goal that is true."""
         errors = [it for it in self.errors_of(function) if is_of_meaning(it)]
         return "did not prove" in self.said.get(function, "") and not errors
 
-    def why_not(self, function):
+    def why_not(self, function: str) -> str:
         """What was said of a function that isn't refused for what its body does."""
         errors = [it.split("\n")[0] for it in self.errors_of(function)]
         said = self.said.get(function, "nothing is said of it")

@@ -28,13 +28,13 @@ def exists(path):
     return Path(HERE, path).exists()
 
 
-def fields(record):
+def fields(record: str) -> list[str]:
     """The fields of a record of the definitions, those of the record that its field `frame` is among them."""
     for file in sorted(Path(HERE, "crates").glob("*/specs/*.antt")):
         whole = rf"^( *)(?:pub )?record {record}\b.*?\bwhere\n(.*?)(?=^\1\S|^(?!\1)\S|\Z)"
-        found = re.search(whole, file.read_text("utf-8"), re.M | re.S)
-        if found:
-            names = re.findall(rf"^{found[1]}  (?:pub )?(\w+) :(.*)$", found[2], re.M)
+        match = re.search(whole, file.read_text("utf-8"), re.M | re.S)
+        if match:
+            names = re.findall(rf"^{match[1]}  (?:pub )?(\w+) :(.*)$", match[2], re.M)
             below = [it for name, of in names if name == "frame" for it in fields(of.split()[0])]
             return [*below, *(name for name, _ in names if name != "frame")]
     return []
@@ -46,10 +46,10 @@ def functions_in(path):
     for at, line in enumerate(lines):
         if line.startswith("impl"):
             owner = (METHODS.match(line) or [None, None])[1]
-        if found := FUNCTION.match(line):
-            if found[1] and owner is None:
+        if match := FUNCTION.match(line):
+            if match[1] and owner is None:
                 continue
-            yield owner if found[1] else None, found[2], contract(lines, at)
+            yield owner if match[1] else None, match[2], contract(lines, at)
 
 
 def contract(lines, at):
@@ -94,7 +94,7 @@ def exports(crate):
         yield module, None
 
 
-def calls_of(crate, shown=None):
+def calls_of(crate: str, shown: str | None = None) -> dict[str, list]:
     """The calls of a crate by name, each with its clauses, in the order of its root file."""
     shown, found = shown or crate, {}
     for module, name in exports(crate):

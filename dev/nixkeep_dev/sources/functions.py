@@ -3,9 +3,15 @@
 A function that is only stated has an empty loop as its body, and a proof with a hole. A check that allows holes takes
 it by its contract, as it takes a function that it has proved. So a check of a function that calls it reads neither its
 body nor its proof, nor what these need.
+
+The sources are cut by regular expressions, in the layout that `rt fmt` gives them, since no command of the toolchain
+says where a function begins and ends, or by which path a check names it. `rt expand` prints the files in which macros
+write impls, with these, as text. `rt names` writes the names that proofs cite, for a move to another toolchain. A
+function that is cut wrongly is noticed: the check of a copy without its edits has to pass.
 """
 import re
 import shutil
+from collections.abc import Iterable, Iterator
 from pathlib import Path
 
 FUNCTION = re.compile(r"( *)(?:pub(?:\([a-z ]+\))? )?(const )?(?:unsafe )?fn (\w+)")
@@ -19,7 +25,7 @@ pub {name}_spec : {{M : Type 1}} → statement M
 """
 
 
-def function_at(file, texts, old):
+def function_at(file: str, texts: dict[str, str], old: str) -> str | None:
     """The path of the function in whose body a text is, as a check names it."""
     text = texts.get(file, "")
     if not file.startswith("src/") or text.count(old) != 1:
@@ -33,9 +39,9 @@ def function_above(file, texts, lines, at):
     module, name, owner, indent = module_of(file), None, None, None
     for line in reversed(lines[: at + 1]):
         if name is None:
-            found = FUNCTION.match(line)
-            if found:
-                name, indent = found[3], len(found[1])
+            match = FUNCTION.match(line)
+            if match:
+                name, indent = match[3], len(match[1])
             elif line and not line[0].isspace() and line[0] not in "{})":
                 return None
         elif indent and line.startswith("impl"):
@@ -50,10 +56,10 @@ def module_of(file):
     return "" if module == "lib" else module
 
 
-def owner_of_type(found, module, texts):
+def owner_of_type(match, module, texts):
     """Where a check has the methods of a type: in the module that declares it, or, of a type at some arguments, where
     the impl is."""
-    parameters, name, arguments = found[1] or "", found[2], re.findall(r"[\w']+", found[3] or "")
+    parameters, name, arguments = match[1] or "", match[2], re.findall(r"[\w']+", match[3] or "")
     given = [it for it in arguments if not re.search(rf"[<, ]{it}\b", parameters)]
     if given:
         return module, "+".join([name, *given])
@@ -84,7 +90,7 @@ def is_in_type(lines, at):
     return OF_TYPE.match(around) is not None
 
 
-def body_of(lines, at):
+def body_of(lines: list[str], at: int) -> tuple[int, int] | None:
     """The numbers of the lines with the brackets of the body of the function that begins in a line, as rt fmt lays
     them out; None where the body is on one line."""
     indent = FUNCTION.match(lines[at])[1]
@@ -107,7 +113,7 @@ def cycle_of(lines, at):
     return None
 
 
-def stated(texts, kept):
+def stated(texts: dict[str, str], kept: Iterable[str]) -> tuple[dict, list]:
     """The texts of a crate in which all functions but those of these paths, and those in cycles of calls with them,
     have an empty loop as their body; and the paths of the functions that were changed so, and of their cycles."""
     cycles = {lines[at].strip() for _, lines, begin, path in functions(texts) if path in kept
@@ -126,17 +132,17 @@ def stated(texts, kept):
     return {file: "\n".join(it for it in lines if it is not None) for file, lines in made.items()}, changed
 
 
-def functions(texts):
+def functions(texts: dict[str, str]) -> Iterator[tuple[str, list[str], int, str]]:
     """The functions that can be only stated: the file, its lines, the number of the first one, and the path."""
     for file, text in texts.items():
         lines = text.split("\n") if file.startswith("src/") else []
         for at, line in enumerate(lines):
-            found = FUNCTION.match(line)
-            if found and not found[2] and is_in_type(lines, at):
+            match = FUNCTION.match(line)
+            if match and not match[2] and is_in_type(lines, at):
                 yield file, lines, at, function_above(file, texts, lines, at)
 
 
-def leave_proofs_open(room, crate, paths):
+def leave_proofs_open(room: str, crate: str, paths: Iterable[str]) -> None:
     """Gives functions of a copy of a crate a proof with a hole, and takes away those of their cycles and closures."""
     for path in paths:
         *above, name = path.split("::")

@@ -1,6 +1,7 @@
 """The columns `Call` and `Clauses` of docs/PROMISES.md, made of the sources, and what the page doesn't name of them."""
 import os
 import re
+from collections.abc import Iterator
 
 from nixkeep_dev.sources import contracts
 from nixkeep_dev.sources.contracts import DASH
@@ -26,6 +27,7 @@ def cell(calls):
     """The cell of some calls: what they begin with is written once."""
     if len(calls) == 1:
         return f"`{calls[0]}`"
+    # (it is of any texts, and they needn't be paths)
     prefix = os.path.commonprefix(calls).rpartition("::")[0] + "::"
     return f"`{prefix}{{{', '.join(it.removeprefix(prefix) for it in calls)}}}`"
 
@@ -65,7 +67,7 @@ def section_made(crate, text, known):
     return f"## `{crate}`\n{made[:at]}{''.join(more)}{made[at:]}"
 
 
-def page_made(page):
+def page_made(page: str) -> str:
     """The page with the columns as the sources have them."""
     return SECTION.sub(lambda it: section_made(it[1], it[2], contracts.calls_of(it[1])), page)
 
@@ -104,7 +106,7 @@ def faults_of_laws(page):
         yield f"the law {it} isn't named"
 
 
-def faults(page):
+def faults(page: str) -> Iterator[str]:
     """What is wrong with the page: a line for each."""
     if page_made(page) != page:
         yield "its columns aren't those of the sources: bin/run tests/gate/generated.py --write"

@@ -36,13 +36,13 @@ class Ran:
     """A case that ran: the number of its steps, those that came out otherwise, each with what differs, those that were
     skipped, each with what isn't here, and how many of the others only prepare something: these aren't counted."""
 
-    def __init__(self, count, wrong, skipped, prepared=0):
+    def __init__(self, count: int, wrong: list, skipped: list, prepared: int = 0):
         self.count, self.wrong, self.skipped, self.prepared = count, wrong, skipped, prepared
 
-    def passed(self):
+    def passed(self) -> int:
         return self.count - len(self.wrong) - len(self.skipped) - self.prepared
 
-    def told(self):
+    def summary(self) -> str:
         return f"{self.passed() + self.prepared} of {self.count} steps as written; {self.prepared} only prepare"
 
 
@@ -56,7 +56,7 @@ class Step:
         """Whether nothing is wanted of it but that it says nothing, and it compares nothing."""
         return not self.wanted and bool(not COMPARES.search(self.command) or FUNCTION.fullmatch(self.command))
 
-    def parts(self):
+    def parts(self) -> tuple[list[str], list[str], int]:
         """The lines of standard output, those of standard error, and the status."""
         output, errors, status = [], [], 0
         for line in self.wanted:
@@ -70,7 +70,7 @@ class Step:
         return output, errors, status
 
 
-def steps_of(text):
+def steps_of(text: str) -> list[Step]:
     """The steps of a case: what is indented by two blanks; all else is prose."""
     steps, is_open = [], False
     for number, line in enumerate(text.split("\n"), 1):
@@ -86,7 +86,7 @@ def steps_of(text):
     return steps
 
 
-def lines_of(written):
+def lines_of(written: bytes) -> list[str]:
     """What was written, as lines; one without its line feed says so."""
     lines = written.decode("utf-8", "backslashreplace").split("\n")
     last = lines.pop()
@@ -119,7 +119,7 @@ def missing(path):
 
 def difference(step, path):
     """What came of a step in place of what was wanted, or None."""
-    if not os.path.exists(f"{path}.status"):
+    if not Path(f"{path}.status").exists():
         return "the shell ended, or was stopped, before this step did"
     output, errors, status = (Path(f"{path}.{it}").read_bytes() for it in ("output", "errors", "status"))
     wanted, came = step.parts(), (lines_of(output), lines_of(errors), int(status))
@@ -135,9 +135,9 @@ def shown(output, errors, status):
 def environment(room):
     """What the steps see: the program and the tools of the cases, before those of the system, and a port that no other
     case or script chooses meanwhile."""
-    tools = [f"{room}/bin", f"{CASES}/tools", "/usr/local/bin", "/usr/bin", "/bin", os.path.dirname(sys.executable)]
+    path = [f"{room}/bin", f"{CASES}/tools", "/usr/local/bin", "/usr/bin", "/bin", str(Path(sys.executable).parent)]
     places = {"HOME": f"{room}/work", "STEPS": f"{room}/steps", "PRELUDE": f"{CASES}/prelude.sh"}
-    return {**places, "PATH": ":".join(tools), "LANG": "C.UTF-8", "FREE_PORT": str(free_port())}
+    return {**places, "PATH": ":".join(path), "LANG": "C.UTF-8", "FREE_PORT": str(free_port())}
 
 
 def run_steps(steps, room, programs, seconds):
@@ -162,7 +162,7 @@ def run_steps(steps, room, programs, seconds):
     return paths
 
 
-def run_case(case, programs, seconds=SECONDS):
+def run_case(case: str, programs: dict[str, str], seconds: float = SECONDS) -> Ran:
     """Runs a case with these programs by name, which come before the tools."""
     steps = steps_of(Path(case).read_text())
     if not steps:

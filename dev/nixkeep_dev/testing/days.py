@@ -1,21 +1,37 @@
 """What is tried a part of each day, so that all is tried within some days."""
+import argparse
+from collections.abc import Callable, Iterable, Sequence
+
 from nixkeep_dev.testing import report
 from nixkeep_dev.testing.runs import spent
 
 DAYS = 8
+# The days of wrong bodies and definitions, which take longer.
+DAYS_OF_EDITS = 12
 # A round of the days begins a third further on than the one before.
 ROUNDS = 3
 
 
-def of_day(items, day):
-    """The items of a day: each has one of the days, and neighbours come on days one after another."""
-    return [it for at, it in enumerate(items) if at % DAYS == day % DAYS]
+def of_day(items: Iterable, day: int, count: int = DAYS) -> list:
+    """The items of a day: each has one of this many days, and neighbours come on days one after another."""
+    return [it for at, it in enumerate(items) if at % count == day % count]
 
 
-def in_turn(items, day):
+def balanced(items: Iterable, cost: Callable, count: int = DAYS) -> list[list]:
+    """The items of each of this many days, so that no day costs much more than another: those that cost most are placed
+    first."""
+    found, taken = [[] for _ in range(count)], [0] * count
+    for item in sorted(items, key=lambda it: -cost(it)):
+        at = taken.index(min(taken))
+        found[at].append(item)
+        taken[at] += cost(item)
+    return found
+
+
+def in_turn(items: Sequence, day: int, count: int = DAYS) -> list:
     """The same items, from another one on in each round of the days: so what a bound leaves out in one round is among
     the first in another."""
-    at = day // DAYS % ROUNDS * len(items) // ROUNDS
+    at = day // count % ROUNDS * len(items) // ROUNDS
     return [*items[at:], *items[:at]]
 
 
@@ -23,28 +39,33 @@ class Bound:
     """The processor minutes within which what is tried a part of each day may begin, or None; and what was left out
     since they were spent."""
 
-    def __init__(self, minutes):
+    def __init__(self, minutes: float | None):
         self.minutes, self.left_out = minutes, []
 
-    def is_spent(self):
+    def is_spent(self) -> bool:
         return self.minutes is not None and spent() > 60 * self.minutes
 
-    def leaves_out(self, items):
+    def leaves_out(self, items: Iterable) -> bool:
         """Whether the minutes are spent, so that these items are left out."""
         is_spent = self.is_spent()
         self.left_out.extend(items if is_spent else [])
         return is_spent
 
-    def tell(self, what, tried):
+    def tell(self, what: str, tried: int) -> None:
         """Says how much was left out, which counts as skipped; it is wrong where nothing was tried."""
         if count := len(self.left_out):
             report.skip(f"{count} {what} of the day, since {self.minutes:g} processor minutes are spent", count)
             if not tried:
-                report.goes_wrong(f"no {what} were tried")
+                report.failure(f"no {what} were tried")
 
 
-def add_to(asked):
+def add_to(parser: argparse.ArgumentParser, count: int = DAYS) -> None:
     """The options of a script that tries a part of something each day."""
-    asked.add_argument("--today", action="store_true", help=f"those of a day, by --seed: all in {DAYS} days")
-    asked.add_argument("--minutes", metavar="N", type=float,
+    parser.add_argument("--today", action="store_true", help=f"those of a day, by --seed: all in {count} days")
+    parser.add_argument("--minutes", metavar="N", type=float,
                        help="the processor minutes within which one of the day may begin; others are skipped")
+
+
+def said_of(words: argparse.Namespace) -> str:
+    """What such a script prints of the day that it tries, if it does: then its numbers differ from day to day."""
+    return f", of the day by seed {words.seed}" if words.today else ""

@@ -4,32 +4,36 @@ import contextlib
 import random
 import re
 import socket
+import subprocess
 import time
+from collections.abc import Iterable
+from io import BufferedReader
+from typing import Any
 
 from nixkeep_dev.testing import report
 
 # The ports that `free_port` chooses from, and what holds the last of those that it chose. Pages have lower ones.
 PORTS, TAKEN = (10_000, 32_000), collections.deque(maxlen=100)
 
-# What a store says of itself.
-TOLD = [("root", "GET", f"/{it}") for it in ("paths", "roots", "live", "report")]
+# The messages that ask for the whole state of a store.
+STATE = [("root", "GET", f"/{it}") for it in ("paths", "roots", "live", "report")]
 
 
-def message(user, method, target, body=None):
+def message(user: str, method: str, target: str, body: bytes | None = None) -> bytes:
     length = "" if body is None else f"content-length: {len(body)}\r\n"
     return f"{method} {target} HTTP/1.1\r\nstore-user: {user}\r\n{length}\r\n".encode() + (body or b"")
 
 
-def messages(asked):
+def messages(asked: Iterable[tuple]) -> bytes:
     return b"".join(message(*it) for it in asked)
 
 
-def lines(*pairs, payload=b""):
+def lines(*pairs: tuple, payload: bytes = b"") -> bytes:
     """A body: its entries, an empty line, and what follows."""
     return "".join(f"{key}: {value}\n" for key, value in pairs).encode() + b"\n" + payload
 
 
-def replies(written):
+def replies(written: bytes) -> tuple[list, bytes]:
     """The whole replies one by one, each its head and its text; and what is left after them."""
     found = []
     while True:
@@ -41,7 +45,7 @@ def replies(written):
         written = rest[int(length[1]) :]
 
 
-def all_replies(written, count):
+def all_replies(written: bytes, count: int) -> list[tuple]:
     """As many replies as there were messages, and nothing else."""
     found, left = replies(written)
     if left or len(found) != count:
@@ -49,12 +53,27 @@ def all_replies(written, count):
     return found
 
 
-def told(written):
-    """The replies to the messages of TOLD."""
-    return all_replies(written, len(TOLD))
+def next_replies(output: BufferedReader, count: int) -> list:
+    """As many replies as there were messages, from the output of a server that goes on."""
+    written = b""
+    while len(replies(written)[0]) < count:
+        written += output.read1() or report.fail(f"the server ended after {written[-300:]!r}")
+    return all_replies(written, count)
 
 
-def connected(port, ran=None, timeout=None, within=150):
+def last_reply(connection: socket.socket, *asked: Any) -> bytes:
+    """Sends a message after which the server closes the connection: all that comes until then."""
+    connection.sendall(message(*asked).replace(b"\r\n\r\n", b"\r\nconnection: close\r\n\r\n", 1))
+    return b"".join(iter(lambda: connection.recv(65_536), b""))
+
+
+def state_of(written: bytes) -> list[tuple]:
+    """The replies to the messages of STATE."""
+    return all_replies(written, len(STATE))
+
+
+def connected(port: int, ran: subprocess.Popen | None = None, timeout: float | None = None,
+              within: float = 150) -> socket.socket | None:
     """A connection to a port of this machine, as soon as something listens there; None where the process has ended, or
     nothing listens within `within` seconds."""
     end = time.monotonic() + within
@@ -66,7 +85,7 @@ def connected(port, ran=None, timeout=None, within=150):
         time.sleep(0.005)
 
 
-def free_port():
+def free_port() -> int:
     """A port of this machine where nobody listens, below those that the system gives to clients. Until this process
     has chosen a hundred more, no other gets it from here: an abstract socket of its name is taken."""
     while True:

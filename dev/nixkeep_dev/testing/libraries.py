@@ -1,7 +1,8 @@
 """The program of crates/bench, which has work of the libraries for comparisons and benchmarks."""
-import os
+import argparse
 import shutil
 import subprocess
+from pathlib import Path
 
 from nixkeep_dev.build import program
 from nixkeep_dev.testing import report
@@ -10,9 +11,9 @@ FOLDER = f"{program.HERE}/crates/bench"
 BUILT = f"{FOLDER}/out/bench"
 
 
-def option(asked):
+def option(parser: argparse.ArgumentParser) -> None:
     """Adds the option that names another file than the one that is built."""
-    asked.add_argument("--libraries", metavar="FILE", help="the program of crates/bench; else it is proved and built")
+    parser.add_argument("--libraries", metavar="FILE", help="the program of crates/bench; else it is proved and built")
 
 
 def build():
@@ -28,10 +29,10 @@ def build():
 class Libraries:
     """What is named, or built for the present sources, or, if that is enough, what was built before."""
 
-    def __init__(self, file=None, is_old_enough=False):
-        if not file and not (is_old_enough and os.path.exists(BUILT)):
+    def __init__(self, file: str | None = None, is_old_enough: bool = False):
+        if not file and not (is_old_enough and Path(BUILT).exists()):
             build()
-        self.file = os.path.abspath(file or BUILT)
+        self.file = str(Path(file or BUILT).absolute())
 
     def __call__(self, *words, given=b"", path=None):
         """What it prints for this input, or for a file's."""
@@ -40,7 +41,7 @@ class Libraries:
         with open(path, "rb") as file:
             return subprocess.run([self.file, *words], stdin=file, capture_output=True, check=True).stdout
 
-    def digests(self, path, rounds):
+    def digests(self, path: str, rounds: int) -> list[float]:
         """Seconds of rounds of one SHA-256 of a file's bytes by the crate that the program uses."""
         lines = self("arrivals", "time", "65536", str(rounds), path=path).decode().splitlines()
         return [int(line.split()[0]) / 1e9 for line in lines]

@@ -1,42 +1,69 @@
-"""A plugin of pytest: what each test took of the processors, with the processes that it started and that have ended."""
+"""A plugin of pytest: how many examples each test tried, and what it took of the processors, with the processes that it
+started and that have ended.
+
+An example is what `report` compares or counts for a test: one cut of a head, one refused allocation, one reply.
+"""
 import resource
+from collections.abc import Iterator
+from pathlib import Path
 
 import pytest
+
+from nixkeep_dev.testing import report as checks
 
 # Tests that take less are added up.
 LEAST = 1.0
 
 
-def spent():
+def spent() -> float:
     """The processor seconds of this process, and of all that has run and ended below it."""
     used = [resource.getrusage(it) for it in (resource.RUSAGE_SELF, resource.RUSAGE_CHILDREN)]
     return sum(it.ru_utime + it.ru_stime for it in used)
 
 
+def so_far() -> tuple:
+    """The processor seconds, the examples, and of how many places how many were tried."""
+    return spent(), checks.passed, checks.tried, checks.places
+
+
 class Minutes:
-    """Each report has the seconds of its phase, so that they come also from another process of xdist; at the end is a
+    """Each report has what came in its phase, so that it comes also from another process of xdist; at the end is a
     table, those first that took most."""
 
     def __init__(self):
-        self.since, self.work, self.clock = spent(), {}, {}
+        # Of each test what `so_far` has, and the seconds of the clock.
+        self.since, self.came, self.clock = so_far(), {}, {}
 
     @pytest.hookimpl(hookwrapper=True)
-    def pytest_runtest_makereport(self, item):
+    def pytest_runtest_makereport(self, item: pytest.Item) -> Iterator[None]:
         outcome = yield
-        now = spent()
-        outcome.get_result().processor, self.since = now - self.since, now
+        now = so_far()
+        outcome.get_result().came, self.since = [it - was for it, was in zip(now, self.since)], now
 
-    def pytest_runtest_logreport(self, report):
-        self.work[report.nodeid] = self.work.get(report.nodeid, 0) + report.processor
+    @pytest.hookimpl(tryfirst=True)
+    def pytest_runtest_logreport(self, report: pytest.TestReport) -> None:
+        before = self.came.get(report.nodeid, (0, 0, 0, 0))
+        self.came[report.nodeid] = [it + was for it, was in zip(report.came, before)]
         self.clock[report.nodeid] = self.clock.get(report.nodeid, 0) + report.duration
 
-    def pytest_terminal_summary(self, terminalreporter):
-        if not self.work:
+    def pytest_report_teststatus(self, report: pytest.TestReport) -> tuple | None:
+        _, examples, tried, places = self.came.get(report.nodeid, (0, 0, 0, 0))
+        if report.when == "call" and report.passed and examples > 1:
+            of_places = f", at {tried:,} of {places:,} places" if tried < places else ""
+            return "passed", ".", f"PASSED, {examples:,} examples{of_places}"
+        return None
+
+    def pytest_terminal_summary(self, terminalreporter) -> None:
+        if not self.came:
             return
-        rows = sorted(((work, self.clock[it], it.rpartition("/")[2]) for it, work in self.work.items()), reverse=True)
+        rows = []
+        for it, (work, examples, *_) in self.came.items():
+            file, colons, test = it.partition("::")
+            rows.append((work, self.clock[it], examples, f"{Path(file).name}{colons}{test}"))
+        rows.sort(reverse=True)
         longest, others = [it for it in rows if it[0] >= LEAST], [it for it in rows if it[0] < LEAST]
         if others:
-            longest.append((sum(it[0] for it in others), sum(it[1] for it in others), f"{len(others)} others"))
-        terminalreporter.section("seconds of processors, and of the clock")
-        for work, clock, name in longest:
-            terminalreporter.write_line(f"{work:8.1f} {clock:8.1f}  {name}")
+            longest.append((*(sum(it[at] for it in others) for at in range(3)), f"{len(others)} others"))
+        terminalreporter.section("seconds of processors, and of the clock; examples")
+        for work, clock, examples, name in longest:
+            terminalreporter.write_line(f"{work:8.1f} {clock:8.1f} {examples:8,}  {name}")

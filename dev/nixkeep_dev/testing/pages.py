@@ -5,7 +5,7 @@ import re
 SHELLS = ("sh", "bash", "zsh", "shell", "console")
 
 
-def command_blocks(page):
+def command_blocks(page: str) -> dict[str, list]:
     """The blocks of commands by section: for each heading the kind (empty, or one of SHELLS) and the text of each."""
     found, section = {}, ""
     for heading, kind, text in re.findall(r"^#+ +(.*?) *$|^```(\w*)\n(.*?)^```$", page, re.M | re.S):

@@ -1,16 +1,18 @@
 """The parts of the tests: the scripts of each, and how much of each is tried where all run together."""
 import os
+from collections.abc import Callable, Iterable, Sequence
 from concurrent.futures import ThreadPoolExecutor
 
-from nixkeep_dev.testing import report, runs
-from nixkeep_dev.testing.runs import TESTS, file_of, options_of, run, scripts
+from nixkeep_dev.build.program import HERE
+from nixkeep_dev.testing import runs
+from nixkeep_dev.testing.runs import file_of, options_of, run, scripts
 
 # This one tries some benchmarks without that program.
 BENCH = "tools/test_bench"
 # How much of each script is tried, where that isn't all: about a minute of one processor for each.
 BOUNDED = {
     "compare/memory_and_files": ["--count", "10"],
-    "compare/model": ["--count", "2000", "--seed", str(report.today() * 100_000)],
+    "compare/model": ["--count", "2000"],
     "faults/refuse_memory": ["--count", "30"],
     "faults/stop_writes": ["--count", "8"],
     "faults/fail_streams": ["--count", "12"],
@@ -30,11 +32,12 @@ MORE = {"compare/model": ["--count", "20000"]}
 # What only the gate tries, since it takes minutes, or has itself what `rt ci` has built: whether it is given the
 # program, and its words.
 OF_GATE = {
+    "gate/sabotage": (True, ["--today"]),
     "package/clean_machine": (True, []),
-    "gate/launched": (False, []),
-    "gate/by_rattle": (False, []),
-    "gate/refused": (False, []),
-    "faults/refuse_memory": (True, ["again"]),
+    "gate/launched": (False, ["--built"]),
+    "gate/by_rattle": (False, ["--built"]),
+    "gate/refused": (False, ["--built"]),
+    "faults/refuse_memory": (True, ["-k", "again"]),
 }
 # What is tried of a script that takes minutes, where five minutes are to be taken for all.
 SHORT = {
@@ -53,7 +56,7 @@ SHORT = {
 CHECKS = ("checks", "documents", "generated", "started")
 
 
-def by_name():
+def by_name() -> dict[str, dict]:
     """The scripts of each part by name."""
     tools = [it.removeprefix("test_") for it in scripts("tools", "test_")]
     return {
@@ -62,7 +65,7 @@ def by_name():
         "tools": {it: file_of(f"tools/test_{it}") for it in tools},
         "team": {"try": file_of(TEAM), "try_large": file_of(f"{TEAM}_large"), "swift": file_of("tools/try_swift"),
                  **{it: file_of(f"tools/test_{it}") for it in tools
-                    if it.startswith(("cache", "hostile", "overview", "units"))}},
+                    if it.startswith(("cache", "hostile", "logins", "overview", "units"))}},
         "package": {"clean_machine": file_of("package/clean_machine"), "files": file_of("tools/test_package"),
                     "scripts": file_of("tools/test_package_scripts")},
         "gate": {it: file_of(f"gate/{it}") for it in scripts("gate") if it != "gate"},
@@ -72,10 +75,10 @@ def by_name():
 class Part:
     """A script of tests/ by name, what is given to it where it takes such an option, and further words."""
 
-    def __init__(self, name, given, more=()):
+    def __init__(self, name: str, given: dict, more: Iterable[str] = ()):
         self.name, self.file, self.given, self.more = name, file_of(name), given, more
 
-    def run(self):
+    def run(self) -> runs.Ran | None:
         """Runs it; None where it needs the program of crates/bench, which isn't given: the toolchain has to build
         that."""
         if self.name != BENCH and "libraries" not in self.given and options_of(self.file, {"libraries": ""}):
@@ -83,7 +86,7 @@ class Part:
         return run([self.file, *options_of(self.file, self.given), *self.more], False)
 
 
-def of_program(given, is_whole=False):
+def of_program(given: dict, is_whole: bool = False) -> list[Part]:
     """The parts that try the program, those that take longest first. Where it isn't whole, less of some is tried, and
     no machine is booted for the units."""
     bounded, more = (BOUNDED, MORE) if is_whole else ({**BOUNDED, **SHORT}, {})
@@ -93,20 +96,21 @@ def of_program(given, is_whole=False):
     return [Part(it, given, [*bounded.get(it, []), *more.get(it, [])]) for it in found]
 
 
-def of_gate(given):
+def of_gate(given: dict) -> list[Part]:
     """The parts that only the gate runs: those that take longest first."""
-    return [Part(it, given if needs_program else {}, more) for it, (needs_program, more) in OF_GATE.items()]
+    others = {"seed": given["seed"]}
+    return [Part(it, given if needs_program else others, more) for it, (needs_program, more) in OF_GATE.items()]
 
 
-def side_by_side(found, begun=()):
+def side_by_side(chosen: list[Part], begun: Sequence[Callable] = ()) -> list:
     """Runs parts side by side, and prints what each printed when it has ended; returns the runs. `begun` are more
     calls, which begin first and are printed last."""
-    runs.compile_modules(os.path.dirname(TESTS))
+    runs.compile_modules(HERE)
     processors = len(os.sched_getaffinity(0))
-    # (most of them wait now and then, but not the wrong bodies)
+    # (most of them wait now and then, but not the edits)
     with ThreadPoolExecutor(len(begun) + processors if begun else 2 * processors) as pool:
         first = [pool.submit(it) for it in begun]
-        others = [pool.submit(it.run) for it in found]
+        others = [pool.submit(it.run) for it in chosen]
         for it in [*others, *first]:
             if ran := it.result():
                 runs.show(ran)

@@ -1,21 +1,23 @@
 """A command that gets its standard input in pieces, each only when all before it was read."""
 import fcntl
 import os
+import socket
 import struct
 import subprocess
 import termios
 import time
+from collections.abc import Iterable
 
 # Between two looks whether a piece was read: who looks again at once takes the time of who reads.
 SECONDS = 0.0003
 
 
-def unread(pipe):
+def unread(pipe: int | socket.socket) -> int:
     """How many bytes wait in a pipe or a socket."""
     return struct.unpack("i", fcntl.ioctl(pipe, termios.FIONREAD, bytes(4)))[0]
 
 
-def run(command, pieces):
+def run(command: list, pieces: Iterable[bytes]) -> tuple[bytes, int]:
     """What the command prints, and its status, for an input that comes in these pieces."""
     source, sink = os.pipe()
     with open(os.memfd_create("output"), "w+b") as output, \

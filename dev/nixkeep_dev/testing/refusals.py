@@ -1,4 +1,6 @@
 """Words and input that are refused, for each refusal that an empty store in memory can give; and denials."""
+from collections.abc import Iterator
+
 from nixkeep_dev.testing.http_messages import lines, message
 from nixkeep_dev.testing.nar import archive, derivation, nar_hash, of_node, source_path, strings
 
@@ -103,7 +105,7 @@ def denials():
     yield "no-ignore-liveness", [*ANN, "gc", "--ignore-liveness"], b""
 
 
-def all_refused():
+def all_refused() -> Iterator[tuple]:
     """Lines that refuse or deny, each with the configuration, the words and the input that it answers."""
     some = 'allowed-users = ["ann"]\n'
     for word, text in settings().items():

@@ -7,21 +7,21 @@ from nixkeep_dev.testing.nar import archive, derivation, hidden, nar_hash, text_
 from nixkeep_dev.testing.tables import Built
 
 
-def path(it):
+def path(it: str) -> bytes:
     return lines(("path", it))
 
 
-def text(name, contents, *refs):
+def text(name: str, contents: bytes, *refs: str) -> bytes:
     """The body that adds a text, or with an archive in place of the contents a source."""
     return lines(("name", name), *[("reference", it) for it in refs], payload=contents)
 
 
-def imported(it, nar, *more):
+def imported(it: str, nar: bytes, *more: tuple) -> tuple:
     """An import of an archive under a path, with further entries."""
     return "root", "POST", "/import", lines(("path", it), ("nar-hash", nar_hash(nar)), *more, payload=nar)
 
 
-def requests():
+def requests() -> list[tuple]:
     """Requests that meet one another, of every kind: one after another over one file."""
     drv, out, gone = "0" * 32 + "-d.drv", "1" * 32 + "-o", "7" * 32 + "-gone"
     long = b"x" * (PIECE + 9)
@@ -48,7 +48,7 @@ def requests():
             ("ann", "DELETE", "/generation/ann/tools/2"), ("ann", "POST", "/delete", lines(("path", added)))]
 
 
-def kept():
+def kept() -> list[tuple]:
     """A derivation and its output, which go, and then a root keeps the output: where outputs and derivers are kept."""
     drv, out = "2" * 32 + "-d.drv", "3" * 32 + "-o"
     both = [imported(drv, archive(derivation({"out": out}))), imported(out, archive(b""), ("deriver", drv))]
@@ -68,7 +68,12 @@ LISTS = [("", requests), ("keep-outputs = true\nkeep-derivations = true\n", kept
          ("keep-outputs = true\nkeep-derivations = false\n", lost)]
 
 
-def some_store(schema):
+def named() -> list:
+    """Each request of LISTS, in order: its name, the settings and the request."""
+    return [(" ".join(it[:3]), settings, it) for settings, asked in LISTS for it in asked()]
+
+
+def some_store(schema: int) -> Built:
     """A store with a row of each kind that a schema has, and an archive of more than a row."""
     made, out = Built(), hidden("out")
     made.put(out, archive(b"x" * (PIECE + 9)))

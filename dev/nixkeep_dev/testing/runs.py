@@ -8,7 +8,9 @@ import subprocess
 import sys
 import threading
 import time
+from collections.abc import Callable, Sequence
 from pathlib import Path
+from typing import Any
 
 from nixkeep_dev.build import program
 from nixkeep_dev.testing import processes, report, skips
@@ -17,40 +19,41 @@ TESTS = f"{program.HERE}/tests"
 # The minutes after which a script hangs, where all run together: many times what it takes on a machine that is busy.
 # The second number is for those that take minutes; one that is run alone may try each place there is, for hours.
 LIMIT, LONG, ALONE = 30, 120, 24 * 60
-LONG_ONES = ("examples/team/try", "gate/by_rattle", "gate/cases", "gate/launched", "gate/sabotage", "gate/started",
-             "package/clean_machine", "compare/model", "compare/nix_store", "compare/sqlite", "faults/stop_writes",
-             "tools/test_cache", "tools/test_large", "tools/test_remote", "tools/test_units")
+LONG_ONES = ("examples/team/try", "gate/by_rattle", "gate/cases", "gate/coverage", "gate/launched", "gate/sabotage",
+             "gate/started", "package/clean_machine", "compare/model", "compare/nix_store", "compare/sqlite",
+             "faults/stop_writes", "tools/test_cache", "tools/test_large", "tools/test_remote", "tools/test_units")
 # How many of the last lines of a run that failed are shown again.
 LAST = 30
 
 
-def spent():
+def spent() -> float:
     """The processor seconds of all that has run and ended below this process."""
     used = resource.getrusage(resource.RUSAGE_CHILDREN)
     return used.ru_utime + used.ru_stime
 
 
-def scripts(folder, start=""):
+def scripts(folder: str, start: str = "") -> list[str]:
     """The scripts of a folder of tests/, by name."""
     return sorted(it.stem for it in Path(TESTS, folder).glob(f"{start}*.py"))
 
 
-def file_of(name):
+def file_of(name: str) -> str:
     """The file of a script by its name below tests/: a module or, of examples/, an executable."""
+    # (normpath: Path leaves `..` in a path, or takes links out of it)
     file = os.path.normpath(f"{TESTS}/{name}")
-    return file if os.path.isfile(file) else f"{file}.py"
+    return file if Path(file).is_file() else f"{file}.py"
 
 
-def command(words):
+def command(words: list[str]) -> list[str]:
     """The command that starts a script with words: bin/run of its repository, if it is a module."""
-    file = os.path.abspath(words[0])
+    file = str(Path(words[0]).absolute())
     if not file.endswith(".py"):
         return [*words]
     top = next(it for it in Path(file).parents if (it / "bin/run").exists())
     return [f"{top}/bin/run", file, *words[1:]]
 
 
-def compile_modules(top):
+def compile_modules(top: str) -> None:
     """Compiles the modules of a copy of the repository, so that not each process that imports one has to do it. What
     was made of other bytes than a module has now isn't used."""
     words = [sys.executable, "-m", "compileall", "-qq", "-j", "0", "--invalidation-mode", "checked-hash"]
@@ -63,7 +66,7 @@ def help_of(file):
     return subprocess.run(command([file, "--help"]), capture_output=True, text=True).stdout
 
 
-def options_of(file, given):
+def options_of(file: str, given: dict) -> list[str]:
     """The options that a script takes, as its help says, of those that are given by name."""
     taken = [name for name, value in given.items() if value is not None and f"--{name}" in help_of(file)]
     return [word for name in taken for word in (f"--{name}", str(given[name]))]
@@ -84,24 +87,30 @@ class Ran:
     """A run of a script: its status, how much passed, failed and was skipped, what it printed, its minutes and those of
     processors."""
 
-    def __init__(self, words, status, counts, output, seconds, used):
+    def __init__(self, words: list, status: int | bool, counts: tuple, output: str, seconds: float, used: Any):
         self.name, self.status, self.output = name_of(words), status, output
         self.passed, self.failed, self.skipped = counts
         self.minutes, self.work = seconds / 60, (used.ru_utime + used.ru_stime) / 60
 
-    def is_good(self):
+    def is_good(self) -> bool:
         return self.status == 0
 
-    def skips(self):
+    def seed(self) -> str | None:
+        """What chance began with, as it said; None where it left nothing to chance."""
+        said = re.findall(r"\b(?:seed|scenarios) (\d+)", self.output)
+        return said[-1] if said else None
+
+    def skips(self) -> list[str]:
         """What it said that it skipped, each once."""
         return [*dict.fromkeys(re.findall(r"^\s*skipped: (.*)$", self.output, re.M | re.I))]
 
 
-def run(words, is_shown=True, each_second=lambda pid: None, limit=None):
+def run(words: list[str], is_shown: bool = True, each_second: Callable = lambda pid: None,
+        limit: float | None = None) -> Ran:
     """Runs a script, in the folder above tests/. What it prints is shown line by line, or kept. One that goes on after
-    `limit` minutes, or its own limit, is ended, and has failed."""
+    `limit` minutes, or its own limit, is ended, and has failed; so has one that left something that may still print."""
     limit = limit or limit_of(words)
-    since, kept, counts, ended = time.monotonic(), [], None, threading.Event()
+    since, kept, counts, ended, hangs = time.monotonic(), [], None, threading.Event(), threading.Event()
     how = {"cwd": program.HERE, "stdin": subprocess.DEVNULL, "stdout": subprocess.PIPE}
     how |= {"stderr": None if is_shown else subprocess.STDOUT, "text": True, "errors": "replace"}
     ran = subprocess.Popen(command(words), **how)
@@ -110,10 +119,10 @@ def run(words, is_shown=True, each_second=lambda pid: None, limit=None):
         while not ended.is_set():
             each_second(ran.pid)
             if time.monotonic() - since > 60 * limit:
-                kept.append(f"it hangs: it was ended after {limit} minutes\n")
-                return processes.end(ran.pid)
+                hangs.set()
+                # (again, since what it has started may start more meanwhile)
+                processes.end(ran.pid, ran.stdout)
             ended.wait(1)
-        return None
 
     threading.Thread(target=watch, daemon=True).start()
     for line in ran.stdout:
@@ -125,6 +134,9 @@ def run(words, is_shown=True, each_second=lambda pid: None, limit=None):
     _, status, used = os.wait4(ran.pid, 0)
     ended.set()
     ran.returncode = status = os.waitstatus_to_exitcode(status)
+    if hangs.is_set():
+        kept.append(f"it hangs: it was ended after {limit:g} minutes\n")
+        status = status or 1
     # (one that says nothing of what passed, or ends badly, has failed once at least)
     passed, failed, skipped = counts or (0, 0, 0)
     failed = max(failed, 1) if status or counts is None else failed
@@ -132,47 +144,49 @@ def run(words, is_shown=True, each_second=lambda pid: None, limit=None):
     return Ran(words, status or counts is None, counts, "".join(kept), seconds, used)
 
 
-def show(ran):
+def show(ran: Ran) -> None:
     """Prints what a script printed that wasn't shown, and how long it took."""
     report.tell(f"\n{ran.name}: {60 * ran.minutes:.0f} s\n{ran.output}".rstrip("\n"))
 
 
-def show_parts(found):
-    """A table of the runs, those first that took most of the processors, and the ends of those that failed."""
+def show_parts(ended):
+    """A table of the runs, those first that took most of the processors, and the ends of those that failed. Numbers of
+    a run with a seed may differ with another one, as each day has."""
     columns = "".join(f"{it:>8}" for it in ("clock", "passed", "failed", "skipped"))
-    report.tell(f"\n{'minutes of parts':30}{'processor':>10}{columns}")
-    for it in sorted(found, key=lambda it: -it.work):
-        numbers = f"{it.minutes:8.1f}{it.passed:8}{it.failed:8}{it.skipped:8}"
-        report.tell(f"{it.name:30}{it.work:10.1f}{numbers}")
-    for it in found:
+    report.tell(f"\n{'minutes of parts':30}{'processor':>10}{columns}  seed")
+    for it in sorted(ended, key=lambda it: -it.work):
+        numbers = f"{it.minutes:8.1f}{it.passed:8}{it.failed:8}{it.skipped:8}  {it.seed() or ''}"
+        report.tell(f"{it.name:30}{it.work:10.1f}{numbers}".rstrip())
+    for it in ended:
         if it.failed:
             report.tell(f"\n{it.name} failed, and ended so:\n" + "\n".join(it.output.splitlines()[-LAST:]))
 
 
-def show_skips(found, left_out):
+def show_skips(ended, left_out):
     """What was skipped, and why, a line each."""
-    lines = [f"  {it.name}: {what}" for it in found for what in it.skips()] + [f"  {it}" for it in left_out]
+    lines = [f"  {it.name}: {what}" for it in ended for what in it.skips()] + [f"  {it}" for it in left_out]
     if lines:
         report.tell("\nskipped:\n" + "\n".join(lines))
 
 
-def not_allowed(found):
+def not_allowed(ended: list[Ran]) -> int:
     """Prints what was skipped that the list of skips doesn't name, where a skip is a failure; how many there are."""
-    lines = [line for it in found for line in skips.faults(it, skips.allowed())]
+    lines = [line for it in ended for line in skips.faults(it, skips.allowed())]
     if lines:
         report.tell(f"\nskipped, and {skips.NAME} doesn't name it:\n" + "\n".join(f"  {it}" for it in lines))
     return len(lines)
 
 
-def together(found, more_failed=0, left_out=(), say=lambda: None, may_skip=True):
+def together(ended: list[Ran], more_failed: int = 0, left_out: Sequence[str] = (), say: Callable = lambda: None,
+             may_skip: bool = True) -> int:
     """Prints what each run took where there are several, what was skipped (`left_out` are whole parts), what is to be
     said besides, and how much passed, failed and was skipped in all; returns the status. Where nothing may be skipped,
     what the list of skips doesn't name has failed."""
-    if len(found) > 1:
-        show_parts(found)
-    show_skips(found, left_out)
-    more_failed += 0 if may_skip else not_allowed(found)
+    if len(ended) > 1:
+        show_parts(ended)
+    show_skips(ended, left_out)
+    more_failed += 0 if may_skip else not_allowed(ended)
     say()
-    passed, failed = sum(it.passed for it in found), sum(it.failed for it in found) + more_failed
-    report.tell(report.ending(passed, failed, sum(it.skipped for it in found) + len(left_out)))
+    passed, failed = sum(it.passed for it in ended), sum(it.failed for it in ended) + more_failed
+    report.tell(report.ending(passed, failed, sum(it.skipped for it in ended) + len(left_out)))
     return 1 if failed else 0

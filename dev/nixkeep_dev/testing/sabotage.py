@@ -1,7 +1,12 @@
 """Planted faults: the table of tests/sabotage/, and putting one into a copy of the repository or around the program."""
+import contextlib
 import os
+import queue
+import shlex
 import shutil
 import subprocess
+import tempfile
+from collections.abc import Iterator
 from pathlib import Path
 
 from nixkeep_dev.build import program
@@ -22,15 +27,15 @@ class Fault:
     def __init__(self, name, lines):
         self.name, self.changes = name, [it for it in lines if it[0] not in ("part", "excused")]
         named = dict(lines)
-        self.part, self.excused = named.get("part", "").split(), named.get("excused")
+        self.part, self.excused = shlex.split(named.get("part", "")), named.get("excused")
         if not self.part or not self.changes:
             report.fail(f"{TABLE}: {name}: a fault has a change and a part")
 
-    def is_of_program(self):
+    def is_of_program(self) -> bool:
         return self.changes[0][0] in ("bytes", "ahead")
 
 
-def table():
+def table() -> list[Fault]:
     """The faults of the table, in its order."""
     found, name = {}, None
     for line in Path(TABLE).read_text().splitlines():
@@ -47,20 +52,25 @@ def table():
     return [Fault(*it) for it in found.items()]
 
 
+def parts_of_table() -> set[tuple]:
+    """The parts that notice the faults of the table."""
+    return {tuple(it.part) for it in table()}
+
+
 # ---- days
 
 
-def costs():
+def costs() -> dict[tuple, float]:
     """The processor seconds of each part, as the file has them."""
     lines = [it for it in Path(COSTS).read_text().splitlines() if not it.startswith("#")]
-    return {tuple(part.split()): float(seconds) for seconds, _, part in (it.partition(": ") for it in lines)}
+    return {tuple(shlex.split(part)): float(seconds) for seconds, _, part in (it.partition(": ") for it in lines)}
 
 
-def write_costs(found):
-    """Writes the processor seconds of each part: those of these parts anew."""
-    kept = [it for it in Path(COSTS).read_text().splitlines() if it.startswith("#")]
-    rows = sorted({**costs(), **found}.items(), key=lambda it: -it[1])
-    Path(COSTS).write_text("\n".join([*kept, *(f"{seconds:.1f}: {' '.join(part)}" for part, seconds in rows), ""]))
+def write_costs(measured: dict[tuple, float]) -> None:
+    """Writes the processor seconds of each part that the table has: those of these parts anew."""
+    kept, parts = [it for it in Path(COSTS).read_text().splitlines() if it.startswith("#")], parts_of_table()
+    rows = sorted(((part, it) for part, it in {**costs(), **measured}.items() if part in parts), key=lambda it: -it[1])
+    Path(COSTS).write_text("\n".join([*kept, *(f"{seconds:.1f}: {shlex.join(part)}" for part, seconds in rows), ""]))
 
 
 def by_days():
@@ -78,19 +88,52 @@ def by_days():
     return [[it for it in every if it in on] for on in found]
 
 
-def of_day(day):
+def of_day(day: int) -> list[Fault]:
     return by_days()[day % days.DAYS]
 
 
 # ---- a copy of the repository
 
 
-def base(folder):
+def git(top, *words):
+    # (a file that gets one more link is as it was)
+    settings = [it for value in ("user.name=nixkeep", "user.email=nixkeep@invalid", "core.trustctime=false")
+                for it in ("-c", value)]
+    subprocess.run(["git", "-C", top, *settings, *words], check=True)
+
+
+def base(folder: str) -> str:
     """A copy of the repository that git tracks, from which each fault gets one."""
     copy_to(folder)
-    for words in (["init", "-q"], ["add", "-A"]):
-        subprocess.run(["git", "-C", folder, *words], check=True)
+    for words in (["init", "-q"], ["add", "-A"], ["commit", "-q", "-m", "Copy the repository"]):
+        git(folder, *words)
     return folder
+
+
+class Copies:
+    """Copies of the repository. Each is used again, since a fresh one has thousands of files: git takes back what was
+    changed in it, and removes what was made."""
+
+    def __init__(self, folder: str):
+        self.folder, self.base, self.free = folder, base(f"{folder}/base"), queue.SimpleQueue()
+
+    @contextlib.contextmanager
+    def one(self) -> Iterator[str]:
+        """A copy that nothing else uses meanwhile."""
+        top = self.fresh() if self.free.empty() else self.free.get()
+        try:
+            yield top
+        finally:
+            git(top, "reset", "-q", "--hard")
+            git(top, "clean", "-ffdxq")
+            self.free.put(top)
+
+    def fresh(self) -> str:
+        # (no part writes the sources in crates/, so they are linked)
+        copy = lambda file, to: os.link(file, to) if f"{self.base}/crates/" in file else shutil.copy2(file, to)
+        room = tempfile.mkdtemp(prefix="copy-", dir=self.folder)
+        shutil.copytree(self.base, f"{room}/nixkeep", symlinks=True, copy_function=copy)
+        return f"{room}/nixkeep"
 
 
 def replaced(path, old, new, count=None):
@@ -104,7 +147,7 @@ def replaced(path, old, new, count=None):
     os.replace(f"{path}.new", path)
 
 
-def change_files(fault, top):
+def change_files(fault: Fault, top: str) -> None:
     """Puts a fault into a copy of the repository."""
     file = old = None
     for key, text in fault.changes:
@@ -122,7 +165,21 @@ def change_files(fault, top):
             os.chmod(f"{top}/{path}", int(mode, 8))
         elif key == "first":
             keep_first(*text.split(), top)
-    subprocess.run(["git", "-C", top, "add", "-A"], check=True)
+    git(top, "add", "-A")
+
+
+def gone_of(fault: Fault, top: str) -> list[str]:
+    """What a fault changes and isn't in the repository: a file, or a text that isn't there once."""
+    found, file = [], None
+    for key, text in fault.changes:
+        path = text.split()[-1] if key in ("gone", "mode", "first") else text
+        if key in ("file", "gone", "mode", "first") and not Path(f"{top}/{path}").exists():
+            found.append(f"there is no {path}")
+        file = text if key == "file" else file
+        if key == "old" and Path(top, file).exists():
+            seen = Path(top, file).read_bytes().count(text.encode())
+            found += [f"{file} has {text!r} {seen} times"] if seen != 1 else []
+    return found
 
 
 def keep_first(count, path, top):
@@ -135,15 +192,15 @@ def keep_first(count, path, top):
 # ---- the program
 
 
-def changed_program(fault, file, room):
+def changed_program(fault: Fault, file: str, room: str) -> str:
     """A program that has a fault: other bytes, or a library ahead of C's."""
     made, old = f"{room}/program/nixkeep", None
-    os.makedirs(os.path.dirname(made))
+    Path(made).parent.mkdir(parents=True)
     for key, text in fault.changes:
         if key == "bytes":
             old = text
         elif key == "become":
-            if not os.path.exists(made):
+            if not Path(made).exists():
                 shutil.copy2(file, made)
             was, now = (it.encode().decode("unicode_escape").encode("latin-1") for it in (old, text))
             if len(was) != len(now):

@@ -1,14 +1,16 @@
 """What the tests may skip where a skip is a failure: a file of tests/gate/ names each, with the reason."""
 import fnmatch
 import re
+from collections.abc import Iterable
 from pathlib import Path
+from typing import Any
 
 from nixkeep_dev.build import program
 
 NAME = "tests/gate/skips.txt"
 
 
-def allowed(text=None):
+def allowed(text: str | None = None) -> list[tuple]:
     """The skips that are allowed, as pairs of a part and a pattern. Each has a reason: the indented lines after it."""
     found, is_explained = [], True
     for line in (Path(f"{program.HERE}/{NAME}").read_text() if text is None else text).splitlines():
@@ -29,7 +31,7 @@ def is_like(pattern, text):
     return re.fullmatch(".*".join(map(re.escape, pattern.split("*"))), text, re.S) is not None
 
 
-def faults(ran, named):
+def faults(ran: Any, named: Iterable[tuple]) -> list[str]:
     """What a run skipped that isn't among these, a line each, and what it didn't do although nothing is said of it."""
     said = ran.skips()
     found = [f"{ran.name}: skipped: {it}" for it in said

@@ -1,22 +1,25 @@
 """The program on a file, called by one user or another, or serving on a port; and what a file of it is with its log."""
-import os
 import resource
 import shutil
 import signal
+import socket
 import subprocess
+from collections.abc import Iterable
 from pathlib import Path
+from typing import Any
 
 from nixkeep_dev.testing import report
-from nixkeep_dev.testing.http_messages import connected, free_port, messages, replies
+from nixkeep_dev.testing.http_messages import connected, free_port, messages, next_replies
 
 
 class Store:
     """The program on a file, called by root, who is trusted, if not otherwise said."""
 
-    def __init__(self, file, path):
+    def __init__(self, file: str, path: str):
         self.file, self.path = file, path
 
-    def run(self, *words, given=b"", user="root", options=()):
+    def run(self, *words: str, given: bytes = b"", user: str = "root",
+            options: Iterable[str] = ()) -> tuple[bytes, str, int]:
         words = [self.file, "--db", self.path, "--user", user, *options, *words]
         ran = subprocess.run(words, input=given, capture_output=True)
         return ran.stdout, ran.stderr.decode(), ran.returncode
@@ -26,14 +29,14 @@ class Store:
         printed, said, status = self.run(*words, **more)
         return printed if status == 0 else report.fail(f"nixkeep {' '.join(words)}: {said}", self.path)
 
-    def lines(self, *words, **more):
+    def lines(self, *words: str, **more: Any) -> list[str]:
         return self(*words, **more).decode().splitlines()
 
 
 class Server:
     """The program, serving a number of connections on a port; it is killed where it hasn't ended."""
 
-    def __init__(self, file, *options, connections=1_000_000, **how):
+    def __init__(self, file: str, *options: str, connections: int = 1_000_000, **how: Any):
         self.port = free_port()
         words = [file, *options, "serve", "--port", str(self.port), "--connections", str(connections)]
         self.ran = subprocess.Popen(words, **{"stdin": subprocess.DEVNULL, "stderr": subprocess.PIPE, **how})
@@ -45,11 +48,11 @@ class Server:
         self.ran.kill()
         self.ran.communicate()
 
-    def connect(self, timeout=150):
+    def connect(self, timeout: float = 150) -> socket.socket:
         """A connection, as soon as it listens."""
         return connected(self.port, self.ran, timeout) or report.fail("the server doesn't listen")
 
-    def ended(self, within):
+    def ended(self, within: float) -> tuple[int, Any]:
         """Its status, and what it said, once it has ended by itself."""
         try:
             said = self.ran.communicate(timeout=within)[1]
@@ -58,38 +61,34 @@ class Server:
         return self.ran.returncode, said
 
 
-def killed(file, path, asked, *options):
+def killed(file: str, path: str, asked: list[tuple], *options: str) -> list[tuple]:
     """Asks a server over a file, and kills it once it has answered: so it doesn't copy its log into the file. Returns
     the replies."""
     words = [file, *options, "--db", path, "serve"]
     with subprocess.Popen(words, stdin=subprocess.PIPE, stdout=subprocess.PIPE) as ran:
         ran.stdin.write(messages(asked))
         ran.stdin.flush()
-        written = b""
-        while len(replies(written)[0]) < len(asked):
-            written += (part := ran.stdout.read1())
-            if not part:
-                report.fail(f"the server ended after {written!r}", path)
+        found = next_replies(ran.stdout, len(asked))
         ran.kill()
-    return replies(written)[0]
+    return found
 
 
-def small_files():
+def small_files() -> None:
     """Called in a child: no file of it grows above 1 MiB, and a write that would fails."""
     signal.signal(signal.SIGXFSZ, signal.SIG_IGN)
     resource.setrlimit(resource.RLIMIT_FSIZE, (1_048_576, 1_048_576))
 
 
-def remove(path):
+def remove(path: str) -> None:
     """Removes a file, with its log, where it is there."""
     for end in ("", "-wal", "-shm"):
         Path(path + end).unlink(missing_ok=True)
 
 
-def copy(path, to):
+def copy(path: str, to: str) -> str:
     """Makes a file, with its log, one like another."""
     remove(to)
     for end in ("", "-wal"):
-        if os.path.exists(path + end):
+        if Path(path + end).exists():
             shutil.copy(path + end, to + end)
     return to

@@ -1,8 +1,10 @@
 """The tables of a store, by SQLite, and stores of the model (dev/nixkeep_dev/model) that are made object by object."""
 import contextlib
+import random
 import shutil
 import sqlite3
 import subprocess
+from collections.abc import Iterable, Iterator
 
 from nixkeep_dev.model import policy, tables, worlds
 from nixkeep_dev.model.store import Store
@@ -23,7 +25,7 @@ THEIRS = "SELECT 'note', id, t FROM note; SELECT 'middle', a, hex(b) FROM middle
 # ---- SQLite
 
 
-def made_by(schema):
+def made_by(schema: int) -> str:
     """The texts that make the tables of a schema."""
     return "".join(map(tables.making, tables.tables_of(schema)))
 
@@ -31,7 +33,7 @@ def made_by(schema):
 ALL = made_by(3)
 
 
-def statements(text):
+def statements(text: str) -> Iterator[str]:
     """The statements of a text, one after another; that of a trigger has semicolons within."""
     statement = ""
     for part in text.split(";"):
@@ -41,11 +43,11 @@ def statements(text):
             statement = ""
 
 
-def opened(path):
+def opened(path: str) -> contextlib.closing:
     return contextlib.closing(sqlite3.connect(path, isolation_level=None))
 
 
-def sqlite(path, text):
+def sqlite(path: str, text: str) -> str:
     """Runs the statements, and returns the rows that they answer, a line for each with `|` between columns: by
     SQLite's shell, and where it isn't installed by SQLite in python."""
     if SHELL:
@@ -62,7 +64,7 @@ def sqlite(path, text):
     return "".join("|".join(map(str, row)) + "\n" for row in rows)
 
 
-def put(path, rows, first="", last=""):
+def put(path: str, rows: dict, first: str = "", last: str = "") -> None:
     """Puts the rows of each table, by SQLite, in one transaction, between these statements."""
     try:
         with opened(path) as conn:
@@ -86,18 +88,19 @@ class Built(Store):
     def __init__(self):
         super().__init__(policy.config_of(b""), worlds.World())
 
-    def put(self, base, nar, refs=(), deriver=None, address=None):
+    def put(self, base: str, nar: bytes, refs: Iterable[str] = (), deriver: str | None = None,
+            address: str | None = None) -> str:
         self.add(base, nar, [*refs], deriver, address, address is not None)
         return base
 
-    def put_text(self, name, contents, refs=(), deriver=None):
+    def put_text(self, name: str, contents: bytes, refs: Iterable[str] = (), deriver: str | None = None) -> str:
         address = f"text:{nar_hash(contents)}"
         return self.put(text_path(name, contents, refs), archive(contents), refs, deriver, address)
 
-    def put_source(self, name, nar, refs=(), deriver=None):
+    def put_source(self, name: str, nar: bytes, refs: Iterable[str] = (), deriver: str | None = None) -> str:
         return self.put(source_path(name, nar, refs), nar, refs, deriver, f"fixed:r:{nar_hash(nar)}")
 
-    def rows(self, schema=3):
+    def rows(self, schema: int = 3) -> dict[str, set]:
         return tables.rows_of(self.world, self.dir, schema)
 
 
@@ -122,7 +125,7 @@ def some_object(rng, made, at, paths):
                          refs, deriver)
 
 
-def some_built(rng, count):
+def some_built(rng: random.Random, count: int) -> Built:
     """A store of `count` random objects, and with roots of every kind where chance says so."""
     made, paths = Built(), []
     for at in range(count):

@@ -1,5 +1,6 @@
 """What makes a sound store unsound, row by row; and schemas, which are a store's or not."""
 import random
+from collections.abc import Iterable
 
 from nixkeep_dev.model.tables import PIECE, TABLES, making
 from nixkeep_dev.model.worlds import Profile
@@ -43,7 +44,7 @@ class Faulty:
             made.put(hidden(name), archive(some.randbytes(length - 112)))
         self.store = made
 
-    def of_settings(self):
+    def of_settings(self) -> dict[str, str]:
         return {
             **{f"schema `{it}`": update("meta", f"val = '{it}'", "word = 'schema'")
                for it in ("", "0", "4", "01", "03", " 3", "3 ", "three")},
@@ -53,7 +54,7 @@ class Faulty:
             "a further setting": "INSERT INTO meta VALUES ('more', '1');",
         }
 
-    def of_objects(self):
+    def of_objects(self) -> dict[str, str]:
         low, top, own, drv, out, gone = self.low, self.top, self.own, self.drv, self.out, self.gone
         other, digest = blob(archive(b"other")), blob(sha256(archive(b"other")))
         has = lambda base, what: update("object", what, f"base = '{base}'")
@@ -83,7 +84,7 @@ class Faulty:
             "a derivation with an output more": f"INSERT INTO outs VALUES ('{drv}', 'dev', '{low}');",
         }
 
-    def of_roots(self):
+    def of_roots(self) -> dict[str, str]:
         low, gone = self.low, self.gone
         return {"a permanent root without its object": update("permanent", f"target = '{gone}'", "name = 'root'"),
                 "a permanent root with a bad name": update("permanent", "name = 'a/b'", "name = 'root'"),
@@ -104,14 +105,14 @@ class Faulty:
                 "a runtime root with a blank in its label": update("runtime", "label = 'a b'", "1"),
                 "a runtime root with a long label": update("runtime", f"label = '{'a' * 257}'", "1")}
 
-    def archive(self, base):
+    def archive(self, base: str) -> bytes:
         return self.store.world.objects[base].archive
 
-    def cut(self, name, *parts, numbers=None):
+    def cut(self, name: str, *parts: bytes, numbers: Iterable[int] | None = None) -> str:
         """The archive's row has the first of these bytes, and pieces the others, numbered from 1 or so."""
         return cut_at(hidden(name), parts, numbers or range(1, len(parts)))
 
-    def of_pieces(self):
+    def of_pieces(self) -> dict[str, str]:
         brim, over, even, long = (self.archive(hidden(name)) for name in self.lengths)
         first, second, rest = long[:PIECE], long[PIECE : 2 * PIECE], long[2 * PIECE :]
         short = self.archive(self.own)
@@ -151,7 +152,7 @@ class Faulty:
             + self.cut("long", *huge_parts),
         }
 
-    def of_sessions(self):
+    def of_sessions(self) -> dict[str, str]:
         put = lambda owner, session, target: f"INSERT INTO temp_root VALUES ('{owner}', {session}, '{target}');"
         owners = {"nobody": "", "a bad owner": "-ann", "an owner with a blank": "a b", "an owner with a slash": "a/b",
                   "a long owner": "a" * 65}
@@ -164,7 +165,7 @@ class Faulty:
             **{f"a temporary root of {what}": put(owner, 1, self.low) for what, owner in owners.items()},
         }
 
-    def of_tables(self):
+    def of_tables(self) -> dict[str, str]:
         return {
             "no rows at all": "".join(f"DELETE FROM {it};" for it in TABLES),
             **{f"schema `{it}` with all tables": update("meta", f"val = '{it}'", "word = 'schema'")
@@ -172,7 +173,7 @@ class Faulty:
             **{f"a {table} without its table": f"DROP TABLE {table};" for table in TABLES},
         }
 
-    def whatever_the_schema(self):
+    def whatever_the_schema(self) -> dict[str, str]:
         return {**self.of_settings(), **self.of_objects(), **self.of_roots()}
 
 
@@ -266,6 +267,6 @@ REFUSED = [
 ]
 
 
-def schemas():
+def schemas() -> list[tuple]:
     """Each such text, and what comes of it."""
     return [(it, word) for word, found in (("made", MADE), ("opened", OPENED), ("refused", REFUSED)) for it in found]

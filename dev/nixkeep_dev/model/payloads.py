@@ -1,5 +1,7 @@
 """Bodies of requests: lines `KEY: VALUE`, an empty line, and a payload."""
 import re
+from types import SimpleNamespace
+from typing import Any
 
 from .store import request_of
 from .texts import Refused, address_of, base_of, digest_of, is_store_name, refuse
@@ -39,7 +41,7 @@ def truth(_, text):
     return text == "true"
 
 
-def limit_of(text):
+def limit_of(text: str) -> int | None:
     """The number of bytes that a text gives, or None where it is no such text."""
     is_right = re.fullmatch("0|[1-9][0-9]{0,19}", text) and int(text) <= LIMIT
     return int(text) if is_right else None
@@ -96,7 +98,7 @@ def values_of(store_dir, count, values, read):
     return found if count == MANY else found[0] if found else None
 
 
-def request(store_dir, kind, body, **fields):
+def request(store_dir: str, kind: str, body: bytes, **fields: Any) -> SimpleNamespace:
     """The request of this kind with this body; the fields given here come from the target."""
     keys, payload = FORMS.get(kind, ({}, None))
     lines, rest = lines_of(body)

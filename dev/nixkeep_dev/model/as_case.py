@@ -6,7 +6,7 @@ import shlex
 from nixkeep_dev.testing.cases import lines_of
 from . import tables
 from .runs import pieces_of
-from .scenarios import FILE
+from .scenarios import FILE, Scenario
 
 SHOWN = r"sed 's/\r/\\r/g'"
 
@@ -83,9 +83,9 @@ def rows_text(rows, others):
             yield step_text(command, lines.encode(), b"" if name in rows else None, 0 if name in rows else 1)
 
 
-def case_text(scenario, found):
+def case_text(scenario: Scenario, difference: tuple) -> str:
     """The whole case, up to the step that differs."""
-    at, wanted, came = found
+    at, wanted, came = difference
     texts = []
     for name, text in scenario.configs.items():
         if any(name in step.words for step in scenario.steps):
@@ -102,9 +102,9 @@ def case_text(scenario, found):
     return "\n".join(texts)
 
 
-def came_text(scenario, found):
+def came_text(scenario: Scenario, difference: tuple) -> str:
     """What the program gave, as a difference from the lines of the case."""
-    at, wanted, came = found
+    at, wanted, came = difference
     if at == len(scenario.steps):
         texts = ["\n".join(rows_text(*pair)) for pair in ((wanted, came), (came, wanted))]
     else:
