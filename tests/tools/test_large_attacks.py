@@ -238,6 +238,10 @@ def test_shares(rng, team_of):
                               range(20))]
         assert (adds.count(200), {*adds}) == (4, {200, 507}), "of adds at once no more are done than the share has"
         first, second = archive_of(rng, 300_000), archive_of(rng, 300_000)
+        with send_half(team, "PUT", f"/nar/{nar.digest(first)}.nar", first[:1000], len(first)):
+            parts.until("an upload comes", team.incoming)
+            assert team.put(second)[0] == 507, "what comes counts before it has come"
+        parts.until("nothing comes", lambda: not team.incoming())
         assert team.put(first)[0] == 201, "an archive without its record"
         assert team.put(second)[0] == 507, "counts for its user"
         team.end()
