@@ -4,6 +4,7 @@
   machine    no tracked file has a path of a machine
   citations  nothing is cited by a number; a rule belongs where it is used
   sources    each source in Rattle is one that a check reads
+  allowed    no file allows a check to pass over open goals but the one that tries wrong bodies
   crates     each crate has a README.md, an edit that must fail where there is code, and the tactic in its root file
   mistakes   each mistake of tests/gate/mistakes.txt has a wrong body or definition that doesn't survive, or a case, or
              a test in crates
@@ -28,7 +29,8 @@
   columns    a line of a script has at most 120 characters
   hinted     functions that another module calls have type hints, but for as many as tests/gate/hints.txt says
   clauses    crates/*/src have no more lines of clauses of over 120 characters than tests/gate/clauses.txt says, nor
-             crates/*/specs more lines of definitions, no larger part of the clauses has the text of another, and
+             crates/*/specs more lines of definitions, no larger part of the clauses has the text of another, no more
+             public functions of the product have no clause on what they return or change, and
              tests/gate/survivors.txt names no more wrong bodies; these numbers may only be lowered, and --lower writes
              lower ones there
 """
@@ -42,7 +44,7 @@ import warnings
 from pathlib import Path
 
 from nixkeep_dev.build import program, release
-from nixkeep_dev.sources import bodies
+from nixkeep_dev.sources import bodies, contracts
 from nixkeep_dev.testing import days, hints, packages, parts, report, sabotage
 from nixkeep_dev.testing.lowered import Lowered, Raised
 from nixkeep_dev.testing.tracked import git, text_of, tracked
@@ -60,12 +62,16 @@ TABLE_OF_ROUTES = "tests/cases/http-routes.txt"
 COLUMNS = 120
 # What may set the path of Python: the commands, what is installed, and an example that finds the installed tools.
 SET_PATH = ("bin/", "tools/", "examples/team/parts.py")
+# The crates that aren't in the product.
+NO_PRODUCT = ("bench", "examples", "examples_tool", "tests")
 GRAMMAR = "crates/tool_words/src/grammar.rt"
 MACHINE = r"(^|[^A-Za-z0-9_.-])/(work|farm|opt|home|Users)/"
 CITATION = (r"\b(T[1-5]|D([1-9]|1[0-9]|2[0-2])|W([1-9]|[12][0-9]|3[0-6])|R([1-9]|1[0-5]))\b"
             r"|[Dd]ocument 0[1-4]|[Pp]aper 0[1-4]|\b0[1-4] (§|section)")
 # Refusals that reach no user, that only a message can get, and that only a file can get as it is opened.
 OF_LIBRARIES, OF_MESSAGES, OF_OPENING = {9, 10, 11, 13, 15}, {36, 37, 38, 39, 40}, {19, 20, 21, 22}
+# Where a flag of this form is: one for copies of crates in which functions are only stated, and two of other programs.
+ALLOWS = ("dev/nixkeep_dev/sources/copies.py:", "tests/package/clean_machine.py:", "docs/OPERATING.md:")
 # What has no planted fault: two read what only the program of crates/bench writes, which the toolchain builds, and one
 # needs a mount namespace.
 NOT_PLANTED = ("tests/compare/nix_archives.py", "tests/compare/nix_derivations.py", "tests/tools/test_snapshot.py")
@@ -96,6 +102,10 @@ def citations():
 def sources():
     read = r"crates/[a-z0-9_]+/(src|specs|proofs)/"
     return [it for it in git("ls-files", "*.rt", "*.antt") if not re.match(read, it)]
+
+
+def allowed():
+    return [it for it in holding("--allow-") if not it.startswith(ALLOWS)]
 
 
 def crates():
@@ -349,6 +359,12 @@ def clauses_in(text):
                 lines, depth = [], 0
 
 
+def without_clauses():
+    """How many public functions of the product have no `ensures`."""
+    files = [it for it in git("ls-files", "crates/*/src/*.rt") if it.split("/")[1] not in NO_PRODUCT]
+    return sum(not found for file in files for _, _, found in contracts.functions_in(file))
+
+
 def counted_clauses():
     """How many lines of clauses are long, what part of all clauses has the text of another, in percent, and how many
     wrong bodies survive them."""
@@ -360,6 +376,7 @@ def counted_clauses():
             "lines of definitions above 120 characters": sum(len(line) > COLUMNS and not IMPORT.match(line)
                                                              for line in defined),
             "percent of clauses that are repeated": round(100 * repeated / len(found), 1),
+            "public functions without clauses": without_clauses(),
             "wrong bodies that they accept": len(bodies.excused(bodies.SURVIVORS))}
 
 
@@ -382,7 +399,7 @@ def compiled(path):
     return [f"{path}:{it.lineno}: {it.message}" for it in said]
 
 
-CHECKS = [handles, machine, citations, sources, crates, mistakes, survivors, by_day, planted, counted, wanted,
+CHECKS = [handles, machine, citations, sources, allowed, crates, mistakes, survivors, by_day, planted, counted, wanted,
           tabled, routed, executable, released, versions, packages_named, scripts, imports, columns, hinted, clauses]
 
 

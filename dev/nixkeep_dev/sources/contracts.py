@@ -6,6 +6,7 @@ crate passes on from another crate are on the page of that crate, or, of a part 
 """
 import functools
 import re
+from collections.abc import Iterator
 from pathlib import Path
 
 from nixkeep_dev.build.program import HERE
@@ -40,7 +41,7 @@ def fields(record: str) -> list[str]:
     return []
 
 
-def functions_in(path):
+def functions_in(path: str) -> Iterator[tuple[str | None, str, list[str]]]:
     """The public functions of a file: the type of each method or None, the name, and the clauses."""
     lines, owner = source(path).split("\n"), None
     for at, line in enumerate(lines):
