@@ -2,10 +2,13 @@
    each call takes one byte. How many bytes the stream had taken before is counted. */
 #include "preload.h"
 #include <errno.h>
+#include <fcntl.h>
 #include <netinet/in.h>
 #include <netinet/tcp.h>
+#include <stdarg.h>
 #include <string.h>
 #include <sys/socket.h>
+#include <sys/stat.h>
 
 static unsigned long taken;
 static int is_over;
@@ -53,11 +56,24 @@ int accept4(int at, __SOCKADDR_ARG who, socklen_t *size, int how) {
 
 int accept(int at, __SOCKADDR_ARG who, socklen_t *size) { return accept4(at, who, size, 0); }
 
-/* Only the calls that have a connection send at once. */
+/* The calls that have a connection send at once, and those that set its time limits. */
 int setsockopt(int at, int level, int name, const void *value, socklen_t size) {
   NEXT(setsockopt);
-  int is_asked = level == IPPROTO_TCP && name == TCP_NODELAY && !is_over && is_named("setsockopt");
-  return is_asked && allowed(0) < 0 ? -1 : next(at, level, name, value, size);
+  int sends = level == IPPROTO_TCP && name == TCP_NODELAY && is_named("setsockopt");
+  int limits = level == SOL_SOCKET && (name == SO_RCVTIMEO || name == SO_SNDTIMEO) && is_named("limit");
+  return !is_over && (sends || limits) && allowed(0) < 0 ? -1 : next(at, level, name, value, size);
+}
+
+/* The calls that make a second handle of a connection. */
+int fcntl(int at, int how, ...) {
+  NEXT(fcntl);
+  va_list more;
+  va_start(more, how);
+  void *value = va_arg(more, void *);
+  va_end(more);
+  struct stat seen;
+  int is_socket = !fstat(at, &seen) && S_ISSOCK(seen.st_mode);
+  return is_socket && how == F_DUPFD_CLOEXEC && !is_over && is_named("handle") && allowed(0) < 0 ? -1 : next(at, how, value);
 }
 
 /* After the first connection that is shut down nothing goes wrong any more, except for an accept. */

@@ -8,7 +8,8 @@ line on standard error are those of the fault, and SQLite finds in the file exac
 alone leaves there. The same is done to the `recv` and `send` of a connection on a port; there the next client, whom
 the same server serves, has to get what those messages leave. Where the k-th connection can't be accepted, those before
 it were served, and the server ends with the line of its input; where a connection can't be set to send at once, it is
-served all the same.
+served all the same. Where it gets no time limits, or no second handle, nothing of it is read, the line is that of the
+input, and the next client is served.
 
 The same is done to commands that read all of standard input. Where a read fails, the store is as it was, and the line
 is that of the input, also where the system has no memory for the read; where a write fails, the object is there, and
@@ -242,20 +243,21 @@ def try_one(tried, fault, at):
 
 
 def try_connecting(tried, fault, at):
-    """What is wrong with a run over three connections, of which two are made, and the k-th call that makes them
-    fails."""
+    """What is wrong with a run over three connections, of which two are made, and the k-th call that makes them, or
+    prepares the first, fails."""
     session, (name, faults) = fault.session, fault.settings(tried, at)
-    path, is_over = tried.path(name), fault.stream == "accept"
+    path, is_over, is_read = tried.path(name), fault.stream == "accept", fault.stream not in ("limit", "handle")
     clients = [session.given, messages(STATE)][: at - 1 if is_over else 2]
     status, came, errors = tried.serve_port(path, clients, 3 if is_over else 2, faults)
     if taken_at(tried, faults)[0] is None:
         return "it doesn't come to the fault"
-    if (status, errors) != ((1, INPUT) if is_over else (0, b"")):
+    if (status, errors) != ((1, INPUT) if is_over or not is_read else (0, b"")):
         return f"status {status}, {errors!r}"
-    if [*came[:1], *map(state_of, came[1:])] != [session.written, session.states[-1]][: len(clients)]:
+    count = len(session.asked) if clients and is_read else 0
+    wanted = [session.written if is_read else b"", session.states[count]][: len(clients)]
+    if [*came[:1], *map(state_of, came[1:])] != wanted:
         return f"clients are answered {came!r}"
-    is_right = rows_in(path) == session.rows[len(session.asked) if clients else 0]
-    return None if is_right else "the file isn't as it should be"
+    return None if rows_in(path) == session.rows[count] else "the file isn't as it should be"
 
 
 def try_command(tried, fault, at):
@@ -311,7 +313,7 @@ def sessions(tried):
 
 
 @SESSIONS
-@pytest.mark.parametrize("call, most", [("accept", 3), ("setsockopt", 1)])
+@pytest.mark.parametrize("call, most", [("accept", 3), ("setsockopt", 1), ("limit", 2), ("handle", 1)])
 def test_a_connection_that_fails(tried, sessions, name, call, most):
     for at in range(1, most + 1):
         fault = Fault(sessions(name), call, "fails")
