@@ -138,22 +138,27 @@ def subjects(site: Any) -> None:
 
 
 def half_asked(site: Any) -> None:
-    """Who sends no request, or half of one, loses the connection after ten seconds, also within TLS."""
+    """Who sends no request, or half of one, loses the connection after ten seconds, also within TLS, and after a
+    request that was answered."""
     trusted = ssl.create_default_context(cafile=f"{site.etc}/tls/ca.pem")
 
-    def closed(sent, is_encrypted):
+    def closed(sent, is_encrypted, ahead=b""):
         with socket.create_connection(("127.0.0.1", site.port)) as plain:
             made = trusted.wrap_socket(plain, server_hostname="red.localhost") if is_encrypted else plain
             made.settimeout(30)
+            if ahead:
+                made.sendall(ahead)
+                made.recv(65_536)
             made.sendall(sent)
             try:
                 return made.recv(1)
             except OSError as error:
                 return error
 
-    asked = (b"", False), (b"\x16\x03\x01\x02\x00\x01", False), (b"", True), (b"GET /paths HTTP/1.1\r\nhost: red", True)
-    with ThreadPoolExecutor(4) as pool:
-        same("half a request is waited for ten seconds", [*pool.map(lambda it: closed(*it), asked)], [b""] * 4)
+    half, health = b"GET /paths HTTP/1.1\r\nhost: red", b"HEAD /health HTTP/1.1\r\nhost: red.localhost\r\n\r\n"
+    asked = (b"", False), (b"\x16\x03\x01\x02\x00\x01", False), (b"", True), (half, True), (half, True, health)
+    with ThreadPoolExecutor(5) as pool:
+        same("half a request is waited for ten seconds", [*pool.map(lambda it: closed(*it), asked)], [b""] * 5)
 
 
 def forms_of_large(site: Any) -> None:

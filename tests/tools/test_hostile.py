@@ -237,6 +237,40 @@ def test_what_a_stranger_sends_fills_no_disk(what, site, logs):
     assert logs() - before < 1000
 
 
+def test_names_of_no_team_fill_no_disk(site, logs):
+    """Within a connection to a team such a name has no answer, and no line either. (Debian's nginx has a log for all
+    servers that name no other.)"""
+    before, eve = logs(), site.user(None)
+    for _ in range(20):
+        assert eve("GET", f"/{'x' * 3000}", None, "-H", "host: evil.example", "-A", "x" * 3000)[0] == 0
+    site.user("ann")("GET", "/nix-cache-info")
+    parts.until("the line of a user", lambda: logs() > before)
+    assert logs() - before < 1000
+
+
+# What is wrong with the first bytes of a client of TLS: bytes of them, and what comes in their place.
+HANDSHAKES = {"an extension of another length": (b"\0\x17\0\0", b"\0\x17\0\1"),
+              "no algorithms of signatures": (b"\0\x0d\0", b"\x12\x34\0")}
+
+
+@pytest.mark.parametrize("what", HANDSHAKES)
+def test_broken_handshakes_fill_no_disk(what, site, logs):
+    """To nginx 1.22 some of them are critical."""
+    sent, before = ssl.MemoryBIO(), logs()
+    client = ssl.create_default_context().wrap_bio(ssl.MemoryBIO(), sent, server_hostname="red.localhost")
+    with contextlib.suppress(ssl.SSLWantReadError):
+        client.do_handshake()
+    old, new = HANDSHAKES[what]
+    assert old in (hello := sent.read())
+    for _ in range(20):
+        with socket.create_connection(("127.0.0.1", site.port)) as plain:
+            plain.sendall(hello.replace(old, new, 1))
+            assert plain.recv(100)[:1] == b"\x15", "the alert that ends it"
+    site.user("ann")("GET", "/nix-cache-info")
+    parts.until("the line of a user", lambda: logs() > before)
+    assert logs() - before < 1000
+
+
 def test_a_wrong_password_is_a_short_line(site, logs):
     before = logs()
     assert site.user("ann", password="wrong")("GET", f"/{'x' * 3000}")[0] == 401
