@@ -10,10 +10,10 @@ from nixkeep_dev.build.program import HERE
 from nixkeep_dev.testing.tracked import tracked
 
 
-def ran(words: list[str], text: str = "") -> tuple[int, str]:
-    """The status of a command, and what it printed."""
+def ran(words: list[str], text: str = "", cwd: str | None = None) -> tuple[int, str]:
+    """The status of a command, run in a folder, and what it printed."""
     how = {"stdout": subprocess.PIPE, "stderr": subprocess.STDOUT, "text": True, "errors": "replace"}
-    done = subprocess.run(words, input=text, **how)
+    done = subprocess.run(words, input=text, cwd=cwd, **how)
     return done.returncode, done.stdout
 
 

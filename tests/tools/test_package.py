@@ -279,8 +279,8 @@ def test_a_removal_leaves_the_configuration_and_a_purge_nothing(fresh):
 # ---- bin/install
 
 
-def install(*words):
-    return ran([f"{HERE}/bin/install", *words])
+def install(*words, **more):
+    return ran([f"{HERE}/bin/install", *words], **more)
 
 
 @pytest.mark.parametrize("option", [["--prefix"], []], ids=["--prefix", "a word"])
@@ -292,6 +292,16 @@ def test_bin_install(given, folder, option):
     for name in os.listdir(f"{folder}/bin"):
         if name != "nixkeep":
             assert ran([f"{folder}/bin/{name}", "--version"]) == (0, f"{name} {layout.version()}\n")
+
+
+def test_bin_install_runs_nothing_of_the_folder_where_it_is_called(given, folder):
+    """Python looks there first for a module that it is to run, and for what that imports."""
+    os.mkdir(hostile := f"{folder}/hostile")
+    for name in ("compileall", "filecmp", "py_compile", "struct"):
+        Path(f"{hostile}/{name}.py").write_text(f"open({f'{folder}/ran'!r}, 'w')\n")
+    assert install("--prefix", f"{folder}/prefix", *given, cwd=hostile)[0] == 0
+    assert not Path(f"{folder}/ran").exists()
+    assert not_compiled(f"{folder}/prefix/lib/nixkeep") == []
 
 
 def test_two_prefixes_are_refused(folder):

@@ -98,9 +98,9 @@ def install(prefix, file):
 
 def compile_modules(folder):
     """Compiles the modules of the tools, by the Python that their first lines name, or else by this one. A user who may
-    not write there would compile them at each start."""
+    not write there would compile them at each start. (-I: it takes no module from the folder where it is called.)"""
     python = "/usr/bin/python3" if os.access("/usr/bin/python3", os.X_OK) else sys.executable
-    subprocess.run([python, "-m", "compileall", "-q", folder], stdout=subprocess.DEVNULL)
+    subprocess.run([python, "-I", "-m", "compileall", "-q", folder], stdout=subprocess.DEVNULL)
 
 
 def arguments(words):
