@@ -1,5 +1,13 @@
 # bash completion for nixkeep-backup
 
+# Adds names of files, or of what `compgen` is asked for in their place. bash quotes them, so that nothing in them is run.
+_nixkeep_backup_files() {
+  local found
+  mapfile -t found < <(compgen "${1:--f}" -- "$current")
+  [[ ${#found[@]} -eq 0 ]] || compopt -o filenames 2>/dev/null
+  COMPREPLY+=("${found[@]}")
+}
+
 _nixkeep_backup() {
   local current=${COMP_WORDS[COMP_CWORD]} previous=${COMP_WORDS[COMP_CWORD - 1]} word action='' words=''
   COMPREPLY=()
@@ -10,11 +18,11 @@ _nixkeep_backup() {
   done
   case $previous in
     --db | --config | --program | --note | --state | --credentials | --ca)
-      mapfile -t COMPREPLY < <(compgen -f -- "$current")
+      _nixkeep_backup_files
       return
       ;;
     --to | --folder)
-      mapfile -t COMPREPLY < <(compgen -d -- "$current")
+      _nixkeep_backup_files -d
       return
       ;;
     --server)
@@ -35,7 +43,8 @@ _nixkeep_backup() {
     restore) words='--folder --config --program' ;;
     before-migration) words='--db --config --program' ;;
   esac
-  mapfile -t COMPREPLY < <(compgen -W "$words --version --help" -- "$current"; [[ $action != restore ]] || compgen -f -- "$current")
+  mapfile -t COMPREPLY < <(compgen -W "$words --version --help" -- "$current")
+  [[ $action != restore ]] || _nixkeep_backup_files
 }
 
 complete -F _nixkeep_backup nixkeep-backup

@@ -13,9 +13,13 @@ _nixkeep_cache() {
   COMPREPLY=()
   case $before in
     --config | --db | --nixkeep | --listen | --sign-with | --backup-state)
+      compopt -o filenames 2>/dev/null
       mapfile -t COMPREPLY < <(compgen -f -- "$word")
       ;;
-    --waiting | --blobs) mapfile -t COMPREPLY < <(compgen -d -- "$word") ;;
+    --waiting | --blobs)
+      compopt -o filenames 2>/dev/null
+      mapfile -t COMPREPLY < <(compgen -d -- "$word")
+      ;;
     --user | --monitor) mapfile -t COMPREPLY < <(compgen -u -- "$word") ;;
     --group) mapfile -t COMPREPLY < <(compgen -g -- "$word") ;;
     --store | --server | --most-bytes* | --waiting-* | --large-from | --blobs-* | --grace | --session-seconds | --idle) ;;

@@ -1,5 +1,13 @@
 # bash completion for nixkeep-closure
 
+# Adds names of files. bash quotes them, so that nothing in them is run.
+_nixkeep_closure_files() {
+  local found
+  mapfile -t found < <(compgen -f -- "$current")
+  [[ ${#found[@]} -eq 0 ]] || compopt -o filenames 2>/dev/null
+  COMPREPLY+=("${found[@]}")
+}
+
 _nixkeep_closure() {
   local current=${COMP_WORDS[COMP_CWORD]} previous=${COMP_WORDS[COMP_CWORD - 1]} word action='' words=''
   COMPREPLY=()
@@ -10,11 +18,12 @@ _nixkeep_closure() {
   done
   case $previous in
     --db | --config | --credentials | --ca | --program | --to-config)
-      mapfile -t COMPREPLY < <(compgen -f -- "$current")
+      _nixkeep_closure_files
       return
       ;;
     --to)
-      mapfile -t COMPREPLY < <(compgen -W 'http:// https:// unix:/' -- "$current"; compgen -f -- "$current")
+      mapfile -t COMPREPLY < <(compgen -W 'http:// https:// unix:/' -- "$current")
+      _nixkeep_closure_files
       return
       ;;
     --server)
@@ -31,7 +40,7 @@ _nixkeep_closure() {
       ;;
     --session) return ;;
     --root | --profile)
-      [[ $action != pull ]] || mapfile -t COMPREPLY < <(compgen -f -- "$current")
+      [[ $action != pull ]] || _nixkeep_closure_files
       return
       ;;
     --permanent) return ;;
@@ -42,7 +51,8 @@ _nixkeep_closure() {
     pull) words='--root --profile --help' ;;
     copy) words='--to --to-config --root --permanent --profile --help' ;;
   esac
-  mapfile -t COMPREPLY < <(compgen -W "$words" -- "$current"; [[ -z $action ]] || compgen -f -- "$current")
+  mapfile -t COMPREPLY < <(compgen -W "$words" -- "$current")
+  [[ -z $action ]] || _nixkeep_closure_files
 }
 
 complete -F _nixkeep_closure nixkeep-closure

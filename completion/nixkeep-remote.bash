@@ -43,10 +43,12 @@ _nixkeep_remote() {
   [[ $previous != '=' ]] || previous=${COMP_WORDS[COMP_CWORD - 2]}
   case $previous in
     --credentials | --ca)
+      compopt -o filenames 2>/dev/null
       mapfile -t COMPREPLY < <(compgen -f -- "$current")
       return
       ;;
     --store-dir)
+      compopt -o filenames 2>/dev/null
       mapfile -t COMPREPLY < <(compgen -d -- "$current")
       return
       ;;

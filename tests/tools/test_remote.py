@@ -7,6 +7,7 @@ late, proxies, replies, streams or cases is a part of this.)
 """
 import contextlib
 import os
+import pty
 import random
 import re
 import resource
@@ -144,6 +145,55 @@ def test_words_of_a_hostile_server_in_completion(folder):
         offered = completed("nixkeep-remote", *words, env=env, cwd=folder)
         assert [it for it in offered if it[:2] != "--"] == [path], words
     assert sorted(os.listdir(folder)) == ["lines", "nixkeep-remote"], "nothing was run"
+
+
+FILE = "$(touch ran); &.db"
+
+
+def last_word(command, typed, folder):
+    """The last word that a command gets once bash has completed a line, and somebody has confirmed that."""
+    ours, theirs = pty.openpty()
+    bash = subprocess.Popen(["bash", "--norc", "--noprofile", "-i"], stdin=theirs, stdout=theirs, stderr=theirs,
+                            cwd=folder, env={**os.environ, "TERM": "dumb", "PS1": "ready> "}, start_new_session=True)
+    os.close(theirs)
+    begun = f"source '{HERE}/completion/{command}.bash'; {command}() {{ printf %s \"${{@: -1}}\" >../last; }}\n"
+    with contextlib.suppress(OSError):
+        for line in (begun, f"{typed}\t\n", "exit\n"):
+            shown = b""
+            while not shown.endswith(b"ready> "):
+                shown += os.read(ours, 4096)
+            os.write(ours, line.encode())
+        while os.read(ours, 4096):
+            pass
+    os.close(ours)
+    bash.wait()
+    return Path(f"{folder}/../last").read_text()
+
+
+@pytest.mark.parametrize("typed", [
+    "nixkeep --db ", "nixkeep-backup copy --db ", "nixkeep-backup restore red \\$", "nixkeep-cache --config ",
+    "nixkeep-closure --ca ", "nixkeep-closure push \\$", "nixkeep-closure copy --to \\$", "nixkeep-explain ",
+    "nixkeep-overview --db ", "nixkeep-remote --ca "])
+def test_names_of_files_in_completion(typed, folder):
+    """Nothing of the name of a file is run."""
+    os.mkdir(place := f"{folder}/files")
+    open(f"{place}/{FILE}", "x").close()
+    assert (last_word(typed.split()[0], typed, place), os.listdir(place)) == (FILE, [FILE])
+
+
+@pytest.mark.parametrize("typed", [
+    "nixkeep-backup copy --to ", "nixkeep-cache --blobs ", "nixkeep-remote --store-dir "])
+def test_names_of_folders_in_completion(typed, folder):
+    os.makedirs(f"{(place := f'{folder}/files')}/{FILE}")
+    assert (last_word(typed.split()[0], typed, place), os.listdir(place)) == (f"{FILE}/", [FILE])
+
+
+def test_places_in_completion(folder):
+    """Only names of files are quoted."""
+    os.mkdir(place := f"{folder}/files")
+    assert last_word("nixkeep-closure", "nixkeep-closure copy --to u", place) == "unix:/"
+    open(f"{place}/http:", "x").close()
+    assert completed("nixkeep-closure", "copy", "--to", "h", cwd=place) == ["http:", "http://", "https://"]
 
 
 @pytest.mark.parametrize("name", ["_nixkeep", "nixkeep.fish"])
