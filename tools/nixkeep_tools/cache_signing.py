@@ -152,7 +152,9 @@ class Signing:
         for name in self.trusted.keys() & by_name.keys():
             for it in by_name[name][:TESTED]:
                 if self.is_good(name, message, it):
-                    cache_lists.add(self.conn, "INSERT OR IGNORE INTO signature VALUES (?, ?, ?)", (*row, it))
+                    # (in the one form of its bytes, or it could be kept sixteen times)
+                    kept = written(*read_form(it))
+                    cache_lists.add(self.conn, "INSERT OR IGNORE INTO signature VALUES (?, ?, ?)", (*row, kept))
 
     def is_good(self, name: str, message: bytes, text: str) -> bool:
         form = read_form(text)
