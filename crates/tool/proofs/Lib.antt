@@ -6,4 +6,5 @@ pub mod Reading
 pub mod RefusedPrefixes
 pub mod Requested
 pub mod Returned
+pub mod Unchanged
 pub mod Whole

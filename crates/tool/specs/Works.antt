@@ -66,6 +66,10 @@ module _ {S : Type 0} (g : Ghosts S) where
   abbrev pub DoesFrom : Settings → TablesValue S → OnStore → Console → Type 0
   DoesFrom s t d console = (new : StoreView S) × DoesAt d console (record { tables = t; settings = s }) new
 
+-- what the tables of a store described before, they describe now
+abbrev pub KeepsWorlds : {S : Type 0} → Ghosts S → StoreView S → StoreView S → Type 0
+KeepsWorlds g old new = (w : World) → HasWorld g old.tables w → HasWorld g new.tables w
+
 -- the work of the code is done
 abbrev pub DoesWork : Work → (OnStore → Console → Type 0) → Console → Type 0
 DoesWork work does console = (d : OnStore) → work_view work ≡ Some d → does d console

@@ -1,5 +1,5 @@
 //! Subcommands that make a request to a store.
-ghost use Rattle.std.specs.Prelude.{IsSome};
+ghost use Rattle.std.specs.Prelude.{◌≡◌, IsSome, true};
 ghost use Rattle.model.specs.Reply.{Reply};
 ghost use Rattle.store_types.specs.View.{request_view};
 ghost use Rattle.store.specs.Calls.{Calls};
@@ -10,7 +10,7 @@ ghost use Rattle.tool.specs.Answer.{AnswersAsking};
 ghost use Rattle.tool.specs.Files.{DoesFile};
 ghost use Rattle.tool.specs.Requests.{AnswersAsked, asks, most_read};
 ghost use Rattle.tool.specs.Streams.{AnswersOn, wrote};
-ghost use Rattle.tool.specs.Works.{DoesOver, calls};
+ghost use Rattle.tool.specs.Works.{DoesOver, KeepsWorlds, calls};
 
 use crate::caller_task::CallerTask;
 use crate::close::reads;
@@ -60,10 +60,12 @@ pub(crate) fn call_over<S: Alter, R: Read, W: Write, E: Write>(
     console: &mut Console<'_, '_, '_, R, W, E>,
 ) -> Worked
     requires { IsSome (asks (asked_view task.now)) }
-    ensures { AnswersOn (most_read (asked_view task.now))
+    ensures answered { AnswersOn (most_read (asked_view task.now))
         (AnswersAsked (asked_view task.now) (λ ask shown. DoesOver S.Store (calls caller.now ask) shown store.old
         store.new))
         R.remaining W.contents E.contents console.old console.new result.status }
+    // Only a store that is as it was may be left unclosed.
+    ensures unchanged { result.reads ≡ true → KeepsWorlds S.Store store.old store.new }
 {
     match request(
         alloc,

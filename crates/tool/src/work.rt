@@ -1,7 +1,7 @@
 //! What a command line does with a store.
-ghost use Rattle.std.specs.Prelude.{◌≡◌};
+ghost use Rattle.std.specs.Prelude.{◌≡◌, true};
 ghost use Rattle.tool.specs.Streams.{AnswersOn};
-ghost use Rattle.tool.specs.Works.{DoesAt, DoesFrom, DoesWork, most_for};
+ghost use Rattle.tool.specs.Works.{DoesAt, DoesFrom, DoesWork, KeepsWorlds, most_for};
 
 use crate::caller_task::CallerTask;
 use crate::calls::call_over;
@@ -31,7 +31,7 @@ pub(crate) enum Work<'a> {
 pub(crate) struct Worked {
     /// The exit status.
     pub(crate) status: u8,
-    /// Whether the store was only read.
+    /// Whether the store was only read, so that nothing has to be brought into its file.
     pub(crate) reads: bool,
 }
 
@@ -42,9 +42,11 @@ fn work_over<S: Alter, R: Read, W: Write, E: Write>(
     work: &Work<'_>,
     console: &mut Console<'_, '_, '_, R, W, E>,
 ) -> Worked
-    ensures { AnswersOn (most_for work.now)
+    ensures answered { AnswersOn (most_for work.now)
         (DoesWork work.now (λ d shown. DoesAt S.Store d shown store.old store.new))
         R.remaining W.contents E.contents console.old console.new result.status }
+    // Only a store that is as it was may be left unclosed.
+    ensures unchanged { result.reads ≡ true → KeepsWorlds S.Store store.old store.new }
 {
     match work {
         Work::Call(asking) => call_over(rt.alloc(), store, asking.caller, asking.task, console),

@@ -6,10 +6,11 @@ use Rattle.tool.specs.Calls.{Serves}
 use Rattle.tool.specs.Requests.{IsAskedBy}
 use Rattle.tool.proofs.Answered.{errors_only}
 use Rattle.tool.proofs.Called.{asked, served, stopped_over}
+use Rattle.tool.proofs.Unchanged.{unchanged}
 use Rattle.tool.proofs.calls.call_over.Goals as goal
 
-pub returns-in-Ok : goal.returns-in-Ok
-returns-in-Ok g c = record {
+pub returns-in-Ok-clause-answered : goal.returns-in-Ok-clause-answered
+returns-in-Ok-clause-answered g c = record {
   given = record {
     answer = λ ask is.
         let input = change_of g.R.Read.remaining c.args.console.now.input.now c.request.new.input in
@@ -31,8 +32,8 @@ returns-in-Ok g c = record {
   same = (refl, refl, refl);
 }
 
-pub returns-in-Err : goal.returns-in-Err
-returns-in-Err g c = record {
+pub returns-in-Err-clause-answered : goal.returns-in-Err-clause-answered
+returns-in-Err-clause-answered g c = record {
   given = record {
     answer = λ ask is.
         let input = change_of g.R.Read.remaining c.args.console.now.input.now c.request.new.input in
@@ -54,3 +55,9 @@ returns-in-Err g c = record {
   };
   same = (refl, refl, refl);
 }
+
+pub returns-in-Ok-clause-unchanged : goal.returns-in-Ok-clause-unchanged
+returns-in-Ok-clause-unchanged g c reads =
+    unchanged g.S.Store c.args.caller.now (request_view c.in-Ok.request) c.call_store-status.ensures.0
+    c.args.store.now c.call_store-status.new.store c.call_store-status.ensures.1
+    (λ w. c.reads-reads.ensures.still reads c.args.store.now.settings w)

@@ -9,8 +9,8 @@ use Rattle.tool.specs.declared.work.Work.TheVariants.{Call, Serve}
 use Rattle.tool.proofs.Reading.{within_same}
 use Rattle.tool.proofs.work.work_over.Goals as goal
 
-pub returns-in-Call : goal.returns-in-Call
-returns-in-Call g c = record {
+pub returns-in-Call-clause-answered : goal.returns-in-Call-clause-answered
+returns-in-Call-clause-answered g c = record {
   given = record {
     answer = λ d is.
         let console =
@@ -20,21 +20,21 @@ returns-in-Call g c = record {
         called caller (asks (asked_view c.in-Call.asking.task.now))
         (λ x. DoesAt g.S.Store x console c.args.store.now c.call_over.new.store)
         (λ ask also. (
-          c.call_over.ensures.given.answer ask also,
+          c.call_over.ensures.answered.given.answer ask also,
           λ world reported. asked_in g.S.Store caller console.written c.args.store.now c.call_over.new.store world
               reported ask c.args.store.now.settings.store_dir console.input
-              (c.call_over.ensures.given.answer ask also),
+              (c.call_over.ensures.answered.given.answer ask also),
         )) d
         (sym (ap work_view c.in-Call.is) ∙ is);
     reads =
         within_same (most_for c.args.work.now) (most_for (Call c.in-Call.asking)) _ _ (ap most_for c.in-Call.is)
-        c.call_over.ensures.given.reads;
+        c.call_over.ensures.answered.given.reads;
   };
-  same = c.call_over.ensures.same;
+  same = c.call_over.ensures.answered.same;
 }
 
-pub returns-in-Serve : goal.returns-in-Serve
-returns-in-Serve g c = record {
+pub returns-in-Serve-clause-answered : goal.returns-in-Serve-clause-answered
+returns-in-Serve-clause-answered g c = record {
   given = record {
     answer = λ d is.
         let console =

@@ -12,9 +12,9 @@ returns g c = record {
         c.work_over-worked.new.console c.work_over-worked.result.status in (
           c.work_over-worked.new.store,
           subst (λ old. DoesAt g.S.Store d console old c.work_over-worked.new.store) c.store_for-store.ensures
-              (c.work_over-worked.ensures.given.answer d is),
+              (c.work_over-worked.ensures.answered.given.answer d is),
         );
-    reads = c.work_over-worked.ensures.given.reads;
+    reads = c.work_over-worked.ensures.answered.given.reads;
   };
-  same = c.work_over-worked.ensures.same;
+  same = c.work_over-worked.ensures.answered.same;
 }
