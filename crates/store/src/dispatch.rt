@@ -2,6 +2,8 @@
 
 ghost use Rattle.std.specs.Prelude.{◌≡◌, Err, IsTrue, false};
 ghost use Rattle.std.specs.List.{list_any};
+ghost use Rattle.policy.specs.Caller.{Caller};
+ghost use Rattle.policy.specs.Class.{class_of};
 ghost use Rattle.model.specs.World.{World};
 ghost use Rattle.model.specs.Liveness.{lives};
 ghost use Rattle.model.specs.Verdict.{named_in};
@@ -13,7 +15,7 @@ ghost use Rattle.tables_sql.specs.declared.failure.Failed.TheVariants.{Memory as
 ghost use Rattle.store_promises.specs.Meets.{IsMet, reply_to};
 
 use crate::{disk, liveness, records, root_lists};
-use policy::{Caller, Config};
+use policy::{Class, Config};
 use sqlite::Alter;
 use std::alloc::Global;
 use store_adds::adds::add_text;
@@ -29,11 +31,12 @@ use store_roots::user_roots::{drop_user_root, set_user_root};
 use store_types::{Answer, Imported, Reply, Request, Stop};
 use tables_writes::Tables;
 
-/// Does a request: runs its tests in their order, then makes its one change, and returns its answer.
+/// Does a request of a caller of a class: runs its tests in their order, then makes its one change, and returns its
+/// answer.
 pub(crate) fn act<S: Alter>(
     alloc: Global,
     config: &Config,
-    caller: &Caller,
+    class: Class,
     tables: &mut Tables<S>,
     request: Request,
 ) -> Result<Answer, Stop>
@@ -41,53 +44,42 @@ pub(crate) fn act<S: Alter>(
     // What is deleted by name is dead.
     requires dead { (w : World) → HasWorld S.Store tables.old w
         → list_any (lives config.now w) (named_in (request_view request)) ≡ false }
-    ensures met { IsMet S.Store config.now caller.now (request_view request) result tables.old tables.new }
+    ensures met { (c : Caller) → class ≡ class_of config.now c
+        → IsMet S.Store config.now c (request_view request) result tables.old tables.new }
+    ensures dir { tables.new.dir ≡ tables.old.dir }
     ensures spent { IsTrue (is_spent request) → (result ≡ Err (failed memory)) × (tables.new ≡ tables.old) }
 {
     match request {
         Request::AddText {
             name,
             refs,
-            contents: text,
-        } => add_text(alloc, config, tables, name, refs, text),
+            contents,
+        } => add_text(alloc, config, tables, name, refs, contents),
         Request::Info(path) => records::info(alloc, tables.outline(), path),
         Request::Nar(path) => disk::archive(tables, path),
         Request::Ls(path) => disk::listing(alloc, tables, path),
         Request::List => records::list(alloc, tables.outline()),
         Request::Live => liveness::list_live(alloc, config, tables.outline()),
         Request::Dead => liveness::list_dead(alloc, config, tables.outline()),
-        Request::ListRoots => root_lists::list_roots(alloc, config, caller, tables.outline()),
+        Request::ListRoots => root_lists::list_roots(alloc, class, tables.outline()),
         Request::RootsOf(path) => {
-            root_lists::list_roots_of(alloc, config, caller, tables.outline(), path)
+            root_lists::list_roots_of(alloc, config, class, tables.outline(), path)
         }
         Request::Report => liveness::report(alloc, config, tables.outline()),
         Request::SetPermanent { name, path } => set_permanent(tables, name, path),
         Request::DropPermanent { name } => drop_permanent(tables, name),
-        Request::SetUserRoot {
-            user: owner,
-            name,
-            path,
-        } => set_user_root(tables, (owner, name), path),
-        Request::DropUserRoot { user: owner, name } => drop_user_root(tables, (owner, name)),
-        Request::Rollback {
-            user: owner,
-            profile: name,
-        } => rollback(tables, (owner, name)),
-        Request::Switch {
-            user: owner,
-            profile: name,
-            n: number,
-        } => switch(tables, (owner, name), number),
-        Request::DeleteGeneration {
-            user: owner,
-            profile: name,
-            n,
-        } => delete_generation(tables, (owner, name), n),
+        Request::SetUserRoot { user, name, path } => set_user_root(tables, (user, name), path),
+        Request::DropUserRoot { user, name } => drop_user_root(tables, (user, name)),
+        Request::Rollback { user, profile } => rollback(tables, (user, profile)),
+        Request::Switch { user, profile, n } => switch(tables, (user, profile), n),
+        Request::DeleteGeneration { user, profile, n } => {
+            delete_generation(tables, (user, profile), n)
+        }
         Request::SetProfile {
-            user: owner,
-            profile: name,
+            user,
+            profile,
             path,
-        } => set_profile(tables, (owner, name), path),
+        } => set_profile(tables, (user, profile), path),
         Request::AddTemp {
             owner,
             session,
@@ -117,13 +109,13 @@ pub(crate) fn act<S: Alter>(
             import_object(alloc, config, tables, object)
         }
         Request::Collect {
-            ignore_liveness: ignores,
-            max_freed: limit,
-        } => collect(alloc, config, tables, ignores, limit),
+            ignore_liveness,
+            max_freed,
+        } => collect(alloc, config, tables, ignore_liveness, max_freed),
         Request::Delete {
-            paths: named,
-            ignore_liveness: ignores,
-        } => delete(alloc, tables, named, ignores),
+            paths,
+            ignore_liveness,
+        } => delete(alloc, tables, paths, ignore_liveness),
     }
 }
 

@@ -4,6 +4,8 @@ ghost use Rattle.std.specs.Prelude.{◌≡◌, ◌≤◌, Err, IfOk, IsTrue, [],
 ghost use Rattle.std.specs.List.{list_any};
 ghost use Rattle.sqlite.specs.State.{HasCleanDisk, Survives};
 ghost use Rattle.sqlite.specs.Held.{state};
+ghost use Rattle.policy.specs.Caller.{Caller as TheCaller};
+ghost use Rattle.policy.specs.Class.{class_of};
 ghost use Rattle.model.specs.World.{World};
 ghost use Rattle.model.specs.Reply.{IsDone};
 ghost use Rattle.model.specs.Liveness.{lives};
@@ -23,7 +25,7 @@ ghost use Rattle.tables_sql.specs.declared.failure.Failed.TheVariants.{Memory as
 ghost use Rattle.store.specs.View.{IsStill};
 
 use crate::dispatch::{act, reply};
-use policy::{Caller, Config, Rule, class, decide};
+use policy::{Caller, Class, Config, Rule, class, decide};
 use sqlite::Alter;
 use std::alloc::{AllocError, Global};
 use std::marker::Model;
@@ -121,22 +123,23 @@ impl<S: Alter> Store<S> {
         Vec::with_capacity(self.alloc, count)
     }
 
-    /// The denial by the first rule that forbids a request, or out of memory while it is made. `None` if no rule
-    /// forbids the request.
-    fn forbidden(&self, caller: &Caller, request: &Request) -> Option<Reply>
-        ensures reported { (w : World) → HasWorld S.Store self.now.tables w
+    /// The denial by the first rule that forbids a request of a caller of a class, or out of memory while it is made.
+    /// `None` if no rule forbids the request.
+    fn forbidden(&self, class: Class, caller: &Caller, request: &Request) -> Option<Reply>
+        ensures reported { class ≡ class_of self.now.settings caller.now → (w : World)
+            → HasWorld S.Store self.now.tables w
             → IsForbidden self.now.settings w caller.now (request_view request.now) (option_map reply_view result) }
         // What deletes nothing by name is forbidden by the rules alone.
-        ensures ruled { deletes (request_view request.now) ≡ false
+        ensures ruled { class ≡ class_of self.now.settings caller.now → deletes (request_view request.now) ≡ false
             → option_map reply_view result ≡ denial_by_rules self.now.settings caller.now (request_view request.now) }
     {
-        if let Some(rule) = decide(class(&self.config, caller), caller, &operation(request)) {
+        if let Some(rule) = decide(class, caller, &operation(request)) {
             return Some(Reply::Denied(rule, None));
         }
         match denial(
             self.alloc,
             &self.config,
-            caller,
+            class,
             self.tables.outline(),
             request,
         ) {
@@ -146,17 +149,17 @@ impl<S: Alter> Store<S> {
         }
     }
 
-    /// Does a request that no rule forbids.
-    fn act(&mut self, caller: &Caller, request: Request) -> Result<Answer, Stop>
+    /// Does a request, which no rule forbids, of a caller of a class.
+    fn act(&mut self, class: Class, request: Request) -> Result<Answer, Stop>
         requires { (w : World) → HasWorld S.Store self.old.tables w
             → list_any (lives self.old.settings w) (named_in (request_view request)) ≡ false }
         ensures settings { self.new.settings ≡ self.old.settings }
-        ensures met { IsMet S.Store self.old.settings caller.now (request_view request) result
-            self.old.tables self.new.tables }
+        ensures met { (c : TheCaller) → class ≡ class_of self.old.settings c
+            → IsMet S.Store self.old.settings c (request_view request) result self.old.tables self.new.tables }
         ensures spent { IsTrue (is_spent request)
             → (result ≡ Err (failed memory)) × (self.new.tables ≡ self.old.tables) }
     {
-        act(self.alloc, &self.config, caller, &mut self.tables, request)
+        act(self.alloc, &self.config, class, &mut self.tables, request)
     }
 
     /// Does a caller's request, or returns why not: the first rule that forbids the request, or else the first of its
@@ -202,9 +205,10 @@ impl<S: Alter> Store<S> {
             (λ db. LeavesDone self.old.tables.dir (state S.Store self.old.tables.connection).now db
             self.old.settings w caller.now (request_view request)) }
     {
-        match self.forbidden(caller, &request) {
+        let class = class(self.config(), caller);
+        match self.forbidden(class, caller, &request) {
             Some(forbidden) => forbidden,
-            None => reply(self.act(caller, request)),
+            None => reply(self.act(class, request)),
         }
     }
 }

@@ -15,6 +15,7 @@ ghost use Rattle.store_reach.specs.Found.{IsDenial, deletes, found_view};
 ghost use Rattle.store_reach.specs.Linked.{graph_in};
 ghost use Rattle.store_types.specs.Tested.{Gives};
 ghost use Rattle.store_types.specs.View.{request_view};
+ghost use Rattle.policy.specs.Class.{class_of};
 ghost use Rattle.policy.specs.Settings.{Settings};
 ghost use Rattle.model.specs.Sound.{IsSound};
 ghost use Rattle.model.specs.Effects.{keeping};
@@ -31,7 +32,7 @@ use crate::removal::{Found, remove};
 use crate::sizes::bytes_in;
 use live::{Graph, Keep, Row, place_of, referrers};
 use paths::StorePath;
-use policy::{Caller, Config, class};
+use policy::{Class, Config};
 use sqlite::Alter;
 use std::alloc::{AllocError, Global};
 use store_promises::validity::are_valid;
@@ -119,23 +120,23 @@ pub fn deleted_paths(
     paths_found(alloc, links, &reaching)
 }
 
-/// The root that denies a deletion: the first root of the first named path that is live, as the caller sees it. `None`
-/// if all named paths are dead.
+/// The root that denies a deletion: the first root of the first named path that is live, as a caller of a class sees
+/// it. `None` if all named paths are dead.
 pub fn denial(
     alloc: Global,
     config: &Config,
-    caller: &Caller,
+    class: Class,
     outline: &Outline,
     request: &Request,
 ) -> Result<Option<(String, StorePath)>, AllocError>
-    ensures root { IfOk result (λ root. (w : World) → outline_of w ≡ outline.now
-        → IsDenial config.now w caller.now (request_view request.now) root) }
+    ensures root { IfOk result (λ root. (w : World) (c : callers.Caller) → outline_of w ≡ outline.now
+        → class ≡ class_of config.now c → IsDenial config.now w c (request_view request.now) root) }
     // A request that is no deletion takes no memory, and none keeps it from being done.
     ensures unnamed { deletes (request_view request.now) ≡ false → result ≡ Ok None }
 {
     match request {
         Request::Delete { paths: named, .. } => {
-            let root = first_live(alloc, config, class(config, caller), outline, named)?;
+            let root = first_live(alloc, config, class, outline, named)?;
             Ok(root)
         }
         _ => Ok(None),

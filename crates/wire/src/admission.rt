@@ -104,6 +104,8 @@ fn on_caller(
     ensures decides { IfOk result (λ it. admission_view it ≡ by_caller config.now method.now target.now (Some caller)) }
     ensures parameters { IfOk result (HasParameters target.now) }
 {
+    // `Connect` comes before the route and the method, so it is tested before there is a request. `Store::call` decides
+    // on the whole request later, and relies on no earlier decision.
     match decide(class(config, &caller), &caller, &Op::Plain) {
         Some(rule) => deny(alloc, store_dir(config), rule),
         None => on_route(alloc, routes, caller, method, target),

@@ -6,8 +6,8 @@ use Rattle.model.specs.World.{roots_of}
 use Rattle.store.proofs.root_lists.list_roots.Goals as goal
 
 pub returns : goal.returns
-returns c w is = (
+returns c s caller is w reported = (
   refl,
-  ap roots (c.in_ok-roots.ensures w is ∙ ap (λ (class : Class). seen class (roots_of w)) c.class.ensures),
+  ap roots (c.in_ok-roots.ensures w reported ∙ ap (λ (class : Class). seen class (roots_of w)) is),
   refl,
 )
