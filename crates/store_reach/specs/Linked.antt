@@ -1,8 +1,8 @@
 -- What lives in an outline.
-use Rattle.std.specs.Prelude.{Bool, not, if◌then◌else◌, List, filter, map}
+use Rattle.std.specs.Prelude.{Bool, not, if◌then◌else◌, List, Option, filter, map}
 use Rattle.std.specs.FinMap as finite
-use Rattle.live.specs.Graph.{Graph}
-use Rattle.live.specs.Live.{is_live}
+use Rattle.live.specs.Graph.{Graph, Keep}
+use Rattle.live.specs.Live.{first_root, is_live, roots_that_reach}
 use Rattle.live.specs.Numbering.{Row, graph_of}
 use Rattle.paths.specs.Root.{Root}
 use Rattle.policy.specs.Settings.{Settings}
@@ -26,6 +26,14 @@ graph_in o = graph_of (rows_in o)
 -- the roots whose targets are valid, in order
 abbrev pub valid_roots : OutlineValue → List Root
 valid_roots o = filter (λ r. finite.contains_key o.objects r.target) (roots_of (rooted o))
+
+-- the first root that reaches a path
+abbrev pub first_root_in : Keep → OutlineValue → Path → Option Root
+first_root_in keep o p = first_root keep (graph_in o) (roots_of (rooted o)) p
+
+-- the roots that reach a path, in order
+abbrev pub roots_reaching_in : Keep → OutlineValue → Path → List Root
+roots_reaching_in keep o p = roots_that_reach keep (graph_in o) (roots_of (rooted o)) p
 
 -- whether some root reaches a path
 abbrev pub lives_in : Settings → OutlineValue → Path → Bool

@@ -10,7 +10,7 @@ ghost use Rattle.model.specs.Liveness as spec;
 ghost use Rattle.model.specs.Request as asked;
 
 use crate::deletion::paths_at;
-use crate::graph::RootedGraph;
+use crate::graph::{RootedGraph, RootedOutline};
 use crate::liveness::{dead_paths, keep_of};
 use crate::removal::{Found, remove};
 use crate::sizes::{bytes_in, size_of};
@@ -20,7 +20,7 @@ use policy::Config;
 use sqlite::Alter;
 use std::alloc::{AllocError, Global};
 use store_types::{Answer, Stop};
-use tables_outline::{Outline, root_list};
+use tables_outline::Outline;
 use tables_writes::Tables;
 
 /// The bytes of the archive of each row's path.
@@ -44,8 +44,8 @@ fn limited_paths(
     ensures { IfOk result
         (λ v. (w : World) → outline_of w ≡ outline.now → v.items ≡ spec.collected_paths config.now w (Some limit)) }
 {
-    let roots = root_list(alloc, outline)?;
-    let graph = RootedGraph::new(alloc, outline, &roots)?;
+    let all = RootedOutline::new(alloc, outline)?;
+    let graph = RootedGraph::new(alloc, &all)?;
     let sizes = sizes(alloc, graph.outline, &graph.rows)?;
     let marks = graph.marks(alloc, keep_of(config))?;
     let places = limited(alloc, &graph.numbered, &marks, &sizes, limit)?;

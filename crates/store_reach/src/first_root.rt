@@ -1,24 +1,21 @@
 //! The root that keeps the first live path of some paths.
 
-ghost use Rattle.std.specs.Prelude.{◌≡◌, ◌<◌, ℕ, IfOk, IfSome, Option, find, is_some, length, map, option_map};
+ghost use Rattle.std.specs.Prelude.{◌≡◌, ◌<◌, ℕ, IfOk, IfSome, Option, find, is_some, length, option_map};
 ghost use Rattle.std.specs.List.{list_any};
 ghost use Rattle.paths.specs.Root.{Root as TheRoot};
-ghost use Rattle.paths.specs.RootView.{root_view};
 ghost use Rattle.live.specs.Arguments.{root_view as borrowed_view, rows_view};
 ghost use Rattle.live.specs.Keeping.{keep_view};
-ghost use Rattle.live.specs.Live.{first_root};
 ghost use Rattle.live.specs.Numbering.{Rise, paths_of};
-ghost use Rattle.model.specs.World.{Path, World, roots_of};
+ghost use Rattle.model.specs.World.{Path, World};
 ghost use Rattle.tables_outline.specs.Maps.{labelled_bytes};
 ghost use Rattle.tables_outline.specs.Outline.{outline_of};
-ghost use Rattle.tables_outline.specs.Rooted.{rooted};
 ghost use Rattle.model.specs.Liveness as spec;
 ghost use Rattle.model.specs.Seen as sights;
 ghost use Rattle.model.specs.Verdict.{root_of_first};
 ghost use Rattle.store_reach.specs.FirstRoot.{AreMarked, first_value};
-ghost use Rattle.store_reach.specs.Linked.{graph_in};
+ghost use Rattle.store_reach.specs.Linked.{first_root_in};
 
-use crate::graph::RootedGraph;
+use crate::graph::{RootedGraph, RootedOutline};
 use crate::liveness::keep_of;
 use crate::reached::{reached, roots_found};
 use crate::seen::seen_root;
@@ -26,7 +23,7 @@ use live::{Keep, Marks, Root, Row, place_of};
 use paths::StorePath;
 use policy::{Class, Config};
 use std::alloc::{AllocError, Global};
-use tables_outline::{Outline, root_list};
+use tables_outline::Outline;
 
 /// The place of the first root of the first of some paths that has one, by the marks of the rows.
 fn first_mark(rows: &[Row], marks: &Marks, named: &[StorePath]) -> Option<usize>
@@ -52,16 +49,14 @@ fn first_mark(rows: &[Row], marks: &Marks, named: &[StorePath]) -> Option<usize>
 fn first_by_marks<'a>(
     alloc: Global,
     keep: Keep,
-    outline: &'a Outline,
-    roots: &'a [paths::Root],
+    all: &'a RootedOutline<'a>,
     named: &[StorePath],
 ) -> Result<Option<Root<'a>>, AllocError>
-    requires { map root_view roots.now ≡ roots_of (rooted outline.now) }
     ensures { IfOk result
         (λ r. option_map borrowed_view r
-        ≡ first_value (first_root (keep_view keep) (graph_in outline.now) (roots_of (rooted outline.now))) named.now) }
+        ≡ first_value (first_root_in (keep_view keep) all.now.outline.now) named.now) }
 {
-    let graph = RootedGraph::new(alloc, outline, roots)?;
+    let graph = RootedGraph::new(alloc, all)?;
     let marks = graph.marks(alloc, keep)?;
     let Some(place) = first_mark(&graph.rows, &marks, named) else {
         return Ok(None);
@@ -75,25 +70,23 @@ fn first_by_marks<'a>(
 fn first_keeping<'a>(
     alloc: Global,
     keep: Keep,
-    outline: &'a Outline,
-    roots: &'a [paths::Root],
+    all: &'a RootedOutline<'a>,
     named: &[StorePath],
 ) -> Result<Option<Root<'a>>, AllocError>
-    requires { map root_view roots.now ≡ roots_of (rooted outline.now) }
     ensures { IfOk result
         (λ r. option_map borrowed_view r
-        ≡ first_value (first_root (keep_view keep) (graph_in outline.now) (roots_of (rooted outline.now))) named.now) }
+        ≡ first_value (first_root_in (keep_view keep) all.now.outline.now) named.now) }
 {
-    let Some(links) = outline.links() else {
-        return first_by_marks(alloc, keep, outline, roots, named);
+    let Some(links) = all.outline.links() else {
+        return first_by_marks(alloc, keep, all, named);
     };
     let reaching = reached(alloc, links, keep, named)?;
-    let found = roots_found(alloc, links, &reaching, roots)?;
+    let found = roots_found(alloc, links, &reaching, &all.roots)?;
     let Some(root) = found.first() else {
         return Ok(None);
     };
     if named.len() > 1 {
-        return first_by_marks(alloc, keep, outline, roots, named);
+        return first_by_marks(alloc, keep, all, named);
     }
     Ok(Some(*root))
 }
@@ -114,8 +107,8 @@ pub fn first_live(
     ensures lives { IfOk result
         (λ r. (w : World) → outline_of w ≡ outline.now → is_some r ≡ list_any (spec.lives config.now w) named.now) }
 {
-    let roots = root_list(alloc, outline)?;
-    let first = first_keeping(alloc, keep_of(config), outline, &roots, named)?;
+    let all = RootedOutline::new(alloc, outline)?;
+    let first = first_keeping(alloc, keep_of(config), &all, named)?;
     let Some(root) = first else {
         return Ok(None);
     };

@@ -13,7 +13,7 @@ ghost use Rattle.tables_outline.specs.Rooted.{rooted};
 use live::{Graph, Keep, Marks, Roots, Row, mark};
 use paths::Root;
 use std::alloc::{AllocError, Global};
-use tables_outline::Outline;
+use tables_outline::{Outline, root_list};
 
 /// A row for each valid path: the path and what its object points to, borrowed from the outline.
 pub(crate) fn rows<'a>(alloc: Global, outline: &'a Outline) -> Result<Vec<Row<'a>>, AllocError>
@@ -56,6 +56,24 @@ pub(crate) fn borrowed_roots<'a>(
     Ok(given)
 }
 
+/// An outline with all its roots, in order.
+#[derive(Drop)]
+pub(crate) struct RootedOutline<'a> {
+    pub outline: &'a Outline,
+    pub roots: Vec<Root>,
+    ghost listed: { map root_view roots.items ≡ roots_of (rooted outline.now) },
+}
+
+impl<'a> RootedOutline<'a> {
+    /// An outline with its roots.
+    pub(crate) fn new(alloc: Global, outline: &'a Outline) -> Result<RootedOutline<'a>, AllocError>
+        ensures { IfOk result (λ o. o.outline.now ≡ outline.now) }
+    {
+        let roots = root_list(alloc, outline)?;
+        Ok(RootedOutline { outline, roots })
+    }
+}
+
 /// The roots of a list whose targets are valid, borrowed from it.
 fn of_valid<'a>(
     alloc: Global,
@@ -76,7 +94,7 @@ fn of_valid<'a>(
 }
 
 /// The graph of an outline with its roots: a row for each valid path, in order, the roots whose targets are valid, and
-/// both by their places, as walks read them. It borrows from the outline and from a list of the outline's roots.
+/// both by their places, as walks read them. It borrows from the outline and from the list of its roots.
 #[derive(Drop)]
 pub(crate) struct RootedGraph<'a> {
     pub outline: &'a Outline,
@@ -92,17 +110,16 @@ pub(crate) struct RootedGraph<'a> {
 }
 
 impl<'a> RootedGraph<'a> {
-    /// The graph of an outline. `roots` is the list of all its roots.
+    /// The graph of an outline.
     pub(crate) fn new(
         alloc: Global,
-        outline: &'a Outline,
-        roots: &'a [Root],
+        all: &'a RootedOutline<'a>,
     ) -> Result<RootedGraph<'a>, AllocError>
-        requires { map root_view roots.now ≡ roots_of (rooted outline.now) }
-        ensures { IfOk result (λ g. g.outline.now ≡ outline.now) }
+        ensures { IfOk result (λ g. g.outline.now ≡ all.now.outline.now) }
     {
+        let outline = all.outline;
         let rows = rows(alloc, outline)?;
-        let roots = of_valid(alloc, outline, roots)?;
+        let roots = of_valid(alloc, outline, &all.roots)?;
         let numbered = Graph::new(alloc, &rows)?;
         let targets = Roots::new(alloc, &rows, &roots)?;
         Ok(RootedGraph {

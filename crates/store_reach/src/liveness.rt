@@ -12,12 +12,12 @@ ghost use Rattle.tables_outline.specs.Outline.{outline_of};
 ghost use Rattle.model.specs.Liveness as spec;
 ghost use Rattle.store_reach.specs.Linked.{is_wanted, lives_in};
 
-use crate::graph::RootedGraph;
+use crate::graph::{RootedGraph, RootedOutline};
 use live::{Keep, Marks, Row};
 use paths::StorePath;
 use policy::{Config, keep_derivations, keep_outputs};
 use std::alloc::{AllocError, Global};
-use tables_outline::{Outline, root_list};
+use tables_outline::Outline;
 
 /// What live objects keep alive in addition to their references, by the configuration.
 pub(crate) fn keep_of(config: &Config) -> Keep
@@ -89,8 +89,8 @@ fn paths_by_life(
         (λ v. v.items
         ≡ filter (λ p. is_wanted wanted (lives_in config.now outline.now p)) (finite.keys outline.now.objects)) }
 {
-    let roots = root_list(alloc, outline)?;
-    let graph = RootedGraph::new(alloc, outline, &roots)?;
+    let all = RootedOutline::new(alloc, outline)?;
+    let graph = RootedGraph::new(alloc, &all)?;
     let lives = lives(alloc, config, &graph)?;
     chosen(alloc, &graph.rows, &lives, wanted)
 }
@@ -106,8 +106,8 @@ pub fn live_and_dead(
     ensures dead { IfOk result
         (λ p. (w : World) → outline_of w ≡ outline.now → p.1.items ≡ spec.dead_paths config.now w) }
 {
-    let roots = root_list(alloc, outline)?;
-    let graph = RootedGraph::new(alloc, outline, &roots)?;
+    let all = RootedOutline::new(alloc, outline)?;
+    let graph = RootedGraph::new(alloc, &all)?;
     let lives = lives(alloc, config, &graph)?;
     let live = chosen(alloc, &graph.rows, &lives, true)?;
     let dead = chosen(alloc, &graph.rows, &lives, false)?;

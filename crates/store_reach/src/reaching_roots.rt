@@ -2,19 +2,16 @@
 
 ghost use Rattle.std.specs.Prelude.{◌≡◌, ◌<◌, All, IfOk, length, map};
 ghost use Rattle.live.specs.Arguments.{roots_view};
-ghost use Rattle.live.specs.Live.{roots_that_reach};
 ghost use Rattle.live.specs.Keeping.{keep_view};
 ghost use Rattle.live.specs.Numbering.{root_at};
-ghost use Rattle.paths.specs.RootView.{root_view};
-ghost use Rattle.model.specs.World.{World, roots_of};
-ghost use Rattle.store_reach.specs.Linked.{graph_in};
+ghost use Rattle.model.specs.World.{World};
+ghost use Rattle.store_reach.specs.Linked.{roots_reaching_in};
 ghost use Rattle.tables_outline.specs.Maps.{labelled_bytes};
 ghost use Rattle.tables_outline.specs.Outline.{outline_of};
-ghost use Rattle.tables_outline.specs.Rooted.{rooted};
 ghost use Rattle.model.specs.Liveness.{roots_that_keep};
 ghost use Rattle.model.specs.Seen.{seen as seen_by};
 
-use crate::graph::RootedGraph;
+use crate::graph::{RootedGraph, RootedOutline};
 use crate::liveness::keep_of;
 use crate::reached::{reached, roots_found};
 use crate::seen::seen;
@@ -23,7 +20,7 @@ use paths::StorePath;
 use policy::{Class, Config};
 use std::alloc::{AllocError, Global};
 use std::slice::from_ref;
-use tables_outline::{Outline, root_list};
+use tables_outline::Outline;
 
 /// The roots at some places.
 fn roots_at<'a>(
@@ -41,20 +38,17 @@ fn roots_at<'a>(
     Ok(chosen)
 }
 
-/// The roots of an outline that reach a path, by rows of all objects. `roots` is the list of the roots.
+/// The roots of an outline that reach a path, by rows of all objects.
 fn roots_by_rows<'a>(
     alloc: Global,
     keep: Keep,
-    outline: &'a Outline,
-    roots: &'a [paths::Root],
+    all: &'a RootedOutline<'a>,
     path: &StorePath,
 ) -> Result<Vec<Root<'a>>, AllocError>
-    requires { map root_view roots.now ≡ roots_of (rooted outline.now) }
     ensures { IfOk result
-        (λ v. roots_view v.items
-        ≡ roots_that_reach (keep_view keep) (graph_in outline.now) (roots_of (rooted outline.now)) path.now) }
+        (λ v. roots_view v.items ≡ roots_reaching_in (keep_view keep) all.now.outline.now path.now) }
 {
-    let graph = RootedGraph::new(alloc, outline, roots)?;
+    let graph = RootedGraph::new(alloc, all)?;
     let Some(place) = place_of(&graph.rows, path) else {
         return Ok(Vec::new(alloc));
     };
@@ -63,24 +57,21 @@ fn roots_by_rows<'a>(
 }
 
 /// The roots of an outline that reach a path: by a walk back from it where the outline has its links turned round, or
-/// else by rows. `roots` is the list of the roots.
+/// else by rows.
 fn roots_reaching<'a>(
     alloc: Global,
     keep: Keep,
-    outline: &'a Outline,
-    roots: &'a [paths::Root],
+    all: &'a RootedOutline<'a>,
     path: &StorePath,
 ) -> Result<Vec<Root<'a>>, AllocError>
-    requires { map root_view roots.now ≡ roots_of (rooted outline.now) }
     ensures { IfOk result
-        (λ v. roots_view v.items
-        ≡ roots_that_reach (keep_view keep) (graph_in outline.now) (roots_of (rooted outline.now)) path.now) }
+        (λ v. roots_view v.items ≡ roots_reaching_in (keep_view keep) all.now.outline.now path.now) }
 {
-    let Some(links) = outline.links() else {
-        return roots_by_rows(alloc, keep, outline, roots, path);
+    let Some(links) = all.outline.links() else {
+        return roots_by_rows(alloc, keep, all, path);
     };
     let reaching = reached(alloc, links, keep, from_ref(path))?;
-    roots_found(alloc, links, &reaching, roots)
+    roots_found(alloc, links, &reaching, &all.roots)
 }
 
 /// The roots that reach a path in their order, each its label and its target, as a caller of a class sees them. None
@@ -96,7 +87,7 @@ pub fn seen_roots_of(
         (λ v. (w : World) → outline_of w ≡ outline.now
         → map labelled_bytes v.items ≡ seen_by class (roots_that_keep config.now w path.now)) }
 {
-    let roots = root_list(alloc, outline)?;
-    let reaching = roots_reaching(alloc, keep_of(config), outline, &roots, path)?;
+    let all = RootedOutline::new(alloc, outline)?;
+    let reaching = roots_reaching(alloc, keep_of(config), &all, path)?;
     seen(alloc, class, &reaching)
 }
