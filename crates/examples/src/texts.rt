@@ -3,7 +3,7 @@ use crate::fixtures::{ADDRESS, MY_HASH, SOURCE, TEXT, path, store_dir};
 use paths::{Ca, StoreDir};
 use policy::Rule;
 use report::{
-    Failure, Refusal, denial_line, failure_line, narinfo, path_line, paths_text, print,
+    Failure, Refusal, denial_line, failure_line, failure_of, narinfo, path_line, paths_text, print,
     print_failure, push_denial, refusal_line, refusal_text, reply_pieces, reply_text, roots_text,
     usage_text,
 };
@@ -158,6 +158,7 @@ fn lines_of_failures(rt: HostRuntime) {
         (Failed::Disk, "failed: disk\n"),
     ] {
         assert!(rt; failure_line(failed) == line, "{line}");
+        assert!(rt; failure_of(failed).line() == line, "{line}");
     }
 }
 
