@@ -1,7 +1,9 @@
 //! The two directions of a connection of a port.
-ghost use Rattle.std.specs.Prelude.{◌≡◌, IfOk, is_ok, nat_lt, nat_le, option_and_then, true};
-ghost use Rattle.std.specs.Io.{ReadsAtMost};
-ghost use Rattle.std.specs.Io.KnownBytes.{ReadConsumes};
+ghost use Rattle.std.specs.Prelude.{◌≡◌, ◌≤◌, IfOk, IfErr, IsSome, is_ok, length, nat_lt, nat_le, option_and_then};
+ghost use Rattle.std.specs.Prelude.{true, false};
+ghost use Rattle.std.specs.Io.{ReadsAtMost, WritesAtMost};
+ghost use Rattle.std.specs.Io.KnownBytes.{ReadConsumes, WriteAppends};
+ghost use Rattle.std.specs.Result.{result_ok};
 ghost use Rattle.std.specs.Duration.{as_nanos};
 
 use std::io;
@@ -62,7 +64,9 @@ pub(crate) fn directions<'a, R, W, C: Clock>(
     input: R,
     output: io::Result<W>,
 ) -> (Incoming<R>, Outgoing<'a, W, C>)
-    ensures { result.0.is_ready ≡ is_ok output }
+    ensures ready { result.0.is_ready ≡ is_ok output }
+    ensures stream { result.1.stream ≡ result_ok output }
+    ensures begins { result.1.is_stuck ≡ false }
 {
     let incoming = Incoming {
         stream: input,
@@ -104,7 +108,17 @@ impl<'a, W: Write, C: Clock> Write for Outgoing<'a, W, C> {
 
     /// Writes some bytes. After a short write that hit its time limit, each further write fails: a count above 0 may
     /// come from room in the system's own buffer, and is no sign of a peer who reads.
-    fn write(&mut self, buf: &[u8]) -> io::Result<usize> {
+    fn write(&mut self, buf: &[u8]) -> io::Result<usize>
+        ensures bound { WritesAtMost result buf.now }
+        ensures bytes { WriteAppends (option_and_then W.contents self.old.stream)
+            (option_and_then W.contents self.new.stream) result buf.now }
+        // Nothing is sent on a connection that couldn't be prepared, or after a write that hit its time limit.
+        ensures prepared { IfOk result (λ _. IsSome self.old.stream) }
+        ensures before { IfOk result (λ _. self.old.is_stuck ≡ false) }
+        // Only a short write can hit its time limit.
+        ensures whole { IfOk result (λ count. length buf.now ≤ count → self.new.is_stuck ≡ false) }
+        ensures failed { IfErr result (λ _. self.new.is_stuck ≡ self.old.is_stuck) }
+    {
         let Some(stream) = &mut self.stream else {
             return Err(unprepared());
         };
