@@ -1,5 +1,5 @@
 //! Connections of a port, which are drained when they are closed.
-ghost use Rattle.std.specs.Prelude.{⊤, None, ◌≤◌, ◌<◌, IfOk, IfSome};
+ghost use Rattle.std.specs.Prelude.{⊤, None, ◌≡◌, ◌≤◌, ◌<◌, ◌-◌, ◌↔◌, min, IfSome, IsSome};
 ghost use Rattle.std.specs.Duration.{as_nanos};
 
 use crate::fields::MAX_BODY;
@@ -78,20 +78,22 @@ const SILENCE: u64 = 1;
 /// How many seconds the draining takes at most, whatever the peer does.
 const TIME: u64 = 5;
 
-/// How long the next read may wait: a second at most, and no longer than the time that is left. `None` if no time is
-/// left.
-fn patience<C: Clock>(clock: &C, start: Instant) -> io::Result<Option<Duration>>
-    ensures silent { IfOk result (λ o. IfSome o (λ d. as_nanos d ≤ 1_000_000_000)) }
-    ensures some { IfOk result (λ o. IfSome o (λ d. 0 < as_nanos d)) }
+/// How long the next read may wait after this much time: a second at most, and no longer than what is left of five
+/// seconds. `None` if nothing is left.
+fn patience(passed: Duration) -> Option<Duration>
+    ensures variant { IsSome result ↔ (as_nanos passed < 5_000_000_000) }
+    ensures exact { IfSome result (λ d. as_nanos d ≡ min 1_000_000_000 (5_000_000_000 - as_nanos passed)) }
+    ensures silent { IfSome result (λ d. as_nanos d ≤ 1_000_000_000) }
+    ensures some { IfSome result (λ d. 0 < as_nanos d) }
 {
     let silence = Duration::from_secs(SILENCE);
-    let Some(left) = Duration::from_secs(TIME).checked_sub(start.elapsed(clock)?) else {
-        return Ok(None);
+    let Some(left) = Duration::from_secs(TIME).checked_sub(passed) else {
+        return None;
     };
     if left.is_zero() {
-        return Ok(None);
+        return None;
     }
-    Ok(Some(if left < silence { left } else { silence }))
+    Some(if left < silence { left } else { silence })
 }
 
 /// Reads and drops what a peer still sends, until the peer closes the connection, is silent for a second, or has sent
@@ -105,7 +107,7 @@ pub(crate) fn read_out<C: Clock>(clock: &C, input: &mut TcpStream) -> io::Result
     let mut window = [0; PIECE_SIZE];
     let mut left = MOST;
     'reads: while left > 0 {
-        let Some(patience) = patience(clock, start)? else {
+        let Some(patience) = patience(start.elapsed(clock)?) else {
             return Ok(());
         };
         input.set_read_timeout(Some(patience))?;
