@@ -61,14 +61,16 @@ module _ {S : Type 0} (answers : S → RequestHead → List ℕ → Replied → 
 
   -- a number of connections of a listener are served
   abbrev pub ServesListener : (Error → Type 0) → ℕ → Option (List (List ℕ)) → Option (List (List ℕ))
-      → Option (List (List ℕ)) → Option (List (List ℕ)) → Option (List ℕ) → Option (List ℕ) → S → S → ℕ → Type 0
-  ServesListener Fails n waiting waiting' closed closed' err err' old new status =
+      → Option (List (List ℕ)) → Option (List (List ℕ)) → Option ℕ → Option ℕ → Option (List ℕ) → Option (List ℕ) → S
+      → S → ℕ → Type 0
+  ServesListener Fails n waiting waiting' closed closed' faults faults' err err' old new status =
       (result : Result ℕ Error) × (said : Option (List ℕ))
-      × ServesOn answers Fails n waiting waiting' closed closed' err said old new result × EndsOn result said err' status
+      × ServesOn answers Fails n waiting waiting' closed closed' faults faults' err said old new result
+      × EndsOn result said err' status
 
   -- a number of connections are served of a listener, of which nothing is known
   abbrev pub ServesAny : ℕ → Option (List ℕ) → Option (List ℕ) → S → S → Result ℕ Error → Type 0
-  ServesAny n = ServesOn answers (λ _. ⊤) n None None None None
+  ServesAny n = ServesOn answers (λ _. ⊤) n None None None None None None
 
   -- the same; or there was no memory to begin with
   abbrev pub ServesOver : ℕ → Option (List ℕ) → Option (List ℕ) → S → S → Result ℕ Error → Type 0

@@ -30,8 +30,8 @@ fn serve_listener<L: Listener, E: Write, T, A: Responder<T>>(
     state: &mut T,
 ) -> u8
     ensures { ServesListener A.answers (L.fails listener.new) connections (L.waiting listener.old)
-        (L.waiting listener.new) (L.closed listener.old) (L.closed listener.new) (E.contents errors.old)
-        (E.contents errors.new) state.old state.new result }
+        (L.waiting listener.new) (L.closed listener.old) (L.closed listener.new) (L.faults listener.old)
+        (L.faults listener.new) (E.contents errors.old) (E.contents errors.new) state.old state.new result }
 {
     match wire_server::serve_on(alloc, listener, connections, errors, responder, state) {
         Ok(0) => 0,
@@ -52,7 +52,7 @@ fn listen<N: Net<Listener = TcpListener, Stream = TcpStream> + Clock, E: Write, 
 ) -> u8
     ensures { (PrintsFailure Input (record { writer = change_of E.contents errors.old errors.new; status = result })
         × (state.new ≡ state.old))
-        ⊎ ServesListener A.answers (λ _. ⊤) connections None None None None (E.contents errors.old)
+        ⊎ ServesListener A.answers (λ _. ⊤) connections None None None None None None (E.contents errors.old)
         (E.contents errors.new) state.old state.new result }
 {
     match TcpListener::bind(net, (Ipv4Addr::LOCALHOST, port)) {

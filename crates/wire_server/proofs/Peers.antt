@@ -1,7 +1,8 @@
--- Peers that are taken, and left, one after another.
-use Rattle.std.proofs.Common.{◌∙◌, ℕ, List, [], ◌++◌, Option, Some, None, refl, sym, ap, ap₂, append_assoc, append-nil}
+-- Peers that are taken, and left, one after another, and accepts that fail.
+use Rattle.std.proofs.Common.{◌∙◌, ℕ, ◌+◌, List, [], ◌++◌, Option, Some, None, refl, sym, ap, ap₂, arith}
+use Rattle.std.proofs.Common.{append_assoc, append-nil}
 use Rattle.std.proofs.lemmas.List.{map-append}
-use Rattle.wire_server.specs.Peers.{AcceptsPeers, ClosesPeers}
+use Rattle.wire_server.specs.Peers.{AcceptsPeers, ClosesPeers, CountsFaults}
 
 pub takes_none : (a : Option (List (List ℕ))) → AcceptsPeers a a []
 takes_none None = tt
@@ -32,3 +33,13 @@ leaves_more (Some x) (Some y) (Some z) xs ys (first, e, f) (second, h, k) = (
   ap₂ (λ s t. s ++ t) e h ∙ sym (map-append Some first second),
   k ∙ ap (λ t. t ++ second) f ∙ append_assoc x first second,
 )
+
+pub counts_none : (a : Option ℕ) → CountsFaults a a 0
+counts_none None = tt
+counts_none (Some n) = omega arith
+
+pub counts_more : (a b c : Option ℕ) (m n : ℕ) → CountsFaults a b m → CountsFaults b c n → CountsFaults a c (m + n)
+counts_more None b c m n p q = tt
+counts_more (Some x) None c m n p q = absurd p
+counts_more (Some x) (Some y) None m n p q = absurd q
+counts_more (Some x) (Some y) (Some z) m n p q = omega (arith, p, q)

@@ -110,12 +110,12 @@ module _ {S W : Type 0} (answers : S → RequestHead → List ℕ → Replied �
               (after.0, record { accepted = served.accepted; left = served.left; followed = after.1 }),
         )
 
-    pub serves_on_seen : (Fails : Error → Type 0) (n : ℕ) (result : Result ℕ Error)
-        → ServesOn answers Fails n waiting waiting' closed closed' err err' old new result
-        → Sees old new (λ w'. ServesOn seen Fails n waiting waiting' closed closed' err err' w w' result)
-    serves_on_seen Fails n (Ok count) (sessions, served, all, counted) =
+    pub serves_on_seen : (Fails : Error → Type 0) (n : ℕ) (faults faults' : Option ℕ) (result : Result ℕ Error)
+        → ServesOn answers Fails n waiting waiting' closed closed' faults faults' err err' old new result
+        → Sees old new (λ w'. ServesOn seen Fails n waiting waiting' closed closed' faults faults' err err' w w' result)
+    serves_on_seen Fails n faults faults' (Ok count) (sessions, served, all, counted, none) =
         let more = sessions_seen sessions served in
-        (more.0, more.1, λ good. let after = more.2 good in (after.0, (sessions, after.1, all, counted)))
-    serves_on_seen Fails n (Err fault) (sessions, served, fewer, fails) =
+        (more.0, more.1, λ good. let after = more.2 good in (after.0, (sessions, after.1, all, counted, none)))
+    serves_on_seen Fails n faults faults' (Err fault) (sessions, served, fewer, fails, one) =
         let more = sessions_seen sessions served in
-        (more.0, more.1, λ good. let after = more.2 good in (after.0, (sessions, after.1, fewer, fails)))
+        (more.0, more.1, λ good. let after = more.2 good in (after.0, (sessions, after.1, fewer, fails, one)))

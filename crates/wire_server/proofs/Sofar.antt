@@ -8,11 +8,11 @@ use Rattle.httparse.specs.Grammar.{RequestHead}
 use Rattle.wire_server.specs.Responses.{Replied}
 use Rattle.wire_server.specs.declared.connection.End.{End}
 use Rattle.wire_server.specs.declared.connection.End.TheVariants as ends
-use Rattle.wire_server.specs.Peers.{IsFresh, ClosesPeers, AcceptsPeers}
+use Rattle.wire_server.specs.Peers.{IsFresh, ClosesPeers, AcceptsPeers, CountsFaults}
 use Rattle.wire_server.specs.Serves.{Served}
 use Rattle.wire_server.specs.Sessions.{Says, failure, result_of}
 use Rattle.wire_server.specs.ServesAll.{Session, Follow, Serves, failures}
-use Rattle.wire_server.proofs.Peers.{takes_none, takes_more, leaves_none, leaves_more}
+use Rattle.wire_server.proofs.Peers.{takes_none, takes_more, leaves_none, leaves_more, counts_none, counts_more}
 
 -- ---- what is said
 
@@ -58,26 +58,28 @@ module _ {S : Type 0} (answers : S → RequestHead → List ℕ → Replied → 
   follow_more old mid new err said err' (session ∷ sessions) more (before, s, line, fresh, served, says, rest) second =
       (before, s, line, fresh, served, says, follow_more s mid new line said err' sessions more rest second)
 
-  -- a number of connections were served
-  pub record Sofar (waiting waiting' closed closed' : Option (List (List ℕ))) (err err' : Option (List ℕ)) (old new : S)
-      (n count : ℕ) : Type 0 where
+  -- a number of connections were served, and no accept failed
+  pub record Sofar (waiting waiting' closed closed' : Option (List (List ℕ))) (faults faults' : Option ℕ)
+      (err err' : Option (List ℕ)) (old new : S) (n count : ℕ) : Type 0 where
     pub sessions : List Session
     pub serves : Serves answers waiting waiting' closed closed' err err' old new sessions
     pub counted : length sessions ≡ n
     pub failing : count ≡ failures sessions
+    pub accepting : CountsFaults faults faults' 0
 
-  pub sofar_start : (waiting closed : Option (List (List ℕ))) (err : Option (List ℕ)) (s : S)
-      → Sofar waiting waiting closed closed err err s s 0 0
-  sofar_start waiting closed err s = record {
+  pub sofar_start : (waiting closed : Option (List (List ℕ))) (faults : Option ℕ) (err : Option (List ℕ)) (s : S)
+      → Sofar waiting waiting closed closed faults faults err err s s 0 0
+  sofar_start waiting closed faults err s = record {
     sessions = [];
     serves = record { accepted = takes_none waiting; left = leaves_none closed; followed = (refl, Keeps-refl err) };
     counted = refl;
     failing = refl;
+    accepting = counts_none faults;
   }
 
-  module _ (waiting waiting' closed closed' : Option (List (List ℕ))) (err err' : Option (List ℕ)) (old new : S)
-      (n count : ℕ)
-      (sofar : Sofar waiting waiting' closed closed' err err' old new n count) where
+  module _ (waiting waiting' closed closed' : Option (List (List ℕ))) (faults faults' : Option ℕ)
+      (err err' : Option (List ℕ)) (old new : S) (n count : ℕ)
+      (sofar : Sofar waiting waiting' closed closed' faults faults' err err' old new n count) where
     -- no more was taken, left or said
     pub sofar_still : (waiting'' closed'' : Option (List (List ℕ))) → AcceptsPeers waiting' waiting'' []
         → ClosesPeers closed' closed'' []
@@ -93,12 +95,13 @@ module _ {S : Type 0} (answers : S → RequestHead → List ℕ → Replied → 
     }
 
     -- one more connection
-    pub sofar_more : (waiting'' closed'' : Option (List (List ℕ))) (err'' input before output : Option (List ℕ))
-        (new' : S) (end : End)
+    pub sofar_more : (waiting'' closed'' : Option (List (List ℕ))) (faults'' : Option ℕ)
+        (err'' input before output : Option (List ℕ)) (new' : S) (end : End)
         → AcceptsPeers waiting' waiting'' (input ∷ []) → ClosesPeers closed' closed'' (output ∷ []) → IsFresh before
         → Served answers input before output new new' (result_of end) → Says end err' err''
-        → Sofar waiting waiting'' closed closed'' err err'' old new' (n + 1) (count + failure end)
-    sofar_more waiting'' closed'' err'' input before output new' end accepted left fresh served says =
+        → CountsFaults faults' faults'' 0
+        → Sofar waiting waiting'' closed closed'' faults faults'' err err'' old new' (n + 1) (count + failure end)
+    sofar_more waiting'' closed'' faults'' err'' input before output new' end accepted left fresh served says none =
         let session : Session = record { input = input; output = output; end = end } in
         record {
           sessions = sofar.sessions ++ session ∷ [];
@@ -115,4 +118,5 @@ module _ {S : Type 0} (answers : S → RequestHead → List ℕ → Replied → 
           };
           counted = omega (arith, length-append sofar.sessions (session ∷ []), sofar.counted);
           failing = omega (arith, failures_append sofar.sessions (session ∷ []), sofar.failing);
+          accepting = counts_more faults faults' faults'' 0 0 sofar.accepting none;
         }

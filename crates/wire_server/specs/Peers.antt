@@ -1,5 +1,5 @@
--- The peers of a listener that shows them: what they send, and what was written to them.
-use Rattle.std.specs.Prelude.{◌≡◌, ⊤, ℕ, List, [], ◌++◌, map, Option, Some, None}
+-- What a listener may show: what its peers send, what was written to them, and how many accepts failed.
+use Rattle.std.specs.Prelude.{◌≡◌, ⊤, ℕ, ◌+◌, List, [], ◌++◌, map, Option, Some, None}
 
 -- the next peers were accepted, of whom this is known of what they send
 abbrev pub AcceptsPeers : Option (List (List ℕ)) → Option (List (List ℕ)) → List (Option (List ℕ)) → Type 0
@@ -18,3 +18,9 @@ ClosesPeers (Some all) (Some more) outputs =
 abbrev pub IsFresh : Option (List ℕ) → Type 0
 IsFresh None = ⊤
 IsFresh (Some bytes) = bytes ≡ []
+
+-- further accepts failed, as many as `more`
+abbrev pub CountsFaults : Option ℕ → Option ℕ → ℕ → Type 0
+CountsFaults None new more = ⊤
+CountsFaults (Some n) None more = ⊥
+CountsFaults (Some n) (Some all) more = all ≡ n + more

@@ -4,7 +4,7 @@ use Rattle.std.specs.Io.KnownBytes.{Keeps}
 use Rattle.std.specs.declared.io.Error.{Error}
 use Rattle.httparse.specs.Grammar.{RequestHead}
 use Rattle.wire_server.specs.Responses.{Replied}
-use Rattle.wire_server.specs.Peers.{IsFresh, ClosesPeers, AcceptsPeers}
+use Rattle.wire_server.specs.Peers.{IsFresh, ClosesPeers, AcceptsPeers, CountsFaults}
 use Rattle.wire_server.specs.Serves.{Served}
 use Rattle.wire_server.specs.Sessions.{Says, failure, result_of}
 use Rattle.wire_server.specs.declared.connection.End.{End}
@@ -37,14 +37,14 @@ module _ {S : Type 0} (answers : S → RequestHead → List ℕ → Replied → 
     pub left : ClosesPeers closed closed' (map (λ session. session.output) sessions)
     pub followed : Follow old err sessions new err'
 
-  -- A number of connections was served, and those that failed are counted; or fewer were, and then an accept failed
-  -- with that error.
+  -- A number of connections was served, and those that failed are counted; no accept failed. Or fewer were, and then
+  -- one accept failed, with that error.
   abbrev pub ServesOn : (Error → Type 0) → ℕ → Option (List (List ℕ)) → Option (List (List ℕ))
-      → Option (List (List ℕ)) → Option (List (List ℕ)) → Option (List ℕ) → Option (List ℕ) → S → S
-      → Result ℕ Error → Type 0
-  ServesOn Fails n waiting waiting' closed closed' err err' old new (Ok count) =
+      → Option (List (List ℕ)) → Option (List (List ℕ)) → Option ℕ → Option ℕ → Option (List ℕ) → Option (List ℕ) → S
+      → S → Result ℕ Error → Type 0
+  ServesOn Fails n waiting waiting' closed closed' faults faults' err err' old new (Ok count) =
       (sessions : List Session) × Serves waiting waiting' closed closed' err err' old new sessions
-      × (length sessions ≡ n) × (count ≡ failures sessions)
-  ServesOn Fails n waiting waiting' closed closed' err err' old new (Err fault) =
+      × (length sessions ≡ n) × (count ≡ failures sessions) × CountsFaults faults faults' 0
+  ServesOn Fails n waiting waiting' closed closed' faults faults' err err' old new (Err fault) =
       (sessions : List Session) × Serves waiting waiting' closed closed' err err' old new sessions
-      × (length sessions < n) × Fails fault
+      × (length sessions < n) × Fails fault × CountsFaults faults faults' 1

@@ -1,7 +1,7 @@
 //! Connections of a listener, one after another.
-ghost use Rattle.std.specs.Prelude.{ℕ, List, [], ◌∷◌, Option, IfOk, IfErr, OnErr};
+ghost use Rattle.std.specs.Prelude.{ℕ, List, [], ◌∷◌, Option, IfOk, IfErr, OnOk, OnErr};
 ghost use Rattle.std.specs.declared.io.Error.{Error};
-ghost use Rattle.wire_server.specs.Peers.{IsFresh, ClosesPeers, AcceptsPeers};
+ghost use Rattle.wire_server.specs.Peers.{IsFresh, ClosesPeers, AcceptsPeers, CountsFaults};
 ghost use Rattle.wire_server.specs.ServesAll.{ServesOn};
 
 use crate::connection::serve_connection;
@@ -24,6 +24,9 @@ pub trait Listener {
     /// What was written to each peer whose connection was closed, if the listener shows it.
     ghost closed: { Self → Option (List (List ℕ)) };
 
+    /// How many accepts have failed, if the listener shows it.
+    ghost faults: { Self → Option ℕ };
+
     /// An accept failed with this error, and left the listener like this.
     ghost fails: { Self → Error → Type 0 };
 
@@ -34,12 +37,15 @@ pub trait Listener {
         ensures none { OnErr result (AcceptsPeers (waiting self.old) (waiting self.new) []) }
         ensures error { IfErr result (λ fault. fails self.new fault) }
         ensures fresh { IfOk result (λ c. IsFresh (Self.Output.contents c.1)) }
-        ensures left { ClosesPeers (closed self.old) (closed self.new) [] };
+        ensures left { ClosesPeers (closed self.old) (closed self.new) [] }
+        ensures succeeded { OnOk result (CountsFaults (faults self.old) (faults self.new) 0) }
+        ensures failed { OnErr result (CountsFaults (faults self.old) (faults self.new) 1) };
 
     /// Closes a connection.
     fn close(&mut self, input: Self::Input, output: Self::Output)
         ensures accepted { AcceptsPeers (waiting self.old) (waiting self.new) [] }
-        ensures left { ClosesPeers (closed self.old) (closed self.new) (Self.Output.contents output ∷ []) };
+        ensures left { ClosesPeers (closed self.old) (closed self.new) (Self.Output.contents output ∷ []) }
+        ensures succeeded { CountsFaults (faults self.old) (faults self.new) 0 };
 }
 
 /// Serves a number of connections, one after another, and returns how many failed. For each failed one, a line on
@@ -47,7 +53,7 @@ pub trait Listener {
 ///
 /// # Errors
 ///
-/// The error of the first accept that fails, after which nothing more is served.
+/// The error of the first accept that fails, after which nothing more is accepted or served.
 pub fn serve_on<L: Listener, E: Write, T, A: Responder<T>>(
     alloc: Global,
     listener: &mut L,
@@ -57,8 +63,8 @@ pub fn serve_on<L: Listener, E: Write, T, A: Responder<T>>(
     state: &mut T,
 ) -> io::Result<u32>
     ensures { ServesOn A.answers (L.fails listener.new) connections (L.waiting listener.old) (L.waiting listener.new)
-        (L.closed listener.old) (L.closed listener.new) (E.contents errors.old) (E.contents errors.new) state.old
-        state.new result }
+        (L.closed listener.old) (L.closed listener.new) (L.faults listener.old) (L.faults listener.new)
+        (E.contents errors.old) (E.contents errors.new) state.old state.new result }
 {
     let mut failed = 0;
     'connections: for _ in 0..connections {

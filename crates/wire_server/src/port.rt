@@ -50,6 +50,8 @@ impl<'a, C: Clock> Listener for Port<'a, C> {
 
     ghost closed = { λ _. None };
 
+    ghost faults = { λ _. None };
+
     ghost fails = { λ _ _. ⊤ };
 
     /// Accepts a connection and sets its limits; if that fails, its first read fails. Then the next connection can be
