@@ -83,26 +83,27 @@ module _ {S : Type 0} (g : Ghosts S) where
       subst (λ t. (next : Unit {0}) × IsUnder t new next × (IsAny new → IsAny old × AnswersSome t tt h body r next))
       same (step_some old new h body r course takes ends)
 
-  module _ (old new : StoreView S) (known out out' : Option (List ℕ)) (result : Result ℕ WireError)
-      (served : Served (Answers g) known out out' old new result) where
-    pub served_from : LeadsWorlds g old new (λ w next. Served (AnswersFrom old.settings) known out out' w next result)
+  module _ (old new : StoreView S) (known left out out' : Option (List ℕ)) (result : Result ℕ WireError)
+      (served : Served (Answers g) known left out out' old new result) where
+    pub served_from : LeadsWorlds g old new
+        (λ w next. Served (AnswersFrom old.settings) known left out out' w next result)
     served_from w reported =
         let more =
         served_seen (Answers g) (AnswersFrom old.settings) (IsAt old.settings) IsClean (answer_from old.settings)
-        known out out' old w new result (reported, refl) served in
+        known left out out' old w new result (reported, refl) served in
         (more.0, more.1.0, λ clean. (more.2 clean).1)
 
-    pub served_some : Served (AnswersSome old.settings) known out out' tt tt result
+    pub served_some : Served (AnswersSome old.settings) known left out out' tt tt result
     served_some =
         let more =
         served_seen (Answers g) (AnswersSome old.settings) (IsUnder old.settings) IsAny (answer_some old.settings)
-        known out out' old tt new result refl served in
+        known left out out' old tt new result refl served in
         (more.2 tt).1
 
     pub served_settings : new.settings ≡ old.settings
     served_settings =
         (served_seen (Answers g) (AnswersSome old.settings) (IsUnder old.settings) IsAny (answer_some old.settings)
-        known out out' old tt new result refl served).1
+        known left out out' old tt new result refl served).1
 
   module _ (old new : StoreView S) (n : ℕ) (err err' : Option (List ℕ)) (result : Result ℕ Error)
       (served : ServesAny (Answers g) n err err' old new result) where
@@ -140,7 +141,7 @@ module _ {S : Type 0} (g : Ghosts S) where
     streams_steps = elim served [
       | inl lacks ↦ inl lacks
       | inr (end, is, says, ends) ↦ inr
-          (end, (is, served_from old new c.input.old _ _ (result_of end) is), says, ends)
+          (end, (is, served_from old new c.input.old _ _ _ (result_of end) is), says, ends)
     ]
 
     pub streams_from : LeadsWorlds g old new (ServesStreams (AnswersFrom old.settings) c)
@@ -148,7 +149,7 @@ module _ {S : Type 0} (g : Ghosts S) where
       | inl (lacks, kept, same) ↦
           (w, subst (λ st. HasWorld g st.tables w) (sym same) reported, λ clean. inl (lacks, kept, refl))
       | inr (end, is, says, ends) ↦
-          let more = served_from old new c.input.old _ _ (result_of end) is w reported in
+          let more = served_from old new c.input.old _ _ _ (result_of end) is w reported in
           (more.0, more.1, λ clean. inr (end, more.2 clean, says, ends))
     ]
 
@@ -156,7 +157,7 @@ module _ {S : Type 0} (g : Ghosts S) where
     streams_some = elim served [
       | inl (lacks, kept, same) ↦ inl (lacks, kept, refl)
       | inr (end, is, says, ends) ↦ inr
-          (end, served_some old new c.input.old _ _ (result_of end) is, says, ends)
+          (end, served_some old new c.input.old _ _ _ (result_of end) is, says, ends)
     ]
 
   module _ (old new : StoreView S) (n : ℕ) (err err' : Option (List ℕ)) (status : ℕ)

@@ -51,9 +51,9 @@ module _ {S : Type 0} where
       × EndsOn result said err' status))
 
 module _ {S : Type 0} (answers : S → RequestHead → List ℕ → Replied → S → Type 0) where
-  -- what a connection writes for what it reads
+  -- what a connection reads, and what it writes for that
   abbrev pub ServedOn : Console → S → S → Result ℕ WireError → Type 0
-  ServedOn c = Served answers c.input.old c.written.output.old c.written.output.new
+  ServedOn c = Served answers c.input.old c.input.new c.written.output.old c.written.output.new
 
   -- one connection is served
   abbrev pub ServesStreams : Console → S → S → Type 0

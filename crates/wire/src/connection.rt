@@ -34,15 +34,15 @@ pub fn serve<S: Alter, R: Read, W: Write>(
     input: &mut R,
     output: &mut W,
 ) -> Result<Count, WireError>
-    ensures served { Served (Answers S.Store) (R.remaining input.old) (W.contents output.old) (W.contents output.new)
-        store.old store.new result }
+    ensures served { Served (Answers S.Store) (R.remaining input.old) (R.remaining input.new) (W.contents output.old)
+        (W.contents output.new) store.old store.new result }
     ensures settings { store.new.settings ≡ store.old.settings }
     // Over a disk that is clean afterwards, each reply is that of a step.
     ensures worlds { LeadsWorlds S.Store store.old store.new (λ w next.
-        Served (AnswersFrom store.old.settings) (R.remaining input.old) (W.contents output.old) (W.contents output.new)
-        w next result) }
-    ensures replies { Served (AnswersSome store.old.settings) (R.remaining input.old) (W.contents output.old)
-        (W.contents output.new) tt tt result }
+        Served (AnswersFrom store.old.settings) (R.remaining input.old) (R.remaining input.new) (W.contents output.old)
+        (W.contents output.new) w next result) }
+    ensures replies { Served (AnswersSome store.old.settings) (R.remaining input.old) (R.remaining input.new)
+        (W.contents output.old) (W.contents output.new) tt tt result }
 {
     let server = Server::new(alloc)?;
     wire_server::serve(alloc, input, output, &server, store)

@@ -1,6 +1,6 @@
 -- A message of which the head is held, as its body comes and as it is answered.
 use Rattle.std.proofs.Common.{◌≡◌, ℕ, ◌+◌, ◌<◌, ◌≤◌, List, [], ◌∷◌, ◌++◌, min, length, drop, Bool, true, false, ◌==◌}
-use Rattle.std.proofs.Common.{refl, Option, Err, sym, ap, ◌∙◌, arith, inl, inr, length-append}
+use Rattle.std.proofs.Common.{refl, Option, Err, sym, ap, ◌∙◌, arith, inl, inr, length-append, length-drop}
 use Rattle.std.proofs.lemmas.List.{drop_all}
 use Rattle.std.proofs.lemmas.Bool.Decides.{nat_tests}
 use Rattle.std.specs.Prelude.{IfSome}
@@ -11,7 +11,7 @@ use Rattle.wire_server.specs.Heads.{IsHead}
 use Rattle.wire_server.proofs.Heads.{ends_in_line_feed}
 use Rattle.wire_server.specs.declared.head.Head.{Head}
 use Rattle.wire_server.specs.declared.error.Fault.TheVariants.{BadLength}
-use Rattle.wire_server.specs.Messages.{HoldsHead, IsFault}
+use Rattle.wire_server.specs.Messages.{HoldsHead, HoldsTo, ReadsTo, IsFault}
 use Rattle.wire_server.specs.Division.{closes}
 use Rattle.wire_server.proofs.Longer.{holds-append}
 use Rattle.wire_server.proofs.Reading.{at_end_all, ends_inside}
@@ -38,29 +38,32 @@ held_some held rest h is =
 
 module _ (held read : List ℕ) (head : Head) (size : ℕ) (is : HoldsHead held head size) where
   -- the bytes end inside it
-  pub cut_short : (rest : Option (List ℕ)) → IsAtEnd rest → length (held ++ read) < head.spans.len + size
+  pub cut_short : (n : ℕ) (rest : Option (List ℕ)) → IsAtEnd rest → length (held ++ read) < head.spans.len + size
       → (0 < length (held ++ read)) × IfSome rest (λ more. IsFault ((held ++ read) ++ more) BadLength)
-  cut_short rest end short =
+      × ReadsTo n (held ++ read) rest
+  cut_short n rest end short =
       let all = held ++ read in
       let some = held_some held _ is.0 is.1.is_head in
       let fault : IsFault all BadLength =
       inr (ends_inside all head is.0 size (holds-append held read head is.0 is.1) is.2 short) in
       let more : 0 < length all = omega (arith, some, length-append held read) in
-      (more, at_end_all (λ t. IsFault t BadLength) all rest fault end)
+      (more, at_end_all (λ t. IsFault t BadLength) all rest fault end, inl end)
 
   -- it came whole
   module _ {S C B : Type 0} (answers : S → RequestHead → List ℕ → Replied → S → Type 0)
-      (decides : S → RequestHead → C → Type 0) (represents : B → List ℕ → Type 0) (s : S) where
+      (decides : S → RequestHead → C → Type 0) (represents : B → List ℕ → Type 0) (s : S) (n : ℕ)
+      (near : HoldsTo n head.spans.len held) where
     pub whole_arrives : (ready : Begun (C × B)) → head.spans.len + size ≤ length (held ++ read)
         → IsReady answers decides represents s is.0 (body_in (held ++ read) head size) ready
         → drop (head.spans.len + size) (held ++ read) ≡ drop (head.spans.len + size) held
-        → Whole answers decides represents s (held ++ read) held head size ready
+        → Whole answers decides represents s n (held ++ read) held head size ready
     whole_arrives ready whole is_ready rest = record {
       h = is.0;
       message = record { holds = holds-append held read head is.0 is.1; states = is.2; whole = whole };
       holds = is.1;
       answerable = is_ready;
       rest = sym rest;
+      near = near;
     }
 
 -- a number of bytes that stays at the greatest is as good as the number, where there are fewer
@@ -76,14 +79,18 @@ drop_saturated n m bytes is fits = by (m == n) refl
 
 module _ {S C B : Type 0} (answers : S → RequestHead → List ℕ → Replied → S → Type 0)
     (decides : S → RequestHead → C → Type 0) (represents : B → List ℕ → Type 0)
-    (s : S) (all held : List ℕ) (head : Head) (size : ℕ) (ready : Begun (C × B))
-    (is : Whole answers decides represents s all held head size ready) (new : S) where
+    (s : S) (n : ℕ) (all held : List ℕ) (head : Head) (size : ℕ) (ready : Begun (C × B))
+    (is : Whole answers decides represents s n all held head size ready) (new : S) where
   -- the response that came
   pub answered_whole : (held' : List ℕ) (x : Exchange) → answers s is.h (body_in all head size) (replied x.response) new
       → x.close ≡ closes is.h
-      → held' ≡ drop (head.spans.len + size) held → IsAnswered answers all held' s x new
-  answered_whole held' x a close rest =
-      (record { head = head; size = size; h = is.h; holds = is.message; answered = a }, close, rest ∙ is.rest)
+      → held' ≡ drop (head.spans.len + size) held → IsAnswered answers n all held' s x new
+  answered_whole held' x a close rest = (
+    record { head = head; size = size; h = is.h; holds = is.message; answered = a },
+    close,
+    rest ∙ is.rest,
+    omega (arith, ap length rest, length-drop (head.spans.len + size) held, is.near),
+  )
 
   -- none, or one that is lost
   pub lost_whole : (e : AllocError) → Answered answers s is.h (body_in all head size) (Err e) new

@@ -1,6 +1,6 @@
 -- What one turn of the loop comes to.
-use Rattle.std.proofs.Common.{◌≡◌, ℕ, ◌+◌, ◌<◌, ◌-◌, ◌^◌, List, [], ◌∷◌, ◌++◌, length, take, drop, Option, Err, true}
-use Rattle.std.proofs.Common.{false, refl, sym, ap, ◌∙◌, arith, subst, inl, inr}
+use Rattle.std.proofs.Common.{◌≡◌, ℕ, ◌+◌, ◌<◌, ◌≤◌, ◌-◌, ◌^◌, List, [], ◌∷◌, ◌++◌, length, take, drop, Option}
+use Rattle.std.proofs.Common.{true, false, refl, sym, ap, ◌∙◌, arith, subst, inl, inr}
 use Rattle.std.specs.Prelude.{IfSome}
 use Rattle.std.specs.Io.KnownBytes.{Consumes, IsAtEnd, Appends, Keeps}
 use Rattle.std.proofs.KnownBytes.{Appends-trans, Appends-nil, Appends-kept}
@@ -8,15 +8,16 @@ use Rattle.streams.specs.Sends.{AppendsPrefix}
 use Rattle.httparse.specs.Grammar.{RequestHead}
 use Rattle.wire_server.specs.declared.head.Head.{Head}
 use Rattle.wire_server.specs.declared.error.Fault.{Fault}
-use Rattle.wire_server.specs.Messages.{IsFault, HoldsMessage}
+use Rattle.wire_server.specs.Messages.{IsFault, HoldsMessage, ReadsTo}
 use Rattle.wire_server.specs.Division.{message, faulty, closes}
 use Rattle.wire_server.specs.Responses.{Replied, reply_bytes}
 use Rattle.wire_server.specs.Answers.{body_in}
-use Rattle.wire_server.specs.Serves.{fault_reply, joined, reported, IsWritten, Serves, Stops}
+use Rattle.wire_server.specs.Serves.{fault_reply, joined, reported, IsWritten, TakesAll, Serves, Stops}
 use Rattle.wire_server.specs.declared.error.WireError.{WireError}
 use Rattle.wire_server.specs.declared.error.WireError.TheVariants.{Read, Write, Memory}
 use Rattle.wire_server.proofs.Reported.{Reported, divides_all, begins_all, follows_start, follows_read, follows_end}
 use Rattle.wire_server.proofs.Reported.{follows_any, follows_fault, follows_last, follows_more, follows_item}
+use Rattle.wire_server.proofs.Reported.{reaches_start, reaches_read, reaches_here, reaches_fault, reaches_more}
 use Rattle.wire_server.proofs.Reported.{joined_more, counted_more, replies_item, replies_fault}
 
 full : (n k : ℕ) → n ≡ 340282366920938463463374607431768211455 → n ≡ k → k < 2 ^ 128 - 1 → ⊥
@@ -37,31 +38,34 @@ module _ {S : Type 0} (answers : S → RequestHead → List ℕ → Replied → 
         replies = [];
         counted = refl;
         follows = follows_start input;
+        reaches = reaches_start input;
         answered = refl;
         written = Appends-nil output;
       }
 
-  pub reported_read : (mid rest out : Option (List ℕ)) (held held' bs : List ℕ) (t : S) (n : ℕ)
+  pub reported_read : (mid rest out : Option (List ℕ)) (held bs : List ℕ) (t : S) (n : ℕ)
       → Reported answers input mid output out held s t n
-      → Consumes mid rest bs → held' ≡ held ++ bs → Reported answers input rest output out held' s t n
-  reported_read mid rest out held held' bs t n report read kept = record {
+      → Consumes mid rest bs → Reported answers input rest output out (held ++ bs) s t n
+  reported_read mid rest out held bs t n report read = record {
     done = report.done;
     replies = report.replies;
     counted = report.counted;
-    follows = follows_read input mid rest held held' bs report.done report.follows read kept;
+    follows = follows_read input mid rest held (held ++ bs) bs report.done report.follows read refl;
+    reaches = reaches_read input mid rest held bs report.done report.reaches read;
     answered = report.answered;
     written = report.written;
   }
 
   -- broken off before another reply
-  pub stopped : (rest out : Option (List ℕ)) (held : List ℕ) (t : S) (n : ℕ)
+  pub stopped : (rest left out : Option (List ℕ)) (held : List ℕ) (t : S) (n : ℕ)
       → Reported answers input rest output out held s t n
-      → (e : WireError) → (e ≡ Write → ⊥) → Stops answers input output out s t e
-  stopped rest out held t n report e reading = record {
+      → (e : WireError) → (e ≡ Write → ⊥) → Stops answers input left output out s t e
+  stopped rest left out held t n report e reading = record {
     items = report.done;
     replies = report.replies;
     bytes = joined report.replies;
     prefix = begins_all input report.done (follows_any input rest held report.done report.follows);
+    read = λ is. absurd (reading is);
     answered = report.answered;
     written = by e reading;
     appended = report.written;
@@ -73,8 +77,8 @@ module _ {S : Type 0} (answers : S → RequestHead → List ℕ → Replied → 
       by Memory reads = inl refl
 
   -- nothing was read, answered or written
-  pub unserved : Stops answers input output output s s Memory
-  unserved = stopped input output [] s 0 reported_start Memory (λ is. cc)
+  pub unserved : Stops answers input input output output s s Memory
+  unserved = stopped input input output [] s 0 reported_start Memory (λ is. cc)
 
   -- a connection to whose writer nothing was given
   pub still : (rest out out' : Option (List ℕ)) (held : List ℕ) (t : S) (n : ℕ)
@@ -85,6 +89,7 @@ module _ {S : Type 0} (answers : S → RequestHead → List ℕ → Replied → 
     replies = report.replies;
     counted = report.counted;
     follows = report.follows;
+    reaches = report.reaches;
     answered = report.answered;
     written = Appends-kept output out out' (joined report.replies) report.written kept;
   }
@@ -92,13 +97,15 @@ module _ {S : Type 0} (answers : S → RequestHead → List ℕ → Replied → 
   -- as many as are counted
   pub counted_out : (rest out : Option (List ℕ)) (held : List ℕ) (t : S) (n : ℕ)
       → Reported answers input rest output out held s t n
-      → n ≡ 340282366920938463463374607431768211455 → Serves answers input output out s t 18446744073709551615
-  counted_out rest out held t n report is = record {
+      → n ≡ 340282366920938463463374607431768211455 → length held ≤ 4095
+      → Serves answers input rest output out s t 18446744073709551615
+  counted_out rest out held t n report is few = record {
     items = report.done;
     replies = report.replies;
     counted = ap reported (sym is ∙ report.counted);
     prefix = begins_all input report.done (follows_any input rest held report.done report.follows);
     whole = λ small. absurd (full n (length report.done) is report.counted small);
+    read = reaches_here input rest held report.done report.reaches few;
     answered = report.answered;
     written = report.written;
   }
@@ -106,13 +113,14 @@ module _ {S : Type 0} (answers : S → RequestHead → List ℕ → Replied → 
   -- nothing is left
   pub ended : (rest out : Option (List ℕ)) (held : List ℕ) (t : S) (n : ℕ)
       → Reported answers input rest output out held s t n → held ≡ [] → IsAtEnd rest
-      → Serves answers input output out s t (reported n)
+      → Serves answers input rest output out s t (reported n)
   ended rest out held t n report none end = record {
     items = report.done;
     replies = report.replies;
     counted = ap reported report.counted;
     prefix = begins_all input report.done (follows_any input rest held report.done report.follows);
     whole = λ small. divides_all input report.done (follows_end input rest held report.done report.follows none end);
+    read = reaches_here input rest held report.done report.reaches (omega (arith, ap length none));
     answered = report.answered;
     written = report.written;
   }
@@ -121,8 +129,9 @@ module _ {S : Type 0} (answers : S → RequestHead → List ℕ → Replied → 
 
   module _ (rest out out' : Option (List ℕ)) (held : List ℕ) (t : S) (n : ℕ) (fault : Fault)
       (report : Reported answers input rest output out held s t n)
-      (some : 0 < length held) (is : IfSome rest (λ more. IsFault (held ++ more) fault)) where
-    pub refused : Appends out out' (fault_reply fault) → Serves answers input output out' s t (reported (n + 1))
+      (some : 0 < length held) (is : IfSome rest (λ more. IsFault (held ++ more) fault)) (before : ℕ)
+      (small : before ≤ 4095) (near : ReadsTo before held rest) where
+    pub refused : Appends out out' (fault_reply fault) → Serves answers input rest output out' s t (reported (n + 1))
     refused sent = record {
       items = report.done ++ faulty fault ∷ [];
       replies = report.replies ++ fault_reply fault ∷ [];
@@ -130,16 +139,18 @@ module _ {S : Type 0} (answers : S → RequestHead → List ℕ → Replied → 
       prefix = begins_all input _ (follows_fault false input rest held report.done fault report.follows some is);
       whole =
           λ small. divides_all input _ (follows_fault true input rest held report.done fault report.follows some is);
+      read = reaches_fault input rest held report.done fault before report.reaches small near;
       answered = replies_fault answers s t report.done report.replies fault report.answered;
       written = sent_more output out out' report.replies (fault_reply fault) report.written sent;
     }
 
-    pub refused_in_part : AppendsPrefix out out' (fault_reply fault) → Stops answers input output out' s t Write
+    pub refused_in_part : AppendsPrefix out out' (fault_reply fault) → Stops answers input rest output out' s t Write
     refused_in_part (k, below, sent) = record {
       items = report.done ++ faulty fault ∷ [];
       replies = report.replies ++ fault_reply fault ∷ [];
       bytes = joined report.replies ++ take k (fault_reply fault);
       prefix = begins_all input _ (follows_fault false input rest held report.done fault report.follows some is);
+      read = λ _. reaches_fault input rest held report.done fault before report.reaches small near;
       answered = replies_fault answers s t report.done report.replies fault report.answered;
       written = (report.replies, fault_reply fault, k, refl, below, refl);
       appended = Appends-trans output out out' (joined report.replies) (take k (fault_reply fault)) report.written sent;
@@ -149,15 +160,22 @@ module _ {S : Type 0} (answers : S → RequestHead → List ℕ → Replied → 
 
   module _ (rest out : Option (List ℕ)) (held : List ℕ) (t : S) (n : ℕ) (head : Head) (size : ℕ) (h : RequestHead)
       (report : Reported answers input rest output out held s t n) (is : HoldsMessage held head size h) where
+    taken : length (drop (head.spans.len + size) held) ≤ 4095
+        → TakesAll input rest (report.done ++ message h (body_in held head size) ∷ [])
+    taken few =
+        reaches_here input rest _ _ (reaches_more held report.done head size h is input rest report.reaches) few
+
     answered_broken : (out' : Option (List ℕ)) (new : S) (r : Replied) (e : WireError) (bytes : List ℕ)
+        → (e ≡ Write → length (drop (head.spans.len + size) held) ≤ 4095)
         → answers t h (body_in held head size) r new
         → IsWritten e (report.replies ++ reply_bytes (closes h) r ∷ []) bytes → Appends output out' bytes
-        → Stops answers input output out' s new e
-    answered_broken out' new r e bytes answered written appended = record {
+        → Stops answers input rest output out' s new e
+    answered_broken out' new r e bytes few answered written appended = record {
       items = report.done ++ message h (body_in held head size) ∷ [];
       replies = report.replies ++ reply_bytes (closes h) r ∷ [];
       bytes = bytes;
       prefix = begins_all input _ (follows_item held report.done head size h is input rest report.follows);
+      read = λ failed. taken (few failed);
       answered =
           replies_item answers s t new report.done report.replies h (body_in held head size) r report.answered answered;
       written = written;
@@ -166,25 +184,28 @@ module _ {S : Type 0} (answers : S → RequestHead → List ℕ → Replied → 
 
     -- a prefix of the reply was written
     pub answered_in_part : (out' : Option (List ℕ)) (new : S) (r : Replied) → answers t h (body_in held head size) r new
-        → AppendsPrefix out out' (reply_bytes (closes h) r) → Stops answers input output out' s new Write
-    answered_in_part out' new r answered (k, below, sent) =
-        answered_broken out' new r Write (joined report.replies ++ take k (reply_bytes (closes h) r)) answered
+        → AppendsPrefix out out' (reply_bytes (closes h) r) → length (drop (head.spans.len + size) held) ≤ 4095
+        → Stops answers input rest output out' s new Write
+    answered_in_part out' new r answered (k, below, sent) few =
+        answered_broken out' new r Write (joined report.replies ++ take k (reply_bytes (closes h) r)) (λ _. few)
+        answered
         (report.replies, reply_bytes (closes h) r, k, refl, below, refl)
         (Appends-trans output out out' (joined report.replies) (take k (reply_bytes (closes h) r)) report.written sent)
 
     -- nothing of it was
     pub answered_lost : (out' : Option (List ℕ)) (new : S) (r : Replied) → answers t h (body_in held head size) r new
         → Keeps out out'
-        → Stops answers input output out' s new Memory
+        → Stops answers input rest output out' s new Memory
     answered_lost out' new r answered kept =
-        answered_broken out' new r Memory (joined report.replies) answered
+        answered_broken out' new r Memory (joined report.replies) (λ is. cc) answered
         (inr (report.replies, reply_bytes (closes h) r, refl, refl))
         (Appends-kept output out out' (joined report.replies) report.written kept)
 
     pub closed : (out' : Option (List ℕ)) (new : S) (r : Replied) → answers t h (body_in held head size) r new
         → closes h ≡ true
-        → Appends out out' (reply_bytes (closes h) r) → Serves answers input output out' s new (reported (n + 1))
-    closed out' new r answered last sent = record {
+        → Appends out out' (reply_bytes (closes h) r) → length (drop (head.spans.len + size) held) ≤ 4095
+        → Serves answers input rest output out' s new (reported (n + 1))
+    closed out' new r answered last sent few = record {
       items = report.done ++ message h (body_in held head size) ∷ [];
       replies = report.replies ++ reply_bytes (closes h) r ∷ [];
       counted = ap reported (counted_more report.done _ n report.counted);
@@ -192,6 +213,7 @@ module _ {S : Type 0} (answers : S → RequestHead → List ℕ → Replied → 
       whole =
           λ small. divides_all input _
           (follows_last held report.done head size h is true input rest report.follows last);
+      read = taken few;
       answered =
           replies_item answers s t new report.done report.replies h (body_in held head size) r report.answered answered;
       written = sent_more output out out' report.replies (reply_bytes (closes h) r) report.written sent;
@@ -206,6 +228,7 @@ module _ {S : Type 0} (answers : S → RequestHead → List ℕ → Replied → 
       replies = report.replies ++ reply_bytes (closes h) r ∷ [];
       counted = counted_more report.done _ n report.counted;
       follows = follows_more held report.done head size h is input rest report.follows on;
+      reaches = reaches_more held report.done head size h is input rest report.reaches;
       answered =
           replies_item answers s t new report.done report.replies h (body_in held head size) r report.answered answered;
       written = sent_more output out out' report.replies (reply_bytes (closes h) r) report.written sent;

@@ -1,17 +1,20 @@
 -- What reads in pieces come to.
 use Rattle.std.proofs.Common.{◌≡◌, ℕ, ◌+◌, ◌<◌, List, [], ◌∷◌, ◌++◌, length, drop, Option, Some, None, Result, Ok, Err}
-use Rattle.std.proofs.Common.{true, false, inl, sym, ap, ◌∙◌, arith, append_assoc, append-nil, subst, length-drop}
+use Rattle.std.proofs.Common.{true, false, take, inl, inr, sym, ap, ◌∙◌, arith, append_assoc, append-nil, subst}
+use Rattle.std.proofs.Common.{length-drop}
 use Rattle.std.specs.Prelude.{IfSome, Bool, cond, nat_le, codes}
+use Rattle.std.proofs.lemmas.Bool.{cases_lt}
 use Rattle.std.specs.Io.KnownBytes.{Consumes, IsAtEnd}
 use Rattle.std.proofs.KnownBytes.{Consumes-trans}
 use Rattle.httparse.specs.Grammar.{RequestHead, HasNoRequest}
 use Rattle.wire_server.specs.declared.head.Head.{Head}
 use Rattle.wire_server.specs.declared.error.Fault.{Fault}
-use Rattle.wire_server.specs.Heads.{HasNoHead, Holds}
+use Rattle.wire_server.specs.Heads.{HasNoHead, Holds, max_head}
 use Rattle.wire_server.specs.Fields.{fields_of, fields_at, body_length, length_by, values, stated, is_number, max_body}
 use Rattle.wire_server.specs.declared.error.Fault.TheVariants.{BadHead, BadLength, TooLarge}
 use Rattle.std.specs.Str.Parse.{digits_value}
-use Rattle.wire_server.specs.Messages.{FaultOfHead, EndsInside, IsFault}
+use Rattle.wire_server.specs.Messages.{FaultOfHead, EndsInside, IsFault, HoldsTo}
+use Rattle.wire_server.proofs.Heads.{head_in_prefix}
 use Rattle.wire_server.proofs.Longer.{head-append}
 
 -- what was taken and what one more read took
@@ -53,6 +56,20 @@ fault_of_head held head h fault holds is more = (
   head-append held more h (drop head.spans.len held) holds.is_head,
   ap body_length (sym holds.places.fields) ∙ sym is,
 )
+
+-- where the bytes that were seen have no head, a head goes beyond them
+pub beyond_seen : (buf : List ℕ) (head : Head) (h : RequestHead) (seen : ℕ) → Holds buf head h
+    → HasNoRequest (take seen buf) → seen < head.spans.len
+beyond_seen buf head h seen holds none = elim (cases_lt seen head.spans.len) [
+  | inl later ↦ later
+  | inr before ↦ absurd
+      (none h _ (head_in_prefix buf h _ seen holds.is_head.reads (omega (arith, before, holds.places.len))))
+]
+
+-- a head has no more bytes than it may have
+pub head_near : (held : List ℕ) (head : Head) (h : RequestHead) (n : ℕ) → Holds held head h
+    → HoldsTo n head.spans.len held → HoldsTo n max_head held
+head_near held head h n holds near = omega (arith, near, holds.places.len, holds.is_head.short)
 
 -- an input that ends before the body is whole
 pub ends_inside : (held : List ℕ) (head : Head) (h : RequestHead) (size : ℕ) → Holds held head h

@@ -1,6 +1,7 @@
 -- A connection as far as it was served.
-use Rattle.std.proofs.Common.{◌≡◌, ℕ, ◌+◌, ◌<◌, Bool, List, [], ◌∷◌, ◌++◌, length, drop, Option, Some, None, true}
-use Rattle.std.proofs.Common.{false, cond, refl, sym, ap, ◌∙◌, arith, append_assoc, append-nil, subst, length-append}
+use Rattle.std.proofs.Common.{◌≡◌, ◌⊎◌, ℕ, ◌+◌, ◌<◌, ◌≤◌, Bool, List, [], ◌∷◌, ◌++◌, length, drop, Option, Some, None}
+use Rattle.std.proofs.Common.{true, false, cond, refl, sym, ap, ◌∙◌, arith, inl, inr, append_assoc, append-nil, subst}
+use Rattle.std.proofs.Common.{length-append}
 use Rattle.std.specs.Prelude.{IfSome, codes, ◌==◌, ◌||◌}
 use Rattle.std.specs.List.{list_any}
 use Rattle.std.specs.Str.{str_eq_ignore_ascii_case}
@@ -10,12 +11,12 @@ use Rattle.wire_server.specs.declared.head.Head.{Head}
 use Rattle.wire_server.specs.declared.error.Fault.{Fault}
 use Rattle.wire_server.specs.Heads.{Holds}
 use Rattle.wire_server.specs.Fields.{fields_at, values}
-use Rattle.wire_server.specs.Messages.{IsMessage, IsFault, HoldsMessage}
+use Rattle.wire_server.specs.Messages.{IsMessage, IsFault, HoldsMessage, ReadsTo}
 use Rattle.wire_server.specs.Division.{Item, message, faulty, closes, Divides}
 use Rattle.wire_server.proofs.Whole.{message_of_input}
 use Rattle.wire_server.specs.Responses.{Replied, reply_bytes}
 use Rattle.wire_server.specs.Answers.{body_in}
-use Rattle.wire_server.specs.Serves.{Begins, DividesAll, BeginsWith, Replies, fault_reply, joined}
+use Rattle.wire_server.specs.Serves.{Begins, DividesAll, BeginsWith, Takes, TakesAll, Replies, fault_reply, joined}
 
 -- ---- the input
 
@@ -99,8 +100,59 @@ follows_fault whole (Some all) (Some more) held done fault reported some is =
     let long : 0 < length (held ++ more) = omega (arith, length-append held more) in
     reported whole (faulty fault ∷ []) (long, is, refl)
 
+-- what was read of the rest was read of the input after these items
+abbrev pub Reaches : Option (List ℕ) → Option (List ℕ) → List ℕ → List Item → Type 0
+Reaches None new held done = Unit {0}
+Reaches (Some all) None held done = ⊥
+Reaches (Some all) (Some more) held done =
+    (items : List Item) (left : List ℕ) → Takes (held ++ more) items left → Takes all (done ++ items) left
+
+pub reaches_start : (old : Option (List ℕ)) → Reaches old old [] []
+reaches_start None = tt
+reaches_start (Some all) = λ items left t. t
+
+pub reaches_read : (old mid new : Option (List ℕ)) (held bs : List ℕ) (done : List Item)
+    → Reaches old mid held done → Consumes mid new bs → Reaches old new (held ++ bs) done
+reaches_read None mid new held bs done reaches read = tt
+reaches_read (Some all) None new held bs done reaches read = absurd reaches
+reaches_read (Some all) (Some more) None held bs done reaches read = absurd read
+reaches_read (Some all) (Some more) (Some rest) held bs done reaches read =
+    let same : (held ++ bs) ++ rest ≡ held ++ more =
+    append_assoc held bs rest ∙ ap (λ t. held ++ t) (sym read) in
+    λ items left t. reaches items left (subst (λ u. Takes u items left) same t)
+
+-- few bytes are held
+pub reaches_here : (old new : Option (List ℕ)) (held : List ℕ) (done : List Item) → Reaches old new held done
+    → length held ≤ 4095 → TakesAll old new done
+reaches_here None new held done reaches few = tt
+reaches_here (Some all) None held done reaches few = absurd reaches
+reaches_here (Some all) (Some more) held done reaches few =
+    subst (λ items. Takes all items more) (append-nil done) (reaches [] more (held, refl, few))
+
+few_of_fault : (n : ℕ) (held more : List ℕ) → n ≤ 4095 → ReadsTo n held (Some more)
+    → (more ≡ []) ⊎ (length held ≤ 20479)
+few_of_fault n held more small (inl end) = inl end
+few_of_fault n held more small (inr near) = inr (omega (arith, near, small))
+
+pub reaches_fault : (old new : Option (List ℕ)) (held : List ℕ) (done : List Item) (fault : Fault) (n : ℕ)
+    → Reaches old new held done → n ≤ 4095 → ReadsTo n held new → TakesAll old new (done ++ faulty fault ∷ [])
+reaches_fault None new held done fault n reaches small near = tt
+reaches_fault (Some all) None held done fault n reaches small near = absurd reaches
+reaches_fault (Some all) (Some more) held done fault n reaches small near =
+    reaches (faulty fault ∷ []) more (held, refl, few_of_fault n held more small near)
+
 module _ (held : List ℕ) (done : List Item) (head : Head) (size : ℕ) (h : RequestHead)
     (is : HoldsMessage held head size h) where
+  pub reaches_more : (old new : Option (List ℕ)) → Reaches old new held done
+      → Reaches old new (drop (head.spans.len + size) held) (done ++ message h (body_in held head size) ∷ [])
+  reaches_more None new reaches = tt
+  reaches_more (Some all) None reaches = absurd reaches
+  reaches_more (Some all) (Some more) reaches = λ items left t.
+      let item = message h (body_in held head size) in
+      let prefix = message_of_input held more head size h is in
+      subst (λ u. Takes all u left) (sym (append_assoc done (item ∷ []) items))
+      (reaches (item ∷ items) left (_, prefix, t))
+
   pub follows_last : (whole : Bool) (old new : Option (List ℕ)) → Follows old new held done → closes h ≡ true
       → PartsAll whole old (done ++ message h (body_in held head size) ∷ [])
   follows_last whole None new reported last = tt
@@ -193,5 +245,6 @@ module _ {S : Type 0} (answers : S → RequestHead → List ℕ → Replied → 
     pub replies : List (List ℕ)
     pub counted : n ≡ length done
     pub follows : Follows input rest held done
+    pub reaches : Reaches input rest held done
     pub answered : Replies answers old done replies new
     pub written : Appends output output' (joined replies)

@@ -41,11 +41,12 @@ module _ {S W : Type 0} (answers : S → RequestHead → List ℕ → Replied �
       (more.0, more.1, λ good. let after = more.2 good in (after.0, (is, after.1)))
 
   -- one connection
-  pub served_seen : (input output output' : Option (List ℕ)) (old : S) (w : W) (new : S) (result : Result ℕ WireError)
+  pub served_seen : (input input' output output' : Option (List ℕ)) (old : S) (w : W) (new : S)
+      (result : Result ℕ WireError)
       → Shows old w
-      → Served answers input output output' old new result
-      → Sees old new (λ w'. Served seen input output output' w w' result)
-  served_seen input output output' old w new (Ok n) shows served =
+      → Served answers input input' output output' old new result
+      → Sees old new (λ w'. Served seen input input' output output' w w' result)
+  served_seen input input' output output' old w new (Ok n) shows served =
       let more = replies_seen old w served.items served.replies new shows served.answered in (
         more.0,
         more.1,
@@ -58,12 +59,13 @@ module _ {S W : Type 0} (answers : S → RequestHead → List ℕ → Replied �
                 counted = served.counted;
                 prefix = served.prefix;
                 whole = served.whole;
+                read = served.read;
                 answered = after.1;
                 written = served.written;
               },
             ),
       )
-  served_seen input output output' old w new (Err fault) shows stopped =
+  served_seen input input' output output' old w new (Err fault) shows stopped =
       let more = replies_seen old w stopped.items stopped.replies new shows stopped.answered in (
         more.0,
         more.1,
@@ -75,6 +77,7 @@ module _ {S W : Type 0} (answers : S → RequestHead → List ℕ → Replied �
                 replies = stopped.replies;
                 bytes = stopped.bytes;
                 prefix = stopped.prefix;
+                read = stopped.read;
                 answered = after.1;
                 written = stopped.written;
                 appended = stopped.appended;
@@ -89,7 +92,8 @@ module _ {S W : Type 0} (answers : S → RequestHead → List ℕ → Replied �
   follow_seen old w err err' [] new shows (same, kept) =
       (w, subst (λ s. Shows s w) (sym same) shows, λ good. (subst Good same good, (refl, kept)))
   follow_seen old w err err' (session ∷ sessions) new shows (fresh, mid, said, is, served, says, rest) =
-      let one = served_seen session.input fresh session.output old w mid (result_of session.end) shows served in
+      let one =
+      served_seen session.input session.left fresh session.output old w mid (result_of session.end) shows served in
       let more = follow_seen mid one.0 said err' sessions new one.1 rest in (
         more.0,
         more.1,

@@ -96,13 +96,13 @@ module _ {S : Type 0} (answers : S → RequestHead → List ℕ → Replied → 
 
     -- one more connection
     pub sofar_more : (waiting'' closed'' : Option (List (List ℕ))) (faults'' : Option ℕ)
-        (err'' input before output : Option (List ℕ)) (new' : S) (end : End)
+        (err'' input rest before output : Option (List ℕ)) (new' : S) (end : End)
         → AcceptsPeers waiting' waiting'' (input ∷ []) → ClosesPeers closed' closed'' (output ∷ []) → IsFresh before
-        → Served answers input before output new new' (result_of end) → Says end err' err''
+        → Served answers input rest before output new new' (result_of end) → Says end err' err''
         → CountsFaults faults' faults'' 0
         → Sofar waiting waiting'' closed closed'' faults faults'' err err'' old new' (n + 1) (count + failure end)
-    sofar_more waiting'' closed'' faults'' err'' input before output new' end accepted left fresh served says none =
-        let session : Session = record { input = input; output = output; end = end } in
+    sofar_more waiting'' closed'' faults'' err'' input rest before output new' end accepted left fresh served says ok =
+        let session : Session = record { input = input; left = rest; output = output; end = end } in
         record {
           sessions = sofar.sessions ++ session ∷ [];
           serves = record {
@@ -118,5 +118,5 @@ module _ {S : Type 0} (answers : S → RequestHead → List ℕ → Replied → 
           };
           counted = omega (arith, length-append sofar.sessions (session ∷ []), sofar.counted);
           failing = omega (arith, failures_append sofar.sessions (session ∷ []), sofar.failing);
-          accepting = counts_more faults faults' faults'' 0 0 sofar.accepting none;
+          accepting = counts_more faults faults' faults'' 0 0 sofar.accepting ok;
         }

@@ -5,7 +5,7 @@ use Rattle.httparse.specs.Grammar.{RequestHead}
 use Rattle.wire_server.specs.declared.head.Head.{Head}
 use Rattle.wire_server.specs.Bodies.{IsOfReading}
 use Rattle.wire_server.specs.Heads.{Holds}
-use Rattle.wire_server.specs.Messages.{IsReceived, HoldsMessage}
+use Rattle.wire_server.specs.Messages.{IsReceived, HoldsMessage, HoldsTo}
 use Rattle.wire_server.specs.Responses.{Replied}
 use Rattle.wire_server.specs.Answers.{body_in, IsReady}
 use Rattle.wire_server.specs.declared.responder.Begun.{Begun}
@@ -13,19 +13,20 @@ use Rattle.wire_server.specs.declared.error.WireError.{WireError}
 use Rattle.wire_server.specs.declared.message.Received.{Received}
 
 module _ {S C B : Type 0} (answers : S → RequestHead → List ℕ → Replied → S → Type 0)
-    (decides : S → RequestHead → C → Type 0) (represents : B → List ℕ → Type 0) (s : S) where
+    (decides : S → RequestHead → C → Type 0) (represents : B → List ℕ → Type 0) (s : S) (n : ℕ) where
   -- The bytes begin with a message whose whole body came, and which is answered in this way. The head, and what
-  -- follows the message, are held.
+  -- follows the message, are held. Before, n bytes were held.
   pub record Whole (all held : List ℕ) (head : Head) (size : ℕ) (ready : Begun (C × B)) : Type 0 where
     pub h : RequestHead
     pub message : HoldsMessage all head size h
     pub holds : Holds held head h
     pub answerable : IsReady answers decides represents s h (body_in all head size) ready
     pub rest : drop (head.spans.len + size) held ≡ drop (head.spans.len + size) all
+    pub near : HoldsTo n head.spans.len held
 
   -- the bytes that were held or read begin with such a message
   abbrev pub Arrived : List ℕ → List ℕ → Option (List ℕ) → Received (Head × ℕ × Begun (C × B)) → Type 0
-  Arrived all held = IsReceived (λ it. Whole all held it.0 it.1 it.2) all
+  Arrived all held = IsReceived n (λ it. Whole all held it.0 it.1 it.2) all
 
   -- the bytes were received; or the reading failed
   abbrev pub Brings : List ℕ → List ℕ → Option (List ℕ) → Result (Received (Head × ℕ × Begun (C × B))) WireError

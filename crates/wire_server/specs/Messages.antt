@@ -1,6 +1,6 @@
 -- How an input divides from its beginning into messages, and what one read of a message leaves.
-use Rattle.std.specs.Prelude.{◌≡◌, ◌⊎◌, ℕ, ◌+◌, ◌<◌, ◌≤◌, List, [], ◌++◌, length, Option, Result, Ok, Err, Bool, true}
-use Rattle.std.specs.Prelude.{false, IfOk, IfErr, IfSome, OnOk}
+use Rattle.std.specs.Prelude.{◌≡◌, ◌⊎◌, ℕ, ◌+◌, ◌<◌, ◌≤◌, max, List, [], ◌++◌, length, Option, Result, Ok, Err, Bool}
+use Rattle.std.specs.Prelude.{true, false, IfOk, IfErr, IfSome, OnOk}
 use Rattle.std.specs.Io.KnownBytes.{Consumes, IsAtEnd}
 use Rattle.httparse.specs.Grammar.{RequestHead, HasNoRequest}
 use Rattle.httparse.specs.declared.Status.{Status}
@@ -45,25 +45,37 @@ LookFinds buf (Ok (Complete head)) = (h : RequestHead) × Holds buf head h
 LookFinds buf (Ok Partial) = HasNoRequest buf × (length buf < max_head)
 LookFinds buf (Err fault) = (more : List ℕ) → IsFault (buf ++ more) fault
 
--- One more read: the bytes that it took are appended to those that were held. It took at least one byte, or the input
--- was at its end.
+-- One more read: the bytes that it took, at most 4,096, are appended to those that were held. It took at least one
+-- byte, or the input was at its end.
 pub record ReadsMore (old new : Option (List ℕ)) (held held' : List ℕ)
     (result : Result Bool WireError) : Type 0 where
   pub consumed : (bs : List ℕ) × Consumes old new bs × OnOk result (held' ≡ held ++ bs)
   pub some : result ≡ Ok true → length held < length held'
   pub at_end : result ≡ Ok false → IsAtEnd new × (held' ≡ held)
+  pub few : IfOk result (λ _. length held' ≤ length held + 4096)
   pub fault : IfErr result IsOfReading
 
--- The bytes, with what may follow them, begin with what this says of them, or with no message, for that fault; or
--- there are none, at the end of the input.
-abbrev pub IsReceived : {T : Type 0} → (T → Type 0) → List ℕ → Option (List ℕ) → Received T → Type 0
-IsReceived is bytes rest End = (bytes ≡ []) × IsAtEnd rest
-IsReceived is bytes rest (Message it) = is it
-IsReceived is bytes rest (Faulty fault) = (0 < length bytes) × IfSome rest (λ more. IsFault (bytes ++ more) fault)
+-- At most 4,095 bytes are held beyond this end, or no more than n, as many as before.
+abbrev pub HoldsTo : ℕ → ℕ → List ℕ → Type 0
+HoldsTo n end held = length held ≤ max n (end + 4095)
 
--- the bytes that are held begin with this head
-abbrev pub Starts : List ℕ → Option (List ℕ) → Received Head → Type 0
-Starts held = IsReceived (λ head. (0 < length held) × ((h : RequestHead) × Holds held head h)) held
+-- Where no message begins, the input was read to its end, or little beyond the most bytes of a head.
+abbrev pub ReadsTo : ℕ → List ℕ → Option (List ℕ) → Type 0
+ReadsTo n bytes rest = IsAtEnd rest ⊎ HoldsTo n max_head bytes
+
+-- The bytes, with what may follow them, begin with what this says of them, or with no message, for that fault; or
+-- there are none, at the end of the input. Before, n bytes were held.
+abbrev pub IsReceived : {T : Type 0} → ℕ → (T → Type 0) → List ℕ → Option (List ℕ) → Received T → Type 0
+IsReceived n is bytes rest End = (bytes ≡ []) × IsAtEnd rest
+IsReceived n is bytes rest (Message it) = is it
+IsReceived n is bytes rest (Faulty fault) =
+    (0 < length bytes) × IfSome rest (λ more. IsFault (bytes ++ more) fault) × ReadsTo n bytes rest
+
+-- the bytes that are held begin with this head, and little more was read
+abbrev pub Starts : ℕ → List ℕ → Option (List ℕ) → Received Head → Type 0
+Starts n held =
+    IsReceived n
+    (λ head. (0 < length held) × ((h : RequestHead) × Holds held head h) × HoldsTo n head.spans.len held) held
 
 -- the bytes that are held begin with the head of a message and its body of that size
 pub record HoldsMessage (held : List ℕ) (head : Head) (size : ℕ) (h : RequestHead) : Type 0 where
@@ -75,9 +87,9 @@ pub record HoldsMessage (held : List ℕ) (head : Head) (size : ℕ) (h : Reques
 abbrev pub HoldsHead : List ℕ → Head → ℕ → Type 0
 HoldsHead held head size = (h : RequestHead) × Holds held head h × (body_length (fields_of h) ≡ Ok size)
 
--- the bytes that are held begin with such a head
-abbrev pub Announces : List ℕ → Option (List ℕ) → Received (Head × ℕ) → Type 0
-Announces held = IsReceived (λ it. HoldsHead held it.0 it.1) held
+-- the bytes that are held begin with such a head, and little more was read
+abbrev pub Announces : ℕ → List ℕ → Option (List ℕ) → Received (Head × ℕ) → Type 0
+Announces n held = IsReceived n (λ it. HoldsHead held it.0 it.1 × HoldsTo n it.0.spans.len held) held
 
 -- The bytes that were read are appended to those that were held, and the result is right for them and for what may
 -- follow, or it is an error of the reading.

@@ -1,6 +1,6 @@
 -- What a connection writes for what it reads.
-use Rattle.std.specs.Prelude.{◌≡◌, ◌⊎◌, ℕ, ◌<◌, ◌-◌, ◌^◌, true, min, cond, List, [], ◌∷◌, ◌++◌, length, take, Option}
-use Rattle.std.specs.Prelude.{Some, None, Result, Ok, Err, ⊤}
+use Rattle.std.specs.Prelude.{◌≡◌, ◌⊎◌, ℕ, ◌<◌, ◌≤◌, ◌-◌, ◌^◌, true, min, cond, List, [], ◌∷◌, ◌++◌, length, take}
+use Rattle.std.specs.Prelude.{Option, Some, None, Result, Ok, Err, ⊤}
 use Rattle.std.specs.List.{flat_map}
 use Rattle.std.specs.Io.KnownBytes.{Appends}
 use Rattle.httparse.specs.Grammar.{RequestHead}
@@ -40,6 +40,19 @@ abbrev pub BeginsWith : Option (List ℕ) → List Item → Type 0
 BeginsWith None items = ⊤
 BeginsWith (Some all) items = Begins all items
 
+-- What was read of an input, of which `left` is left: these messages, and at most 4,095 bytes after the last of them.
+-- Where no message begins, at most 20,479 bytes were read, or all.
+abbrev pub Takes : List ℕ → List Item → List ℕ → Type 0
+Takes input [] left = (ahead : List ℕ) × (input ≡ ahead ++ left) × (length ahead ≤ 4095)
+Takes input (message h body ∷ items) left = (rest : List ℕ) × IsMessage input h body rest × Takes rest items left
+Takes input (faulty fault ∷ items) left =
+    (read : List ℕ) × (input ≡ read ++ left) × ((left ≡ []) ⊎ (length read ≤ 20479))
+
+abbrev pub TakesAll : Option (List ℕ) → Option (List ℕ) → List Item → Type 0
+TakesAll None left items = ⊤
+TakesAll (Some all) None items = ⊥
+TakesAll (Some all) (Some left) items = Takes all items left
+
 -- all of some replies
 abbrev pub joined : List (List ℕ) → List ℕ
 joined replies = flat_map (λ reply. reply) replies
@@ -72,25 +85,29 @@ module _ {S : Type 0} (answers : S → RequestHead → List ℕ → Replied → 
 
   -- The input divides into this number of items, and what was written is all of their replies. (After 2^128 - 1 of them
   -- the connection is left, whatever follows.)
-  pub record Serves (input output output' : Option (List ℕ)) (old new : S) (count : ℕ) : Type 0 where
+  pub record Serves (input input' output output' : Option (List ℕ)) (old new : S) (count : ℕ) : Type 0 where
     pub items : List Item
     pub replies : List (List ℕ)
     pub counted : count ≡ reported (length items)
     pub prefix : BeginsWith input items
     pub whole : length items < 2 ^ 128 - 1 → DividesAll input items
+    pub read : TakesAll input input' items
     pub answered : Replies old items replies new
     pub written : Appends output output' (joined replies)
 
-  -- The connection was broken off after items that the input begins with, for that error.
-  pub record Stops (input output output' : Option (List ℕ)) (old new : S) (fault : WireError) : Type 0 where
+  -- The connection was broken off after items that the input begins with, for that error. If the writer failed, nothing
+  -- was read after it.
+  pub record Stops (input input' output output' : Option (List ℕ)) (old new : S) (fault : WireError) : Type 0 where
     pub items : List Item
     pub replies : List (List ℕ)
     pub bytes : List ℕ
     pub prefix : BeginsWith input items
+    pub read : fault ≡ Write → TakesAll input input' items
     pub answered : Replies old items replies new
     pub written : IsWritten fault replies bytes
     pub appended : Appends output output' bytes
 
-  abbrev pub Served : Option (List ℕ) → Option (List ℕ) → Option (List ℕ) → S → S → Result ℕ WireError → Type 0
-  Served input output output' old new (Ok n) = Serves input output output' old new n
-  Served input output output' old new (Err e) = Stops input output output' old new e
+  abbrev pub Served : Option (List ℕ) → Option (List ℕ) → Option (List ℕ) → Option (List ℕ) → S → S
+      → Result ℕ WireError → Type 0
+  Served input input' output output' old new (Ok n) = Serves input input' output output' old new n
+  Served input input' output output' old new (Err e) = Stops input input' output output' old new e

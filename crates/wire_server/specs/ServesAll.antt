@@ -9,9 +9,10 @@ use Rattle.wire_server.specs.Serves.{Served}
 use Rattle.wire_server.specs.Sessions.{Says, failure, result_of}
 use Rattle.wire_server.specs.declared.connection.End.{End}
 
--- a connection: what its peer sent, what was written to the peer, and how it ended
+-- a connection: what its peer sent, what was left of that, what was written to the peer, and how it ended
 pub record Session : Type 0 where
   pub input : Option (List ℕ)
+  pub left : Option (List ℕ)
   pub output : Option (List ℕ)
   pub end : End
 
@@ -27,8 +28,8 @@ module _ {S : Type 0} (answers : S → RequestHead → List ℕ → Replied → 
   Follow old err [] new err' = (new ≡ old) × Keeps err err'
   Follow old err (session ∷ sessions) new err' =
       (fresh : Option (List ℕ)) × (mid : S) × (said : Option (List ℕ)) × IsFresh fresh
-      × Served answers session.input fresh session.output old mid (result_of session.end) × Says session.end err said
-      × Follow mid said sessions new err'
+      × Served answers session.input session.left fresh session.output old mid (result_of session.end)
+      × Says session.end err said × Follow mid said sessions new err'
 
   -- connections were accepted from a listener, served, and closed
   pub record Serves (waiting waiting' closed closed' : Option (List (List ℕ))) (err err' : Option (List ℕ))

@@ -1,7 +1,8 @@
 //! The next message of a connection, as it arrives.
+ghost use Rattle.std.specs.Prelude.{ℕ, length};
 ghost use Rattle.httparse.specs.Grammar.{RequestHead};
 ghost use Rattle.wire_server.specs.Heads.{Holds};
-ghost use Rattle.wire_server.specs.Messages.{HoldsHead};
+ghost use Rattle.wire_server.specs.Messages.{HoldsHead, HoldsTo};
 ghost use Rattle.wire_server.specs.Answers.{IsBegun};
 ghost use Rattle.wire_server.specs.Arrivals.{Arrives};
 
@@ -29,8 +30,8 @@ fn receive_rest<R: Read, T, A: Responder<T>>(
     requires head { HoldsHead held.now head size }
     requires begun { (h : RequestHead) → Holds held.now head h
         → IsBegun A.answers A.decides A.Body.represents state.now h begun }
-    ensures { Arrives A.answers A.decides A.Body.represents state.now (R.remaining input.old)
-        (R.remaining input.new) held.now held.now result }
+    ensures { (n : ℕ) → HoldsTo n head.spans.len held.now → Arrives A.answers A.decides A.Body.represents state.now n
+        (R.remaining input.old) (R.remaining input.new) held.now held.now result }
 {
     match begun {
         Begun::Accepted((course, mut body)) => {
@@ -60,8 +61,8 @@ fn receive_message<R: Read, T, A: Responder<T>>(
     size: usize,
 ) -> Result<Received<Message<A::Course, A::Body>>, WireError>
     requires { HoldsHead held.now head size }
-    ensures { Arrives A.answers A.decides A.Body.represents state.now (R.remaining input.old) (R.remaining
-        input.new) held.now held.now result }
+    ensures { (n : ℕ) → HoldsTo n head.spans.len held.now → Arrives A.answers A.decides A.Body.represents state.now n
+        (R.remaining input.old) (R.remaining input.new) held.now held.now result }
 {
     let begun = responder.begin(state, held, &head, size)?;
     receive_rest::<R, T, A>(input, held, state, head, size, begun)
@@ -78,7 +79,7 @@ pub(crate) fn receive_next<R: Read, T, A: Responder<T>>(
     responder: &A,
     state: &T,
 ) -> Result<Received<Message<A::Course, A::Body>>, WireError>
-    ensures { Arrives A.answers A.decides A.Body.represents state.now
+    ensures { Arrives A.answers A.decides A.Body.represents state.now (length buffer.old.items)
         (R.remaining input.old) (R.remaining input.new) buffer.old.items buffer.new.items result }
 {
     match receive_head(input, buffer)? {

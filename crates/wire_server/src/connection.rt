@@ -24,7 +24,8 @@ fn reported(count: u128) -> u64
 }
 
 /// Answers the messages of an input one after another, up to its end, the first that closes the connection, or an input
-/// that doesn't begin with a message. Returns how many were answered, a number that stays at its greatest value.
+/// that doesn't begin with a message. Returns how many were answered, a number that stays at its greatest value. At
+/// most 4,095 bytes after the last message are read, and 20,479 (or all) if no message begins there.
 ///
 /// # Errors
 ///
@@ -36,8 +37,8 @@ pub fn serve<R: Read, W: Write, T, A: Responder<T>>(
     responder: &A,
     state: &mut T,
 ) -> Result<u64, WireError>
-    ensures { Served A.answers (R.remaining input.old) (W.contents output.old) (W.contents output.new) state.old
-        state.new result }
+    ensures { Served A.answers (R.remaining input.old) (R.remaining input.new) (W.contents output.old)
+        (W.contents output.new) state.old state.new result }
 {
     let mut buffer = Vec::new(alloc);
     'messages: for count in 0..u128::MAX {
@@ -107,8 +108,8 @@ pub fn serve_connection<R: Read, W: Write, E: Write, T, A: Responder<T>>(
     responder: &A,
     state: &mut T,
 ) -> End
-    ensures served { Served A.answers (R.remaining input.old) (W.contents output.old) (W.contents output.new) state.old
-        state.new (result_of result) }
+    ensures served { Served A.answers (R.remaining input.old) (R.remaining input.new) (W.contents output.old)
+        (W.contents output.new) state.old state.new (result_of result) }
     ensures said { Says result (E.contents errors.old) (E.contents errors.new) }
 {
     match serve(alloc, input, output, responder, state) {

@@ -73,11 +73,11 @@ fn answer_message<T, A: Responder<T>>(
     size: usize,
     ready: Begun<(A::Course, A::Body)>,
 ) -> Result<Exchange, AllocError>
-    requires { (all : List ℕ) × Whole A.answers A.decides A.Body.represents state.old all buffer.old.items
-        head.now size ready }
-    ensures { (all : List ℕ) → Whole A.answers A.decides A.Body.represents state.old all buffer.old.items
+    requires { (n : ℕ) × (all : List ℕ) × Whole A.answers A.decides A.Body.represents state.old n all
+        buffer.old.items head.now size ready }
+    ensures { (n : ℕ) (all : List ℕ) → Whole A.answers A.decides A.Body.represents state.old n all buffer.old.items
         head.now size ready
-        → Responds A.answers all buffer.new.items state.old state.new result }
+        → Responds A.answers n all buffer.new.items state.old state.new result }
 {
     let close = closes(&HeadFields::new(buffer, head));
     let response = respond(responder, state, buffer, head, ready)?;
@@ -97,11 +97,11 @@ pub(crate) fn answer_next<T, A: Responder<T>>(
     buffer: &mut Vec<u8>,
     next: Received<Message<A::Course, A::Body>>,
 ) -> Result<Option<Exchange>, AllocError>
-    requires { (all : List ℕ) × (rest : Option (List ℕ))
-        × Arrived A.answers A.decides A.Body.represents state.old all buffer.old.items rest next }
-    ensures { (all : List ℕ) (rest : Option (List ℕ))
-        → Arrived A.answers A.decides A.Body.represents state.old all buffer.old.items rest next
-        → Comes A.answers all buffer.new.items rest state.old state.new result }
+    requires { (n : ℕ) × (all : List ℕ) × (rest : Option (List ℕ))
+        × Arrived A.answers A.decides A.Body.represents state.old n all buffer.old.items rest next }
+    ensures { (n : ℕ) (all : List ℕ) (rest : Option (List ℕ))
+        → Arrived A.answers A.decides A.Body.represents state.old n all buffer.old.items rest next
+        → Comes A.answers n all buffer.new.items rest state.old state.new result }
 {
     match next {
         Received::End => Ok(None),

@@ -1,4 +1,5 @@
 //! Messages, read from a reader in pieces of any size.
+ghost use Rattle.std.specs.Prelude.{length};
 ghost use Rattle.wire_server.specs.Messages.{ReadsMore, Receives, Starts, Announces};
 
 use crate::error::{Fault, WireError};
@@ -44,7 +45,8 @@ pub fn receive_start<R: Read>(
     input: &mut R,
     buffer: &mut Vec<u8>,
 ) -> Result<Received<Head>, WireError>
-    ensures { Receives Starts (R.remaining input.old) (R.remaining input.new) buffer.old.items buffer.new.items result }
+    ensures { Receives (Starts (length buffer.old.items)) (R.remaining input.old) (R.remaining input.new)
+        buffer.old.items buffer.new.items result }
 {
     if buffer.is_empty() && !read_more(input, buffer)? {
         return Ok(Received::End);
@@ -76,8 +78,8 @@ pub fn receive_head<R: Read>(
     input: &mut R,
     buffer: &mut Vec<u8>,
 ) -> Result<Received<(Head, usize)>, WireError>
-    ensures { Receives Announces (R.remaining input.old) (R.remaining input.new) buffer.old.items buffer.new.items
-        result }
+    ensures { Receives (Announces (length buffer.old.items)) (R.remaining input.old) (R.remaining input.new)
+        buffer.old.items buffer.new.items result }
 {
     let head = match receive_start(input, buffer)? {
         Received::Message(head) => head,

@@ -7,15 +7,15 @@ use Rattle.wire.proofs.connection.serve.Goals as goal
 
 pub returns-clause-settings : goal.returns-clause-settings
 returns-clause-settings g c =
-    served_settings g.S.Store c.args.store.now c.serve.new.state _ _ _ c.serve.result c.serve.ensures
+    served_settings g.S.Store c.args.store.now c.serve.new.state _ _ _ _ c.serve.result c.serve.ensures
 
 pub returns-clause-worlds : goal.returns-clause-worlds
 returns-clause-worlds g c =
-    served_from g.S.Store c.args.store.now c.serve.new.state _ _ _ c.serve.result c.serve.ensures
+    served_from g.S.Store c.args.store.now c.serve.new.state _ _ _ _ c.serve.result c.serve.ensures
 
 pub returns-clause-replies : goal.returns-clause-replies
 returns-clause-replies g c =
-    served_some g.S.Store c.args.store.now c.serve.new.state _ _ _ c.serve.result c.serve.ensures
+    served_some g.S.Store c.args.store.now c.serve.new.state _ _ _ _ c.serve.result c.serve.ensures
 
 pub returns-in_err-server-clause-served : goal.returns-in_err-server-clause-served
 returns-in_err-server-clause-served g c =

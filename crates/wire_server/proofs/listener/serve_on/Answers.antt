@@ -47,7 +47,7 @@ connections-preserved g c =
     c.in_ok-input.ensures.left c.close.ensures.left in
     let faults = counts_more _ _ _ 0 0 c.in_ok-input.ensures.succeeded c.close.ensures.succeeded in
     let more =
-    sofar_more g.A.Responder.answers _ _ _ _ _ _ _ _ _ _ _ _ c.connections.invariant _ _ _ _ _ _ _ _
+    sofar_more g.A.Responder.answers _ _ _ _ _ _ _ _ _ _ _ _ c.connections.invariant _ _ _ _ _ _ _ _ _
     c.serve_connection-end.result accepted left c.in_ok-input.ensures.fresh
     c.serve_connection-end.ensures.served c.serve_connection-end.ensures.said faults in
     rw c.failures-failed.ensures more

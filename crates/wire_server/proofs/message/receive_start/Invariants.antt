@@ -1,6 +1,6 @@
 -- The bytes that were seen have no head, it is known whether they are line ends alone, and what is held is what was
--- there and what was taken.
-use Rattle.std.proofs.Common.{◌≡◌, ◌<◌, ◌≤◌, ◌-◌, length, take}
+-- there and what was taken. At most one read came after the bytes that were seen, fewer than a head has at most.
+use Rattle.std.proofs.Common.{◌≡◌, ◌<◌, ◌≤◌, ◌-◌, ◌+◌, max, length, take}
 use Rattle.httparse.specs.Grammar.{HasNoRequest}
 use Rattle.wire_server.specs.Heads.{has_begun_in}
 use Rattle.wire_server.proofs.Reading.{Took}
@@ -13,6 +13,8 @@ invariant-head g l = record {
   begun : l.begun ≡ has_begun_in (take l.seen l.buffer.items);
   within : l.seen ≤ length l.buffer.items;
   some : 0 < length l.buffer.items;
+  short : l.seen < 16384;
+  few : length l.buffer.items ≤ max (length l.fn.buffer.items) (l.seen + 4096);
 }
 
 abbrev pub decreases-head : goal.decreases-head
