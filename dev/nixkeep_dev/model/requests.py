@@ -179,4 +179,4 @@ class Requests(Values):
         if self.is_of_profile(drawn.kind):
             generations = world.profiles[drawn.owner, name].generations
             drawn.number = self.number(sorted(generations))
-            drawn.path = self.path_text(self.pick([*generations.values(), self.known()]))
+            drawn.path = self.path_text(self.pick([*sorted(generations.values()), self.known()]))
