@@ -4,7 +4,7 @@
   machine    no tracked file has a path of a machine
   citations  nothing is cited by a number; a rule belongs where it is used
   sources    each source in Rattle is one that a check reads
-  allowed    no file allows a check to pass over open goals but the one that tries wrong bodies
+  allowed    no file has a flag that allows a check to pass over open goals, but for copies of crates with wrong bodies
   crates     each crate has a README.md, an edit that must fail where there is code, and the tactic in its root file
   mistakes   each mistake of tests/gate/mistakes.txt has a wrong body or definition that doesn't survive, or a case, or
              a test in crates
