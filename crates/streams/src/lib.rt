@@ -1,6 +1,7 @@
 //! Bytes in pieces, and the loops that write to a writer and read from a reader.
 #![tactic(auto)]
 
+mod buffer;
 mod bytes;
 mod error;
 mod limits;
@@ -10,6 +11,7 @@ mod send;
 mod sink;
 mod whole;
 
+pub use buffer::drain_prefix;
 pub use bytes::Pieces;
 pub use error::ReadError;
 pub use limits::{MAX_ARCHIVE, MAX_REFERENCES, PIECE_SIZE};

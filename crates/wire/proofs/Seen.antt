@@ -111,14 +111,15 @@ module _ {S : Type 0} (g : Ghosts S) where
     serves_from w reported =
         let more =
         serves_on_seen (Answers g) (AnswersFrom old.settings) (IsAt old.settings) IsClean (answer_from old.settings)
-        None None None None err err' old w new (reported, refl) (λ _. ⊤) n None None result served in
+        None None None None None None err err' old w new (reported, refl) (λ _. ⊤) n None None result served in
         (more.0, more.1.0, λ clean. (more.2 clean).1)
 
     serves_some : (new.settings ≡ old.settings) × ServesAny (AnswersSome old.settings) n err err' tt tt result
     serves_some =
         let more =
         serves_on_seen (Answers g) (AnswersSome old.settings) (IsUnder old.settings) IsAny
-        (answer_some old.settings) None None None None err err' old tt new refl (λ _. ⊤) n None None result served in
+        (answer_some old.settings) None None None None None None err err' old tt new refl (λ _. ⊤) n None None result
+        served in
         (more.1, (more.2 tt).1)
 
   -- over connections that come one after another the settings stay

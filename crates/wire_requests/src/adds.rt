@@ -1,5 +1,5 @@
 //! Requests that add an object.
-ghost use Rattle.std.specs.Prelude.{◌≡◌, ◌≤◌, IfOk, Err, List, ℕ, length, drop, is_none};
+ghost use Rattle.std.specs.Prelude.{◌≡◌, IfOk, Err, List, ℕ, is_none};
 ghost use Rattle.wire_requests.specs.declared.kind.Kind.TheVariants as kinds;
 ghost use Rattle.wire_bodies.specs.Bodies.{IsNamedBody, IsImportBody};
 ghost use Rattle.wire_bodies.specs.Prefix.{prefix_of, rest_of};
@@ -19,31 +19,25 @@ use intake::Intake;
 use paths::StoreDir;
 use std::alloc::Global;
 use store_types::Request;
-use streams::Sink;
+use streams::{Sink, drain_prefix};
 use wire_bodies::{BodyError, ImportHead, NamedHead, named_body};
 
-/// The bytes after the first `n`, in the same buffer.
-fn without_prefix(mut bytes: Vec<u8>, n: usize) -> Vec<u8>
-    requires { n ≤ length bytes.items }
-    ensures { result.items ≡ drop n bytes.items }
-{
-    let rest = bytes.len() - n;
-    bytes.copy_within(n.., 0);
-    bytes.truncate(rest);
-    bytes
-}
-
 /// The request that adds a text object. The contents stay in the buffer of the body.
-pub(crate) fn add_text(alloc: Global, dir: &StoreDir, body: Vec<u8>) -> Result<Request, AskError>
+pub(crate) fn add_text(
+    alloc: Global,
+    dir: &StoreDir,
+    mut body: Vec<u8>,
+) -> Result<Request, AskError>
     ensures { (target : List ℕ) → Reads dir.now kinds.AddText target body.items result }
 {
     let (head, contents) = named_body(alloc, dir, &body)?;
     let start = body.len().saturating_sub(contents.len());
+    drain_prefix(&mut body, start);
     let NamedHead { name, references } = head;
     Ok(Request::AddText {
         name,
         refs: references,
-        contents: without_prefix(body, start),
+        contents: body,
     })
 }
 

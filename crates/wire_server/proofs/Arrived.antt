@@ -11,7 +11,7 @@ use Rattle.wire_server.specs.Heads.{IsHead}
 use Rattle.wire_server.proofs.Heads.{ends_in_line_feed}
 use Rattle.wire_server.specs.declared.head.Head.{Head}
 use Rattle.wire_server.specs.declared.error.Fault.TheVariants.{BadLength}
-use Rattle.wire_server.specs.Messages.{HoldsHead, HoldsTo, ReadsTo, IsFault}
+use Rattle.wire_server.specs.Messages.{HoldsHead, HoldsTo, ReadsTo, IsFault, EndsInside}
 use Rattle.wire_server.specs.Division.{closes}
 use Rattle.wire_server.proofs.Longer.{holds-append}
 use Rattle.wire_server.proofs.Reading.{at_end_all, ends_inside}
@@ -44,10 +44,10 @@ module _ (held read : List ℕ) (head : Head) (size : ℕ) (is : HoldsHead held 
   cut_short n rest end short =
       let all = held ++ read in
       let some = held_some held _ is.0 is.1.is_head in
-      let fault : IsFault all BadLength =
-      inr (ends_inside all head is.0 size (holds-append held read head is.0 is.1) is.2 short) in
+      let inside : EndsInside all =
+      ends_inside all head is.0 size (holds-append held read head is.0 is.1) is.2 short in
       let more : 0 < length all = omega (arith, some, length-append held read) in
-      (more, at_end_all (λ t. IsFault t BadLength) all rest fault end, inl end)
+      (more, at_end_all (λ t. IsFault t BadLength) all rest (inr inside) end, inl (end, inside))
 
   -- it came whole
   module _ {S C B : Type 0} (answers : S → RequestHead → List ℕ → Replied → S → Type 0)

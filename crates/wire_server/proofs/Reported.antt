@@ -11,7 +11,7 @@ use Rattle.wire_server.specs.declared.head.Head.{Head}
 use Rattle.wire_server.specs.declared.error.Fault.{Fault}
 use Rattle.wire_server.specs.Heads.{Holds}
 use Rattle.wire_server.specs.Fields.{fields_at, values}
-use Rattle.wire_server.specs.Messages.{IsMessage, IsFault, HoldsMessage, ReadsTo}
+use Rattle.wire_server.specs.Messages.{IsMessage, IsFault, EndsInside, HoldsMessage, ReadsTo}
 use Rattle.wire_server.specs.Division.{Item, message, faulty, closes, Divides}
 use Rattle.wire_server.proofs.Whole.{message_of_input}
 use Rattle.wire_server.specs.Responses.{Replied, reply_bytes}
@@ -130,8 +130,9 @@ reaches_here (Some all) (Some more) held done reaches few =
     subst (λ items. Takes all items more) (append-nil done) (reaches [] more (held, refl, few))
 
 few_of_fault : (n : ℕ) (held more : List ℕ) → n ≤ 4095 → ReadsTo n held (Some more)
-    → (more ≡ []) ⊎ (length held ≤ 20479)
-few_of_fault n held more small (inl end) = inl end
+    → ((more ≡ []) × EndsInside (held ++ more)) ⊎ (length held ≤ 20479)
+few_of_fault n held more small (inl (end, inside)) =
+    inl (end, subst EndsInside (sym (ap (λ t. held ++ t) end ∙ append-nil held)) inside)
 few_of_fault n held more small (inr near) = inr (omega (arith, near, small))
 
 pub reaches_fault : (old new : Option (List ℕ)) (held : List ℕ) (done : List Item) (fault : Fault) (n : ℕ)

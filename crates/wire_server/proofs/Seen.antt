@@ -101,22 +101,25 @@ module _ {S W : Type 0} (answers : S → RequestHead → List ℕ → Replied �
             (first.0, (fresh, one.0, said, is, first.1, says, after.1)),
       )
 
-  module _ (waiting waiting' closed closed' : Option (List (List ℕ))) (err err' : Option (List ℕ)) (old : S) (w : W)
-      (new : S) (shows : Shows old w) where
+  module _ (waiting waiting' closed closed' unread unread' : Option (List (List ℕ))) (err err' : Option (List ℕ))
+      (old : S) (w : W) (new : S) (shows : Shows old w) where
     sessions_seen : (sessions : List Session)
-        → server.Serves answers waiting waiting' closed closed' err err' old new sessions
-        → Sees old new (λ w'. server.Serves seen waiting waiting' closed closed' err err' w w' sessions)
+        → server.Serves answers waiting waiting' closed closed' unread unread' err err' old new sessions
+        → Sees old new (λ w'. server.Serves seen waiting waiting' closed closed' unread unread' err err' w w' sessions)
     sessions_seen sessions served =
         let more = follow_seen old w err err' sessions new shows served.followed in (
           more.0,
           more.1,
-          λ good. let after = more.2 good in
-              (after.0, record { accepted = served.accepted; left = served.left; followed = after.1 }),
+          λ good. let after = more.2 good in (
+            after.0,
+            record { accepted = served.accepted; left = served.left; rest = served.rest; followed = after.1 },
+          ),
         )
 
     pub serves_on_seen : (Fails : Error → Type 0) (n : ℕ) (faults faults' : Option ℕ) (result : Result ℕ Error)
-        → ServesOn answers Fails n waiting waiting' closed closed' faults faults' err err' old new result
-        → Sees old new (λ w'. ServesOn seen Fails n waiting waiting' closed closed' faults faults' err err' w w' result)
+        → ServesOn answers Fails n waiting waiting' closed closed' unread unread' faults faults' err err' old new result
+        → Sees old new
+        (λ w'. ServesOn seen Fails n waiting waiting' closed closed' unread unread' faults faults' err err' w w' result)
     serves_on_seen Fails n faults faults' (Ok count) (sessions, served, all, counted, none) =
         let more = sessions_seen sessions served in
         (more.0, more.1, λ good. let after = more.2 good in (after.0, (sessions, after.1, all, counted, none)))

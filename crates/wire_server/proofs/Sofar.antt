@@ -59,50 +59,61 @@ module _ {S : Type 0} (answers : S → RequestHead → List ℕ → Replied → 
       (before, s, line, fresh, served, says, follow_more s mid new line said err' sessions more rest second)
 
   -- a number of connections were served, and no accept failed
-  pub record Sofar (waiting waiting' closed closed' : Option (List (List ℕ))) (faults faults' : Option ℕ)
+  pub record Sofar (waiting waiting' closed closed' unread unread' : Option (List (List ℕ))) (faults faults' : Option ℕ)
       (err err' : Option (List ℕ)) (old new : S) (n count : ℕ) : Type 0 where
     pub sessions : List Session
-    pub serves : Serves answers waiting waiting' closed closed' err err' old new sessions
+    pub serves : Serves answers waiting waiting' closed closed' unread unread' err err' old new sessions
     pub counted : length sessions ≡ n
     pub failing : count ≡ failures sessions
     pub accepting : CountsFaults faults faults' 0
 
-  pub sofar_start : (waiting closed : Option (List (List ℕ))) (faults : Option ℕ) (err : Option (List ℕ)) (s : S)
-      → Sofar waiting waiting closed closed faults faults err err s s 0 0
-  sofar_start waiting closed faults err s = record {
+  pub sofar_start : (waiting closed unread : Option (List (List ℕ))) (faults : Option ℕ) (err : Option (List ℕ)) (s : S)
+      → Sofar waiting waiting closed closed unread unread faults faults err err s s 0 0
+  sofar_start waiting closed unread faults err s = record {
     sessions = [];
-    serves = record { accepted = takes_none waiting; left = leaves_none closed; followed = (refl, Keeps-refl err) };
+    serves = record {
+      accepted = takes_none waiting;
+      left = leaves_none closed;
+      rest = leaves_none unread;
+      followed = (refl, Keeps-refl err);
+    };
     counted = refl;
     failing = refl;
     accepting = counts_none faults;
   }
 
-  module _ (waiting waiting' closed closed' : Option (List (List ℕ))) (faults faults' : Option ℕ)
+  module _ (waiting waiting' closed closed' unread unread' : Option (List (List ℕ))) (faults faults' : Option ℕ)
       (err err' : Option (List ℕ)) (old new : S) (n count : ℕ)
-      (sofar : Sofar waiting waiting' closed closed' faults faults' err err' old new n count) where
+      (sofar : Sofar waiting waiting' closed closed' unread unread' faults faults' err err' old new n count) where
     -- no more was taken, left or said
-    pub sofar_still : (waiting'' closed'' : Option (List (List ℕ))) → AcceptsPeers waiting' waiting'' []
-        → ClosesPeers closed' closed'' []
-        → Serves answers waiting waiting'' closed closed'' err err' old new (sofar.sessions ++ [])
-    sofar_still waiting'' closed'' accepted left = record {
+    pub sofar_still : (waiting'' closed'' unread'' : Option (List (List ℕ))) → AcceptsPeers waiting' waiting'' []
+        → ClosesPeers closed' closed'' [] → ClosesPeers unread' unread'' []
+        → Serves answers waiting waiting'' closed closed'' unread unread'' err err' old new (sofar.sessions ++ [])
+    sofar_still waiting'' closed'' unread'' accepted left rest = record {
       accepted =
           subst (AcceptsPeers waiting waiting'') (sym (map-append (λ s. s.input) sofar.sessions []))
           (takes_more waiting waiting' waiting'' _ [] sofar.serves.accepted accepted);
       left =
           subst (ClosesPeers closed closed'') (sym (map-append (λ s. s.output) sofar.sessions []))
           (leaves_more closed closed' closed'' _ [] sofar.serves.left left);
+      rest =
+          subst (ClosesPeers unread unread'') (sym (map-append (λ s. s.left) sofar.sessions []))
+          (leaves_more unread unread' unread'' _ [] sofar.serves.rest rest);
       followed = follow_more old new new err err' err' sofar.sessions [] sofar.serves.followed (refl, Keeps-refl err');
     }
 
     -- one more connection
-    pub sofar_more : (waiting'' closed'' : Option (List (List ℕ))) (faults'' : Option ℕ)
-        (err'' input rest before output : Option (List ℕ)) (new' : S) (end : End)
-        → AcceptsPeers waiting' waiting'' (input ∷ []) → ClosesPeers closed' closed'' (output ∷ []) → IsFresh before
-        → Served answers input rest before output new new' (result_of end) → Says end err' err''
+    pub sofar_more : (waiting'' closed'' unread'' : Option (List (List ℕ))) (faults'' : Option ℕ)
+        (err'' input more before output : Option (List ℕ)) (new' : S) (end : End)
+        → AcceptsPeers waiting' waiting'' (input ∷ []) → ClosesPeers closed' closed'' (output ∷ [])
+        → ClosesPeers unread' unread'' (more ∷ []) → IsFresh before
+        → Served answers input more before output new new' (result_of end) → Says end err' err''
         → CountsFaults faults' faults'' 0
-        → Sofar waiting waiting'' closed closed'' faults faults'' err err'' old new' (n + 1) (count + failure end)
-    sofar_more waiting'' closed'' faults'' err'' input rest before output new' end accepted left fresh served says ok =
-        let session : Session = record { input = input; left = rest; output = output; end = end } in
+        → Sofar waiting waiting'' closed closed'' unread unread'' faults faults'' err err'' old new' (n + 1)
+        (count + failure end)
+    sofar_more waiting'' closed'' unread'' faults'' err'' input more before output new' end accepted left rest fresh
+        served says ok =
+        let session : Session = record { input = input; left = more; output = output; end = end } in
         record {
           sessions = sofar.sessions ++ session ∷ [];
           serves = record {
@@ -112,6 +123,9 @@ module _ {S : Type 0} (answers : S → RequestHead → List ℕ → Replied → 
             left =
                 subst (ClosesPeers closed closed'') (sym (map-append (λ s. s.output) sofar.sessions (session ∷ [])))
                 (leaves_more closed closed' closed'' _ (output ∷ []) sofar.serves.left left);
+            rest =
+                subst (ClosesPeers unread unread'') (sym (map-append (λ s. s.left) sofar.sessions (session ∷ [])))
+                (leaves_more unread unread' unread'' _ (more ∷ []) sofar.serves.rest rest);
             followed =
                 follow_more old new new' err err' err'' sofar.sessions (session ∷ []) sofar.serves.followed
                 (before, new', err'', fresh, served, says, (refl, Keeps-refl err''));

@@ -18,7 +18,7 @@ abbrev pub IsRefusal : Fault → Exchange → Type 0
 IsRefusal fault x = (replied x.response ≡ refused (refusal_of fault) None) × (x.close ≡ true)
 
 -- All the bytes, with what may follow them, don't begin with a message, and the fault is reported. Of these bytes n
--- were held before.
+-- were held before, and no more were read than `ReadsTo` says.
 abbrev pub HasFault : ℕ → List ℕ → Option (List ℕ) → Exchange → Type 0
 HasFault n all rest x =
     (fault : Fault) × (0 < length all) × IfSome rest (λ more. IsFault (all ++ more) fault) × ReadsTo n all rest

@@ -25,7 +25,7 @@ abbrev pub FaultOfHead : List ℕ → Fault → Type 0
 FaultOfHead input fault =
     (h : RequestHead) × (after : List ℕ) × IsHead input h after × (body_length (fields_of h) ≡ Err fault)
 
--- the input begins with a head, and ends inside the body
+-- the input begins with a head, and ends inside its body: fewer bytes follow the head than its fields state
 abbrev pub EndsInside : List ℕ → Type 0
 EndsInside input =
     (h : RequestHead) × (after : List ℕ) × (size : ℕ) × IsHead input h after × (body_length (fields_of h) ≡ Ok size)
@@ -55,16 +55,17 @@ pub record ReadsMore (old new : Option (List ℕ)) (held held' : List ℕ)
   pub few : IfOk result (λ _. length held' ≤ length held + 4096)
   pub fault : IfErr result IsOfReading
 
--- At most 4,095 bytes are held beyond this end, or no more than n, as many as before.
+-- At most n bytes are held, as many as were held before, or at most 4,095 after this end.
 abbrev pub HoldsTo : ℕ → ℕ → List ℕ → Type 0
 HoldsTo n end held = length held ≤ max n (end + 4095)
 
--- Where no message begins, the input was read to its end, or little beyond the most bytes of a head.
+-- How far an input was read where no message begins: to its end, if it ends inside a body; or at most 4,095 bytes after
+-- the most bytes of a head.
 abbrev pub ReadsTo : ℕ → List ℕ → Option (List ℕ) → Type 0
-ReadsTo n bytes rest = IsAtEnd rest ⊎ HoldsTo n max_head bytes
+ReadsTo n bytes rest = (IsAtEnd rest × EndsInside bytes) ⊎ HoldsTo n max_head bytes
 
--- The bytes, with what may follow them, begin with what this says of them, or with no message, for that fault; or
--- there are none, at the end of the input. Before, n bytes were held.
+-- The bytes, with what may follow them, begin with what this says of them; or with no message, for that fault, and then
+-- no more were read than `ReadsTo` says; or there are none, at the end of the input. Before, n bytes were held.
 abbrev pub IsReceived : {T : Type 0} → ℕ → (T → Type 0) → List ℕ → Option (List ℕ) → Received T → Type 0
 IsReceived n is bytes rest End = (bytes ≡ []) × IsAtEnd rest
 IsReceived n is bytes rest (Message it) = is it

@@ -4,7 +4,7 @@ use Rattle.std.specs.Prelude.{Option, Some, None, Result, Ok, Err, ⊤}
 use Rattle.std.specs.List.{flat_map}
 use Rattle.std.specs.Io.KnownBytes.{Appends}
 use Rattle.httparse.specs.Grammar.{RequestHead}
-use Rattle.wire_server.specs.Messages.{IsMessage, IsFault}
+use Rattle.wire_server.specs.Messages.{IsMessage, IsFault, EndsInside}
 use Rattle.wire_server.specs.Division.{Item, message, faulty, closes, Divides}
 use Rattle.wire_server.specs.declared.error.Fault.{Fault}
 use Rattle.wire_server.specs.declared.error.Fault.TheVariants.{BadHead, BadLength, TooLarge}
@@ -41,12 +41,12 @@ BeginsWith None items = ⊤
 BeginsWith (Some all) items = Begins all items
 
 -- What was read of an input, of which `left` is left: these messages, and at most 4,095 bytes after the last of them.
--- Where no message begins, at most 20,479 bytes were read, or all.
+-- Where no message begins, at most 20,479 bytes were read; or all, if the input ends inside a body.
 abbrev pub Takes : List ℕ → List Item → List ℕ → Type 0
 Takes input [] left = (ahead : List ℕ) × (input ≡ ahead ++ left) × (length ahead ≤ 4095)
 Takes input (message h body ∷ items) left = (rest : List ℕ) × IsMessage input h body rest × Takes rest items left
 Takes input (faulty fault ∷ items) left =
-    (read : List ℕ) × (input ≡ read ++ left) × ((left ≡ []) ⊎ (length read ≤ 20479))
+    (read : List ℕ) × (input ≡ read ++ left) × (((left ≡ []) × EndsInside input) ⊎ (length read ≤ 20479))
 
 abbrev pub TakesAll : Option (List ℕ) → Option (List ℕ) → List Item → Type 0
 TakesAll None left items = ⊤
@@ -95,8 +95,8 @@ module _ {S : Type 0} (answers : S → RequestHead → List ℕ → Replied → 
     pub answered : Replies old items replies new
     pub written : Appends output output' (joined replies)
 
-  -- The connection was broken off after items that the input begins with, for that error. If the writer failed, nothing
-  -- was read after it.
+  -- The connection was broken off after items that the input begins with, for that error. If the writer failed, no more
+  -- was read than `Takes` says: up to 4,095 bytes after the last message.
   pub record Stops (input input' output output' : Option (List ℕ)) (old new : S) (fault : WireError) : Type 0 where
     pub items : List Item
     pub replies : List (List ℕ)

@@ -9,7 +9,8 @@ use Rattle.wire_server.specs.Serves.{Served}
 use Rattle.wire_server.specs.Sessions.{Says, failure, result_of}
 use Rattle.wire_server.specs.declared.connection.End.{End}
 
--- a connection: what its peer sent, what was left of that, what was written to the peer, and how it ended
+-- a connection: what its peer sent, what was left of that as it was closed, what was written to the peer, and how it
+-- ended
 pub record Session : Type 0 where
   pub input : Option (List ℕ)
   pub left : Option (List ℕ)
@@ -32,20 +33,21 @@ module _ {S : Type 0} (answers : S → RequestHead → List ℕ → Replied → 
       × Says session.end err said × Follow mid said sessions new err'
 
   -- connections were accepted from a listener, served, and closed
-  pub record Serves (waiting waiting' closed closed' : Option (List (List ℕ))) (err err' : Option (List ℕ))
-      (old new : S) (sessions : List Session) : Type 0 where
+  pub record Serves (waiting waiting' closed closed' unread unread' : Option (List (List ℕ)))
+      (err err' : Option (List ℕ)) (old new : S) (sessions : List Session) : Type 0 where
     pub accepted : AcceptsPeers waiting waiting' (map (λ session. session.input) sessions)
     pub left : ClosesPeers closed closed' (map (λ session. session.output) sessions)
+    pub rest : ClosesPeers unread unread' (map (λ session. session.left) sessions)
     pub followed : Follow old err sessions new err'
 
   -- A number of connections was served, and those that failed are counted; no accept failed. Or fewer were, and then
   -- one accept failed, with that error.
   abbrev pub ServesOn : (Error → Type 0) → ℕ → Option (List (List ℕ)) → Option (List (List ℕ))
-      → Option (List (List ℕ)) → Option (List (List ℕ)) → Option ℕ → Option ℕ → Option (List ℕ) → Option (List ℕ) → S
-      → S → Result ℕ Error → Type 0
-  ServesOn Fails n waiting waiting' closed closed' faults faults' err err' old new (Ok count) =
-      (sessions : List Session) × Serves waiting waiting' closed closed' err err' old new sessions
+      → Option (List (List ℕ)) → Option (List (List ℕ)) → Option (List (List ℕ)) → Option (List (List ℕ)) → Option ℕ
+      → Option ℕ → Option (List ℕ) → Option (List ℕ) → S → S → Result ℕ Error → Type 0
+  ServesOn Fails n waiting waiting' closed closed' unread unread' faults faults' err err' old new (Ok count) =
+      (sessions : List Session) × Serves waiting waiting' closed closed' unread unread' err err' old new sessions
       × (length sessions ≡ n) × (count ≡ failures sessions) × CountsFaults faults faults' 0
-  ServesOn Fails n waiting waiting' closed closed' faults faults' err err' old new (Err fault) =
-      (sessions : List Session) × Serves waiting waiting' closed closed' err err' old new sessions
+  ServesOn Fails n waiting waiting' closed closed' unread unread' faults faults' err err' old new (Err fault) =
+      (sessions : List Session) × Serves waiting waiting' closed closed' unread unread' err err' old new sessions
       × (length sessions < n) × Fails fault × CountsFaults faults faults' 1

@@ -24,8 +24,9 @@ fn reported(count: u128) -> u64
 }
 
 /// Answers the messages of an input one after another, up to its end, the first that closes the connection, or an input
-/// that doesn't begin with a message. Returns how many were answered, a number that stays at its greatest value. At
-/// most 4,095 bytes after the last message are read, and 20,479 (or all) if no message begins there.
+/// that doesn't begin with a message. Returns how many were answered, a number that stays at its greatest value. Except
+/// at `Read` and `Memory`, at most 4,095 bytes after the last message are read. If no message begins there, at most
+/// 20,479 are read; or all, if the input ends inside a body.
 ///
 /// # Errors
 ///

@@ -1,5 +1,5 @@
 //! The response to what is next on a connection, and its writing.
-ghost use Rattle.std.specs.Prelude.{IfOk, List, ℕ, Option, ◌≡◌, drop, None, ◌++◌};
+ghost use Rattle.std.specs.Prelude.{IfOk, List, ℕ, Option, None, ◌++◌};
 ghost use Rattle.httparse.specs.Grammar.{RequestHead};
 ghost use Rattle.wire_server.specs.Heads.{Holds};
 ghost use Rattle.wire_server.specs.Answers.{Answered, IsReady};
@@ -20,7 +20,7 @@ use model::Refusal;
 use std::alloc::{AllocError, Global};
 use std::io;
 use std::io::Write;
-use streams::{Pieces, send_bytes, send_pieces};
+use streams::{Pieces, drain_prefix, send_bytes, send_pieces};
 
 /// A response, and whether the connection is closed after it.
 #[derive(Drop)]
@@ -111,16 +111,6 @@ pub(crate) fn answer_next<T, A: Responder<T>>(
         }
         Received::Faulty(fault) => Ok(Some(refused(alloc, fault)?)),
     }
-}
-
-/// Removes a number of bytes from the beginning of a buffer, or all if the buffer has fewer.
-fn drain_prefix(buffer: &mut Vec<u8>, n: usize)
-    ensures { buffer.new.items ≡ drop n buffer.old.items }
-{
-    let accepted = n.min(buffer.len());
-    let rest = buffer.len() - accepted;
-    buffer.copy_within(accepted.., 0);
-    buffer.truncate(rest);
 }
 
 /// Writes a head and a text.

@@ -24,6 +24,9 @@ pub trait Listener {
     /// What was written to each peer whose connection was closed, if the listener shows it.
     ghost closed: { Self → Option (List (List ℕ)) };
 
+    /// What was left unread of the input of each connection that was closed, if the listener shows it.
+    ghost unread: { Self → Option (List (List ℕ)) };
+
     /// How many accepts have failed, if the listener shows it.
     ghost faults: { Self → Option ℕ };
 
@@ -38,6 +41,7 @@ pub trait Listener {
         ensures error { IfErr result (λ fault. fails self.new fault) }
         ensures fresh { IfOk result (λ c. IsFresh (Self.Output.contents c.1)) }
         ensures left { ClosesPeers (closed self.old) (closed self.new) [] }
+        ensures rest { ClosesPeers (unread self.old) (unread self.new) [] }
         ensures succeeded { OnOk result (CountsFaults (faults self.old) (faults self.new) 0) }
         ensures failed { OnErr result (CountsFaults (faults self.old) (faults self.new) 1) };
 
@@ -45,6 +49,7 @@ pub trait Listener {
     fn close(&mut self, input: Self::Input, output: Self::Output)
         ensures accepted { AcceptsPeers (waiting self.old) (waiting self.new) [] }
         ensures left { ClosesPeers (closed self.old) (closed self.new) (Self.Output.contents output ∷ []) }
+        ensures rest { ClosesPeers (unread self.old) (unread self.new) (Self.Input.remaining input ∷ []) }
         ensures succeeded { CountsFaults (faults self.old) (faults self.new) 0 };
 }
 
@@ -63,8 +68,9 @@ pub fn serve_on<L: Listener, E: Write, T, A: Responder<T>>(
     state: &mut T,
 ) -> io::Result<u32>
     ensures { ServesOn A.answers (L.fails listener.new) connections (L.waiting listener.old) (L.waiting listener.new)
-        (L.closed listener.old) (L.closed listener.new) (L.faults listener.old) (L.faults listener.new)
-        (E.contents errors.old) (E.contents errors.new) state.old state.new result }
+        (L.closed listener.old) (L.closed listener.new) (L.unread listener.old) (L.unread listener.new)
+        (L.faults listener.old) (L.faults listener.new) (E.contents errors.old) (E.contents errors.new) state.old
+        state.new result }
 {
     let mut failed = 0;
     'connections: for _ in 0..connections {

@@ -36,7 +36,8 @@ fn read_more<R: Read>(input: &mut R, buffer: &mut Vec<u8>) -> Result<bool, WireE
     }
 }
 
-/// Reads until the buffer begins with a whole head, no head can begin it, or the input ends: `BadHead` is its one fault.
+/// Reads until the buffer begins with a whole head, no head can begin it, or the input ends: `BadHead` is its one
+/// fault.
 ///
 /// # Errors
 ///

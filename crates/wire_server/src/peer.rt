@@ -112,7 +112,8 @@ impl<'a, W: Write, C: Clock> Write for Outgoing<'a, W, C> {
         ensures bound { WritesAtMost result buf.now }
         ensures bytes { WriteAppends (option_and_then W.contents self.old.stream)
             (option_and_then W.contents self.new.stream) result buf.now }
-        // Nothing is sent on a connection that couldn't be prepared, or after a write that hit its time limit.
+        // Nothing is sent on a connection that couldn't be prepared, or that is stuck. No clause says when a write gets
+        // stuck, since the clock has no contract.
         ensures prepared { IfOk result (λ _. IsSome self.old.stream) }
         ensures before { IfOk result (λ _. self.old.is_stuck ≡ false) }
         // Only a short write can hit its time limit.

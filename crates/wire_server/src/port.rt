@@ -50,6 +50,8 @@ impl<'a, C: Clock> Listener for Port<'a, C> {
 
     ghost closed = { λ _. None };
 
+    ghost unread = { λ _. None };
+
     ghost faults = { λ _. None };
 
     ghost fails = { λ _ _. ⊤ };

@@ -15,8 +15,8 @@ returns c = λ target.
     let last : drop c.saturating_sub-start.result c.args.body.items ≡ contents =
     ap (λ n. drop n c.args.body.items) start ∙ payload_last c.args.body.items is.0 contents is.1 in (
       head,
-      c.without_prefix.result.items,
-      subst (λ t. IsNamedBody c.args.dir.now c.args.body.items head t) (sym (c.without_prefix.ensures ∙ last)) is,
+      c.drain_prefix.new.buffer.items,
+      subst (λ t. IsNamedBody c.args.dir.now c.args.body.items head t) (sym (c.drain_prefix.ensures ∙ last)) is,
       refl,
     )
 

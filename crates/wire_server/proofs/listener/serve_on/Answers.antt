@@ -6,7 +6,7 @@ use Rattle.wire_server.proofs.listener.serve_on.Goals as goal
 
 -- src/connections.rt:29:5
 pub connections-init : goal.connections-init
-connections-init g c = sofar_start g.A.Responder.answers _ _ _ _ _
+connections-init g c = sofar_start g.A.Responder.answers _ _ _ _ _ _
 
 -- src/connections.rt:33:9
 pub overflow_add-failed : goal.overflow_add-failed
@@ -27,8 +27,8 @@ pub returns-in_err-input : goal.returns-in_err-input
 returns-in_err-input g c =
     let sofar = c.connections.invariant in
     let still =
-    sofar_still g.A.Responder.answers _ _ _ _ _ _ _ _ _ _ _ _ sofar _ _ c.in_err-input.ensures.none
-    c.in_err-input.ensures.left in
+    sofar_still g.A.Responder.answers _ _ _ _ _ _ _ _ _ _ _ _ _ _ sofar _ _ _ c.in_err-input.ensures.none
+    c.in_err-input.ensures.left c.in_err-input.ensures.rest in
     let fewer : length (sofar.sessions ++ []) < c.args.connections =
     omega (arith, length-append sofar.sessions [], sofar.counted, c.connections-test.true) in
     let p = err_from_is_err_and c.from_residual.result c.from_residual.ensures.1 in
@@ -45,9 +45,12 @@ connections-preserved g c =
     let left =
     leaves_more _ _ _ [] (g.L.Output.Write.contents c.serve_connection-end.new.output ∷ [])
     c.in_ok-input.ensures.left c.close.ensures.left in
+    let rest =
+    leaves_more _ _ _ [] (g.L.Input.Read.remaining c.serve_connection-end.new.input ∷ [])
+    c.in_ok-input.ensures.rest c.close.ensures.rest in
     let faults = counts_more _ _ _ 0 0 c.in_ok-input.ensures.succeeded c.close.ensures.succeeded in
     let more =
-    sofar_more g.A.Responder.answers _ _ _ _ _ _ _ _ _ _ _ _ c.connections.invariant _ _ _ _ _ _ _ _ _
-    c.serve_connection-end.result accepted left c.in_ok-input.ensures.fresh
+    sofar_more g.A.Responder.answers _ _ _ _ _ _ _ _ _ _ _ _ _ _ c.connections.invariant _ _ _ _ _ _ _ _ _ _
+    c.serve_connection-end.result accepted left rest c.in_ok-input.ensures.fresh
     c.serve_connection-end.ensures.served c.serve_connection-end.ensures.said faults in
     rw c.failures-failed.ensures more

@@ -6,7 +6,9 @@ use Rattle.httparse.specs.declared.Status.TheVariants.{Complete}
 use Rattle.wire_server.specs.Messages.{IsFault, LookFinds}
 use Rattle.wire_server.proofs.Heads.{none_in_nothing}
 use Rattle.wire_server.proofs.Reading.{beyond_seen, whatever}
-use Rattle.wire_server.proofs.message.receive_start.Goals.{else-is_empty-via-then-is_empty+in_ok-read_more+else-not-branch}
+use Rattle.wire_server.proofs.message.receive_start.Goals.{
+  else-is_empty-via-then-is_empty+in_ok-read_more+else-not-branch,
+}
 use Rattle.wire_server.proofs.message.receive_start.Goals.{else-is_empty-via-else-is_empty}
 use Rattle.wire_server.proofs.message.receive_start.Goals as goal
 
