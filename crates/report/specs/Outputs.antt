@@ -21,16 +21,37 @@ pub record Printed : Type 0 where
   pub writer : Stream
   pub status : ℕ
 
+-- what one writer was given, by the bytes that it states before and after
+abbrev pub on_writer : Option (List ℕ) → Option (List ℕ) → ℕ → Printed
+on_writer old new status = record { writer = record { old = old; new = new }; status = status }
+
+-- what one writer was given, by the writer before and after
+abbrev pub printed_of : {W : Type 0} → (W → Option (List ℕ)) → W → W → ℕ → Printed
+printed_of bytes old new status = record { writer = change_of bytes old new; status = status }
+
 -- what standard output and standard error were given, and the exit status
 pub record Written : Type 0 where
   pub output : Stream
   pub errors : Stream
   pub status : ℕ
 
+-- what two writers were given, by the writers before and after
+abbrev pub written_of : {W E : Type 0} → (W → Option (List ℕ)) → (E → Option (List ℕ)) → W → W → E → E → ℕ → Written
+written_of output errors to to' says says' status =
+    record { output = change_of output to to'; errors = change_of errors says says'; status = status }
+
 -- what a command read of its standard input, and what it wrote
 pub record Console : Type 0 where
   pub input : Stream
   pub written : Written
+
+-- what a command read and wrote, by its reader and two writers before and after
+abbrev pub console_of : {R W E : Type 0} → (R → Option (List ℕ)) → (W → Option (List ℕ)) → (E → Option (List ℕ))
+    → R → R → W → W → E → E → ℕ → Console
+console_of input output errors from from' to to' says says' status = record {
+  input = change_of input from from';
+  written = written_of output errors to to' says says' status;
+}
 
 abbrev pub on_output : Written → Printed
 on_output w = record { writer = w.output; status = w.status }

@@ -28,9 +28,9 @@ fn freed_pieces(
     Ok(text)
 }
 
-/// The bytes of the text of an answer, as a writer or a body has it. `answer_text` takes the answer itself, so it passes
-/// on an archive and cuts lines into pieces as it makes them. From a borrowed answer it would copy an archive into pieces
-/// that are joined again, so `reply_text`, which borrows its reply, has the bytes from here.
+/// The bytes of the text of an answer, as a writer or a body has it. `answer_text` takes the answer itself, so it
+/// passes on an archive and cuts lines into pieces as it makes them. From a borrowed answer it would copy an archive
+/// into pieces that are joined again, so `reply_text`, which borrows its reply, has the bytes from here.
 pub(crate) fn answer_bytes(
     alloc: Global,
     dir: &StoreDir,

@@ -1,5 +1,5 @@
 //! Printing of texts on writers.
-ghost use Rattle.report.specs.Outputs.{Prints, PrintsFailure, change_of};
+ghost use Rattle.report.specs.Outputs.{Prints, PrintsFailure, printed_of};
 
 use model::{FAILED, Failure};
 use std::io::Write;
@@ -13,7 +13,7 @@ use streams::send_bytes;
 /// assert_eq!(rt; output.as_slice(), b"done\n".as_slice());
 /// ```
 pub fn print<W: Write>(text: &str, status: u8, writer: &mut W) -> u8
-    ensures { Prints text.now status (record { writer = change_of W.contents writer.old writer.new; status = result }) }
+    ensures { Prints text.now status (printed_of W.contents writer.old writer.new result) }
 {
     match send_bytes(writer, text.as_bytes()) {
         Ok(()) => status,
@@ -31,7 +31,7 @@ pub fn print<W: Write>(text: &str, status: u8, writer: &mut W) -> u8
 /// assert_eq!(rt; errors.as_slice(), b"failed: input\n".as_slice());
 /// ```
 pub fn print_failure<W: Write>(failure: Failure, writer: &mut W) -> u8
-    ensures { PrintsFailure failure (record { writer = change_of W.contents writer.old writer.new; status = result }) }
+    ensures { PrintsFailure failure (printed_of W.contents writer.old writer.new result) }
 {
     print(failure.line(), FAILED, writer)
 }

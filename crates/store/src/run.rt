@@ -38,8 +38,8 @@ impl<S: Alter> Store<S> {
     /// Memory was refused for the replies. Then no call was made.
     pub fn run(&mut self, calls: Vec<(Caller, Request)>) -> Result<Vec<Reply>, AllocError>
         ensures settings { self.new.settings ≡ self.old.settings }
-        // From each world that the tables described before, a run to one that they describe now, in which each root that
-        // exists throughout keeps what it reached. What other programs have in the database is as it was.
+        // From each world that the tables described before, a run to one that they describe now, in which each root
+        // that exists throughout keeps what it reached. What other programs have in the database is as it was.
         ensures runs { IfOk result (λ replies. (w : World) → HasWorld S.Store self.old.tables w
             → RunsFrom S.Store self.old.settings w (map call_view calls.items) (map reply_view replies.items)
             self.old.tables self.new.tables) }

@@ -1,24 +1,18 @@
 -- The streams of a command line, as one value, before a call and after it.
 use Rattle.std.specs.Prelude.{◌≡◌, ℕ, List, Option, Err}
 use Rattle.std.specs.Io.KnownBytes.{Keeps}
-use Rattle.report.specs.Outputs.{Console, Written, change_of}
+use Rattle.report.specs.Outputs.{Console, console_of}
 use Rattle.tool_pure.specs.declared.stops.Stop.{Stop}
 use Rattle.tool_pure.specs.Stream.{Answers}
 use Rattle.tool.specs.Requests.{AnswersReading}
 use Rattle.tool.specs.declared.console.Console.{Console as Streams}
 
--- what two writers were given, and the exit status
-abbrev pub wrote : {W E : Type 0} → (W → Option (List ℕ)) → (E → Option (List ℕ)) → W → W → E → E → ℕ → Written
-wrote output errors old new before after status =
-    record { output = change_of output old new; errors = change_of errors before after; status = status }
-
 -- what a call read and wrote, and the exit status
 abbrev pub happened : {R W E : Type 0} → (R → Option (List ℕ)) → (W → Option (List ℕ)) → (E → Option (List ℕ))
     → Streams R W E → Streams R W E → ℕ → Console
-happened input output errors old new status = record {
-  input = change_of input old.input.now new.input.now;
-  written = wrote output errors old.output.now new.output.now old.errors.now new.errors.now status;
-}
+happened input output errors old new status =
+    console_of input output errors old.input.now new.input.now old.output.now new.output.now old.errors.now
+    new.errors.now status
 
 -- a stop is reported in place of an answer, and nothing of the input was read
 abbrev pub StopsUnread : Stop → Console → Type 0

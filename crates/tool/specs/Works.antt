@@ -1,5 +1,5 @@
 -- What a command line does with a store: makes a request, or serves the store.
-use Rattle.std.specs.Prelude.{◌≡◌, ◌⊎◌, ℕ, codes, Option, Some, None, option_map, Err, IsTrue}
+use Rattle.std.specs.Prelude.{◌≡◌, ◌⊎◌, codes, Option, Some, None, Err, IsTrue}
 use Rattle.std.specs.Io.KnownBytes.{Keeps}
 use Rattle.clap.specs.Walk.{Text}
 use Rattle.sqlite_trees.specs.declared.memory.MemStore.{MemStore}
@@ -18,12 +18,9 @@ use Rattle.report.specs.Outputs.{Console}
 use Rattle.tool_pure.specs.PrintedReply.{IsPrinted}
 use Rattle.tool_pure.specs.Stream.{Answers}
 use Rattle.tool_pure.specs.declared.stops.Stop.TheVariants.{Refused}
-use Rattle.tool_words.specs.Asked.{asked_view}
 use Rattle.tool_words.specs.declared.line.ServeArguments.{ServeArguments}
-use Rattle.tool.specs.declared.work.Work.{Work}
-use Rattle.tool.specs.declared.work.Work.TheVariants as work
 use Rattle.tool.specs.Calls.{AnswersIn, AnswersStep, Serves}
-use Rattle.tool.specs.Requests.{Ask, asks, most_read, most_served}
+use Rattle.tool.specs.Requests.{Ask}
 use Rattle.tool.specs.Serving.{ServesStore, ServesWorld}
 
 -- what is done with a store
@@ -32,16 +29,6 @@ pub data OnStore : Type 0 where
   calls : Caller → Ask → OnStore
   -- the store is served over HTTP
   serves : ServeArguments → OnStore
-
--- the work of the code, as contracts see it; there is one, since the subcommand of a call makes a request
-abbrev pub work_view : Work → Option OnStore
-work_view (work.Call asking) = option_map (calls asking.caller.now) (asks (asked_view asking.task.now))
-work_view (work.Serve a) = Some (serves a)
-
--- the greatest number of bytes that are read of the input for this work, if there is one
-abbrev pub most_for : Work → Option ℕ
-most_for (work.Call asking) = most_read (asked_view asking.task.now)
-most_for (work.Serve a) = most_served a
 
 -- work that is done with a store, which is the other one then
 abbrev pub DoesOver : {S : Type 0} → Ghosts S → OnStore → Console → StoreView S → StoreView S → Type 0
@@ -70,9 +57,9 @@ module _ {S : Type 0} (g : Ghosts S) where
 abbrev pub KeepsWorlds : {S : Type 0} → Ghosts S → StoreView S → StoreView S → Type 0
 KeepsWorlds g old new = (w : World) → HasWorld g old.tables w → HasWorld g new.tables w
 
--- the work of the code is done
-abbrev pub DoesWork : Work → (OnStore → Console → Type 0) → Console → Type 0
-DoesWork work does console = (d : OnStore) → work_view work ≡ Some d → does d console
+-- what some work does with a store is done
+abbrev pub DoesWork : Option OnStore → (OnStore → Console → Type 0) → Console → Type 0
+DoesWork work does console = (d : OnStore) → work ≡ Some d → does d console
 
 -- how work is done with some store, under settings
 abbrev pub Doing : Type 1

@@ -1,6 +1,6 @@
 //! Answering a command line by the text of its configuration.
 ghost use Rattle.std.specs.Prelude.{◌≡◌, None, Some};
-ghost use Rattle.report.specs.Outputs.{change_of};
+ghost use Rattle.report.specs.Outputs.{console_of};
 ghost use Rattle.tool.specs.Answer.{AnswersWithoutRequest, AnswersLine, AnswersLs, AnswersSourcePath, AnswersTextPath};
 ghost use Rattle.tool.specs.Files.{DoesFile};
 ghost use Rattle.tool_words.specs.Asked as asked;
@@ -165,14 +165,8 @@ pub fn answer<F: Start, R: Read, W: Write, E: Write>(
 ) -> u8
     ensures { AnswersReading (most_read (asked.asked_view line.now.task))
         (AnswersLine (DoesFile F.Start ⟦<FileFrom<F> as Disk>⟧) config.now (line_view line.now))
-        (record {
-          input = change_of R.remaining input.old input.new;
-          written = record {
-            output = change_of W.contents output.old output.new;
-            errors = change_of E.contents errors.old errors.new;
-            status = result;
-          };
-        }) }
+        (console_of R.remaining W.contents E.contents input.old input.new output.old output.new errors.old errors.new
+        result) }
 {
     let mut console = Console {
         input,

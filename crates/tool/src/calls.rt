@@ -1,6 +1,7 @@
 //! Subcommands that make a request to a store.
-ghost use Rattle.std.specs.Prelude.{◌≡◌, IsSome, true};
+ghost use Rattle.std.specs.Prelude.{IsSome, option_map};
 ghost use Rattle.model.specs.Reply.{Reply};
+ghost use Rattle.report.specs.Outputs.{written_of};
 ghost use Rattle.store_types.specs.View.{request_view};
 ghost use Rattle.store.specs.Calls.{Calls};
 ghost use Rattle.tool_pure.specs.PrintedReply.{IsPrinted};
@@ -9,10 +10,9 @@ ghost use Rattle.tool_words.specs.Line.{line_view};
 ghost use Rattle.tool.specs.Answer.{AnswersAsking};
 ghost use Rattle.tool.specs.Files.{DoesFile};
 ghost use Rattle.tool.specs.Requests.{AnswersAsked, asks, most_read};
-ghost use Rattle.tool.specs.Streams.{AnswersOn, wrote};
-ghost use Rattle.tool.specs.Works.{DoesOver, KeepsWorlds, calls};
+ghost use Rattle.tool.specs.Streams.{AnswersOn};
+ghost use Rattle.tool.specs.Works.{calls};
 
-use crate::caller_task::CallerTask;
 use crate::close::reads;
 use crate::console::Console;
 use crate::requests::request;
@@ -44,52 +44,55 @@ fn call_store<S: Alter, W: Write, E: Write>(
     // The store takes one step, and the reply of that step is printed.
     ensures { (reply : Reply) × Calls S.Store caller.now (request_view request) reply store.old store.new
         × IsPrinted store.old.settings.store_dir reply
-        (wrote W.contents E.contents output.old output.new errors.old errors.new result) }
+        (written_of W.contents E.contents output.old output.new errors.old errors.new result) }
 {
     let reply = store.call(caller, request);
     print_reply(alloc, store_dir(store.config()), reply, output, errors)
 }
 
-/// Makes the request of a subcommand to a store, and prints the reply. The store is that after the one step of the
-/// request; or as it was, where none is made.
-pub(crate) fn call_over<S: Alter, R: Read, W: Write, E: Write>(
-    alloc: Global,
-    store: &mut Store<S>,
-    caller: &Caller,
-    task: &Task<'_>,
-    console: &mut Console<'_, '_, '_, R, W, E>,
-) -> Worked
-    requires { IsSome (asks (asked_view task.now)) }
-    ensures answered { AnswersOn (most_read (asked_view task.now))
-        (AnswersAsked (asked_view task.now) (λ ask shown. DoesOver S.Store (calls caller.now ask) shown store.old
-        store.new))
-        R.remaining W.contents E.contents console.old console.new result.status }
-    // Only a store that is as it was may be left unclosed.
-    ensures unchanged { result.reads ≡ true → KeepsWorlds S.Store store.old store.new }
-{
-    match request(
-        alloc,
-        store_dir(store.config()),
-        caller,
-        task,
-        console.input,
-    ) {
-        Ok(request) => {
-            let reads = reads(&request);
-            let status = call_store(
-                alloc,
-                store,
-                caller,
-                request,
-                console.output,
-                console.errors,
-            );
-            Worked { status, reads }
+/// A subcommand that makes a request to a store, and the caller who makes it.
+#[derive(Drop)]
+pub(crate) struct CallerTask<'a> {
+    pub(crate) caller: &'a Caller,
+    pub(crate) task: &'a Task<'a>,
+    ghost makes_request: { IsSome (asks (asked_view task.now)) },
+}
+
+impl<'a> Work for CallerTask<'a> {
+    ghost does = { λ call. option_map (calls call.caller.now) (asks (asked_view call.task.now)) };
+
+    ghost most = { λ call. most_read (asked_view call.task.now) };
+
+    const ASKS_MUCH: bool = false;
+
+    /// Makes the request to a store, and prints the reply. The store is that after the one step of the request; or as
+    /// it was, where none is made.
+    fn perform<S: Alter, R: Read, W: Write, E: Write>(
+        &self,
+        rt: &HostRuntime,
+        store: &mut Store<S>,
+        console: &mut Console<'_, '_, '_, R, W, E>,
+    ) -> Worked {
+        let alloc = rt.alloc();
+        let dir = store_dir(store.config());
+        match request(alloc, dir, self.caller, self.task, console.input) {
+            Ok(request) => {
+                let reads = reads(&request);
+                let status = call_store(
+                    alloc,
+                    store,
+                    self.caller,
+                    request,
+                    console.output,
+                    console.errors,
+                );
+                Worked { status, reads }
+            }
+            Err(stop) => Worked {
+                status: say(stop, console.errors),
+                reads: true,
+            },
         }
-        Err(stop) => Worked {
-            status: say(stop, console.errors),
-            reads: true,
-        },
     }
 }
 
@@ -113,10 +116,10 @@ pub(crate) fn call<F: Start, R: Read, W: Write, E: Write>(
     };
     match parse_caller(rt.alloc(), line.user, line.group) {
         Ok(caller) => {
-            let work = Work::Call(CallerTask {
+            let work = CallerTask {
                 caller: &caller,
                 task: &line.task,
-            });
+            };
             with_tables(rt, start, line.db, config, &work, console)
         }
         Err(stop) => say(stop, console.errors),

@@ -1,6 +1,6 @@
 //! Why a database file isn't opened as a store.
+ghost use Rattle.report.specs.Outputs.{written_of};
 ghost use Rattle.tool.specs.Files.{AnswersCause};
-ghost use Rattle.tool.specs.Streams.{wrote};
 
 use paths::StoreDir;
 use report::Refusal;
@@ -19,7 +19,7 @@ pub(crate) fn refuse_file<W: Write, E: Write>(
     errors: &mut E,
 ) -> u8
     ensures { AnswersCause dir.now cause
-        (wrote W.contents E.contents output.old output.new errors.old errors.new result) }
+        (written_of W.contents E.contents output.old output.new errors.old errors.new result) }
 {
     match cause {
         Cause::BadSchema => say(Stop::Refused(Refusal::BadSchema), errors),

@@ -5,9 +5,9 @@ ghost use Rattle.std.specs.IoError.{error_kind};
 ghost use Rattle.tool.specs.Answer.{AnswersOpened, Explains, ExplainsUsage, RunsLine};
 ghost use Rattle.tool.specs.Files.{DoesFile};
 ghost use Rattle.tool_words.specs.Line.{IsLine, IsUsageFault, Line, line_view};
-ghost use Rattle.report.specs.Outputs.{Prints, change_of};
+ghost use Rattle.report.specs.Outputs.{Prints, console_of, printed_of, written_of};
 ghost use Rattle.tool.specs.Requests.{ReadsWithin, most_read};
-ghost use Rattle.tool.specs.Streams.{AnswersOn, wrote};
+ghost use Rattle.tool.specs.Streams.{AnswersOn};
 ghost use Rattle.tool_pure.specs.Configuration.{opened_by};
 ghost use Rattle.tool_pure.specs.Stream.{Answers, Says};
 ghost use Rattle.tool_words.specs.declared.error.CommandError.{CommandError};
@@ -61,17 +61,11 @@ pub fn run<F: Start, S: AsStr, R: Read, W: Write, E: Write>(
 ) -> u8
     ensures line { (line : Line) → IsLine (map S.text words.now) line
         → RunsLine (DoesFile F.Start ⟦<FileFrom<F> as Disk>⟧) line
-        (record {
-          input = change_of R.remaining input.old input.new;
-          written = record {
-            output = change_of W.contents output.old output.new;
-            errors = change_of E.contents errors.old errors.new;
-            status = result;
-          };
-        }) }
+        (console_of R.remaining W.contents E.contents input.old input.new output.old output.new errors.old errors.new
+        result) }
     ensures words { ¬ ((line : Line) × IsLine (map S.text words.now) line)
         → (fault : CommandError) × IsUsageFault (map S.text words.now) fault × Explains fault
-        (wrote W.contents E.contents output.old output.new errors.old errors.new result) }
+        (written_of W.contents E.contents output.old output.new errors.old errors.new result) }
     ensures reads { (line : Line) → IsLine (map S.text words.now) line
         → ReadsWithin (most_read line.asked) (R.remaining input.old) (R.remaining input.new) }
     ensures unread { ¬ ((line : Line) × IsLine (map S.text words.now) line)
@@ -132,7 +126,7 @@ fn explain<W: Write, E: Write>(
     output: &mut W,
     errors: &mut E,
 ) -> u8
-    ensures { Explains fault.now (wrote W.contents E.contents output.old output.new errors.old errors.new result) }
+    ensures { Explains fault.now (written_of W.contents E.contents output.old output.new errors.old errors.new result) }
 {
     match fault {
         CommandError::Usage(fault) => explain_usage(alloc, fault, output, errors),
@@ -148,7 +142,8 @@ fn explain_misuse<W: Write, E: Write>(
     output: &mut W,
     errors: &mut E,
 ) -> u8
-    ensures { Explains (Misuse fault) (wrote W.contents E.contents output.old output.new errors.old errors.new result) }
+    ensures { Explains (Misuse fault)
+        (written_of W.contents E.contents output.old output.new errors.old errors.new result) }
 {
     match fault.error(alloc) {
         Ok(error) => explain_usage(alloc, &error, output, errors),
@@ -163,7 +158,8 @@ fn explain_usage<W: Write, E: Write>(
     output: &mut W,
     errors: &mut E,
 ) -> u8
-    ensures { ExplainsUsage fault.now (wrote W.contents E.contents output.old output.new errors.old errors.new result) }
+    ensures { ExplainsUsage fault.now
+        (written_of W.contents E.contents output.old output.new errors.old errors.new result) }
 {
     let text = format!(in alloc; "{fault}");
     explain_by(fault.use_stderr(), text, output, errors)
@@ -177,13 +173,13 @@ fn explain_by<W: Write, E: Write>(
     errors: &mut E,
 ) -> u8
     ensures fault { is_fault ≡ true → IfOk text (λ t. Keeps (W.contents output.old) (W.contents output.new)
-        × Prints (string_bytes t) 2 (record { writer = change_of E.contents errors.old errors.new; status = result })) }
+        × Prints (string_bytes t) 2 (printed_of E.contents errors.old errors.new result)) }
     ensures help { is_fault ≡ false → IfOk text
         (λ t. Answers (Ok (string_bytes t))
-        (wrote W.contents E.contents output.old output.new errors.old errors.new result)) }
+        (written_of W.contents E.contents output.old output.new errors.old errors.new result)) }
     ensures memory { OnErr text
         (Answers (Err (Stop.Failed Failure.Memory))
-        (wrote W.contents E.contents output.old output.new errors.old errors.new result)) }
+        (written_of W.contents E.contents output.old output.new errors.old errors.new result)) }
 {
     let Ok(text) = text else {
         return say(Stop::Failed(Failure::Memory), errors);
@@ -207,11 +203,10 @@ fn explain_by<W: Write, E: Write>(
 /// ```
 pub fn refuse_words<E: Write>(fault: &io::Error, errors: &mut E) -> u8
     ensures memory { error_kind fault.now ≡ ErrorKind.OutOfMemory
-        → Says (Stop.Failed Failure.Memory)
-        (record { writer = change_of E.contents errors.old errors.new; status = result }) }
+        → Says (Stop.Failed Failure.Memory) (printed_of E.contents errors.old errors.new result) }
     ensures other { error_kind fault.now ≢ ErrorKind.OutOfMemory
         → (text : List ℕ)
-        × Prints text 2 (record { writer = change_of E.contents errors.old errors.new; status = result }) }
+        × Prints text 2 (printed_of E.contents errors.old errors.new result) }
 {
     if fault.kind() == ErrorKind::OutOfMemory {
         return say(Stop::Failed(Failure::Memory), errors);

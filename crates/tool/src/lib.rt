@@ -3,7 +3,6 @@
 
 mod adds;
 mod answers;
-mod caller_task;
 mod calls;
 mod close;
 mod console;

@@ -1,4 +1,5 @@
 //! `serve`: the store of a command line, served over HTTP.
+ghost use Rattle.std.specs.Prelude.{Some};
 ghost use Rattle.tool_words.specs.Asked.{optional_text};
 ghost use Rattle.tool.specs.Answer.{AnswersServing};
 ghost use Rattle.tool.specs.Files.{DoesFile};
@@ -8,7 +9,7 @@ ghost use Rattle.tool.specs.Works.{DoesAt, serves};
 
 use crate::console::Console;
 use crate::stores::with_tables;
-use crate::work::Work;
+use crate::work::{Work, Worked};
 use sqlite::{Alter, FileFrom, Start};
 use std::io::{Read, Write};
 use std::rt::HostRuntime;
@@ -19,7 +20,7 @@ use tool_words::ServeArguments;
 use wire::{serve_port, serve_streams};
 
 /// Serves a store. It is that after the last message that was answered.
-pub(crate) fn serve_over<S: Alter, R: Read, W: Write, E: Write>(
+fn serve_over<S: Alter, R: Read, W: Write, E: Write>(
     rt: &HostRuntime,
     store: &mut Store<S>,
     arguments: ServeArguments,
@@ -48,6 +49,32 @@ pub(crate) fn serve_over<S: Alter, R: Read, W: Write, E: Write>(
     }
 }
 
+/// The serving of a store.
+#[derive(Drop)]
+pub(crate) struct Serving {
+    pub(crate) arguments: ServeArguments,
+}
+
+impl Work for Serving {
+    ghost does = { λ serving. Some (serves serving.arguments) };
+
+    ghost most = { λ serving. most_served serving.arguments };
+
+    const ASKS_MUCH: bool = true;
+
+    fn perform<S: Alter, R: Read, W: Write, E: Write>(
+        &self,
+        rt: &HostRuntime,
+        store: &mut Store<S>,
+        console: &mut Console<'_, '_, '_, R, W, E>,
+    ) -> Worked {
+        Worked {
+            status: serve_over(rt, store, self.arguments, console),
+            reads: false,
+        }
+    }
+}
+
 /// Serves a store, by the text of the configuration.
 pub(crate) fn serve<F: Start, R: Read, W: Write, E: Write>(
     rt: &HostRuntime,
@@ -63,7 +90,7 @@ pub(crate) fn serve<F: Start, R: Read, W: Write, E: Write>(
 {
     match settings(rt.alloc(), config) {
         Ok(config) => {
-            let work = Work::Serve(arguments);
+            let work = Serving { arguments };
             with_tables(rt, start, db, config, &work, console)
         }
         Err(stop) => say(stop, console.errors),

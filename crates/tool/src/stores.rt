@@ -4,7 +4,7 @@ ghost use Rattle.sqlite.specs.Files.{over_files};
 ghost use Rattle.tool_words.specs.Asked.{optional_text};
 ghost use Rattle.tool.specs.Files.{DoesFile, DoesOpening};
 ghost use Rattle.tool.specs.Streams.{AnswersOn};
-ghost use Rattle.tool.specs.Works.{DoesAtPath, DoesNew, DoesWith, DoesWork, most_for};
+ghost use Rattle.tool.specs.Works.{DoesAtPath, DoesNew, DoesWith, DoesWork};
 
 use crate::console::Console;
 use crate::files::refuse_file;
@@ -18,14 +18,14 @@ use tables::{Close, Disk, Tables, Unopened};
 use tool_pure::print_reply;
 
 /// Does some work with a new store in memory, for this run.
-fn in_memory<R: Read, W: Write, E: Write>(
+fn in_memory<T: Work, R: Read, W: Write, E: Write>(
     rt: &HostRuntime,
     config: Config,
-    work: &Work<'_>,
+    work: &T,
     console: &mut Console<'_, '_, '_, R, W, E>,
 ) -> u8
-    ensures { AnswersOn (most_for work.now)
-        (DoesWork work.now (DoesNew config))
+    ensures { AnswersOn (T.most work.now)
+        (DoesWork (T.does work.now) (DoesNew config))
         R.remaining W.contents E.contents console.old console.new result }
 {
     match tables::open_in_memory(rt.alloc(), store_dir(&config)) {
@@ -41,16 +41,23 @@ fn in_memory<R: Read, W: Write, E: Write>(
 }
 
 /// Does some work with the store that an opening gave, or prints why it gave none.
-fn over_opened<S: Alter + Drop + Close<Connection<S>>, D: Disk + Drop, R: Read, W: Write, E: Write>(
+fn over_opened<
+    S: Alter + Drop + Close<Connection<S>>,
+    D: Disk + Drop,
+    T: Work,
+    R: Read,
+    W: Write,
+    E: Write,
+>(
     rt: &HostRuntime,
     opened: Result<Tables<S>, Unopened<S, D>>,
     config: Config,
-    work: &Work<'_>,
+    work: &T,
     console: &mut Console<'_, '_, '_, R, W, E>,
 ) -> u8
     requires { IfOk opened (λ t. t.dir ≡ config.store_dir) }
-    ensures { AnswersOn (most_for work.now)
-        (DoesWork work.now (DoesOpening S.Store opened config))
+    ensures { AnswersOn (T.most work.now)
+        (DoesWork (T.does work.now) (DoesOpening S.Store opened config))
         R.remaining W.contents E.contents console.old console.new result }
 {
     match opened {
@@ -65,35 +72,35 @@ fn over_opened<S: Alter + Drop + Close<Connection<S>>, D: Disk + Drop, R: Read, 
     }
 }
 
-/// Does some work with the store that an opening of files gave, or prints why it gave none. It is a function of its own,
-/// so that the prover looks up how any files are closed, and not those of a start.
-fn over_files<D: Disk + Drop, R: Read, W: Write, E: Write>(
+/// Does some work with the store that an opening of files gave, or prints why it gave none. It is a function of its
+/// own, so that the prover looks up how any files are closed, and not those of a start.
+fn over_files<D: Disk + Drop, T: Work, R: Read, W: Write, E: Write>(
     rt: &HostRuntime,
     opened: Result<Tables<FileStore<D>>, Unopened<FileStore<D>, D>>,
     config: Config,
-    work: &Work<'_>,
+    work: &T,
     console: &mut Console<'_, '_, '_, R, W, E>,
 ) -> u8
     requires { IfOk opened (λ t. t.dir ≡ config.store_dir) }
-    ensures { AnswersOn (most_for work.now)
-        (DoesWork work.now (DoesOpening over_files opened config))
+    ensures { AnswersOn (T.most work.now)
+        (DoesWork (T.does work.now) (DoesOpening over_files opened config))
         R.remaining W.contents E.contents console.old console.new result }
 {
     over_opened(rt, opened, config, work, console)
 }
 
-/// Does some work with the store of the database file at a path, which is made if it is missing. `:memory:` and `file:..`
-/// name no file, and are refused. `start` is ghost: what a theorem assumes of the file.
-fn in_file<F: Start, R: Read, W: Write, E: Write>(
+/// Does some work with the store of the database file at a path, which is made if it is missing. `:memory:` and
+/// `file:..` name no file, and are refused. `start` is ghost: what a theorem assumes of the file.
+fn in_file<F: Start, T: Work, R: Read, W: Write, E: Write>(
     rt: &HostRuntime,
     start: F,
     path: &str,
     config: Config,
-    work: &Work<'_>,
+    work: &T,
     console: &mut Console<'_, '_, '_, R, W, E>,
 ) -> u8
-    ensures { AnswersOn (most_for work.now)
-        (DoesWork work.now (DoesAtPath (DoesFile F.Start ⟦<FileFrom<F> as Disk>⟧) path.now config))
+    ensures { AnswersOn (T.most work.now)
+        (DoesWork (T.does work.now) (DoesAtPath (DoesFile F.Start ⟦<FileFrom<F> as Disk>⟧) path.now config))
         R.remaining W.contents E.contents console.old console.new result }
 {
     let opened = tables::open(rt, path, store_dir(&config), start);
@@ -102,16 +109,17 @@ fn in_file<F: Start, R: Read, W: Write, E: Write>(
 
 /// Does some work with the store of a database file, or with one in memory if no file is named.
 #[tactic(auto, unfolding(crate::specs::Works::DoesWith))]
-pub(crate) fn with_tables<F: Start, R: Read, W: Write, E: Write>(
+pub(crate) fn with_tables<F: Start, T: Work, R: Read, W: Write, E: Write>(
     rt: &HostRuntime,
     start: F,
     db: Option<&str>,
     config: Config,
-    work: &Work<'_>,
+    work: &T,
     console: &mut Console<'_, '_, '_, R, W, E>,
 ) -> u8
-    ensures { AnswersOn (most_for work.now)
-        (DoesWork work.now (DoesWith (DoesFile F.Start ⟦<FileFrom<F> as Disk>⟧) (optional_text db.entry) config))
+    ensures { AnswersOn (T.most work.now)
+        (DoesWork (T.does work.now)
+        (DoesWith (DoesFile F.Start ⟦<FileFrom<F> as Disk>⟧) (optional_text db.entry) config))
         R.remaining W.contents E.contents console.old console.new result }
 {
     match db {

@@ -1,6 +1,6 @@
 //! `ls`: the listing of an archive.
 ghost use Rattle.std.specs.Prelude.{◌≡◌, ◌⊎◌, IfOk, IfErr, Ok, Err, None, string_bytes};
-ghost use Rattle.report.specs.Outputs.{change_of};
+ghost use Rattle.report.specs.Outputs.{change_of, console_of};
 ghost use Rattle.tool_pure.specs.Archive.{max_prefix, ls_answer};
 ghost use Rattle.tool_pure.specs.Stream.{AnswersInput, IsResultFor, result_text};
 
@@ -50,14 +50,8 @@ pub fn ls<R: Read, W: Write, E: Write>(
     errors: &mut E,
 ) -> u8
     ensures { AnswersInput None max_prefix ls_answer
-        (record {
-          input = change_of R.remaining input.old input.new;
-          written = record {
-            output = change_of W.contents output.old output.new;
-            errors = change_of E.contents errors.old errors.new;
-            status = result;
-          };
-        }) }
+        (console_of R.remaining W.contents E.contents input.old input.new output.old output.new errors.old errors.new
+        result) }
 {
     give(ls_result(alloc, input), output, errors)
 }

@@ -4,7 +4,7 @@ ghost use Rattle.tables_outline.specs.Maps.{labelled_bytes};
 ghost use Rattle.report.specs.Stops.{denial_text};
 ghost use Rattle.report.specs.Replies as texts;
 ghost use Rattle.store_types.specs.View.{answer_view, reply_view};
-ghost use Rattle.report.specs.Outputs.{RunsOutOfMemory, Offers, Prints, change_of};
+ghost use Rattle.report.specs.Outputs.{RunsOutOfMemory, Offers, Prints, printed_of, written_of};
 ghost use Rattle.tool_pure.specs.Stream.{Says};
 ghost use Rattle.tool_pure.specs.PrintedReply.{IsPrinted};
 
@@ -20,11 +20,7 @@ use streams::{Pieces, send_pieces};
 
 /// Writes a text on `output`. If `output` fails, writes the line of that failure on `errors`.
 fn offer<W: Write, E: Write>(text: &Pieces, output: &mut W, errors: &mut E) -> u8
-    ensures { Offers text.now (record {
-      output = change_of W.contents output.old output.new;
-      errors = change_of E.contents errors.old errors.new;
-      status = result;
-    }) }
+    ensures { Offers text.now (written_of W.contents E.contents output.old output.new errors.old errors.new result) }
 {
     match send_pieces(output, text) {
         Ok(()) => 0,
@@ -40,16 +36,9 @@ fn print_answer<W: Write, E: Write>(
     output: &mut W,
     errors: &mut E,
 ) -> u8
-    ensures { Offers (texts.answer_text dir.now (answer_view answer)) (record {
-      output = change_of W.contents output.old output.new;
-      errors = change_of E.contents errors.old errors.new;
-      status = result;
-    })
-        ⊎ RunsOutOfMemory (record {
-          output = change_of W.contents output.old output.new;
-          errors = change_of E.contents errors.old errors.new;
-          status = result;
-        }) }
+    ensures { Offers (texts.answer_text dir.now (answer_view answer))
+        (written_of W.contents E.contents output.old output.new errors.old errors.new result)
+        ⊎ RunsOutOfMemory (written_of W.contents E.contents output.old output.new errors.old errors.new result) }
 {
     match answer_text(alloc, dir, answer) {
         Ok(text) => offer(&text, output, errors),
@@ -66,9 +55,8 @@ fn print_denial<E: Write>(
     errors: &mut E,
 ) -> u8
     ensures { Prints (denial_text dir.now rule (option_map labelled_bytes root)) 4
-        (record { writer = change_of E.contents errors.old errors.new; status = result })
-        ⊎ Says (Stop.Failed Failure.Memory)
-        (record { writer = change_of E.contents errors.old errors.new; status = result }) }
+        (printed_of E.contents errors.old errors.new result)
+        ⊎ Says (Stop.Failed Failure.Memory) (printed_of E.contents errors.old errors.new result) }
 {
     match denial_line(alloc, dir, rule, root) {
         Ok(line) => print(line.as_str(), DENIED, errors),
@@ -88,11 +76,8 @@ pub fn print_reply<W: Write, E: Write>(
     output: &mut W,
     errors: &mut E,
 ) -> u8
-    ensures { IsPrinted dir.now (reply_view reply) (record {
-      output = change_of W.contents output.old output.new;
-      errors = change_of E.contents errors.old errors.new;
-      status = result;
-    }) }
+    ensures { IsPrinted dir.now (reply_view reply)
+        (written_of W.contents E.contents output.old output.new errors.old errors.new result) }
 {
     match reply {
         Reply::Done(answer) => print_answer(alloc, dir, answer, output, errors),

@@ -1,5 +1,5 @@
 //! Printing of a result on the two outputs.
-ghost use Rattle.report.specs.Outputs.{change_of};
+ghost use Rattle.report.specs.Outputs.{printed_of, written_of};
 ghost use Rattle.tool_pure.specs.Stream.{Says, result_text, Answers};
 
 use crate::stops::Stop;
@@ -9,7 +9,7 @@ use streams::send_bytes;
 
 /// Prints why a command ends without its result, and returns the exit status.
 pub fn say<W: Write>(stop: Stop, writer: &mut W) -> u8
-    ensures { Says stop (record { writer = change_of W.contents writer.old writer.new; status = result }) }
+    ensures { Says stop (printed_of W.contents writer.old writer.new result) }
 {
     print(stop.text(), stop.status(), writer)
 }
@@ -20,11 +20,8 @@ pub fn say<W: Write>(stop: Stop, writer: &mut W) -> u8
 /// If standard output fails, whatever its error, `failed: output` is printed on standard error. If standard error
 /// fails, the status is 1.
 pub fn give<W: Write, E: Write>(answer: Result<String, Stop>, output: &mut W, errors: &mut E) -> u8
-    ensures { Answers (result_text answer) (record {
-      output = change_of W.contents output.old output.new;
-      errors = change_of E.contents errors.old errors.new;
-      status = result;
-    }) }
+    ensures { Answers (result_text answer) (written_of W.contents E.contents output.old output.new errors.old errors.new
+        result) }
 {
     match answer {
         Ok(text) => match send_bytes(output, text.as_str().as_bytes()) {

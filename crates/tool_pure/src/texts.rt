@@ -1,7 +1,7 @@
 //! `text-path`: from contents and references to a store path.
 ghost use Rattle.std.specs.Prelude.{◌≡◌, ◌⊎◌, IfOk, IfErr, Ok, Err, map, string_bytes};
 ghost use Rattle.paths.specs.StorePath.{base_of};
-ghost use Rattle.report.specs.Outputs.{change_of};
+ghost use Rattle.report.specs.Outputs.{change_of, console_of};
 ghost use Rattle.tool_pure.specs.Object.{most_of_contents, object_fault, text_path_answer};
 ghost use Rattle.tool_pure.specs.Stream.{AnswersInput, IsResultFor, result_text};
 
@@ -88,14 +88,8 @@ pub fn text_path<S: AsStr, R: Read, W: Write, E: Write>(
 ) -> u8
     ensures { AnswersInput (object_fault dir.now name.now (map S.text references.now)) most_of_contents
         (text_path_answer dir.now name.now (map (base_of dir.now) (map S.text references.now)))
-        (record {
-          input = change_of R.remaining input.old input.new;
-          written = record {
-            output = change_of W.contents output.old output.new;
-            errors = change_of E.contents errors.old errors.new;
-            status = result;
-          };
-        }) }
+        (console_of R.remaining W.contents E.contents input.old input.new output.old output.new errors.old errors.new
+        result) }
 {
     give(
         text_path_result(alloc, dir, name, references, input),

@@ -1,6 +1,6 @@
 //! `who`: from a configuration and a caller to a verdict.
 ghost use Rattle.std.specs.Prelude.{◌≡◌, ◌++◌, OnOk, IfOk, IfErr, Ok, option_map, string_bytes};
-ghost use Rattle.report.specs.Outputs.{change_of};
+ghost use Rattle.report.specs.Outputs.{printed_of};
 ghost use Rattle.tool_pure.specs.Who.{AnswersWho, StopsWho, verdict_of, verdict_text, connect_text, denial_status};
 
 use crate::callers::parse_caller;
@@ -105,7 +105,7 @@ pub fn who<W: Write>(
     out: &mut W,
 ) -> u8
     ensures { AnswersWho (verdict_of config.now (option_map (λ s. s.now) user.entry) (option_map
-        (λ s. s.now) group.entry)) (record { writer = change_of W.contents out.old out.new; status = result }) }
+        (λ s. s.now) group.entry)) (printed_of W.contents out.old out.new result) }
 {
     match judge(alloc, config, user, group) {
         Ok(verdict) => match verdict.text(alloc) {

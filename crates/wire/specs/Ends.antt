@@ -8,7 +8,7 @@ use Rattle.sqlite_trees.specs.declared.store.Store.{Ghosts}
 use Rattle.httparse.specs.Grammar.{RequestHead}
 use Rattle.wire_server.specs.Responses.{Replied}
 use Rattle.model.specs.declared.failures.Failure.TheVariants.{Input, Memory}
-use Rattle.report.specs.Outputs.{Console, RunsOutOfMemory, PrintsFailure, change_of}
+use Rattle.report.specs.Outputs.{Console, RunsOutOfMemory, PrintsFailure, on_writer}
 use Rattle.wire_server.specs.Serves.{Served}
 use Rattle.wire_server.specs.Sessions.{Says, failure, result_of}
 use Rattle.wire_server.specs.ServesAll.{ServesOn}
@@ -18,19 +18,10 @@ use Rattle.store.specs.View.{StoreView}
 use Rattle.wire.specs.Answers.{Answers}
 use Rattle.wire.specs.Worlds.{AnswersFrom, LeadsWorlds}
 
--- what a call read and wrote on three streams, and the exit status
-abbrev pub on_streams : {R W E : Type 0} → (R → Option (List ℕ)) → (W → Option (List ℕ)) → (E → Option (List ℕ)) → R → R
-    → W → W → E → E → ℕ → Console
-on_streams input output errors from from' to to' says says' status = record {
-  input = change_of input from from';
-  written = record { output = change_of output to to'; errors = change_of errors says says'; status = status };
-}
-
 -- The status is 1 if a connection failed, or if an accept failed; a line says so.
 abbrev pub EndsOn : Result ℕ Error → Option (List ℕ) → Option (List ℕ) → ℕ → Type 0
 EndsOn (Ok failed) err err' status = Keeps err err' × (status ≡ min failed 1)
-EndsOn (Err fault) err err' status =
-    PrintsFailure Input (record { writer = record { old = err; new = err' }; status = status })
+EndsOn (Err fault) err err' status = PrintsFailure Input (on_writer err err' status)
 
 module _ {S : Type 0} where
   -- one connection is served like this, up to the state that its last message left, and the status is 1 where it
@@ -45,8 +36,8 @@ module _ {S : Type 0} where
   abbrev pub EndsPort : (Option (List ℕ) → S → S → Result ℕ Error → Type 0) → Option (List ℕ) → Option (List ℕ) → S → S
       → ℕ → Type 0
   EndsPort serving err err' old new status =
-      (PrintsFailure Memory (record { writer = record { old = err; new = err' }; status = status }) × (new ≡ old))
-      ⊎ ((PrintsFailure Input (record { writer = record { old = err; new = err' }; status = status }) × (new ≡ old))
+      (PrintsFailure Memory (on_writer err err' status) × (new ≡ old))
+      ⊎ ((PrintsFailure Input (on_writer err err' status) × (new ≡ old))
       ⊎ ((result : Result ℕ Error) × (said : Option (List ℕ)) × serving said old new result
       × EndsOn result said err' status))
 
@@ -61,16 +52,16 @@ module _ {S : Type 0} (answers : S → RequestHead → List ℕ → Replied → 
 
   -- a number of connections of a listener are served
   abbrev pub ServesListener : (Error → Type 0) → ℕ → Option (List (List ℕ)) → Option (List (List ℕ))
-      → Option (List (List ℕ)) → Option (List (List ℕ)) → Option ℕ → Option ℕ → Option (List ℕ) → Option (List ℕ) → S
-      → S → ℕ → Type 0
-  ServesListener Fails n waiting waiting' closed closed' faults faults' err err' old new status =
+      → Option (List (List ℕ)) → Option (List (List ℕ)) → Option (List (List ℕ)) → Option (List (List ℕ)) → Option ℕ
+      → Option ℕ → Option (List ℕ) → Option (List ℕ) → S → S → ℕ → Type 0
+  ServesListener Fails n waiting waiting' closed closed' unread unread' faults faults' err err' old new status =
       (result : Result ℕ Error) × (said : Option (List ℕ))
-      × ServesOn answers Fails n waiting waiting' closed closed' faults faults' err said old new result
+      × ServesOn answers Fails n waiting waiting' closed closed' unread unread' faults faults' err said old new result
       × EndsOn result said err' status
 
   -- a number of connections are served of a listener, of which nothing is known
   abbrev pub ServesAny : ℕ → Option (List ℕ) → Option (List ℕ) → S → S → Result ℕ Error → Type 0
-  ServesAny n = ServesOn answers (λ _. ⊤) n None None None None None None
+  ServesAny n = ServesOn answers (λ _. ⊤) n None None None None None None None None
 
   -- the same; or there was no memory to begin with
   abbrev pub ServesOver : ℕ → Option (List ℕ) → Option (List ℕ) → S → S → Result ℕ Error → Type 0

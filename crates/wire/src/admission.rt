@@ -6,7 +6,8 @@ ghost use Rattle.wire_requests.specs.Methods.{kind_of};
 ghost use Rattle.wire_requests.specs.Parameters.{AreParametersOf};
 ghost use Rattle.wire_requests.specs.Table.{requests_of};
 ghost use Rattle.wire_server.specs.Responses.{refused};
-ghost use Rattle.wire.specs.Courses.{refuses, denied, by_method, by_route, by_caller, admission_of, admission_view, HasParameters};
+ghost use Rattle.wire.specs.Courses.{refuses, denied, by_method, by_route, by_caller, admission_of, admission_view};
+ghost use Rattle.wire.specs.Courses.{HasParameters};
 ghost use Rattle.httparse.specs.Spans.{IsRequestWithin, span_bytes};
 
 use http::StatusCode;

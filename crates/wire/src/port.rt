@@ -1,6 +1,6 @@
 //! A store, served on a port of this machine.
 ghost use Rattle.std.specs.Prelude.{◌≡◌, ◌⊎◌, ⊤, None};
-ghost use Rattle.report.specs.Outputs.{PrintsFailure, change_of};
+ghost use Rattle.report.specs.Outputs.{PrintsFailure, printed_of};
 ghost use Rattle.model.specs.declared.failures.Failure.TheVariants.{Input};
 ghost use Rattle.wire.specs.Answers.{Answers};
 ghost use Rattle.wire.specs.Worlds.{AnswersFrom, AnswersSome, LeadsWorlds};
@@ -30,8 +30,9 @@ fn serve_listener<L: Listener, E: Write, T, A: Responder<T>>(
     state: &mut T,
 ) -> u8
     ensures { ServesListener A.answers (L.fails listener.new) connections (L.waiting listener.old)
-        (L.waiting listener.new) (L.closed listener.old) (L.closed listener.new) (L.faults listener.old)
-        (L.faults listener.new) (E.contents errors.old) (E.contents errors.new) state.old state.new result }
+        (L.waiting listener.new) (L.closed listener.old) (L.closed listener.new) (L.unread listener.old)
+        (L.unread listener.new) (L.faults listener.old) (L.faults listener.new) (E.contents errors.old)
+        (E.contents errors.new) state.old state.new result }
 {
     match wire_server::serve_on(alloc, listener, connections, errors, responder, state) {
         Ok(0) => 0,
@@ -40,21 +41,27 @@ fn serve_listener<L: Listener, E: Write, T, A: Responder<T>>(
     }
 }
 
+/// A port to listen on, and how many connections are served on it.
+#[derive(Clone, Copy)]
+struct ListenOptions {
+    port: u16,
+    connections: u32,
+}
+
 /// Serves a number of connections of a port, where it can be bound, and returns the exit status.
 fn listen<N: Net<Listener = TcpListener, Stream = TcpStream> + Clock, E: Write, T, A: Responder<T>>(
     net: &N,
     alloc: Global,
-    port: u16,
-    connections: u32,
+    options: ListenOptions,
     errors: &mut E,
     responder: &A,
     state: &mut T,
 ) -> u8
-    ensures { (PrintsFailure Input (record { writer = change_of E.contents errors.old errors.new; status = result })
-        × (state.new ≡ state.old))
-        ⊎ ServesListener A.answers (λ _. ⊤) connections None None None None None None (E.contents errors.old)
-        (E.contents errors.new) state.old state.new result }
+    ensures { (PrintsFailure Input (printed_of E.contents errors.old errors.new result) × (state.new ≡ state.old))
+        ⊎ ServesListener A.answers (λ _. ⊤) options.connections None None None None None None None None
+        (E.contents errors.old) (E.contents errors.new) state.old state.new result }
 {
+    let ListenOptions { port, connections } = options;
     match TcpListener::bind(net, (Ipv4Addr::LOCALHOST, port)) {
         Ok(listener) => {
             let mut peers = Port::new(net, &listener);
@@ -77,7 +84,10 @@ fn serve<N: Net<Listener = TcpListener, Stream = TcpStream> + Clock, S: Alter, E
         store.new result }
 {
     match Server::new(alloc) {
-        Ok(server) => listen(net, alloc, port, connections, errors, &server, store),
+        Ok(server) => {
+            let options = ListenOptions { port, connections };
+            listen(net, alloc, options, errors, &server, store)
+        }
         Err(_) => print_failure(Failure::Memory, errors),
     }
 }

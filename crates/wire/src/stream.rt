@@ -1,9 +1,10 @@
 //! A store, served on two streams.
 ghost use Rattle.std.specs.Prelude.{◌≡◌};
 ghost use Rattle.wire.specs.Answers.{Answers};
+ghost use Rattle.report.specs.Outputs.{console_of};
 ghost use Rattle.wire_server.specs.Sessions.{failure};
 ghost use Rattle.wire.specs.Worlds.{AnswersFrom, AnswersSome, LeadsWorlds};
-ghost use Rattle.wire.specs.Ends.{ServesStreams, ServesStreamsByWorlds, on_streams};
+ghost use Rattle.wire.specs.Ends.{ServesStreams, ServesStreamsByWorlds};
 
 use crate::server::Server;
 use model::FAILED;
@@ -32,7 +33,7 @@ fn serve<S: Alter, R: Read, W: Write, E: Write>(
     output: &mut W,
     errors: &mut E,
 ) -> u8
-    ensures { ServesStreams (Answers S.Store) (on_streams R.remaining W.contents E.contents input.old input.new
+    ensures { ServesStreams (Answers S.Store) (console_of R.remaining W.contents E.contents input.old input.new
         output.old output.new errors.old errors.new result) store.old store.new }
 {
     match Server::new(alloc) {
@@ -62,15 +63,15 @@ pub fn serve_streams<S: Alter, R: Read, W: Write, E: Write>(
     output: &mut W,
     errors: &mut E,
 ) -> u8
-    ensures served { ServesStreams (Answers S.Store) (on_streams R.remaining W.contents E.contents input.old input.new
+    ensures served { ServesStreams (Answers S.Store) (console_of R.remaining W.contents E.contents input.old input.new
         output.old output.new errors.old errors.new result) store.old store.new }
     // Over a disk that is clean afterwards, each reply is that of a step.
-    ensures worlds { LeadsWorlds S.Store store.old store.new (ServesStreams (AnswersFrom store.old.settings) (on_streams
+    ensures worlds { LeadsWorlds S.Store store.old store.new (ServesStreams (AnswersFrom store.old.settings) (console_of
         R.remaining W.contents E.contents input.old input.new output.old output.new errors.old errors.new result)) }
     // Likewise, of one end.
-    ensures steps { ServesStreamsByWorlds S.Store (on_streams R.remaining W.contents E.contents input.old input.new
+    ensures steps { ServesStreamsByWorlds S.Store (console_of R.remaining W.contents E.contents input.old input.new
         output.old output.new errors.old errors.new result) store.old store.new }
-    ensures replies { ServesStreams (AnswersSome store.old.settings) (on_streams R.remaining W.contents E.contents
+    ensures replies { ServesStreams (AnswersSome store.old.settings) (console_of R.remaining W.contents E.contents
         input.old input.new output.old output.new errors.old errors.new result) tt tt }
 {
     serve(alloc, store, input, output, errors)

@@ -14,7 +14,8 @@ pub returns-then-not-has : goal.returns-then-not-has
 returns-then-not-has c caller is w reported =
     let p = c.args.path in (
       ap (λ b. first_failing (unless b NotValid ∷ []))
-          (sym (has_outlined w p) ∙ ap (λ (x : OutlineValue). finite.contains_key x.objects p) reported ∙ sym c.has.ensures
+          (sym (has_outlined w p) ∙ ap (λ (x : OutlineValue). finite.contains_key x.objects p) reported
+          ∙ sym c.has.ensures
           ∙ c.if-not-has.true),
       refl,
     )
@@ -23,7 +24,8 @@ pub returns : goal.returns
 returns c caller is w reported =
     let p = c.args.path in (
       ap (λ b. first_failing (unless b NotValid ∷ []))
-          (sym (has_outlined w p) ∙ ap (λ (x : OutlineValue). finite.contains_key x.objects p) reported ∙ sym c.has.ensures
+          (sym (has_outlined w p) ∙ ap (λ (x : OutlineValue). finite.contains_key x.objects p) reported
+          ∙ sym c.has.ensures
           ∙ c.if-not-has.false),
       ap roots (c.in_ok-roots.ensures w reported
           ∙ ap (λ (class : Class). seen class (roots_that_keep c.args.config.now w p)) is),

@@ -1,12 +1,11 @@
 use Rattle.std.proofs.Common.{Some, arith, ap, refl}
 use Rattle.tool_pure.proofs.Results.{within}
-use Rattle.report.specs.Outputs.{Console, Printed, change_of}
+use Rattle.report.specs.Outputs.{console_of, printed_of}
 use Rattle.tool_words.specs.Asked.{object_view}
 use Rattle.clap.specs.Walk.{texts}
 use Rattle.tool_pure.specs.Object.{text_path_answer}
 use Rattle.tool.proofs.Called.{found_under}
 use Rattle.tool.proofs.Answered.{text_stopped}
-use Rattle.tool.specs.Streams.{wrote}
 use Rattle.tool.proofs.Reading.{unread_within}
 use Rattle.tool.proofs.answers.text_path_under.Goals as goal
 
@@ -15,11 +14,7 @@ returns-in-Err g c = record {
   given = record {
     answer =
         let known = g.R.Read.remaining c.args.console.now.input.now in
-        let p : Printed =
-        record {
-          writer = change_of g.E.Write.contents c.args.console.now.errors.now c.say.new.writer;
-          status = c.say.result;
-        } in
+        let p = printed_of g.E.Write.contents c.args.console.now.errors.now c.say.new.writer c.say.result in
         text_stopped c.args.config.now known (g.W.Write.contents c.args.console.now.output.now) p c.in-Err.stop
         c.in-Err.ensures.err c.say.ensures (object_view c.args.object.now);
     reads = unread_within (Some 16777105) (g.R.Read.remaining c.args.console.now.input.now);
@@ -31,12 +26,10 @@ pub returns-in-Ok : goal.returns-in-Ok
 returns-in-Ok g c = record {
   given = record {
     answer =
-        let console : Console = record {
-          input = change_of g.R.Read.remaining c.args.console.now.input.now c.text_path.new.input;
-          written =
-              wrote g.W.Write.contents g.E.Write.contents c.args.console.now.output.now c.text_path.new.output
-              c.args.console.now.errors.now c.text_path.new.errors c.text_path.result;
-        } in
+        let console =
+        console_of g.R.Read.remaining g.W.Write.contents g.E.Write.contents c.args.console.now.input.now
+        c.text_path.new.input c.args.console.now.output.now c.text_path.new.output c.args.console.now.errors.now
+        c.text_path.new.errors c.text_path.result in
         found_under 16777105 text_path_answer c.args.config.now console c.in-Ok.config (object_view c.args.object.now)
         c.store_dir-dir.result.now
         (texts c.as_slice-references.result.now) c.in-Ok.ensures.ok c.store_dir-dir.ensures

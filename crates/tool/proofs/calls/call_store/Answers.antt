@@ -1,7 +1,7 @@
 use Rattle.std.proofs.Common.{◌≡◌, List, ℕ, ap, subst, ◌∙◌}
 use Rattle.policy.specs.Settings.{Settings}
 use Rattle.store_types.specs.View.{reply_view}
-use Rattle.report.specs.Outputs.{change_of}
+use Rattle.report.specs.Outputs.{written_of}
 use Rattle.tool_pure.specs.PrintedReply.{IsPrinted}
 use Rattle.tool.proofs.calls.call_store.Goals as goal
 
@@ -21,9 +21,6 @@ returns g c =
         survives = kept.survives;
       },
       subst (λ (d : List ℕ). IsPrinted d (reply_view c.call-reply.result)
-          (record {
-            output = change_of g.W.Write.contents c.args.output.now c.print_reply.new.output;
-            errors = change_of g.E.Write.contents c.args.errors.now c.print_reply.new.errors;
-            status = c.print_reply.result;
-          })) dir c.print_reply.ensures,
+          (written_of g.W.Write.contents g.E.Write.contents c.args.output.now c.print_reply.new.output
+          c.args.errors.now c.print_reply.new.errors c.print_reply.result)) dir c.print_reply.ensures,
     )

@@ -1,6 +1,6 @@
 use Rattle.std.proofs.Common.{ap}
 use Rattle.std.proofs.KnownBytes.{Keeps-refl}
-use Rattle.report.specs.Outputs.{Console, change_of}
+use Rattle.report.specs.Outputs.{console_of}
 use Rattle.tool_words.specs.Line.{Line, line_view}
 use Rattle.tool.specs.Requests.{most_read}
 use Rattle.tool.proofs.Answered.{line_refused, line_run, same_line}
@@ -21,14 +21,9 @@ returns-in-Err-clause-words g c = λ none. (c.in-Err.fault, c.in-Err.ensures.err
 
 pub returns-in-Err-clause-line : goal.returns-in-Err-clause-line
 returns-in-Err-clause-line g c =
-    let console : Console = record {
-      input = change_of g.R.Read.remaining c.args.input.now c.args.input.now;
-      written = record {
-        output = change_of g.W.Write.contents c.args.output.now c.explain.new.output;
-        errors = change_of g.E.Write.contents c.args.errors.now c.explain.new.errors;
-        status = c.explain.result;
-      };
-    } in
+    let console =
+    console_of g.R.Read.remaining g.W.Write.contents g.E.Write.contents c.args.input.now c.args.input.now
+    c.args.output.now c.explain.new.output c.args.errors.now c.explain.new.errors c.explain.result in
     line_refused _ _ c.in-Err.fault console c.in-Err.ensures.err c.explain.ensures
     (Keeps-refl (g.R.Read.remaining c.args.input.now))
 

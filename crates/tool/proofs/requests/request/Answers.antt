@@ -114,12 +114,14 @@ returns-in-AddText-clause-asked g c = λ ask is.
 pub returns-in-AddText-clause-reads : goal.returns-in-AddText-clause-reads
 returns-in-AddText-clause-reads g c =
     within_same (most_read (asked_view c.args.task.now)) (Some 16777105) (g.R.Read.remaining c.args.input.now)
-    (g.R.Read.remaining c.add_text.new.input) (ap (λ t. most_read (asked_view t)) c.in-AddText.is) c.add_text.ensures.reads
+    (g.R.Read.remaining c.add_text.new.input) (ap (λ t. most_read (asked_view t)) c.in-AddText.is)
+    c.add_text.ensures.reads
 
 pub returns-in-AddSource-clause-reads : goal.returns-in-AddSource-clause-reads
 returns-in-AddSource-clause-reads g c =
     within_same (most_read (asked_view c.args.task.now)) (Some 16777224) (g.R.Read.remaining c.args.input.now)
-    (g.R.Read.remaining c.add_source.new.input) (ap (λ t. most_read (asked_view t)) c.in-AddSource.is) c.add_source.ensures.reads
+    (g.R.Read.remaining c.add_source.new.input) (ap (λ t. most_read (asked_view t)) c.in-AddSource.is)
+    c.add_source.ensures.reads
 
 pub returns-in-AddSource-clause-asked : goal.returns-in-AddSource-clause-asked
 returns-in-AddSource-clause-asked g c = λ ask is.

@@ -2,7 +2,7 @@ use Rattle.std.proofs.Common.{Err, List, Ok, Option, inl, inr, refl, ℕ, ◌≡
 use Rattle.policy.specs.Settings.{Settings}
 use Rattle.policy.specs.Toml.{config_of}
 use Rattle.clap.specs.Walk.{Text}
-use Rattle.report.specs.Outputs.{Console, Printed, change_of}
+use Rattle.report.specs.Outputs.{Console, printed_of}
 use Rattle.model.specs.declared.failures.Failure.TheVariants.{Memory}
 use Rattle.tool_pure.specs.declared.stops.Stop.TheVariants.{Failed}
 use Rattle.tool_words.specs.Asked.{optional_text}
@@ -41,11 +41,7 @@ pub returns-in-Err : goal.returns-in-Err
 returns-in-Err g c = record {
   given = record {
     answer =
-        let p : Printed =
-        record {
-          writer = change_of g.E.Write.contents c.args.console.now.errors.now c.say.new.writer;
-          status = c.say.result;
-        } in
+        let p = printed_of g.E.Write.contents c.args.console.now.errors.now c.say.new.writer c.say.result in
         stopped_under (config_of c.args.config.now) _ c.in-Err.stop (g.R.Read.remaining c.args.console.now.input.now)
         (g.W.Write.contents c.args.console.now.output.now) p c.in-Err.ensures.err c.say.ensures
         (λ s memory. inl memory);

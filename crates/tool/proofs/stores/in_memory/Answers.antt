@@ -6,7 +6,6 @@ use Rattle.model.specs.Reply.{Failed, failed, memory}
 use Rattle.store_types.specs.View.{failure_view}
 use Rattle.report.specs.Outputs.{Written}
 use Rattle.tool_pure.specs.PrintedReply.{IsPrinted}
-use Rattle.tool.specs.Works.{most_for}
 use Rattle.tool.proofs.Reading.{unread_within}
 use Rattle.tool.proofs.stores.in_memory.Goals as goal
 
@@ -39,7 +38,7 @@ returns-in-Err g c = record {
               (failure_view c.in-Err.failure) (ap failure_view c.in-Err.ensures.cause) _ c.print_reply.ensures,
           Keeps-refl (g.R.Read.remaining c.args.console.now.input.now),
         );
-    reads = unread_within (most_for c.args.work.now) (g.R.Read.remaining c.args.console.now.input.now);
+    reads = unread_within (g.T.Work.most c.args.work.now) (g.R.Read.remaining c.args.console.now.input.now);
   };
   same = (refl, refl, refl);
 }

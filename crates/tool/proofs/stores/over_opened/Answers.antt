@@ -1,9 +1,8 @@
 use Rattle.std.proofs.Common.{subst, sym, refl}
 use Rattle.std.proofs.KnownBytes.{Keeps-refl}
-use Rattle.report.specs.Outputs.{Console, change_of}
+use Rattle.report.specs.Outputs.{console_of}
 use Rattle.tool.specs.Files.{AnswersCause, DoesOpening}
-use Rattle.tool.specs.Streams.{happened, wrote}
-use Rattle.tool.specs.Works.{most_for}
+use Rattle.tool.specs.Streams.{happened}
 use Rattle.tool.proofs.Reading.{unread_within}
 use Rattle.tool.proofs.stores.over_opened.Goals as goal
 
@@ -25,19 +24,16 @@ pub returns-in-Err : goal.returns-in-Err
 returns-in-Err g c = record {
   given = record {
     answer = λ d is.
-        let w =
-        wrote g.W.Write.contents g.E.Write.contents c.args.console.now.output.now c.refuse_file.new.output
+        let console =
+        console_of g.R.Read.remaining g.W.Write.contents g.E.Write.contents c.args.console.now.input.now
+        c.args.console.now.input.now c.args.console.now.output.now c.refuse_file.new.output
         c.args.console.now.errors.now c.refuse_file.new.errors c.refuse_file.result in
-        let console : Console =
-        record {
-          input = change_of g.R.Read.remaining c.args.console.now.input.now c.args.console.now.input.now;
-          written = w;
-        } in
         subst (λ opened. DoesOpening g.S.Store opened c.args.config d console) (sym c.in-Err.is) (
-          subst (λ cause. AnswersCause c.args.config.store_dir cause w) c.cause.ensures c.refuse_file.ensures,
+          subst (λ cause. AnswersCause c.args.config.store_dir cause console.written) c.cause.ensures
+              c.refuse_file.ensures,
           Keeps-refl (g.R.Read.remaining c.args.console.now.input.now),
         );
-    reads = unread_within (most_for c.args.work.now) (g.R.Read.remaining c.args.console.now.input.now);
+    reads = unread_within (g.T.Work.most c.args.work.now) (g.R.Read.remaining c.args.console.now.input.now);
   };
   same = (refl, refl, refl);
 }

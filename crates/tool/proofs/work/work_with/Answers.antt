@@ -9,12 +9,12 @@ returns g c = record {
     answer = λ d is.
         let console =
         happened g.R.Read.remaining g.W.Write.contents g.E.Write.contents c.args.console.now
-        c.work_over-worked.new.console c.work_over-worked.result.status in (
-          c.work_over-worked.new.store,
-          subst (λ old. DoesAt g.S.Store d console old c.work_over-worked.new.store) c.store_for-store.ensures
-              (c.work_over-worked.ensures.answered.given.answer d is),
+        c.perform-worked.new.console c.perform-worked.result.status in (
+          c.perform-worked.new.store,
+          subst (λ old. DoesAt g.S.Store d console old c.perform-worked.new.store) c.store_for-store.ensures
+              (c.perform-worked.ensures.answered.given.answer d is),
         );
-    reads = c.work_over-worked.ensures.answered.given.reads;
+    reads = c.perform-worked.ensures.answered.given.reads;
   };
-  same = c.work_over-worked.ensures.answered.same;
+  same = c.perform-worked.ensures.answered.same;
 }

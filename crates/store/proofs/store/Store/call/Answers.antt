@@ -49,7 +49,8 @@ returns-in-Some-clause-spent g c lost =
     let rule =
     first_broken (class_of c.args.self.now.settings c.args.caller.now) c.args.caller.now
     (operation_of (request_view c.args.request)) in (
-      spent_denied rule (reply_view c.in-Some.forbidden) (c.in-Some.ensures.ruled is (is_no_deletion c.args.request lost)),
+      spent_denied rule (reply_view c.in-Some.forbidden)
+          (c.in-Some.ensures.ruled is (is_no_deletion c.args.request lost)),
       refl,
     )
 
@@ -69,7 +70,8 @@ pub returns-in-None-clause-survives : goal.returns-in-None-clause-survives
 returns-in-None-clause-survives g c =
     let is = c.class-class.ensures ∙ ap (λ (s : Settings). class_of s c.args.caller.now) c.config.ensures in
     survives_met g.S.Store c.args.self.now.settings c.args.caller.now (request_view c.args.request) c.act.result
-    c.args.self.now.tables c.act.new.self.tables (c.in-None.ensures.reported is) (c.act.ensures.met c.args.caller.now is)
+    c.args.self.now.tables c.act.new.self.tables (c.in-None.ensures.reported is)
+    (c.act.ensures.met c.args.caller.now is)
 
 pub returns-in-None-clause-still : goal.returns-in-None-clause-still
 returns-in-None-clause-still g c still =

@@ -33,7 +33,8 @@ returns-in-Ok-Some-clause-reported g c is w t =
     let reported = rw c.in-Ok-Some.field-0-is at c.in-Ok-Some.ensures.root in
     let living =
     subst (λ (st : StoreView g.row.S.Denot). c.args.class ≡ class_of st.settings c.args.caller.now
-    → HasWorld g.S.Store st.tables w → IsDenial st.settings w c.args.caller.now q (Some c.in-Ok-Some.root)) c.self.view_is
+    → HasWorld g.S.Store st.tables w → IsDenial st.settings w c.args.caller.now q (Some c.in-Ok-Some.root))
+    c.self.view_is
     (λ is t. reported w c.args.caller.now (t.outline ∙ sym c.outline.ensures) is) in
     forbidden_living g.S.Store c.args.self.now.settings c.args.caller.now q (labelled_bytes c.in-Ok-Some.root) w allowed
     (living is t)
