@@ -74,7 +74,8 @@ paths_read dir = record {
       let p = bind_some (path_in dir x.0.0) (λ p. Some (p, x.0.1)) (path, rest) x.2 in
       let parts : (p.0 ≡ path) × (x.0.1 ≡ rest) = some_pair_parts p.0 path x.0.1 rest p.2 in
       let ws = strings.takes t x.0.0 x.0.1 x.1 in
-      let is : IsPathText dir x.0.0 path = subst (λ q. IsPathText dir x.0.0 q) parts.0 (path_takes dir x.0.0 p.0 p.1) in (
+      let is : IsPathText dir x.0.0 path =
+      subst (λ q. IsPathText dir x.0.0 q) parts.0 (path_takes dir x.0.0 p.0 p.1) in (
         ws.0,
         subst (λ bytes. IsPathText dir bytes path) (sym ws.1) is,
         ws.2 ∙ ap (λ (r : List ℕ). string ws.0 ++ r) parts.1,

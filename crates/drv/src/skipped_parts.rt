@@ -2,7 +2,8 @@
 
 ghost use Rattle.std.specs.Prelude.{◌≡◌, length};
 ghost use Rattle.std.specs.Option.{option_copied};
-ghost use Rattle.drv.specs.Reading.{without_value, rest_of, rest_of_items, string_end, list_end, further, variable_end, input_end, hash_end, after_derive, inputs_end, process_end};
+ghost use Rattle.drv.specs.Reading.{without_value, rest_of, rest_of_items, string_end, list_end, further, variable_end};
+ghost use Rattle.drv.specs.Reading.{input_end, hash_end, after_derive, inputs_end, process_end};
 
 use crate::string::{after, skip_string};
 

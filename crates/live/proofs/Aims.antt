@@ -32,7 +32,8 @@ aims_more rows roots n targets place a e = record {
         | inl lt ↦ a.places k lt ∙ ap Some
             (sym (get_or_append_left targets (place ∷ []) 0 k (let c = a.count in omega arith)))
         | inr ge ↦ (let same : n ≡ k = omega arith in
-            subst (λ j. place_of (paths_of rows) (root_at roots j).target ≡ Some (slice_index (targets ++ place ∷ []) j))
+            subst
+            (λ j. place_of (paths_of rows) (root_at roots j).target ≡ Some (slice_index (targets ++ place ∷ []) j))
             same (e ∙ ap Some (sym (get_or_push targets place 0 n a.count))))
       ];
 }

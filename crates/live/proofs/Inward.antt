@@ -120,7 +120,8 @@ split_below n (x ∷ xs) =
         elim (cases_order x n) as (λ _. ◌≡◌ {A = ℕ} (cond (nat_lt x (suc n)) 1 0)
         (cond (nat_lt x n) 1 0 + cond (x == n) 1 0)) [
           | inl same ↦ (
-              let p : ◌≡◌ {A = ℕ} (cond (nat_lt x (suc n)) 1 0) 1 = ap (λ b. cond b 1 0) (lt-ltb x (suc n) (omega arith)) in
+              let p : ◌≡◌ {A = ℕ} (cond (nat_lt x (suc n)) 1 0) 1 =
+              ap (λ b. cond b 1 0) (lt-ltb x (suc n) (omega arith)) in
               let q : ◌≡◌ {A = ℕ} (cond (nat_lt x n) 1 0) 0 = ap (λ b. cond b 1 0) (le-ltb x n (omega arith)) in
               let r : ◌≡◌ {A = ℕ} (cond (x == n) 1 0) 1 = ap (λ b. cond b 1 0) (eq-eqb x n same) in
               omega (arith, p, q, r))
@@ -130,13 +131,15 @@ split_below n (x ∷ xs) =
                     let p : ◌≡◌ {A = ℕ} (cond (nat_lt x (suc n)) 1 0) 1 =
                     ap (λ b. cond b 1 0) (lt-ltb x (suc n) (omega arith)) in
                     let q : ◌≡◌ {A = ℕ} (cond (nat_lt x n) 1 0) 1 = ap (λ b. cond b 1 0) (lt-ltb x n less) in
-                    let r : ◌≡◌ {A = ℕ} (cond (x == n) 1 0) 0 = ap (λ b. cond b 1 0) (ne_eqb x n (λ e. absurd (omega arith))) in
+                    let r : ◌≡◌ {A = ℕ} (cond (x == n) 1 0) 0 =
+                    ap (λ b. cond b 1 0) (ne_eqb x n (λ e. absurd (omega arith))) in
                     omega (arith, p, q, r))
                 | inr more ↦ (
                     let p : ◌≡◌ {A = ℕ} (cond (nat_lt x (suc n)) 1 0) 0 =
                     ap (λ b. cond b 1 0) (le-ltb x (suc n) (omega arith)) in
                     let q : ◌≡◌ {A = ℕ} (cond (nat_lt x n) 1 0) 0 = ap (λ b. cond b 1 0) (le-ltb x n (omega arith)) in
-                    let r : ◌≡◌ {A = ℕ} (cond (x == n) 1 0) 0 = ap (λ b. cond b 1 0) (ne_eqb x n (λ e. absurd (omega arith))) in
+                    let r : ◌≡◌ {A = ℕ} (cond (x == n) 1 0) 0 =
+                    ap (λ b. cond b 1 0) (ne_eqb x n (λ e. absurd (omega arith))) in
                     omega (arith, p, q, r))
               ]
         ]

@@ -196,7 +196,8 @@ listed_begun w v block most is done blocks waiting count gone others fits at end
             (subst (λ (ks : List ℕ). Contains ks (i / 256)) blocks c)) as (λ _. ((v.at ≤ i) × (i < v.end))
             ⊎ Contains v.blocks (i / 256)) [
               | inl later ↦ inr later
-              | inr this ↦ inl (hand i this (waits_inside w.waiting i (subst (λ (bs : List Bool). Waits bs i) waiting h)))
+              | inr this ↦ inl (hand i this
+                  (waits_inside w.waiting i (subst (λ (bs : List Bool). Waits bs i) waiting h)))
             ]
       ];
   lists = λ b h. elim (cases_eq b block) as (λ _. Contains v.blocks b) [

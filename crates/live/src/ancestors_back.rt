@@ -1,5 +1,5 @@
-//! The roots that reach a path, and the paths that refer to some paths, by walks from these against the edges. They read
-//! the roots and what reaches the paths, and nothing else.
+//! The roots that reach a path, and the paths that refer to some paths, by walks from these against the edges. They
+//! read the roots and what reaches the paths, and nothing else.
 ghost use Rattle.std.specs.Prelude.{◌≡◌, ◌<◌, ℕ, List, length, filter, map, option_map, All, IfOk, IsTrue};
 ghost use Rattle.std.specs.List.{range_with_len};
 ghost use Rattle.paths.specs.Root.{Root};

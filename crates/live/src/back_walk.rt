@@ -5,12 +5,13 @@ ghost use Rattle.live.specs.Places.{IsPlace};
 ghost use Rattle.live.specs.Keeping.{keep_view};
 ghost use Rattle.live.specs.Marks.{all_reached, reported};
 ghost use Rattle.live.specs.Graph.{Graph, Path};
-ghost use Rattle.live.specs.Reaching.{AreNumbers, AreUsed, IsExactlyReaching, IsReaching, IsVisited, Reaching, is_marked};
+ghost use Rattle.live.specs.Reaching.{AreNumbers, AreUsed, IsExactlyReaching, IsReaching, IsVisited, Reaching};
+ghost use Rattle.live.specs.Reaching.{is_marked};
 
 use crate::keep::Keep;
 use crate::numbered::{Roots, Walker};
 use crate::turned_links::Sources;
-use crate::walk::Walk;
+use crate::walk::{RootMark, Walk};
 use std::alloc::{AllocError, Global};
 use std::marker::Model;
 
@@ -34,7 +35,7 @@ impl Walk {
         }
         for index in 0..sources.len() {
             let source = walker.read(sources, index);
-            self.reach(1, 0, source)?;
+            self.reach(RootMark { root: 0, none: 1 }, source)?;
         }
         Ok(())
     }
@@ -159,7 +160,7 @@ pub fn walk_back<S: Sources>(
 {
     let mut walk = Walk::new(alloc, 1, links.len())?;
     let mut walker = Walker::new();
-    walk.reach_all(1, 0, named)?;
+    walk.reach_all(RootMark { root: 0, none: 1 }, named)?;
     'work: while let Some(place) = walk.next() {
         walk.visit(&mut walker, links, keep, place)?;
     }

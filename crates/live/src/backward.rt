@@ -6,7 +6,7 @@ ghost use Rattle.live.specs.Backward.{IsBackward};
 use crate::keep::Keep;
 use crate::numbered::{Graph, Walker};
 use crate::reversed_graph::{Kinds, turned};
-use crate::walk::Walk;
+use crate::walk::{RootMark, Walk};
 use std::alloc::{AllocError, Global};
 
 /// Marks each place that reaches a named one by 0, and any other by 1.
@@ -27,7 +27,7 @@ pub(crate) fn backward(
     let into = turned(alloc, graph, kinds)?;
     let mut walker = Walker::new();
     let mut walk = Walk::new(alloc, 1, graph.len())?;
-    walk.reach_all(1, 0, named)?;
+    walk.reach_all(RootMark { root: 0, none: 1 }, named)?;
     'work: while let Some(place) = walk.next() {
         walk.reach_sources(&mut walker, into.sources_of(place), true)?;
     }

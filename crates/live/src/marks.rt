@@ -8,7 +8,7 @@ ghost use Rattle.live.specs.Exact.{IsExact};
 
 use crate::keep::Keep;
 use crate::numbered::{Graph, Roots, Walker};
-use crate::walk::Walk;
+use crate::walk::{RootMark, Walk};
 use std::alloc::{AllocError, Global};
 use std::marker::Model;
 
@@ -89,9 +89,9 @@ pub fn mark(alloc: Global, graph: &Graph, roots: &Roots, keep: Keep) -> Result<M
     let mut walker = Walker::new();
     'roots: for root in 0..none {
         let target = walker.root(roots, root);
-        walk.reach(none, root, target)?;
+        walk.reach(RootMark { root, none }, target)?;
         'work: while let Some(place) = walk.next() {
-            walk.take(&mut walker, graph, keep, none, root, place)?;
+            walk.take(&mut walker, graph, keep, RootMark { root, none }, place)?;
         }
     }
     let Walk { first, .. } = walk;

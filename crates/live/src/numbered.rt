@@ -90,6 +90,14 @@ pub(crate) struct Counts {
     pub(crate) all: usize,
 }
 
+/// Some of an object's entries: from one number up to another.
+#[derive(Clone, Copy)]
+pub(crate) struct EntryRange {
+    pub(crate) place: usize,
+    pub(crate) from: usize,
+    pub(crate) to: usize,
+}
+
 /// Reads a graph and its roots, and counts what it reads.
 #[derive(Drop)]
 pub(crate) struct Walker {

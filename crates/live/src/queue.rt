@@ -1,6 +1,7 @@
 //! What waits to be visited by a walk, a block of neighbours at a time, since what neighbours point to lies side by
 //! side in memory.
-ghost use Rattle.std.specs.Prelude.{◌≡◌, ℕ, ◌<◌, ◌≤◌, length, replicate, true, false, Contains, IfNone, IfOk, IfSome, IsFalse, IsTrue, MatchOption, OnOk, slice_set};
+ghost use Rattle.std.specs.Prelude.{◌≡◌, ℕ, ◌<◌, ◌≤◌, length, replicate, true, false, Contains, IfNone, IfOk, IfSome};
+ghost use Rattle.std.specs.Prelude.{IsFalse, IsTrue, MatchOption, OnOk, slice_set};
 ghost use Rattle.live.specs.Listed.{AllListed, IsFirstWaiting, IsListed, ListsMore, NoneBetween, Waiting};
 ghost use Rattle.live.specs.Marks.{IsDequeued, NoneWaits, Waits};
 

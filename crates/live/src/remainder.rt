@@ -1,11 +1,14 @@
 //! What a collection up to a limit has left after each step.
-ghost use Rattle.std.specs.Prelude.{◌≡◌, ℕ, ◌+◌, ◌-◌, ◌<◌, ◌==◌, if◌then◌else◌, ◌∷◌, false, length, IsTrue, IfOk, OnOk, IfSome, IfNone, is_none, slice_set};
+ghost use Rattle.std.specs.Prelude.{◌≡◌, ℕ, ◌+◌, ◌-◌, ◌<◌, ◌==◌, if◌then◌else◌, ◌∷◌, false, length, IsTrue, IfOk, OnOk};
+ghost use Rattle.std.specs.Prelude.{IfSome, IfNone, is_none, slice_set};
 ghost use Rattle.std.specs.List.{slice_index, slice_index_or};
 ghost use Rattle.std.specs.List.Sorted.{IsPermutation};
 ghost use Rattle.std.specs.BinaryHeap.{IsHeap, heap_items};
 ghost use Rattle.live.specs.Places.{Entries, entries_at};
 ghost use Rattle.live.specs.Marks.{first_of};
-ghost use Rattle.live.specs.Remainder.{Deletes, IsNextUnreferred, IsLeastDead, IsRemaining, IsRemainingAt, NoneUnreferred, NoneDead, Remaining, StaysLeft, at, is_in, least_first, nothing_owed, times};
+ghost use Rattle.live.specs.Remainder.{Deletes, IsNextUnreferred, IsLeastDead, IsRemaining, IsRemainingAt};
+ghost use Rattle.live.specs.Remainder.{NoneUnreferred, NoneDead, Remaining, StaysLeft, at, is_in, least_first};
+ghost use Rattle.live.specs.Remainder.{nothing_owed, times};
 
 use crate::marks::Marks;
 use crate::numbered::{Graph, Walker};
@@ -28,7 +31,12 @@ pub(crate) struct Remaining {
 impl Model for Remaining {
     ghost Value = { Remaining };
 
-    ghost view = { λ l. record { dead = l.dead.items; left = l.left.items; referrers = l.referrers.items; ready = heap_items l.ready } };
+    ghost view = { λ l. record {
+      dead = l.dead.items;
+      left = l.left.items;
+      referrers = l.referrers.items;
+      ready = heap_items l.ready;
+    } };
 }
 
 impl Remaining {

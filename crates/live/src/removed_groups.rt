@@ -1,12 +1,14 @@
 //! The groups that a collection up to a limit deletes, one after another.
-ghost use Rattle.std.specs.Prelude.{◌≡◌, ◌∷◌, ◌<◌, ◌-◌, ◌&&◌, ◌==◌, not, ℕ, Bool, List, length, map, All, IfOk, OnOk, IfSome};
+ghost use Rattle.std.specs.Prelude.{◌≡◌, ◌∷◌, ◌<◌, ◌-◌, ◌&&◌, ◌==◌, not, ℕ, Bool, List, length, map, All, IfOk, OnOk};
+ghost use Rattle.std.specs.Prelude.{IfSome};
 ghost use Rattle.std.specs.List.{filter, list_any, range_with_len, slice_index, sum_by};
 ghost use Rattle.std.specs.Option.{option_map};
 ghost use Rattle.live.specs.Graph.{Path, references_only};
 ghost use Rattle.live.specs.Reach.{reaches};
 ghost use Rattle.live.specs.Limited.{next_group};
 ghost use Rattle.live.specs.Places.{IsPlace};
-ghost use Rattle.live.specs.Remainder.{Deletes, IsRemaining, IsSized, Represents, StaysDead, StaysLeft, group_at, is_in, left_after, nothing_owed, places_left};
+ghost use Rattle.live.specs.Remainder.{Deletes, IsRemaining, IsSized, Represents, StaysDead, StaysLeft, group_at};
+ghost use Rattle.live.specs.Remainder.{is_in, left_after, nothing_owed, places_left};
 ghost use Rattle.live.specs.Numbering.{Rise, Row, graph_of, numbered, path_at, paths_of};
 
 use crate::backward::backward;

@@ -6,6 +6,13 @@ use crate::queue::Waiting;
 use std::alloc::{AllocError, Global};
 use std::marker::Model;
 
+/// The mark of a root, which is its place among the roots. From `none` on, a mark means that a path has no root.
+#[derive(Clone, Copy)]
+pub(crate) struct RootMark {
+    pub(crate) root: usize,
+    pub(crate) none: usize,
+}
+
 /// The marks so far, and the marked places whose objects have still to be visited.
 #[derive(Drop)]
 pub(crate) struct Walk {
@@ -34,29 +41,24 @@ impl Walk {
     }
 
     /// A place is reached: if it has no mark, it is marked, and waits.
-    pub(crate) fn reach(&mut self, none: usize, root: usize, place: usize) -> Result<(), AllocError>
+    pub(crate) fn reach(&mut self, mark: RootMark, place: usize) -> Result<(), AllocError>
         requires { place < length self.old.first }
-        ensures { OnOk result (self.new ≡ reached none root self.old place) }
+        ensures { OnOk result (self.new ≡ reached mark.none mark.root self.old place) }
     {
-        if self.first[place] >= none {
-            self.first[place] = root;
+        if self.first[place] >= mark.none {
+            self.first[place] = mark.root;
             self.waiting.put(place)?;
         }
         Ok(())
     }
 
     /// Places are reached, one after another.
-    pub(crate) fn reach_all(
-        &mut self,
-        none: usize,
-        root: usize,
-        places: &[usize],
-    ) -> Result<(), AllocError>
+    pub(crate) fn reach_all(&mut self, mark: RootMark, places: &[usize]) -> Result<(), AllocError>
         requires { All (λ t. t < length self.old.first) places.now }
-        ensures { OnOk result (self.new ≡ all_reached none root self.old places.now) }
+        ensures { OnOk result (self.new ≡ all_reached mark.none mark.root self.old places.now) }
     {
         for place in places {
-            self.reach(none, root, *place)?;
+            self.reach(mark, *place)?;
         }
         Ok(())
     }

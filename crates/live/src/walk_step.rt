@@ -6,8 +6,8 @@ ghost use Rattle.live.specs.Keeping.{keep_view};
 ghost use Rattle.live.specs.Marks.{all_reached, reported};
 
 use crate::keep::Keep;
-use crate::numbered::{Graph, Walker};
-use crate::walk::Walk;
+use crate::numbered::{EntryRange, Graph, Walker};
+use crate::walk::{RootMark, Walk};
 use std::alloc::AllocError;
 
 impl Walk {
@@ -16,28 +16,25 @@ impl Walk {
         &mut self,
         walker: &mut Walker,
         graph: &Graph,
-        none: usize,
-        root: usize,
-        place: usize,
-        from: usize,
-        to: usize,
+        mark: RootMark,
+        range: EntryRange,
         counts: bool,
     ) -> Result<(), AllocError>
-        requires { IsRange graph.now place from to (length self.old.first) }
+        requires { IsRange graph.now range.place range.from range.to (length self.old.first) }
         ensures places { OnOk result (length self.new.first ≡ length graph.now) }
         ensures reached { OnOk result (self.new
-            ≡ all_reached none root self.old
-            (if counts then slice_range (held (entries_at graph.now place)) from to else [])) }
+            ≡ all_reached mark.none mark.root self.old
+            (if counts then slice_range (held (entries_at graph.now range.place)) range.from range.to else [])) }
         ensures counted { OnOk result (reported walker.new
             ≡ reported (walker.old + length
-            (if counts then slice_range (held (entries_at graph.now place)) from to else []))) }
+            (if counts then slice_range (held (entries_at graph.now range.place)) range.from range.to else []))) }
     {
         if !counts {
             return Ok(());
         }
-        for entry in from..to {
-            let target = walker.entry(graph, place, entry);
-            self.reach(none, root, target)?;
+        for entry in range.from..range.to {
+            let target = walker.entry(graph, range.place, entry);
+            self.reach(mark, target)?;
         }
         Ok(())
     }
@@ -48,38 +45,34 @@ impl Walk {
         walker: &mut Walker,
         graph: &Graph,
         keep: Keep,
-        none: usize,
-        root: usize,
+        mark: RootMark,
         place: usize,
     ) -> Result<(), AllocError>
         requires { IsPlace graph.now place (length self.old.first) }
         ensures reached { OnOk result (self.new
-            ≡ all_reached none root self.old (edges_at (keep_view keep) graph.now place)) }
+            ≡ all_reached mark.none mark.root self.old (edges_at (keep_view keep) graph.now place)) }
         ensures counted { OnOk result (reported walker.new
             ≡ reported (walker.old + (1 + length (edges_at (keep_view keep) graph.now place)))) }
     {
         let has = walker.object(graph, place);
-        self.look_if(walker, graph, none, root, place, 0, has.references, true)?;
-        self.look_if(
-            walker,
-            graph,
-            none,
-            root,
+        let references = EntryRange {
             place,
-            has.references,
-            has.outputs,
-            keep.outputs,
-        )?;
-        self.look_if(
-            walker,
-            graph,
-            none,
-            root,
+            from: 0,
+            to: has.references,
+        };
+        let outputs = EntryRange {
             place,
-            has.outputs,
-            has.all,
-            keep.derivations,
-        )?;
+            from: has.references,
+            to: has.outputs,
+        };
+        let deriver = EntryRange {
+            place,
+            from: has.outputs,
+            to: has.all,
+        };
+        self.look_if(walker, graph, mark, references, true)?;
+        self.look_if(walker, graph, mark, outputs, keep.outputs)?;
+        self.look_if(walker, graph, mark, deriver, keep.derivations)?;
         Ok(())
     }
 }

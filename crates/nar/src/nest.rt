@@ -1,6 +1,7 @@
 //! Where in an archive a checker is.
 
-ghost use Rattle.std.specs.Prelude.{◌≡◌, ◌≢◌, ◌+◌, ℕ, List, [], length, cond, codes, nat_lt, Ok, Err, OnOk, IfErr, Option, IsTrue, ◌↔◌};
+ghost use Rattle.std.specs.Prelude.{◌≡◌, ◌≢◌, ◌+◌, ℕ, List, [], length, cond, codes, nat_lt, Ok, Err, OnOk, IfErr};
+ghost use Rattle.std.specs.Prelude.{Option, IsTrue, ◌↔◌};
 ghost use Rattle.std.specs.Str.{bytes_eq};
 ghost use Rattle.std.specs.Option.{option_copied};
 ghost use Rattle.nar.specs.declared.error.NarError.TheVariants.{BadTag, TooDeep};

@@ -1,6 +1,7 @@
 //! How far a checker has come: whole strings, and one that has begun.
 
-ghost use Rattle.std.specs.Prelude.{◌≡◌, ◌≢◌, ◌++◌, ◌+◌, ◌-◌, ◌*◌, ◌<◌, ◌≤◌, ◌↔◌, ℕ, List, [], OnOk, IfOk, IfErr, IfSome, IsTrue, length};
+ghost use Rattle.std.specs.Prelude.{◌≡◌, ◌≢◌, ◌++◌, ◌+◌, ◌-◌, ◌*◌, ◌<◌, ◌≤◌, ◌↔◌, ℕ, List, [], OnOk, IfOk, IfErr};
+ghost use Rattle.std.specs.Prelude.{IfSome, IsTrue, length};
 ghost use Rattle.nar.specs.declared.error.NarError.TheVariants.{Truncated};
 ghost use Rattle.nar.specs.Tree.{IsBytes};
 ghost use Rattle.nar.specs.Fault.{IsFault};

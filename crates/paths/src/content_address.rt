@@ -5,7 +5,9 @@ ghost use Rattle.std.specs.Str.{bytes_eq};
 ghost use Rattle.nar.specs.View.{tree_of};
 ghost use Rattle.nar.specs.Outcome.{outcome_of};
 ghost use Rattle.paths.specs.Base32 as spec;
-ghost use Rattle.paths.specs.ContentAddress.{ContentAddress, address_prefix, address_text, address_of, with_method, digits_fault, text_address, source_address, plain, plain_contents, is_made_of, method_verifies, verifies};
+ghost use Rattle.paths.specs.ContentAddress.{ContentAddress, address_prefix, address_text, address_of, with_method};
+ghost use Rattle.paths.specs.ContentAddress.{digits_fault, text_address, source_address, plain, plain_contents};
+ghost use Rattle.paths.specs.ContentAddress.{is_made_of, method_verifies, verifies};
 ghost use Rattle.paths.specs.Facts.{facts_of, verifies_by, HasFactsFor};
 
 use crate::computed_path::path_of;
@@ -264,7 +266,11 @@ impl Ca {
             Method::Text => verify_text(alloc, &self.digest, dir, path, refs, nar),
             Method::Source => {
                 let inner = Sha256::digest(nar);
-                verify_made(alloc, "source", &self.digest, &inner, dir, path, refs)
+                let digests = Digests {
+                    stated: &self.digest,
+                    inner: &inner,
+                };
+                verify_made(alloc, "source", digests, dir, path, refs)
             }
         }
     }
@@ -312,18 +318,18 @@ impl Ca {
                 let Some(inner) = facts.plain else {
                     return Err(VerifyError::CaMismatch);
                 };
-                verify_made(alloc, "text", &self.digest, &inner, dir, path, refs)
+                let digests = Digests {
+                    stated: &self.digest,
+                    inner: &inner,
+                };
+                verify_made(alloc, "text", digests, dir, path, refs)
             }
             Method::Source => {
-                verify_made(
-                    alloc,
-                    "source",
-                    &self.digest,
-                    &facts.nar_hash,
-                    dir,
-                    path,
-                    refs,
-                )
+                let digests = Digests {
+                    stated: &self.digest,
+                    inner: &facts.nar_hash,
+                };
+                verify_made(alloc, "source", digests, dir, path, refs)
             }
         }
     }
@@ -373,7 +379,11 @@ fn verify_text(
         return Err(VerifyError::CaMismatch);
     };
     let inner = Sha256::digest(contents);
-    verify_made(alloc, "text", stated, &inner, dir, path, refs)
+    let digests = Digests {
+        stated,
+        inner: &inner,
+    };
+    verify_made(alloc, "text", digests, dir, path, refs)
 }
 
 fn same_bytes(a: &[u8], b: &[u8]) -> bool
@@ -382,26 +392,33 @@ fn same_bytes(a: &[u8], b: &[u8]) -> bool
     a == b
 }
 
+/// The digest that an address states, and that of the contents of a text or of the archive of a source.
+#[derive(Clone, Copy)]
+struct Digests<'a> {
+    stated: &'a [u8; 32],
+    inner: &'a [u8; 32],
+}
+
 /// Tests whether a digest is the stated one, and a path is made of it.
 fn verify_made(
     alloc: Global,
     kind: &str,
-    stated: &[u8; 32],
-    inner: &[u8; 32],
+    digests: Digests<'_>,
     dir: &StoreDir,
     path: &StorePath,
     refs: &[StorePath],
 ) -> Result<(), VerifyError>
-    ensures ok { OnOk result (is_made_of kind.now stated.now inner.now dir.now path.now refs.now ≡ true) }
+    ensures ok { OnOk result
+        (is_made_of kind.now digests.entry.stated.now digests.entry.inner.now dir.now path.now refs.now ≡ true) }
     ensures bad { IfErr result
         (λ e. (e ≡ VerifyError.Memory)
         ⊎ ((e ≡ VerifyError.CaMismatch)
-        × (is_made_of kind.now stated.now inner.now dir.now path.now refs.now ≡ false))) }
+        × (is_made_of kind.now digests.entry.stated.now digests.entry.inner.now dir.now path.now refs.now ≡ false))) }
 {
-    if !same_bytes(stated.as_slice(), inner.as_slice()) {
+    if !same_bytes(digests.stated.as_slice(), digests.inner.as_slice()) {
         return Err(VerifyError::CaMismatch);
     }
-    let made = path_of(alloc, kind, dir, path.name(), refs, inner)?;
+    let made = path_of(alloc, kind, dir, path.name(), refs, digests.inner)?;
     if !same_bytes(path.as_str().as_bytes(), made.as_str().as_bytes()) {
         return Err(VerifyError::CaMismatch);
     }

@@ -1,5 +1,6 @@
 //! Nix's base 32.
-ghost use Rattle.std.specs.Prelude.{◌≡◌, ◌≢◌, ◌⊎◌, ◌+◌, ◌*◌, ◌^◌, ◌<◌, ◌≤◌, ◌/◌, ◌%◌, ℕ, nat_lt, length, None, Some, IfOk, IfErr, string_bytes, slice_index, vec_len, replicate, true, false, Err};
+ghost use Rattle.std.specs.Prelude.{◌≡◌, ◌≢◌, ◌⊎◌, ◌+◌, ◌*◌, ◌^◌, ◌<◌, ◌≤◌, ◌/◌, ◌%◌, ℕ, nat_lt, length, None, Some};
+ghost use Rattle.std.specs.Prelude.{IfOk, IfErr, string_bytes, slice_index, vec_len, replicate, true, false, Err};
 ghost use Rattle.paths.specs.declared.digits.Base32Error.TheVariants.{Memory};
 ghost use Rattle.paths.specs.Base32 as spec;
 ghost use Rattle.paths.specs.Base32.{value_of, number_of, read_after, digit_count, all_digits, Spells};

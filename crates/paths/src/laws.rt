@@ -1,6 +1,7 @@
 //! Laws of the definitions, each the contract of a function that does nothing: the functions of `specs/` are the
 //! relations next to them.
-ghost use Rattle.paths.specs.Laws.{OneSpelling, OnePathOrder, OnePath, TextPathsAreBaseNames, SourcePathsAreBaseNames, OneAddressText, VerifyingIsExact, TextAddressesVerify, SourceAddressesVerify};
+ghost use Rattle.paths.specs.Laws.{OneSpelling, OnePathOrder, OnePath, TextPathsAreBaseNames, SourcePathsAreBaseNames};
+ghost use Rattle.paths.specs.Laws.{OneAddressText, VerifyingIsExact, TextAddressesVerify, SourceAddressesVerify};
 
 /// Bytes are spelled by one text in base 32.
 pub fn bytes_have_one_spelling()

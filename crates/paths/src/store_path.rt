@@ -1,9 +1,11 @@
 //! Store paths.
-ghost use Rattle.std.specs.Prelude.{◌≡◌, ◌↔◌, List, ℕ, IfOk, string_bytes, length, ◌++◌, codes, true, false, nat_eq, Some, refl};
+ghost use Rattle.std.specs.Prelude.{◌≡◌, ◌↔◌, List, ℕ, IfOk, string_bytes, length, ◌++◌, codes, true, false, nat_eq};
+ghost use Rattle.std.specs.Prelude.{Some, refl};
 ghost use Rattle.std.specs.Arc.{arc_str_bytes};
 ghost use Rattle.std.specs.Ordering.{nat_cmp};
 ghost use Rattle.std.specs.Cmp.{partial_equiv_from_equiv};
-ghost use Rattle.std.specs.Cmp.Lexicographic.{pointwise, slice_cmp, nat_list_eq_equiv, nat_list_cmp_total, texts_ties, texts_po};
+ghost use Rattle.std.specs.Cmp.Lexicographic.{pointwise, slice_cmp, nat_list_eq_equiv, nat_list_cmp_total, texts_ties};
+ghost use Rattle.std.specs.Cmp.Lexicographic.{texts_po};
 ghost use Rattle.paths.specs.declared.store_path.StorePathError.TheVariants.{Memory};
 ghost use Rattle.paths.specs.Base32.{all_digits};
 ghost use Rattle.paths.specs.Names.{is_store_name};

@@ -5,7 +5,8 @@ ghost use Rattle.std.specs.BTreeMap.{keys};
 ghost use Rattle.toml.specs.Data.{as_bool, get_member};
 ghost use Rattle.toml.specs.View.{view, table_view};
 ghost use Rattle.paths.specs.Names.{is_store_dir};
-ghost use Rattle.policy.specs.Toml.{only, is_key, has_only_keys, or_default, store_dir_in, allowed_users_in, trusted_users_in, groups_in};
+ghost use Rattle.policy.specs.Toml.{only, is_key, has_only_keys, or_default, store_dir_in, allowed_users_in};
+ghost use Rattle.policy.specs.Toml.{trusted_users_in, groups_in};
 ghost use Rattle.policy.specs.View.{entry_view};
 
 use crate::entry::{Entry, read_entries};

@@ -1,6 +1,7 @@
 //! Laws of the definitions. The functions do nothing: what counts is that their contracts are proved.
 ghost use Rattle.policy.specs.Faults.{FirstThatApplies};
-ghost use Rattle.policy.specs.Laws.{LiveIsAskedLast, StrangersMayNotConnect, PlainIsForAllOthers, ReservedForTrusted, ReservedForOwner, ForbiddenToAll, KeysHaveDefaults};
+ghost use Rattle.policy.specs.Laws.{LiveIsAskedLast, StrangersMayNotConnect, PlainIsForAllOthers, ReservedForTrusted};
+ghost use Rattle.policy.specs.Laws.{ReservedForOwner, ForbiddenToAll, KeysHaveDefaults};
 
 /// A text has settings if no key word applies to it, and is refused with the first that does, in the order of
 /// `KeyWord`.

@@ -25,7 +25,7 @@ use crate::archives::is_archive;
 use crate::delivered::{Delivered, at_end};
 use crate::derivations::outputs_by;
 use crate::references::{are_few, are_valid};
-use crate::summaries::{Added, summary};
+use crate::summaries::{Added, Recorded, summary};
 use intake::Arrived;
 use paths::{StoreDir, StorePath};
 use policy::{Config, store_dir};
@@ -84,7 +84,13 @@ pub fn prepare_import(
         nar,
     } = import;
     let Arrived { pieces, .. } = nar;
-    let object = summary(alloc, pieces.len(), nar_hash, refs, deriver, ca, outputs)?;
+    let recorded = Recorded {
+        refs,
+        deriver,
+        ca,
+        outputs,
+    };
+    let object = summary(alloc, pieces.len(), nar_hash, recorded)?;
     let added = Added {
         path,
         nar: pieces,

@@ -23,7 +23,7 @@ use crate::adds::add;
 use crate::archives::is_archive;
 use crate::derivations::outputs_by;
 use crate::references::{are_few, are_others, are_valid};
-use crate::summaries::{Added, summary};
+use crate::summaries::{Added, Recorded, summary};
 use intake::{Arrived, Intake};
 use paths::{Ca, Method, Name, StoreDir, StorePath, source_path_of};
 use policy::{Config, store_dir};
@@ -81,7 +81,13 @@ pub fn prepare_source(
         ..
     } = nar;
     let ca = Some(Ca::new(Method::Source, nar_hash));
-    let object = summary(alloc, pieces.len(), nar_hash, refs, None, ca, outputs)?;
+    let recorded = Recorded {
+        refs,
+        deriver: None,
+        ca,
+        outputs,
+    };
+    let object = summary(alloc, pieces.len(), nar_hash, recorded)?;
     let added = Added {
         path,
         nar: pieces,

@@ -25,27 +25,39 @@ pub struct Added {
     ghost hash: { object.hash ≡ sha256 nar },
 }
 
+/// What is recorded of an object in addition to its archive.
+#[derive(Drop)]
+pub(crate) struct Recorded {
+    pub(crate) refs: Vec<StorePath>,
+    pub(crate) deriver: Option<StorePath>,
+    pub(crate) ca: Option<Ca>,
+    pub(crate) outputs: BTreeMap<String, StorePath>,
+}
+
 /// The summary of an object whose archive has this size and this SHA-256.
 pub(crate) fn summary(
     alloc: Global,
     size: usize,
     hash: [u8; 32],
-    refs: Vec<StorePath>,
-    deriver: Option<StorePath>,
-    ca: Option<Ca>,
-    outputs: BTreeMap<String, StorePath>,
+    recorded: Recorded,
 ) -> Result<Summary, AllocError>
     ensures { IfOk result
         (λ o. o ≡ record {
           size = size;
           hash = hash;
-          references = set_of bytes_cmp refs.items;
-          deriver = deriver;
-          ca = ca;
+          references = set_of bytes_cmp recorded.refs.items;
+          deriver = recorded.deriver;
+          ca = recorded.ca;
           outputs =
-              outputs_view outputs.entries;
+              outputs_view recorded.outputs.entries;
         }) }
 {
+    let Recorded {
+        refs,
+        deriver,
+        ca,
+        outputs,
+    } = recorded;
     let Outputs { names, paths } = Outputs::of_map(alloc, outputs)?;
     let object = Summary::new(alloc, size, hash, in_order(refs), deriver, ca, names, paths)?;
     Ok(object)

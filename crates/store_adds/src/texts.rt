@@ -13,7 +13,7 @@ ghost use Rattle.store_adds.specs.Parts.{added_view};
 
 use crate::archives::{has_archive, text_archive};
 use crate::references::are_few;
-use crate::summaries::{Added, summary};
+use crate::summaries::{Added, Recorded, summary};
 use crate::text_tests::examine_text;
 use paths::{Ca, Method, Name, StoreDir, StorePath, text_path_of};
 use std::alloc::Global;
@@ -42,7 +42,13 @@ pub fn prepare_text(
     let outputs = examine_text(alloc, dir, outline, &path, &refs, contents)?;
     let size = archive.pieces.len();
     let ca = Ca::new(Method::Text, archive.contents_hash);
-    let object = summary(alloc, size, archive.hash, refs, None, Some(ca), outputs)?;
+    let recorded = Recorded {
+        refs,
+        deriver: None,
+        ca: Some(ca),
+        outputs,
+    };
+    let object = summary(alloc, size, archive.hash, recorded)?;
     let added = Added {
         path,
         nar: archive.pieces,

@@ -47,7 +47,6 @@ fn is_cut_by(schema: Schema, row: &[u8], pieces: &[Piece]) -> bool
 fn load_rows(
     alloc: Global,
     source: &Source<'_>,
-    dir: &StoreDir,
     found: &mut Vec<(StorePath, Summary)>,
     rows: ObjectRows,
     references: &[Reference],
@@ -55,24 +54,23 @@ fn load_rows(
 ) -> Result<bool, AllocError>
     ensures reported { IfOk result
         (λ ok. IsTrue ok ↔ (IsCutBy source.now.schema (stored_of rows.object).1.nar (parts_of rows.pieces.items)
-        × IsSoundAt dir.now (stored_of rows.object).0 (whole_of (stored_of rows.object).1 (parts_of rows.pieces.items))
-        (targets_of references.now) (named_of outputs.now))) }
+        × IsSoundAt source.now.dir.now (stored_of rows.object).0
+        (whole_of (stored_of rows.object).1 (parts_of rows.pieces.items)) (targets_of references.now)
+        (named_of outputs.now))) }
     ensures loaded { IfOk result (λ ok. IsTrue ok
         → filled found.new.items
         ≡ finite.insert (filled found.old.items) (stored_of rows.object).0
-        (kept_of dir.now (stored_of rows.object).0 (whole_of (stored_of rows.object).1 (parts_of rows.pieces.items))
-        (targets_of references.now))) }
+        (kept_of source.now.dir.now (stored_of rows.object).0
+        (whole_of (stored_of rows.object).1 (parts_of rows.pieces.items)) (targets_of references.now))) }
 {
-    let ObjectRows { object, pieces } = rows;
-    if !is_cut_by(source.schema, &object.nar, &pieces) {
+    if !is_cut_by(source.schema, &rows.object.nar, &rows.pieces) {
         return Ok(false);
     }
     let Some((path, summary)) = sound_object(
         alloc,
         source.paths,
-        dir,
-        object,
-        pieces,
+        source.dir,
+        rows,
         references,
         outputs,
     )?
@@ -89,13 +87,12 @@ fn load_object<S: Alter>(
     conn: &mut Connection<S>,
     source: &Source<'_>,
     ahead: &mut VecDeque<Object>,
-    dir: &StoreDir,
     found: &mut Vec<(StorePath, Summary)>,
     base: &str,
 ) -> Result<bool, Failed>
     requires { MayReadFrom S.Store source.now ahead.old.items conn.old }
     ensures object { Loads S.Store conn.old conn.new result (filled found.new.items)
-        (λ c. IsSoundOne source.now.schema dir.now c base.now)
+        (λ c. IsSoundOne source.now.schema source.now.dir.now c base.now)
         (λ c. with_object c base.now (filled found.old.items)) }
     ensures ahead { HasCleanDisk (state S.Store conn.new)
         → OnOk result (AreStored (contents_of (state S.Store conn.old).now) ahead.new.items) }
@@ -105,7 +102,7 @@ fn load_object<S: Alter>(
     };
     let references = group(&source.joined.references, base);
     let outputs = group(&source.joined.outputs, base);
-    Ok(load_rows(alloc, source, dir, found, rows, references, outputs)?)
+    Ok(load_rows(alloc, source, found, rows, references, outputs)?)
 }
 
 /// Whether each base of the source is an object's, whose rows are sound. If so, they are added to `found`.
@@ -113,19 +110,19 @@ fn load_each<S: Alter>(
     alloc: Global,
     conn: &mut Connection<S>,
     source: &Source<'_>,
-    dir: &StoreDir,
     found: &mut Vec<(StorePath, Summary)>,
 ) -> Result<bool, Failed>
     requires { MayReadFrom S.Store source.now [] conn.old }
     ensures { Loads S.Store conn.old conn.new result (filled found.new.items)
-        (λ c. AllByRecursion (IsSoundOne source.now.schema dir.now c) (map string_bytes source.now.bases.now))
+        (λ c. AllByRecursion (IsSoundOne source.now.schema source.now.dir.now c)
+        (map string_bytes source.now.bases.now))
         (λ c. with_objects c (map string_bytes source.now.bases.now) (filled found.old.items)) }
 {
     let mut ahead = VecDeque::new(alloc);
     let bases = source.bases;
     'bases: for base in bases {
         let base = base.as_str();
-        if !load_object(alloc, conn, source, &mut ahead, dir, found, base)? {
+        if !load_object(alloc, conn, source, &mut ahead, found, base)? {
             return Ok(false);
         }
     }
@@ -163,12 +160,13 @@ pub(crate) fn load_all<S: Alter>(
     let paths = new_paths(alloc, &bases)?;
     let source = Source {
         schema,
+        dir,
         joined,
         bases: &bases,
         paths: &paths,
     };
     let mut found = Vec::new(alloc);
-    if !load_each(alloc, conn, &source, dir, &mut found)? {
+    if !load_each(alloc, conn, &source, &mut found)? {
         return Ok(false);
     }
     outline.set_objects(alloc, found)?;

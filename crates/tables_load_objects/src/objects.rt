@@ -12,10 +12,12 @@ ghost use Rattle.model.specs.Objects.{outputs_at};
 ghost use Rattle.tables_outline.specs.Outline.{rise};
 ghost use Rattle.tables_outline.specs.Outputs.{IsListed};
 ghost use Rattle.tables_load_objects.specs.Cut.{parts_of, whole_of};
-ghost use Rattle.tables_load_objects.specs.Tested.{IsRecorded, IsSoundArchive, IsSoundAt, kept_of, named_of, targets_of};
+ghost use Rattle.tables_load_objects.specs.Tested.{IsRecorded, IsSoundArchive, IsSoundAt, kept_of, named_of};
+ghost use Rattle.tables_load_objects.specs.Tested.{targets_of};
 
 use crate::address::{are_same, fits_address};
 use crate::archive_bytes::ArchiveBytes;
+use crate::object_rows::ObjectRows;
 use crate::outputs::recorded;
 use crate::references::paths_of;
 use crate::texts::{address_of, deriver_of, path_of};
@@ -25,7 +27,6 @@ use streams::MAX_REFERENCES;
 use tables_outline::{Outputs, Summary};
 use tables_rows::objects::Object;
 use tables_rows::outputs::Output;
-use tables_rows::pieces::Piece;
 use tables_rows::references::Reference;
 
 /// The outputs of an object, where its rows have exactly those that its archive records.
@@ -83,31 +84,45 @@ fn summary_of(
     )
 }
 
+/// What the rows of an object state: the digest of its archive, its references, its deriver and its address.
+#[derive(Drop)]
+struct Stated<'a> {
+    hash: &'a [u8],
+    refs: Vec<StorePath>,
+    deriver: Option<StorePath>,
+    ca: Option<Ca>,
+}
+
 /// What is kept of an object, where its digest, its address and its outputs are those of its archive.
 fn sound_archive(
     alloc: Global,
     dir: &StoreDir,
     path: &StorePath,
     archive: &ArchiveBytes,
-    hash: &[u8],
-    refs: Vec<StorePath>,
-    deriver: Option<StorePath>,
-    ca: Option<Ca>,
+    stated: Stated<'_>,
     outputs: &[Output],
 ) -> Result<Option<Summary>, AllocError>
-    requires { IsTrue (rise refs.items) }
+    requires { IsTrue (rise stated.refs.items) }
     ensures { IfOk result (λ o. MatchOption o
-        (¬ IsSoundArchive dir.now path.now archive.now hash.now ca refs.items (named_of outputs.now))
-        (λ s. IsSoundArchive dir.now path.now archive.now hash.now ca refs.items (named_of outputs.now)
+        (¬ IsSoundArchive dir.now path.now archive.now stated.entry.hash.now stated.entry.ca stated.entry.refs.items
+        (named_of outputs.now))
+        (λ s. IsSoundArchive dir.now path.now archive.now stated.entry.hash.now stated.entry.ca stated.entry.refs.items
+        (named_of outputs.now)
         × (s ≡ record {
           size = length archive.now;
           hash = sha256 archive.now;
-          references = set_of bytes_cmp refs.items;
-          deriver = deriver;
-          ca = ca;
+          references = set_of bytes_cmp stated.entry.refs.items;
+          deriver = stated.entry.deriver;
+          ca = stated.entry.ca;
           outputs = outputs_at dir.now path.now archive.now;
         }))) }
 {
+    let Stated {
+        hash,
+        refs,
+        deriver,
+        ca,
+    } = stated;
     if !are_same(hash, &archive.digest()) {
         return Ok(None);
     }
@@ -132,20 +147,22 @@ pub(crate) fn sound_object(
     alloc: Global,
     paths: &[StorePath],
     dir: &StoreDir,
-    object: Object,
-    pieces: Vec<Piece>,
+    rows: ObjectRows,
     references: &[Reference],
     outputs: &[Output],
 ) -> Result<Option<(StorePath, Summary)>, AllocError>
     ensures { IfOk result (λ o. MatchOption o
-        (¬ IsSoundAt dir.now (stored_of object).0 (whole_of (stored_of object).1 (parts_of pieces.items))
-        (targets_of references.now) (named_of outputs.now))
-        (λ s. IsSoundAt dir.now (stored_of object).0 (whole_of (stored_of object).1 (parts_of pieces.items))
-        (targets_of references.now) (named_of outputs.now)
-        × (s.0 ≡ (stored_of object).0)
-        × (s.1 ≡ kept_of dir.now (stored_of object).0 (whole_of (stored_of object).1 (parts_of pieces.items))
-        (targets_of references.now)))) }
+        (¬ IsSoundAt dir.now (stored_of rows.object).0
+        (whole_of (stored_of rows.object).1 (parts_of rows.pieces.items)) (targets_of references.now)
+        (named_of outputs.now))
+        (λ s. IsSoundAt dir.now (stored_of rows.object).0
+        (whole_of (stored_of rows.object).1 (parts_of rows.pieces.items)) (targets_of references.now)
+        (named_of outputs.now)
+        × (s.0 ≡ (stored_of rows.object).0)
+        × (s.1 ≡ kept_of dir.now (stored_of rows.object).0
+        (whole_of (stored_of rows.object).1 (parts_of rows.pieces.items)) (targets_of references.now)))) }
 {
+    let ObjectRows { object, pieces } = rows;
     if references.len() > MAX_REFERENCES {
         return Ok(None);
     }
@@ -163,9 +180,13 @@ pub(crate) fn sound_object(
     };
     let Object { nar, hash, .. } = object;
     let archive = ArchiveBytes::of(alloc, nar, pieces)?;
-    match sound_archive(
-        alloc, dir, &path, &archive, &hash, refs, deriver, ca, outputs,
-    )? {
+    let stated = Stated {
+        hash: &hash,
+        refs,
+        deriver,
+        ca,
+    };
+    match sound_archive(alloc, dir, &path, &archive, stated, outputs)? {
         Some(summary) => Ok(Some((path, summary))),
         None => Ok(None),
     }

@@ -6,7 +6,8 @@ ghost use Rattle.sqlite.specs.State.{HasCleanDisk};
 ghost use Rattle.sqlite.specs.Held.{state};
 ghost use Rattle.tables_sql.specs.Contents.{contents_of};
 ghost use Rattle.tables_world.specs.Worlds.{rows_of};
-ghost use Rattle.tables_load_roots.specs.Loaded.{are_fixed, are_moving, are_roots, with_fixed, with_moving, with_explicit, with_roots, HasNoExplicit, AreAllSound, AreObjects};
+ghost use Rattle.tables_load_roots.specs.Loaded.{are_fixed, are_moving, are_roots, with_fixed, with_moving};
+ghost use Rattle.tables_load_roots.specs.Loaded.{with_explicit, with_roots, HasNoExplicit, AreAllSound, AreObjects};
 ghost use Rattle.tables_load_roots.specs.Loading.{MayLoad, MayLoadAll, Loads};
 ghost use Rattle.tables_rows.specs.Frames.{ReadsOnly};
 

@@ -140,7 +140,8 @@ module _ (a n : State) (b : Bool) (sound : IsDatabase a.now) (settled : a.now �
       let maps =
       readable_by_maps a.now sound has.0 keyed.0 _ _ (pieces_by_maps a.now sound has.1 keyed.1.0)
       (no_temp_roots a.now has.2) in
-      found_if (Tables V2) a n by reported.0 settled (AllByRecursion Readable (store_tables ++ piece ∷ [])) b reported.2 (
+      found_if (Tables V2) a n by reported.0 settled (AllByRecursion Readable (store_tables ++ piece ∷ [])) b
+      reported.2 (
         λ rows. let each = one_list Readable store_tables (piece ∷ []) rows in
             maps.0 (each.0, each.1.0, tt),
         λ readable. let all = maps.1 readable in

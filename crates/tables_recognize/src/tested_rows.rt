@@ -28,7 +28,8 @@ struct Tested {
 }
 
 impl Sink for Tested {
-    ghost is_of = { λ rows it. (map (λ row. column row 0) rows ≡ map Int it.ids.items) × (IsTrue it.are_readable ↔ AllByRecursion IsReadableRow rows) };
+    ghost is_of = { λ rows it. (map (λ row. column row 0) rows ≡ map Int it.ids.items)
+        × (IsTrue it.are_readable ↔ AllByRecursion IsReadableRow rows) };
 
     ghost is_amiss = { λ rows. ¬ ShowIds rows };
 

@@ -140,7 +140,8 @@ impl<'a> Insert for Row<'a> {
     ghost table = { object };
 
     ghost columns = { λ it.
-        Text it.base.now ∷ Blob it.nar.now ∷ Blob it.hash.now ∷ text_or_null it.deriver.now ∷ text_or_null it.ca.now ∷ [] };
+        Text it.base.now ∷ Blob it.nar.now ∷ Blob it.hash.now ∷ text_or_null it.deriver.now
+        ∷ text_or_null it.ca.now ∷ [] };
 
     ghost Kept = { Stored };
 

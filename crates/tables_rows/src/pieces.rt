@@ -7,7 +7,8 @@ ghost use Rattle.sqlite_value.specs.declared.value.Value.TheVariants.{Int, Text,
 ghost use Rattle.tables_schema.specs.Forms.{piece};
 ghost use Rattle.tables_sql.specs.Calls.{HasFurther};
 ghost use Rattle.tables_sql.specs.Contents.{Bytes, numbered_cmp};
-ghost use Rattle.tables_rows.specs.Entries.{piece_in, numbered_in, ShowsPiece, IsPieceRow, ShowsPieceKey, IsPieceKeyRow};
+ghost use Rattle.tables_rows.specs.Entries.{piece_in, numbered_in, ShowsPiece, IsPieceRow, ShowsPieceKey};
+ghost use Rattle.tables_rows.specs.Entries.{IsPieceKeyRow};
 ghost use Rattle.tables_rows.specs.Keys.{same, with_keys, without_keys};
 ghost use Rattle.std.specs.Ordering.{is_lt};
 

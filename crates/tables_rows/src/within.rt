@@ -24,8 +24,8 @@ fn entries<T: Entry>(alloc: Global, rows: &[Row]) -> Result<Vec<T>, Failed>
     ensures shown { IfOk result (λ all. AllZip T.is_shown rows.now all.items) }
     ensures rises { IfOk result (λ all. AllAdjacentBelow (λ x y. true ≡ T.is_below x y) all.items (length all.items)) }
     ensures cause { IfErr result
-        (λ f. (before : List Values) × (after : List Values) × (rows.now ≡ before ++ after) × ((f ≡ Memory) ⊎ ((f ≡ Disk)
-        × IsAmiss T.is_legible T.is_shown T.is_below before))) }
+        (λ f. (before : List Values) × (after : List Values) × (rows.now ≡ before ++ after)
+        × ((f ≡ Memory) ⊎ ((f ≡ Disk) × IsAmiss T.is_legible T.is_shown T.is_below before))) }
 {
     let mut all = Vec::new(alloc);
     'rows: for row in rows {

@@ -108,7 +108,8 @@ pub(crate) fn is_table(
     columns: &[Expected<'_>],
     key: &[usize],
 ) -> bool
-    ensures { IsTrue result ↔ table.now ≡ record (strict name.now (map expected_column columns.now) key.now) { tree = tree } }
+    ensures { IsTrue result
+        ↔ table.now ≡ record (strict name.now (map expected_column columns.now) key.now) { tree = tree } }
 {
     is_plain(table)
         && same_text(table.name.as_slice(), name)

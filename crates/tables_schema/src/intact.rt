@@ -1,6 +1,7 @@
 //! Whether a table is in a schema, whatever tables of other programs are next to it.
 
-ghost use Rattle.std.specs.Prelude.{◌≡◌, ◌↔◌, ◌==◌, ◌^◌, ◌||◌, ◌&&◌, true, false, not, nat_le, map, find, Some, IsTrue, bytes_eq};
+ghost use Rattle.std.specs.Prelude.{◌≡◌, ◌↔◌, ◌==◌, ◌^◌, ◌||◌, ◌&&◌, true, false, not, nat_le, map, find, Some, IsTrue};
+ghost use Rattle.std.specs.Prelude.{bytes_eq};
 ghost use Rattle.std.specs.List.{list_all};
 ghost use Rattle.tables_schema.specs.Forms.{strict};
 ghost use Rattle.tables_schema.specs.Shapes.{expected_column};

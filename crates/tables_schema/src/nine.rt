@@ -2,7 +2,8 @@
 
 ghost use Rattle.std.specs.Prelude.{◌↔◌, IsTrue};
 ghost use Rattle.tables_schema.specs.Intact.{IsIntact};
-ghost use Rattle.tables_schema.specs.Forms.{meta, object, refs, outs, permanent, user_root, profile, generation, runtime};
+ghost use Rattle.tables_schema.specs.Forms.{meta, object, refs, outs, permanent, user_root, profile, generation};
+ghost use Rattle.tables_schema.specs.Forms.{runtime};
 
 use crate::form::{Expected, columns};
 use crate::intact::exists;

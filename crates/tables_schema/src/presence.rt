@@ -5,7 +5,8 @@ ghost use Rattle.std.specs.List.{list_all, list_any, AllByRecursion};
 ghost use Rattle.sqlite_schema.specs.Names.{same_name};
 ghost use Rattle.sqlite.specs.Does.{lacks_sequence};
 ghost use Rattle.tables_schema.specs.Intact.{IsIntact, HasTables};
-ghost use Rattle.tables_schema.specs.Forms.{meta, object, refs, outs, permanent, user_root, profile, generation, runtime, further_tables};
+ghost use Rattle.tables_schema.specs.Forms.{meta, object, refs, outs, permanent, user_root, profile, generation};
+ghost use Rattle.tables_schema.specs.Forms.{runtime, further_tables};
 ghost use Rattle.tables_schema.specs.Presence.{IsFree, HasNone};
 
 use crate::nine::{

@@ -47,7 +47,8 @@ equal_is : (n : ℕ) (cx : Context) (e a b : Expr) (x y t : Term) (c d last : Op
     → lower_to n cx b (plain_state k c) ≡ Ok (y, plain_state m d)
     → compared cx (by.Compare compare.Eq (unwrap_or (either c d) Binary)) x y ≡ t
     → lower_to (suc n) cx e (plain_state budget last) ≡ Ok (t, plain_state m None)
-unfolding lower_to node opened operation both combine wanted_truth tests_truth tests_alias chosen first_found spend begin finish passes
+unfolding lower_to node opened operation both combine wanted_truth tests_truth tests_alias chosen first_found spend
+    begin finish passes
 equal_is n cx e a b x y t c d last budget k m is enough one two three = rw (enough, is, one, two, three)
 
 and_is : (n : ℕ) (cx : Context) (e a b : Expr) (x y : Term) (c d last : Option Collation) (budget k m : ℕ)
@@ -55,7 +56,8 @@ and_is : (n : ℕ) (cx : Context) (e a b : Expr) (x y : Term) (c d last : Option
     → lower_to n cx a (plain_state (budget - 1) None) ≡ Ok (x, plain_state k c)
     → lower_to n cx b (plain_state k c) ≡ Ok (y, plain_state m d)
     → lower_to (suc n) cx e (plain_state budget last) ≡ Ok (op2 by.And x y, plain_state m None)
-unfolding lower_to node opened operation both combine wanted_truth tests_truth tests_alias chosen first_found spend begin finish passes
+unfolding lower_to node opened operation both combine wanted_truth tests_truth tests_alias chosen first_found spend
+    begin finish passes
 and_is n cx e a b x y c d last budget k m is enough one two = rw (enough, is, one, two)
 
 abbrev pub equals : Term → Term → Term

@@ -206,7 +206,8 @@ numbers_on_more m n a b less h =
     (λ t k. record {
       numbered = k.numbered;
       up_to =
-          λ numbered most up. all_weaker (λ r. id_in (rowid r) ≤ℤ pos (most + m)) (λ r. id_in (rowid r) ≤ℤ pos (most + n))
+          λ numbered most up.
+          all_weaker (λ r. id_in (rowid r) ≤ℤ pos (most + m)) (λ r. id_in (rowid r) ≤ℤ pos (most + n))
           (λ r low. omega (arith, ints, low, less)) (b.trees t.tree) (k.up_to numbered most up);
     }) a.schema.tables h
 

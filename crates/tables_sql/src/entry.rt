@@ -65,7 +65,8 @@ fn read<T: Entry>(row: &Row) -> Result<T, Failed>
 
 /// The entries that the rows show, which rise.
 impl<T: Entry> Sink for Vec<T> {
-    ghost is_of = { λ rows all. AllZip T.is_shown rows all.items × AllAdjacentBelow (λ x y. true ≡ T.is_below x y) all.items (length all.items) };
+    ghost is_of = { λ rows all. AllZip T.is_shown rows all.items
+        × AllAdjacentBelow (λ x y. true ≡ T.is_below x y) all.items (length all.items) };
 
     ghost is_amiss = { IsAmiss T.is_legible T.is_shown T.is_below };
 

@@ -4,7 +4,8 @@ use sqlite::{Error, ErrorCode};
 use std::alloc::{AllocError, AllocFailed};
 
 /// Why a call failed. It has committed nothing, but that what a commit was writing when the disk failed may be there
-/// when the database is opened again.
+/// when the database is opened again. `model::Failure` has more: what a program fails with that also has files and
+/// streams.
 #[derive(Clone, Copy, Debug, PartialEq, Eq)]
 pub enum Failed {
     /// Memory ran out.

@@ -1,7 +1,8 @@
 //! The places of paths among rows.
 ghost use Rattle.std.specs.Prelude.{◌≡◌, ◌<◌, ◌++◌, List, [], IfNone, IfOk, IfSome, OnOk, filter, length};
 ghost use Rattle.live.specs.Graph.{same};
-ghost use Rattle.live.specs.Numbering.{Rise, Row as Object, numbered_links, path_at, paths_of, place_of as place, places_of};
+ghost use Rattle.live.specs.Numbering.{Rise, Row as Object, numbered_links, path_at, paths_of, place_of as place};
+ghost use Rattle.live.specs.Numbering.{places_of};
 ghost use Rattle.live.specs.Arguments.{row_view, rows_view};
 ghost use Rattle.live.specs.Heads.{AreHeaded, AreIndexed};
 ghost use Rattle.live.specs.Added.{IsAdded};

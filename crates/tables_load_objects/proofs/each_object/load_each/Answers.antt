@@ -35,7 +35,7 @@ bases-preserved g c =
     let now = state g.S.Store c.bases.conn in
     let next = state g.S.Store c.load_object.new.conn in
     let schema = c.args.source.now.schema in
-    let dir = c.args.dir.now in
+    let dir = c.args.source.now.dir.now in
     let bases = c.args.source.now.bases.now in
     let inv = c.bases.invariant in
     let item = c.base-item.result in
@@ -90,7 +90,7 @@ returns-then-not-branch g c =
     let now = state g.S.Store c.bases.conn in
     let next = state g.S.Store c.load_object.new.conn in
     let schema = c.args.source.now.schema in
-    let dir = c.args.dir.now in
+    let dir = c.args.source.now.dir.now in
     let bases = c.args.source.now.bases.now in
     let inv = c.bases.invariant in
     let item = c.base-item.result in
@@ -116,7 +116,7 @@ returns g c =
     let none = drop_of_length-le bases c.bases-test.false in
     load_done _ _ _ _ _
     (record { frame = c.bases.invariant.frame; unchanged = c.bases.invariant.unchanged; cause = λ _. tt })
-    (λ clean. decides_all c.args.source.now.schema c.args.dir.now x (map string_bytes bases) left none
+    (λ clean. decides_all c.args.source.now.schema c.args.source.now.dir.now x (map string_bytes bases) left none
     (c.bases.invariant.decides clean))
     (λ clean. makes_all x (filled c.args.found.now.items) (map string_bytes bases) left (filled c.bases.found.items)
     none (c.bases.invariant.makes clean))

@@ -14,7 +14,7 @@ invariant-bases g l = record {
   frame : LeftAsItWas g.S.Store l.fn.conn l.conn;
   unchanged : HasCleanDisk (state g.S.Store l.conn) → IsUnchanged (state g.S.Store l.fn.conn) (state g.S.Store l.conn);
   decides : HasCleanDisk (state g.S.Store l.conn)
-      → Decides l.source.schema l.dir (contents_of (state g.S.Store l.fn.conn).now) (map string_bytes l.bases)
+      → Decides l.source.schema l.source.dir.now (contents_of (state g.S.Store l.fn.conn).now) (map string_bytes l.bases)
       (drop l.base-index l.bases);
   makes : HasCleanDisk (state g.S.Store l.conn)
       → Makes (contents_of (state g.S.Store l.fn.conn).now) (filled l.fn.found.items) (map string_bytes l.bases)

@@ -27,7 +27,7 @@ returns-in_default-clause-object g c =
     let x = contents_of (state g.S.Store c.args.conn.now).now in
     let p = c.args.base.now in
     load_stopped _ _ _ _ _ (reads_done _ _ _ _ (finds_alone _ _ _ _ c.in_ok-rows.ensures))
-    (λ clean. no_object c.args.source.now.schema c.args.dir.now x p
+    (λ clean. no_object c.args.source.now.schema c.args.source.now.dir.now x p
     (subst (AreRowsAt x p) c.in_default.is (c.in_ok-rows.ensures.reads clean).1.0))
 
 pub returns-in_err-load_rows-clause-object : goal.returns-in_err-load_rows-clause-object
@@ -60,7 +60,7 @@ returns-clause-object g c =
           (subst (λ (l : List Output). Rises (map (λ (r : Output). string_bytes r.base) l)
           → outs ≡ filter (λ (r : Output). eq_by_cmp bytes_cmp p (string_bytes r.base)) l)
           c.deref-2.ensures.value c.group-outputs.ensures) in
-          reported_one schema c.args.dir.now x p c.in-Some.rows rows refs outs refs_are outs_are
+          reported_one schema c.args.source.now.dir.now x p c.in-Some.rows rows refs outs refs_are outs_are
           c.in_ok-load_rows.field-0 c.in_ok-load_rows.ensures.reported;
       loaded = λ clean ok.
           let rows : AreRowsOf x p c.in-Some.rows =
@@ -75,7 +75,7 @@ returns-clause-object g c =
           → outs ≡ filter (λ (r : Output). eq_by_cmp bytes_cmp p (string_bytes r.base)) l)
           c.deref-2.ensures.value c.group-outputs.ensures) in
           c.in_ok-load_rows.ensures.loaded ok
-          ∙ put_is schema c.args.dir.now x p c.in-Some.rows rows refs outs refs_are outs_are
+          ∙ put_is schema c.args.source.now.dir.now x p c.in-Some.rows rows refs outs refs_are outs_are
           (filled c.args.found.now.items) (c.in_ok-load_rows.ensures.reported.0 ok);
     }
 

@@ -22,7 +22,7 @@ returns-clause-reported c =
     cut_so c.args.source.now.schema c.deref.result.now rows.object.nar.items c.deref-2.result.now rows.pieces.items
     c.deref.ensures.value c.deref-2.ensures.value (c.is_cut_by.ensures.0 c.if-not-is_cut_by.false) in
     let sound =
-    sound_found c.args.dir.now (
+    sound_found c.args.source.now.dir.now (
       (stored_of rows.object).0,
       whole_of (stored_of rows.object).1 (parts_of rows.pieces.items),
     ) (targets_of c.args.references.now)
@@ -36,7 +36,7 @@ pub returns-clause-loaded : goal.returns-clause-loaded
 returns-clause-loaded c _ =
     let rows = c.args.rows in
     let kept =
-    kept_found c.args.dir.now (
+    kept_found c.args.source.now.dir.now (
       (stored_of rows.object).0,
       whole_of (stored_of rows.object).1 (parts_of rows.pieces.items),
     ) (targets_of c.args.references.now)

@@ -5,4 +5,4 @@ use Rattle.live.proofs.reversed_graph.Reversed.note_if.Given as goal
 
 abbrev pub invariant-loop-entry : goal.invariant-loop-entry
 invariant-loop-entry l =
-    IsNoted l.fn.self l.self l.place (slice_range (held (entries_at l.graph l.place)) l.from l.entry)
+    IsNoted l.fn.self l.self l.range.place (slice_range (held (entries_at l.graph l.range.place)) l.range.from l.entry)

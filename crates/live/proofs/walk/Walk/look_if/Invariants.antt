@@ -4,4 +4,5 @@ use Rattle.live.proofs.walk.Walk.look_if.Given as goal
 
 abbrev pub invariant-loop-entry : goal.invariant-loop-entry
 invariant-loop-entry l =
-    IsLooked l.none l.root (held (entries_at l.graph l.place)) l.from l.entry l.fn.self l.self l.fn.walker l.walker
+    IsLooked l.mark.none l.mark.root (held (entries_at l.graph l.range.place)) l.range.from l.entry l.fn.self l.self
+    l.fn.walker l.walker
