@@ -150,7 +150,8 @@ module _ (dir : List ℕ) (w : World) (sound : IsSound dir w) where
   user_free owner name r b =
       every (λ x. (x.kind ≡ user → x.label ≡ user_label owner name → ⊥) → (x.kind ≡ runtime → ⊥)
       → x.label ≡ user_label owner name → ⊥) w (record {
-        permanent_ = λ n t e other run l. no_slash n (owner ++ codes "/" ++ name) (sound.permanent_name n (ap is_some e))
+        permanent_ = λ n t e other run l.
+            no_slash n (owner ++ codes "/" ++ name) (sound.permanent_name n (ap is_some e))
             (append_cancel_left (codes "gcroots/") n (codes "per-user/" ++ (owner ++ codes "/" ++ name))
             (l ∙ user_rest owner name));
         user_ = λ o t e other run l. other refl l;

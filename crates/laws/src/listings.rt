@@ -5,7 +5,8 @@ ghost use Rattle.model.specs.World.{Path, World, all_paths};
 ghost use Rattle.model.specs.Liveness.{dead_paths, live_paths, usage_of};
 ghost use Rattle.laws.specs.Laws.{UsageAddsUp};
 ghost use Rattle.model.specs.Lives.{FirstIsShownFirst, HasExactLiveness, TargetsLive};
-ghost use Rattle.laws.specs.ReadOnly.{ListingsAreTheObjects, ListingsAreExact, ReportsAreExact, RootListingsAreExact, ReadingChangesNothing};
+ghost use Rattle.laws.specs.ReadOnly.{ListingsAreTheObjects, ListingsAreExact, ReportsAreExact, RootListingsAreExact};
+ghost use Rattle.laws.specs.ReadOnly.{ReadingChangesNothing};
 
 /// The listing that is answered is that of the object's archive.
 pub fn listings_are_of_the_object()

@@ -1,6 +1,7 @@
 //! Laws of profiles.
 
-ghost use Rattle.laws.specs.Generations.{DeletesGenerations, RollsBackAsSpecified, SetsAsSpecified, SwitchesAsSpecified};
+ghost use Rattle.laws.specs.Generations.{DeletesGenerations, RollsBackAsSpecified, SetsAsSpecified};
+ghost use Rattle.laws.specs.Generations.{SwitchesAsSpecified};
 
 /// A profile request sets, makes current or deletes exactly the generation it asks for, and every other generation
 /// stays.

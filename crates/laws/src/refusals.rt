@@ -1,7 +1,8 @@
 //! Laws of denials, refusals and failures.
 
 ghost use Rattle.laws.specs.Laws.{DenialsNameTheLiving, FailsPastTheRules, LeavesUnlessDone, MayFail, OthersShowNoRoot};
-ghost use Rattle.laws.specs.Faults.{NamedAreValid, NamesComeFirst, PathsComeBeforeNumbers, ProfilesComeNext, SessionFaultsAreReported};
+ghost use Rattle.laws.specs.Faults.{NamedAreValid, NamesComeFirst, PathsComeBeforeNumbers, ProfilesComeNext};
+ghost use Rattle.laws.specs.Faults.{SessionFaultsAreReported};
 ghost use Rattle.laws.specs.Reasons.{DenialsAreForTheFirst, FaultsAreNotDone, RefusalsHaveReasons, MentionedAreValid};
 
 /// A denial for a live path is for the first path that is live of the named, in the order given, and shows its

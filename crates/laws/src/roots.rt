@@ -3,7 +3,8 @@ ghost use Rattle.model.specs.World.{World};
 ghost use Rattle.model.specs.Entries.{HasEachRoot};
 ghost use Rattle.model.specs.Pinning.{LeadsOn, Pins, PinsOverRuns};
 ghost use Rattle.laws.specs.LabelsAndOrder.{AreLabelled, KindsInOrder};
-ghost use Rattle.laws.specs.RootChanges.{DropsPermanent, DropsUserRoots, ReplacesAsSpecified, SetsPermanent, SetsUserRoots, AddsForSessions, EndsSessions};
+ghost use Rattle.laws.specs.RootChanges.{DropsPermanent, DropsUserRoots, ReplacesAsSpecified, SetsPermanent};
+ghost use Rattle.laws.specs.RootChanges.{SetsUserRoots, AddsForSessions, EndsSessions};
 ghost use Rattle.laws.specs.ListedRoots.{RootsSetAreListed};
 ghost use Rattle.laws.specs.Relisted.{DropsAreListed, DroppedLabelsAreNotListed, SetsAreListed};
 

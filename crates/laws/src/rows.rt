@@ -6,7 +6,8 @@ ghost use Rattle.model.specs.Sound.{IsSound};
 ghost use Rattle.tables_world.specs.Rows.{Rows, IsSoundRows, new_rows, world_of};
 ghost use Rattle.tables_schema.specs.declared.schema.Schema.{Schema};
 ghost use Rattle.laws.specs.CutArchives.{ArchivesAreReadWhole};
-ghost use Rattle.tables_world.specs.Laws.{CutsOneWay, MigratesSoundly, OutputsAreRecorded, RowsDescribeTheWorld, TablesAreRows};
+ghost use Rattle.tables_world.specs.Laws.{CutsOneWay, MigratesSoundly, OutputsAreRecorded, RowsDescribeTheWorld};
+ghost use Rattle.tables_world.specs.Laws.{TablesAreRows};
 ghost use Rattle.laws.specs.Schemas.{PiecesCountFromOne, SchemasDiffer, SessionsKeepInBounds};
 ghost use Rattle.tables_world.specs.Parts.{AreSoundByParts};
 

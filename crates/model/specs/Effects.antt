@@ -53,12 +53,19 @@ abbrev pub is_of_session : List ℕ → ℕ → Temporary → Bool
 is_of_session owner session t = same t.owner owner && t.session == session
 
 -- what a session keeps
+abbrev pub entries_of_session : List ℕ → ℕ → Set temporary_cmp → Set temporary_cmp
+entries_of_session owner session kept = finite.retain_keys kept (is_of_session owner session)
+
+-- what the others keep
+abbrev pub entries_without_session : List ℕ → ℕ → Set temporary_cmp → Set temporary_cmp
+entries_without_session owner session kept = finite.retain_keys kept (λ t. not (is_of_session owner session t))
+
 abbrev pub of_session : World → List ℕ → ℕ → Set temporary_cmp
-of_session w owner session = finite.retain_keys w.temporary (is_of_session owner session)
+of_session w owner session = entries_of_session owner session w.temporary
 
 abbrev pub without_session : World → List ℕ → ℕ → World
 without_session w owner session =
-    record w { temporary = finite.retain_keys w.temporary (λ t. not (is_of_session owner session t)) }
+    record w { temporary = entries_without_session owner session w.temporary }
 
 -- the world after a request that is done
 abbrev pub effect : Settings → World → Request → World

@@ -5,10 +5,8 @@ use Rattle.std.specs.FinMap as finite
 use Rattle.paths.specs.Root.{set_of}
 use Rattle.model.specs.World.{Path, Pair, pair_cmp}
 use Rattle.model.specs.Adds.{Added, added_text, added_source, added_import}
-use Rattle.model.specs.Request.{Request, add_text, add_source, import_object, info, nar, ls, list, list_live, list_dead}
-use Rattle.model.specs.Request.{list_roots, list_roots_of, set_permanent, drop_permanent, set_user_root, drop_user_root}
-use Rattle.model.specs.Request.{set_profile, rollback, switch, delete_generation, replace_runtime, add_temp}
-use Rattle.model.specs.Request.{end_session, collect, delete, report}
+use Rattle.model.specs.Request.{Request, add_text, add_source, import_object, set_permanent, set_user_root}
+use Rattle.model.specs.Request.{set_profile, rollback, switch, replace_runtime, add_temp}
 use Rattle.tables_outline.specs.Outline.{OutlineValue, outlined}
 use Rattle.tables_writes.specs.Reasons.{Rows, NoRow, RowsOf}
 use Rattle.tables_writes.specs.RowsPut.{PermanentRow, UserRootRow, RuntimeRow, TemporaryRow, ProfileRow, GenerationRows}
@@ -34,30 +32,17 @@ abbrev pub RuntimeRows : OutlineValue → List Pair → Rows
 RuntimeRows o pairs =
     RowsOf RuntimeRow (finite.keys (set_of pair_cmp (filter (λ p. finite.contains_key o.objects p.1) pairs)))
 
--- what a request puts, in a store of this directory with this outline; each request is named
+-- What a request puts, in a store of this directory with this outline: by default nothing, the stricter side, since
+-- then no row explains a failure.
 abbrev pub rows_put : List ℕ → OutlineValue → Request → Rows
 rows_put dir o (add_text name refs contents) = ObjectRowsPut (added_text dir name refs contents)
 rows_put dir o (add_source name refs b) = ObjectRowsPut (added_source dir name refs b)
 rows_put dir o (import_object i) = ObjectRowsPut (added_import dir i)
-rows_put dir o (info p) = NoRow
-rows_put dir o (nar p) = NoRow
-rows_put dir o (ls p) = NoRow
-rows_put dir o list = NoRow
-rows_put dir o list_live = NoRow
-rows_put dir o list_dead = NoRow
-rows_put dir o list_roots = NoRow
-rows_put dir o (list_roots_of p) = NoRow
 rows_put dir o (set_permanent name p) = PermanentRow name p
-rows_put dir o (drop_permanent name) = NoRow
 rows_put dir o (set_user_root owner name p) = UserRootRow (owner, name) p
-rows_put dir o (drop_user_root owner name) = NoRow
 rows_put dir o (set_profile owner name p) = AnyGenerationRows (owner, name) p
 rows_put dir o (rollback owner name) = AnyProfileRow (owner, name)
 rows_put dir o (switch owner name n) = ProfileRow (owner, name) n
-rows_put dir o (delete_generation owner name n) = NoRow
 rows_put dir o (replace_runtime pairs) = RuntimeRows o pairs
 rows_put dir o (add_temp owner session p) = TemporaryRow (record { owner = owner; session = session; path = p })
-rows_put dir o (end_session owner session) = NoRow
-rows_put dir o (collect ignores limit) = NoRow
-rows_put dir o (delete named ignores) = NoRow
-rows_put dir o report = NoRow
+rows_put dir o _ = NoRow

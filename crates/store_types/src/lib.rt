@@ -3,10 +3,8 @@
 
 mod replies;
 mod requests;
-mod rules;
 
 pub use model::Refusal;
 pub use replies::{Answer, Info, Reply, Stop, Usage};
-pub use requests::{Imported, Request};
-pub use rules::operation;
+pub use requests::{Imported, Request, operation};
 pub use tables_sql::failure::Failed;

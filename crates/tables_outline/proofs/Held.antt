@@ -120,8 +120,10 @@ inside_more n b x lists lists_after inside below source pushed = record {
       λ i y e. elim (or_cases (has lists i y) (i == b && y == x) (sym (pushed i y) ∙ e)) as (λ _. (i < n) × (y < n)) [
         | inl was ↦ inside.each i y was
         | inr new ↦ (
-            let both = and_true (i == b) (y == x) new in
-            (subst (λ j. j < n) (sym (eqb-true i b both.0)) below, subst (λ j. j < n) (sym (eqb-true y x both.1)) source))
+            let both = and_true (i == b) (y == x) new in (
+              subst (λ j. j < n) (sym (eqb-true i b both.0)) below,
+              subst (λ j. j < n) (sym (eqb-true y x both.1)) source,
+            ))
       ];
 }
 

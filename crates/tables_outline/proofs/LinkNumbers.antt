@@ -153,7 +153,8 @@ module _ (l : LinksValue) where
                 let it = inside.each place a (has_listed lists place a listed.1) in
                 let x = it.1 in
                 absurd (omega (arith, x, past))))
-                ∙ sym (ap (λ e. times_among (kind e) place) (no_entries_at a past) ∙ ap (λ xs. times_among xs place) none)
+                ∙ sym (ap (λ e. times_among (kind e) place) (no_entries_at a past)
+                ∙ ap (λ xs. times_among xs place) none)
           ];
     }
 

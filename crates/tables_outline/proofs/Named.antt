@@ -85,7 +85,8 @@ module _ (names : List Path) (p : Path) where
       ≡ length names + cond (same q p) 0 1) [
         | inl is ↦ place q ∙ ap (λ b. cond b (length names + cond (same q p) 0 1) (position_or_len (same q) names))
             (eq-eqb _ _ is)
-        | inr other ↦ elim (cases_lt (position_or_len (same q) names) (length names)) as (λ _. position_or_len (same q) all
+        | inr other ↦ elim (cases_lt (position_or_len (same q) names) (length names))
+            as (λ _. position_or_len (same q) all
             ≡ length names + cond (same q p) 0 1) [
               | inl lt ↦ (
                   let here : place_of names q ≡ Some (position_or_len (same q) names) =

@@ -1,7 +1,8 @@
 //! The labels of roots.
 
 ghost use Rattle.std.specs.Prelude.{◌≡◌, IfOk, string_bytes};
-ghost use Rattle.paths.specs.Root.{generation_label as label_of_generation, permanent_label as label_of_permanent, temporary_label as label_of_session, user_label as label_of_user};
+ghost use Rattle.paths.specs.Root.{generation_label as label_of_generation, permanent_label as label_of_permanent};
+ghost use Rattle.paths.specs.Root.{temporary_label as label_of_session, user_label as label_of_user};
 
 use std::alloc::{AllocError, Global};
 use std::fmt::Write;

@@ -14,8 +14,8 @@ use std::alloc::{AllocError, Global};
 use std::collections::BTreeMap;
 use std::marker::Model;
 
-/// For each path the objects that point to it. Each path that was ever named has a number, which it keeps. Contracts see
-/// the paths by their numbers, and for each the numbers of its sources.
+/// For each path the objects that point to it. Each path that was ever named has a number, which it keeps. Contracts
+/// see the paths by their numbers, and for each the numbers of its sources.
 #[derive(Drop)]
 pub struct Links {
     pub(crate) names: Names,

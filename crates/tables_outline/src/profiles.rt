@@ -2,7 +2,8 @@
 
 ghost use Rattle.std.specs.Prelude.{◌≡◌, nat_le, is_some, IfSome, IsTrue};
 ghost use Rattle.std.specs.FinMap as finite;
-ghost use Rattle.model.specs.Profiles.{has_generation, highest, is_highest, number_for, previous, put_at, switched, without_generation};
+ghost use Rattle.model.specs.Profiles.{has_generation, highest, is_highest, number_for, previous, put_at, switched};
+ghost use Rattle.model.specs.Profiles.{without_generation};
 ghost use Rattle.paths.specs.Decimal.{max_generation};
 ghost use Rattle.tables_outline.specs.Changes.{ChangesTo};
 ghost use Rattle.tables_outline.specs.View.{profile_view};

@@ -19,7 +19,6 @@ mod roots;
 mod runtime;
 mod sessions;
 mod tables;
-mod temporary;
 mod texts;
 mod user_roots;
 

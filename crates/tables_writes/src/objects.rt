@@ -78,11 +78,15 @@ impl<'a> Change for InsertObject<'a> {
     ghost use Rattle.tables_writes.specs.Rewritten.{HasNoObject, put_object};
     ghost use Rattle.tables_writes.specs.RowsPut.{ObjectRows};
 
-    ghost change = { λ o c. put_object o.base.now (stored (row_part o.nar.now) o.object.now.hash o.texts.now.deriver o.texts.now.ca) (finite.keys o.object.now.references) (finite.entries o.object.now.outputs) (further_pieces o.nar.now) c };
+    ghost change = { λ o c. put_object o.base.now
+        (stored (row_part o.nar.now) o.object.now.hash o.texts.now.deriver o.texts.now.ca)
+        (finite.keys o.object.now.references) (finite.entries o.object.now.outputs) (further_pieces o.nar.now) c };
 
     ghost fits = { λ o c. HasNoObject o.base.now c };
 
-    ghost rows = { λ o. ObjectRows o.base.now (stored (row_part o.nar.now) o.object.now.hash o.texts.now.deriver o.texts.now.ca) (finite.keys o.object.now.references) (finite.entries o.object.now.outputs) (further_pieces o.nar.now) };
+    ghost rows = { λ o. ObjectRows o.base.now
+        (stored (row_part o.nar.now) o.object.now.hash o.texts.now.deriver o.texts.now.ca)
+        (finite.keys o.object.now.references) (finite.entries o.object.now.outputs) (further_pieces o.nar.now) };
 
     fn write<S: Alter>(&self, tx: &mut Transaction<'_, S>) -> Result<(), Failed> {
         objects::Row {

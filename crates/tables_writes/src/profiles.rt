@@ -70,7 +70,11 @@ impl<'a> Change for DropGeneration<'a> {
     ghost use Rattle.paths.specs.Root.{bytes_cmp};
     ghost use Rattle.tables_rows.specs.Reasons.{NoRow};
 
-    ghost change = { λ p c. record c { generations = finite.retain_keys c.generations (λ k. not (eq_by_cmp bytes_cmp k.0 p.owner.now && (eq_by_cmp bytes_cmp k.1 p.name.now && eq_by_cmp int_cmp k.2 (pos p.number)))) } };
+    ghost change = { λ p c. record c {
+      generations = finite.retain_keys c.generations
+          (λ k. not (eq_by_cmp bytes_cmp k.0 p.owner.now
+          && (eq_by_cmp bytes_cmp k.1 p.name.now && eq_by_cmp int_cmp k.2 (pos p.number))));
+    } };
 
     ghost fits = { λ p c. ⊤ };
 

@@ -51,8 +51,8 @@ impl<S: Alter> Tables<S> {
         &self.outline
     }
 
-    /// Keeps the links of the outline's objects turned round from now on, through all changes, as far as there is memory.
-    /// Whoever asks much of one store, as a server does, calls it once.
+    /// Keeps the links of the outline's objects turned round from now on, through all changes, as far as there is
+    /// memory. Whoever asks much of one store, as a server does, calls it once.
     ///
     /// ```rust
     /// tables.turn_links();

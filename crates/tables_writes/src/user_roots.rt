@@ -31,7 +31,9 @@ impl<'a> Change for PutUserRoot<'a> {
     ghost use Rattle.std.specs.FinMap as finite;
     ghost use Rattle.tables_writes.specs.RowsPut.{UserRootRow};
 
-    ghost change = { λ p c. record c { user_roots = finite.insert c.user_roots (p.owner.now, p.name.now) p.target.now } };
+    ghost change = { λ p c. record c {
+      user_roots = finite.insert c.user_roots (p.owner.now, p.name.now) p.target.now;
+    } };
 
     ghost fits = { λ p c. ⊤ };
 

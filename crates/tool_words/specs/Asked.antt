@@ -6,10 +6,10 @@ use Rattle.tool_words.specs.declared.line.ObjectArguments.{ObjectArguments}
 use Rattle.tool_words.specs.declared.line.NamedRootKind.{NamedRootKind}
 use Rattle.tool_words.specs.declared.line.Unrooted.{Unrooted}
 use Rattle.tool_words.specs.declared.line.Unrooted.TheVariants as unrooted
-use Rattle.tool_words.specs.declared.line.ProfileAction.{ProfileAction}
-use Rattle.tool_words.specs.declared.line.ProfileAction.TheVariants as profile_action
-use Rattle.tool_words.specs.declared.line.TempAction.{TempAction}
-use Rattle.tool_words.specs.declared.line.TempAction.TheVariants as temp_action
+use Rattle.tool_words.specs.declared.actions.ProfileAction.{ProfileAction}
+use Rattle.tool_words.specs.declared.actions.ProfileAction.TheVariants as profile_action
+use Rattle.tool_words.specs.declared.actions.TempAction.{TempAction}
+use Rattle.tool_words.specs.declared.actions.TempAction.TheVariants as temp_action
 use Rattle.tool_words.specs.declared.line.ServeArguments.{ServeArguments}
 use Rattle.tool_words.specs.declared.line.Task.{Task}
 use Rattle.tool_words.specs.declared.line.Task.TheVariants as task

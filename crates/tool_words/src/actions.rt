@@ -5,8 +5,30 @@ ghost use Rattle.tool_words.specs.Actions.{on_profile, on_session, limit, served
 ghost use Rattle.tool_words.specs.Asked.{optional_text, on_profile_view, on_session_view, unroot_view};
 
 use crate::error::{Acting, UsageFault};
-use crate::line::{ProfileAction, ServeArguments, TempAction, UnrootArguments, Unrooted};
+use crate::line::{ServeArguments, UnrootArguments, Unrooted};
 use paths::numbers::generation;
+
+/// What happens to a profile. Generations are numbered from 1 to 9,999; 0 means a text that is no such number.
+#[derive(Debug, Drop)]
+pub enum ProfileAction<'a> {
+    /// A path becomes its current generation.
+    Set(&'a str),
+    /// The generation below the current one becomes current.
+    Rollback,
+    /// The generation of this number becomes current.
+    Switch(u32),
+    /// Delete the generation of this number.
+    Delete(u32),
+}
+
+/// What happens to a session's temporary roots.
+#[derive(Debug, Drop)]
+pub enum TempAction<'a> {
+    /// The path becomes a temporary root of the session.
+    Add(&'a str),
+    /// All temporary roots of the session are deleted.
+    End,
+}
 
 /// An ACTION of `profile`, with its VALUE.
 pub(crate) fn profile_action<'a>(

@@ -1,6 +1,7 @@
 //! The arguments of the command line as `clap` gets them.
 ghost use Rattle.std.specs.Prelude.{codes};
-ghost use Rattle.tool_words.specs.Arguments.{IsArgument, option_named, number_option, flag_named, required_argument, optional_argument, references_argument, paths_argument};
+ghost use Rattle.tool_words.specs.Arguments.{IsArgument, option_named, number_option, flag_named, required_argument};
+ghost use Rattle.tool_words.specs.Arguments.{optional_argument, references_argument, paths_argument};
 
 use clap::{Arg, ArgAction, value_parser};
 use std::alloc::Global;

@@ -13,11 +13,11 @@ mod tasks;
 mod values;
 mod verb;
 
+pub use actions::{ProfileAction, TempAction};
 pub use error::{Acting, CommandError, UsageFault};
 pub use laws::arguments_have_defaults;
 pub use line::{
-    CommandLine, DeleteArguments, GcArguments, NamedRootKind, ObjectArguments, ProfileAction,
-    ProfileArguments, RootArguments, ServeArguments, Task, TempAction, TempArguments,
-    UnrootArguments, Unrooted,
+    CommandLine, DeleteArguments, GcArguments, NamedRootKind, ObjectArguments, ProfileArguments,
+    RootArguments, ServeArguments, Task, TempArguments, UnrootArguments, Unrooted,
 };
 pub use parse::command;

@@ -1,5 +1,7 @@
 //! What a command line asks for. Names, paths and labels are as they were written: none is tested yet.
 
+use crate::actions::{ProfileAction, TempAction};
+
 /// The options that come before the subcommand, and the subcommand.
 #[derive(Debug, Drop)]
 pub struct CommandLine<'a> {
@@ -113,19 +115,6 @@ pub struct UnrootArguments<'a> {
     pub name: &'a str,
 }
 
-/// What happens to a profile. Generations are numbered from 1 to 9,999; 0 means a text that is no such number.
-#[derive(Debug, Drop)]
-pub enum ProfileAction<'a> {
-    /// A path becomes its current generation.
-    Set(&'a str),
-    /// The generation below the current one becomes current.
-    Rollback,
-    /// The generation of this number becomes current.
-    Switch(u32),
-    /// Delete the generation of this number.
-    Delete(u32),
-}
-
 /// A profile that is changed.
 #[derive(Debug, Drop)]
 pub struct ProfileArguments<'a> {
@@ -135,15 +124,6 @@ pub struct ProfileArguments<'a> {
     pub name: &'a str,
     /// What happens to it.
     pub action: ProfileAction<'a>,
-}
-
-/// What happens to a session's temporary roots.
-#[derive(Debug, Drop)]
-pub enum TempAction<'a> {
-    /// The path becomes a temporary root of the session.
-    Add(&'a str),
-    /// All temporary roots of the session are deleted.
-    End,
 }
 
 /// A session whose temporary roots are changed.

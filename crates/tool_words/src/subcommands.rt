@@ -1,6 +1,7 @@
 //! The subcommands as `clap` gets them.
 ghost use Rattle.std.specs.Prelude.{IfOk};
-ghost use Rattle.tool_words.specs.Grammar.{IsCommand, plain_app, object_app, path_app, root_app, unroot_app, profile_app, temp_app, gc_app, delete_app, serve_app};
+ghost use Rattle.tool_words.specs.Grammar.{IsCommand, plain_app, object_app, path_app, root_app, unroot_app};
+ghost use Rattle.tool_words.specs.Grammar.{profile_app, temp_app, gc_app, delete_app, serve_app};
 
 use crate::arguments::{
     connections_option, flag, option, optional, paths, port_option, references, required,

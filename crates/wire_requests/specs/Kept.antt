@@ -12,40 +12,11 @@ use Rattle.wire_requests.specs.declared.blank.Blank.{Blank}
 use Rattle.wire_requests.specs.declared.blank.Blank.TheVariants.{Nothing, LineFeed, More}
 use Rattle.wire_requests.specs.declared.body.Storage.{Storage}
 use Rattle.wire_requests.specs.declared.body.Storage.TheVariants as storage
-use Rattle.wire_requests.specs.declared.form.Form.{Form}
-use Rattle.wire_requests.specs.declared.form.Form.TheVariants.{Bare, Whole, Parted}
-use Rattle.wire_requests.specs.declared.kind.Kind.{Kind}
-use Rattle.wire_requests.specs.declared.kind.Kind.TheVariants as kinds
+use Rattle.wire_requests.specs.declared.kind.Form.{Form}
+use Rattle.wire_requests.specs.declared.kind.Form.TheVariants.{Bare, Whole, Parted}
+pub use Rattle.wire_requests.specs.Table.{form_of}
 
 -- ---- the form of a body
-
--- what a request of a kind has in its body: nothing; lines, or lines and a text; or lines and an archive
-abbrev pub form_of : Kind → Form
-form_of kinds.AddText = Whole
-form_of kinds.AddSource = Parted
-form_of kinds.Import = Parted
-form_of kinds.Info = Bare
-form_of kinds.Nar = Bare
-form_of kinds.Ls = Bare
-form_of kinds.RootsOf = Bare
-form_of kinds.List = Bare
-form_of kinds.ListRoots = Bare
-form_of kinds.Live = Bare
-form_of kinds.Dead = Bare
-form_of kinds.Report = Bare
-form_of kinds.SetPermanent = Whole
-form_of kinds.DropPermanent = Bare
-form_of kinds.SetUserRoot = Whole
-form_of kinds.DropUserRoot = Bare
-form_of kinds.SetProfile = Whole
-form_of kinds.Rollback = Bare
-form_of kinds.Switch = Bare
-form_of kinds.DeleteGeneration = Bare
-form_of kinds.AddTemp = Whole
-form_of kinds.EndSession = Bare
-form_of kinds.ReplaceRuntime = Whole
-form_of kinds.Collect = Whole
-form_of kinds.Delete = Whole
 
 abbrev pub form_in : Storage → Form
 form_in (storage.Bare came) = Bare

@@ -1,5 +1,5 @@
 -- The request that is read from a message, or why none is.
-use Rattle.std.specs.Prelude.{◌≡◌, ℕ, Bool, true, false, List, Some, Result, Ok, Err, IfOk, ⊤}
+use Rattle.std.specs.Prelude.{◌≡◌, ℕ, Bool, true, false, List, Some, Result, Ok, Err, IfOk, is_some, ⊤}
 use Rattle.paths.specs.StorePath.{is_base_name}
 use Rattle.wire_requests.specs.declared.kind.Kind.{Kind}
 use Rattle.model.specs.Request as asked
@@ -53,12 +53,11 @@ pub record MakesImport (dir body : List ℕ) (result : Result Request BodyError)
 
 -- ---- inside the crate
 
--- the request of a target, where the body has to be blank
+-- the request of a target, where the body has to be blank; nothing is said of a kind that its target doesn't say whole
 abbrev pub ReadsTarget : Kind → List ℕ → Bool → Result Request AskError → Type 0
 ReadsTarget kind target blank (Ok q) = (blank ≡ true) × (by_target kind target ≡ Some (request_view q))
 ReadsTarget kind target blank (Err BadPath) = ⊥
-ReadsTarget kind target blank (Err BadBodyHead) =
-    (q : asked.Request) → blank ≡ true → by_target kind target ≡ Some q → ⊥
+ReadsTarget kind target blank (Err BadBodyHead) = (blank ≡ false) × (is_some (by_target kind target) ≡ true)
 ReadsTarget kind target blank (Err Memory) = ⊤
 
 -- the path that a base name in the target names, where the body has to be blank

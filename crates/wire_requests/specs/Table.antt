@@ -1,6 +1,11 @@
--- The one table of routes.
-use Rattle.std.specs.Prelude.{ℕ, List, [], ◌∷◌, Option, Some, None, codes, cond, map}
+-- The one table of routes; and of each kind of request the form of its body, and the parameters of its route.
+use Rattle.std.specs.Prelude.{◌≡◌, ⊤, ℕ, List, [], ◌∷◌, Option, Some, None, codes, cond, map, string_bytes}
+use Rattle.wire_requests.specs.Parts.{path, user, name, number, session}
+use Rattle.wire_requests.specs.declared.kind.Form.{Form}
+use Rattle.wire_requests.specs.declared.kind.Form.TheVariants.{Bare, Whole, Parted}
+use Rattle.wire_requests.specs.declared.kind.Kind.{Kind}
 use Rattle.wire_requests.specs.declared.kind.Kind.TheVariants as kinds
+use Rattle.wire_requests.specs.declared.parameters.Parameters.{Parameters}
 use Rattle.wire_requests.specs.declared.requests.Requests.{Requests}
 use Rattle.wire_requests.specs.declared.requests.Requests.TheVariants.{Get, Post, Delete, PostOrDelete}
 use Rattle.wire_requests.specs.Patterns.{fits, pattern_in}
@@ -78,3 +83,58 @@ first_fit target (row ∷ rows) = cond (fits row.0 target) (Some row.1) (first_f
 -- the requests of the route of a target, whose pattern alone fits it
 abbrev pub requests_of : List ℕ → Option Requests
 requests_of target = first_fit target table
+
+-- ---- of each kind
+
+-- what a request of a kind has in its body: nothing; lines, or lines and a text; or lines and an archive
+abbrev pub form_of : Kind → Form
+form_of kinds.AddText = Whole
+form_of kinds.AddSource = Parted
+form_of kinds.Import = Parted
+form_of kinds.Info = Bare
+form_of kinds.Nar = Bare
+form_of kinds.Ls = Bare
+form_of kinds.RootsOf = Bare
+form_of kinds.List = Bare
+form_of kinds.ListRoots = Bare
+form_of kinds.Live = Bare
+form_of kinds.Dead = Bare
+form_of kinds.Report = Bare
+form_of kinds.SetPermanent = Whole
+form_of kinds.DropPermanent = Bare
+form_of kinds.SetUserRoot = Whole
+form_of kinds.DropUserRoot = Bare
+form_of kinds.SetProfile = Whole
+form_of kinds.Rollback = Bare
+form_of kinds.Switch = Bare
+form_of kinds.DeleteGeneration = Bare
+form_of kinds.AddTemp = Whole
+form_of kinds.EndSession = Bare
+form_of kinds.ReplaceRuntime = Whole
+form_of kinds.Collect = Whole
+form_of kinds.Delete = Whole
+
+-- an owner and a name, in the text of a route
+abbrev pub AreOwned : List ℕ → List ℕ → Parameters → Type 0
+AreOwned text target p = (string_bytes p.user ≡ user text target) × (string_bytes p.name ≡ name text target)
+
+-- the parameters of the route of a kind are what the target has in place of them
+abbrev pub AreParameters : Kind → List ℕ → Parameters → Type 0
+AreParameters kinds.Info target p = string_bytes p.path ≡ path at_info target
+AreParameters kinds.Nar target p = string_bytes p.path ≡ path at_nar target
+AreParameters kinds.Ls target p = string_bytes p.path ≡ path at_ls target
+AreParameters kinds.RootsOf target p = string_bytes p.path ≡ path at_roots_of target
+AreParameters kinds.SetPermanent target p = string_bytes p.name ≡ name at_permanent target
+AreParameters kinds.DropPermanent target p = string_bytes p.name ≡ name at_permanent target
+AreParameters kinds.SetUserRoot target p = AreOwned at_user_root target p
+AreParameters kinds.DropUserRoot target p = AreOwned at_user_root target p
+AreParameters kinds.SetProfile target p = AreOwned at_profile target p
+AreParameters kinds.Rollback target p = AreOwned at_rollback target p
+AreParameters kinds.Switch target p = AreOwned at_switch target p × (string_bytes p.number ≡ number at_switch target)
+AreParameters kinds.DeleteGeneration target p =
+    AreOwned at_generation target p × (string_bytes p.number ≡ number at_generation target)
+AreParameters kinds.AddTemp target p =
+    (string_bytes p.user ≡ user at_temp target) × (string_bytes p.session ≡ session at_temp target)
+AreParameters kinds.EndSession target p =
+    (string_bytes p.user ≡ user at_temp target) × (string_bytes p.session ≡ session at_temp target)
+AreParameters _ target p = ⊤

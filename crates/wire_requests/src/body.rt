@@ -4,9 +4,8 @@ ghost use Rattle.wire_requests.specs.Kept as spec;
 ghost use Rattle.wire_requests.specs.Kept.{Represents, form_in};
 
 use crate::blank::Blank;
-use crate::form::{Form, form_of};
 use crate::held::Held;
-use crate::kind::Kind;
+use crate::kind::{Form, Kind, form_of};
 use crate::parted::Parted;
 use std::alloc::{AllocError, Global};
 use std::marker::Model;
@@ -22,8 +21,8 @@ pub(crate) enum Storage {
     Parted(Parted),
 }
 
-/// The body of a message, which arrives in pieces of any size. As much of it is kept as its request needs. Contracts see
-/// what is kept, and which bodies it stands for.
+/// The body of a message, which arrives in pieces of any size. As much of it is kept as its request needs. Contracts
+/// see what is kept, and which bodies it stands for.
 #[derive(Drop)]
 pub struct Body {
     kept: Storage,

@@ -5,7 +5,6 @@ mod adds;
 mod blank;
 mod body;
 mod error;
-mod form;
 mod held;
 mod kind;
 mod named;

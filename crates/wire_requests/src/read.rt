@@ -1,6 +1,5 @@
 //! The request of a message.
 ghost use Rattle.std.specs.Prelude.{◌≡◌, ℕ, List};
-ghost use Rattle.wire_requests.specs.Kept as spec;
 ghost use Rattle.wire_requests.specs.Kept.{IsParted, Represents};
 ghost use Rattle.wire_requests.specs.Parameters.{AreParameters};
 ghost use Rattle.wire_requests.specs.Reads.{Makes, ReadsBare, ReadsBy};
@@ -8,7 +7,6 @@ ghost use Rattle.wire_requests.specs.Reads.{Makes, ReadsBare, ReadsBy};
 use crate::adds::{add_source, add_text, import};
 use crate::body::{Body, Storage};
 use crate::error::AskError;
-use crate::form::{Form, form_of};
 use crate::kind::Kind;
 use crate::named::{add_temp, set_permanent, set_profile, set_user_root};
 use crate::parameters::Parameters;
@@ -20,24 +18,6 @@ use paths::StoreDir;
 use std::alloc::Global;
 use store_types::Request;
 
-/// Reads a request of a kind whose body says nothing; `is_blank` is whether it does.
-fn read_target(
-    alloc: Global,
-    kind: Kind,
-    parameters: Parameters,
-    is_blank: bool,
-) -> Result<Request, AskError>
-    ensures { spec.form_of kind ≡ Form.Bare → ReadsBare kind parameters is_blank result }
-{
-    match kind {
-        Kind::Info => info(alloc, &parameters, is_blank),
-        Kind::Nar => archive(alloc, &parameters, is_blank),
-        Kind::Ls => listing(alloc, &parameters, is_blank),
-        Kind::RootsOf => roots_of(alloc, &parameters, is_blank),
-        _ => bare(kind, parameters, is_blank),
-    }
-}
-
 /// Reads a request whose body says nothing; `is_blank` is whether it does. `Memory` for any other kind, of whose body
 /// nothing is known.
 fn read_bare(
@@ -48,9 +28,12 @@ fn read_bare(
 ) -> Result<Request, AskError>
     ensures { ReadsBare kind parameters is_blank result }
 {
-    match form_of(kind) {
-        Form::Bare => read_target(alloc, kind, parameters, is_blank),
-        Form::Whole | Form::Parted => Err(AskError::Memory),
+    match kind {
+        Kind::Info => info(alloc, &parameters, is_blank),
+        Kind::Nar => archive(alloc, &parameters, is_blank),
+        Kind::Ls => listing(alloc, &parameters, is_blank),
+        Kind::RootsOf => roots_of(alloc, &parameters, is_blank),
+        _ => bare(kind, parameters, is_blank),
     }
 }
 

@@ -1,4 +1,4 @@
-//! The table of routes, and a router with all of them.
+//! A router with all routes of the table.
 ghost use Rattle.std.specs.Prelude.{◌≡◌, [], true, IfOk, IfSome, OnOk, map, option_map};
 ghost use Rattle.matchit.specs.Route.{parse_route};
 ghost use Rattle.matchit.specs.Router.{RouteOf};
@@ -6,59 +6,14 @@ ghost use Rattle.matchit.specs.Rows.{RowsOf};
 ghost use Rattle.wire_requests.specs.declared.requests.Requests.{Requests as RequestsOf};
 ghost use Rattle.wire_requests.specs.Parameters.{AreParametersOf};
 ghost use Rattle.wire_requests.specs.Rows.{AreRows, AddsRow, can_add, can_add_all, row_of, rows as all_rows, text_of};
-ghost use Rattle.wire_requests.specs.Table.{routes, requests_of};
+ghost use Rattle.wire_requests.specs.Table.{requests_of};
 
-use crate::kind::Kind;
+use crate::kind::rows;
 use crate::parameters::Parameters;
 use crate::requests::Requests;
 use matchit::{InsertError, Router};
 use std::alloc::{AllocError, Global};
 use std::marker::Model;
-
-/// The one table of routes. A parameter is one or more bytes other than `/`.
-const TABLE: [(&str, Requests); 22] = [
-    ("/text", Requests::Post(Kind::AddText)),
-    ("/source", Requests::Post(Kind::AddSource)),
-    ("/import", Requests::Post(Kind::Import)),
-    ("/info/{path}", Requests::Get(Kind::Info)),
-    ("/nar/{path}", Requests::Get(Kind::Nar)),
-    ("/ls/{path}", Requests::Get(Kind::Ls)),
-    ("/roots-of/{path}", Requests::Get(Kind::RootsOf)),
-    ("/paths", Requests::Get(Kind::List)),
-    ("/roots", Requests::Get(Kind::ListRoots)),
-    ("/live", Requests::Get(Kind::Live)),
-    ("/dead", Requests::Get(Kind::Dead)),
-    ("/report", Requests::Get(Kind::Report)),
-    (
-        "/root/permanent/{name}",
-        Requests::PostOrDelete(Kind::SetPermanent, Kind::DropPermanent),
-    ),
-    (
-        "/root/user/{user}/{name}",
-        Requests::PostOrDelete(Kind::SetUserRoot, Kind::DropUserRoot),
-    ),
-    ("/profile/{user}/{name}", Requests::Post(Kind::SetProfile)),
-    ("/rollback/{user}/{name}", Requests::Post(Kind::Rollback)),
-    ("/switch/{user}/{name}/{n}", Requests::Post(Kind::Switch)),
-    (
-        "/generation/{user}/{name}/{n}",
-        Requests::Delete(Kind::DeleteGeneration),
-    ),
-    (
-        "/temp/{user}/{s}",
-        Requests::PostOrDelete(Kind::AddTemp, Kind::EndSession),
-    ),
-    ("/runtime", Requests::Post(Kind::ReplaceRuntime)),
-    ("/collect", Requests::Post(Kind::Collect)),
-    ("/delete", Requests::Post(Kind::Delete)),
-];
-
-/// The routes of the table.
-fn rows() -> &'static [(&'static str, Requests)]
-    ensures { map text_of result.now ≡ routes }
-{
-    &TABLE
-}
 
 /// The error of adding a valid route that conflicts with no other: out of memory.
 fn no_conflict(fault: InsertError) -> AllocError

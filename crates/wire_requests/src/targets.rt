@@ -62,12 +62,13 @@ fn by_target(kind: Kind, parameters: Parameters) -> Option<Request>
 }
 
 /// The request of a kind without values, or whose values are all names in the target. `BadBodyHead` if the body isn't
-/// blank.
+/// blank. `Memory` for any other kind, of whose body nothing is known.
 pub(crate) fn bare(kind: Kind, parameters: Parameters, is_blank: bool) -> Result<Request, AskError>
     ensures { (target : List ℕ) → AreParameters kind target parameters → ReadsTarget kind target is_blank result }
 {
+    let request = by_target(kind, parameters).ok_or(AskError::Memory)?;
     if !is_blank {
         return Err(AskError::BadBodyHead);
     }
-    by_target(kind, parameters).ok_or(AskError::BadBodyHead)
+    Ok(request)
 }

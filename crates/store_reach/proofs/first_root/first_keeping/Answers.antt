@@ -19,7 +19,8 @@ returns-in_default-first c =
     let keep = keep_view c.args.keep in
     let g = graph_in c.args.all.now.outline.now in
     let are = linked_graph c.args.all.now.outline.now c.in-Some.links.now c.in-Some.ensures in
-    none_kept keep g (roots_of (rooted c.args.all.now.outline.now)) (roots_rise c.args.all.now.outline.now) c.args.named.now
+    none_kept keep g (roots_of (rooted c.args.all.now.outline.now)) (roots_rise c.args.all.now.outline.now)
+    c.args.named.now
     (roots_view c.deref-2.result.now)
     (ap roots_view c.deref-2.ensures.value
     ∙ c.in_ok-found.ensures keep g c.args.named.now are (c.in_ok-reaching.ensures.found g are)
@@ -32,7 +33,8 @@ returns c =
     let keep = keep_view c.args.keep in
     let g = graph_in c.args.all.now.outline.now in
     let are = linked_graph c.args.all.now.outline.now c.in-Some.links.now c.in-Some.ensures in
-    one_kept keep g (roots_of (rooted c.args.all.now.outline.now)) (roots_rise c.args.all.now.outline.now) c.args.named.now
+    one_kept keep g (roots_of (rooted c.args.all.now.outline.now)) (roots_rise c.args.all.now.outline.now)
+    c.args.named.now
     (roots_view c.deref-2.result.now)
     (ap roots_view c.deref-2.ensures.value
     ∙ c.in_ok-found.ensures keep g c.args.named.now are (c.in_ok-reaching.ensures.found g are)

@@ -7,4 +7,5 @@ use Rattle.store_reach.proofs.graph.of_valid.Given as goal
 
 -- those of the first
 abbrev pub invariant-loop-root : goal.invariant-loop-root
-invariant-loop-root l = roots_view l.valid.items ≡ filter (aims_well l.outline) (map root_view (take l.root-index l.roots))
+invariant-loop-root l =
+    roots_view l.valid.items ≡ filter (aims_well l.outline) (map root_view (take l.root-index l.roots))

@@ -14,7 +14,7 @@ use Rattle.tables_writes.specs.RowsPut.{TemporaryRow}
 use Rattle.tables_writes.specs.Temporary.{keeps}
 use Rattle.tables_rows.proofs.Reasons.{all_among, as_reason, is_none, next_reason, none_put, put_reason, removal_reason}
 use Rattle.tables_writes.proofs.Transactions.{temp_roots_exist}
-use Rattle.tables_writes.proofs.temporary.PutTemporaryChange.write.Goals as goal
+use Rattle.tables_writes.proofs.sessions.PutTemporaryChange.write.Goals as goal
 
 pub delete-requires-clause-exists : goal.delete-requires-clause-exists
 delete-requires-clause-exists g c clean is_open = (c.requires.whole clean is_open).temp_roots

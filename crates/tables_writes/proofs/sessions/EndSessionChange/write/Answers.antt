@@ -1,6 +1,6 @@
 use Rattle.sqlite.specs.Held.{state}
 use Rattle.tables_rows.proofs.Reasons.{as_reason, removal_reason}
-use Rattle.tables_writes.proofs.temporary.EndSessionChange.write.Goals as goal
+use Rattle.tables_writes.proofs.sessions.EndSessionChange.write.Goals as goal
 
 pub delete-requires-clause-exists : goal.delete-requires-clause-exists
 delete-requires-clause-exists g c clean is_open = (c.requires.whole clean is_open).temp_roots
